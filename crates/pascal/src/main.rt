@@ -1,0 +1,8 @@
+//! The program `pascal`: see the crate pascal_cli.
+#![tactic(auto)]
+
+use std::process::ExitCode;
+
+fn main(rt: HostRuntime) -> ExitCode {
+    ExitCode::from(pascal_cli::run(&rt))
+}

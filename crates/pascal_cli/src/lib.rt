@@ -1,0 +1,12 @@
+//! The command `pascal`: its words, what it reads and writes, its statuses and its messages.
+#![tactic(auto)]
+
+mod job;
+mod report;
+mod session;
+mod transfer;
+
+pub use job::{CommandFault, Job, MAX_BUDGET, MAX_STEPS, Task, command};
+pub use report::{OutOfMemory, message, status};
+pub use session::run;
+pub use transfer::{ReadFault, put_all, read_up_to};

@@ -1,0 +1,178 @@
+// One call of the program: its files, its streams, and what it tells.
+
+ghost use Rattle.std.specs.Prelude.{◌<◌, ◌^◌};
+
+use crate::job::{CommandFault, Job, Task, command};
+use crate::report::{message, status};
+use crate::transfer::{ReadFault, put_all, read_up_to};
+use ps_build::{Budget, Outcome, Refusal, build, go, run_image};
+use risc_machine::Streams;
+use std::alloc::Global;
+use std::io::{self, BufReader};
+use std::rt::{Env, Files};
+use std::{env, fs};
+
+// One byte more than the longest text and the longest image: what is longer still is seen to be.
+const TEXT_LIMIT: usize = 1_048_577;
+
+const IMAGE_LIMIT: usize = 41_943_069;
+
+// Standard input as messages name it.
+const STANDARD_INPUT: &str = "standard input";
+
+const STANDARD_OUTPUT: &str = "standard output";
+
+// Every fault that is told by a line of its own ends with this status.
+const FAILED: u8 = 1;
+
+/// Does what the program's words ask for, and gives the program's status.
+///
+/// Faults are met in this order: the words, reading, refusals by their phases, the run, writing. Each is told on standard error.
+pub fn run<R: Files + Print + Eprint + Input + Env + AllocGlobal>(rt: &R) -> u8 {
+    match words_of(rt) {
+        Ok(words) => run_words(rt, &words),
+        Err(_) => tell(rt, &Err(Refusal::OutOfMemory)),
+    }
+}
+
+// The words after the program's name.
+fn words_of<R: Env + AllocGlobal>(rt: &R) -> io::Result<Vec<String>> {
+    let words = env::args(rt)?.skip(1).collect(rt.alloc())?;
+    Ok(words)
+}
+
+fn run_words<R: Files + Print + Eprint + Input + AllocGlobal>(rt: &R, words: &[String]) -> u8 {
+    let texts: Result<Vec<&str>, _> = words.iter().map(|word| word.as_str()).collect(rt.alloc());
+    let Ok(texts) = texts else {
+        return tell(rt, &Err(Refusal::OutOfMemory));
+    };
+    match command(rt.alloc(), &texts) {
+        Ok(job) => do_job(rt, &job),
+        Err(CommandFault::OutOfMemory) => tell(rt, &Err(Refusal::OutOfMemory)),
+        Err(CommandFault::Line(error)) => {
+            let is_mistake = error.use_stderr();
+            match error.print(rt) {
+                Ok(()) if !is_mistake => 0,
+                Ok(()) => FAILED,
+                Err(_) => cannot(rt, "write", STANDARD_OUTPUT),
+            }
+        }
+    }
+}
+
+fn do_job<R: Files + Print + Eprint + Input + AllocGlobal>(rt: &R, job: &Job<'_>) -> u8 {
+    match job.task {
+        Task::Compile { source, image } => compile(rt, source, image),
+        Task::Run { image } => run_file(rt, job, image),
+        Task::Go { source } => go_file(rt, job, source),
+        Task::GoStandardInput => go_standard_input(rt, job),
+    }
+}
+
+// Tells how a run ended, or why there was none.
+fn tell<R: Eprint + AllocGlobal>(rt: &R, end: &Result<Outcome, Refusal>) -> u8 {
+    // where the line finds no memory, or no reader, the status still tells the end
+    if let Ok(line) = message(rt.alloc(), end) {
+        let _ = rt.eprint(line);
+    }
+    status(end)
+}
+
+// Tells of a file that can't be read or written.
+fn cannot<R: Eprint>(rt: &R, verb: &str, path: &str) -> u8 {
+    let _ = eprintln!(rt; "cannot {verb} {path}");
+    FAILED
+}
+
+// Tells why a text or an image wasn't read.
+fn tell_read_fault<R: Eprint + AllocGlobal>(rt: &R, fault: ReadFault, path: &str) -> u8 {
+    match fault {
+        ReadFault::OutOfMemory => tell(rt, &Err(Refusal::OutOfMemory)),
+        ReadFault::Device => cannot(rt, "read", path),
+    }
+}
+
+fn read_file<R: Files + AllocGlobal>(rt: &R, path: &str, limit: usize) -> Result<Vec<u8>, ReadFault>
+    requires { limit < 2 ^ 32 }
+{
+    let Ok(mut file) = fs::open(rt, path) else {
+        return Err(ReadFault::Device);
+    };
+    read_up_to(rt.alloc(), &mut file, limit)
+}
+
+fn budget_of(job: &Job<'_>) -> Budget {
+    Budget {
+        stack: job.stack,
+        heap: job.heap,
+    }
+}
+
+fn compile<R: Files + Eprint + AllocGlobal>(rt: &R, source: &str, image: &str) -> u8 {
+    let text = match read_file(rt, source, TEXT_LIMIT) {
+        Ok(text) => text,
+        Err(fault) => return tell_read_fault(rt, fault, source),
+    };
+    let built = match build(rt.alloc(), &text) {
+        Ok(built) => built,
+        Err(refusal) => return tell(rt, &Err(refusal)),
+    };
+    let Ok(mut file) = fs::create(rt, image) else {
+        return cannot(rt, "write", image);
+    };
+    match put_all(&mut file, built.bytes()) {
+        Ok(()) => 0,
+        Err(_) => cannot(rt, "write", image),
+    }
+}
+
+// The console of a run: standard input, taken from a buffer, and standard output, byte by byte.
+fn console<R: Print + Input + AllocGlobal>(
+    rt: &R,
+) -> io::Result<Streams<BufReader<R::Reader>, io::Printer<'_, R>>> {
+    let input = BufReader::new(rt.alloc(), rt.reader())?;
+    Ok(Streams::new(input, io::writer(rt)))
+}
+
+fn run_file<R: Files + Print + Eprint + Input + AllocGlobal>(
+    rt: &R,
+    job: &Job<'_>,
+    path: &str,
+) -> u8 {
+    let image = match read_file(rt, path, IMAGE_LIMIT) {
+        Ok(image) => image,
+        Err(fault) => return tell_read_fault(rt, fault, path),
+    };
+    let Ok(mut streams) = console(rt) else {
+        return tell(rt, &Err(Refusal::OutOfMemory));
+    };
+    let end = run_image(rt.alloc(), &image, budget_of(job), &mut streams, job.steps);
+    tell(rt, &end)
+}
+
+fn go_file<R: Files + Print + Eprint + Input + AllocGlobal>(
+    rt: &R,
+    job: &Job<'_>,
+    path: &str,
+) -> u8 {
+    let text = match read_file(rt, path, TEXT_LIMIT) {
+        Ok(text) => text,
+        Err(fault) => return tell_read_fault(rt, fault, path),
+    };
+    let Ok(mut streams) = console(rt) else {
+        return tell(rt, &Err(Refusal::OutOfMemory));
+    };
+    let end = go(rt.alloc(), &text, budget_of(job), &mut streams, job.steps);
+    tell(rt, &end)
+}
+
+// The text comes from standard input, so the run's own input is empty.
+fn go_standard_input<R: Print + Eprint + Input + AllocGlobal>(rt: &R, job: &Job<'_>) -> u8 {
+    let text = match read_up_to(rt.alloc(), &mut rt.reader(), TEXT_LIMIT) {
+        Ok(text) => text,
+        Err(fault) => return tell_read_fault(rt, fault, STANDARD_INPUT),
+    };
+    let mut streams = Streams::new(io::empty(), io::writer(rt));
+    let end = go(rt.alloc(), &text, budget_of(job), &mut streams, job.steps);
+    tell(rt, &end)
+}

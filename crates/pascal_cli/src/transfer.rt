@@ -1,0 +1,79 @@
+// Whole texts and images from readers and to writers, in a bounded number of turns.
+
+ghost use Rattle.std.specs.Prelude.{◌≡◌, ℕ, ◌+◌, ◌^◌, ◌<◌, ◌≤◌, length, take, OnOk, IfOk, IfErr, vec_len};
+ghost use Rattle.std.specs.Io.KnownBytes.{Appends, Consumes, IsAtEnd};
+
+use std::alloc::{AllocError, AllocFailed, Global};
+use std::io::{Read, Write};
+use thiserror::Error;
+
+/// Why a text or an image was not read.
+#[derive(Debug, Drop, Error)]
+pub enum ReadFault {
+    /// The reader failed.
+    #[error("read failed")]
+    Device,
+    /// A growth was refused.
+    #[error("out of memory")]
+    OutOfMemory,
+}
+
+impl From<AllocError> for ReadFault {
+    fn from(_error: AllocError) -> ReadFault {
+        ReadFault::OutOfMemory
+    }
+}
+
+// How many bytes one turn asks for at most.
+const CHUNK: usize = 8192;
+
+/// Reads to the end, or to `limit` bytes where there are more. Each turn of reading takes at least one byte or
+/// meets the end, so there are at most `limit` turns and one more for the end.
+pub fn read_up_to<R: Read>(
+    alloc: Global,
+    reader: &mut R,
+    limit: usize,
+) -> Result<Vec<u8>, ReadFault>
+    requires { limit < 2 ^ 32 }
+    ensures bound { IfOk result (λ bytes. vec_len bytes ≤ limit) }
+    ensures taken { IfOk result (λ bytes.
+        Consumes (R.remaining reader.old) (R.remaining reader.new) bytes.items) }
+    ensures whole { IfOk result (λ bytes. vec_len bytes < limit → IsAtEnd (R.remaining reader.new)) }
+{
+    let mut bytes = Vec::new(alloc);
+    let mut chunk = [0u8; CHUNK];
+    for _turn in 0..=limit {
+        let room = (limit - bytes.len()).min(CHUNK);
+        let Ok(count) = reader.read(&mut chunk[..room]) else {
+            return Err(ReadFault::Device);
+        };
+        if count == 0 {
+            return Ok(bytes);
+        }
+        bytes.extend_from_slice(&chunk[..count])?;
+    }
+    Err(ReadFault::Device)
+}
+
+/// Writes all the bytes. At `Err(k)` just the first k bytes were written: a write of no byte or an error ended it.
+/// Each turn writes at least one byte.
+pub fn put_all<W: Write>(writer: &mut W, bytes: &[u8]) -> Result<(), usize>
+    ensures ok { OnOk result (Appends (W.contents writer.old) (W.contents writer.new) bytes.now) }
+    ensures err { IfErr result (λ k. Appends (W.contents writer.old) (W.contents writer.new) (take k bytes.now)) }
+    ensures short { IfErr result (λ k. k < length bytes.now) }
+{
+    let mut done = 0;
+    for _turn in 0..bytes.len() {
+        if done == bytes.len() {
+            break;
+        }
+        let Ok(written) = writer.write(&bytes[done..]) else {
+            return Err(done);
+        };
+        if written == 0 {
+            return Err(done);
+        }
+        done += written;
+    }
+    Ok(())
+}

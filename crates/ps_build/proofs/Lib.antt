@@ -1,0 +1,10 @@
+pub mod Simulation
+pub mod Emission
+pub mod Traversal
+pub mod Characters
+pub mod Statements
+pub mod Rows
+pub mod Told
+pub mod Compiled
+pub mod Results
+pub mod Budgets

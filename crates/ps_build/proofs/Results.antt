@@ -1,0 +1,34 @@
+-- What a run answers, and what it is refused for, from what it is made of.
+use Rattle.std.proofs.Common.{◌≡◌, List, ℕ, Result, Ok, Err, refl, subst}
+use Rattle.std.specs.Prelude.{IfOk, IfErr}
+use Rattle.risc_image.specs.declared.refusal.ImageRefusal.{ImageRefusal}
+use Rattle.risc_image.specs.declared.refusal.ImageRefusal.TheVariants as i
+use Rattle.risc_image.specs.Image.{Image}
+use Rattle.risc_image.specs.Format.{IsImage}
+use Rattle.risc_image.specs.Refusal.{IsRefused}
+use Rattle.risc_load.specs.declared.budget.Budget.{Budget}
+use Rattle.ps_build.specs.declared.refusal.Refusal.{Refusal}
+use Rattle.ps_build.specs.declared.refusal.Refusal.TheVariants.{OutOfMemory, BudgetTooLarge, BudgetUneven}
+use Rattle.ps_build.specs.Refusals.{of_image}
+use Rattle.ps_build.specs.Runs.{IsLoadRefused, IsRunRefused}
+
+pub if_ok : {T E : Type 0} (r : Result T E) (P Q : T → Type 0) → ((x : T) → P x → Q x) → IfOk r P → IfOk r Q
+if_ok (Ok x) P Q f h = f x h
+if_ok (Err e) P Q f h = h
+
+pub if_err : {T E : Type 0} (r : Result T E) (P Q : E → Type 0) → ((e : E) → P e → Q e) → IfErr r P → IfErr r Q
+if_err (Ok x) P Q f h = h
+if_err (Err e) P Q f h = f e h
+
+pub no_image : (bytes : List ℕ) (budget : Budget) (refusal : ImageRefusal) → IsRefused bytes refusal → IsRunRefused bytes budget (of_image refusal)
+no_image bytes budget i.Magic h = h
+no_image bytes budget i.Truncated h = h
+no_image bytes budget i.Trailing h = h
+no_image bytes budget i.TooLarge h = h
+no_image bytes budget i.BadTable h = h
+
+pub not_loaded : (bytes : List ℕ) (budget : Budget) (image : Image) (refusal : Refusal) → IsImage bytes image → IsLoadRefused image budget refusal → IsRunRefused bytes budget refusal
+not_loaded bytes budget image OutOfMemory is_image h = tt
+not_loaded bytes budget image BudgetTooLarge is_image h = record { image = image; is_image = is_image; refused = h }
+not_loaded bytes budget image BudgetUneven is_image h = record { image = image; is_image = is_image; refused = h }
+not_loaded bytes budget image _ is_image h = absurd h

@@ -1,0 +1,10 @@
+pub mod Program
+pub mod Meaning
+pub mod Code
+pub mod Refusals
+pub mod Checks
+pub mod Accepts
+pub mod Faults
+pub mod Headline
+pub mod Runs
+pub mod Goes

@@ -1,0 +1,171 @@
+-- The table of refusals: their numbers, their names, and the line of the text that some of them have (this project's format).
+use Rattle.std.specs.Prelude.{ℕ, List, Option, Some, None, codes}
+use Rattle.ps_text.specs.declared.TextRefusal.{TextRefusal}
+use Rattle.ps_text.specs.declared.TextRefusal.TheVariants as t
+use Rattle.ps_scan.specs.declared.refusal.ScanRefusal.{ScanRefusal}
+use Rattle.ps_scan.specs.declared.refusal.ScanRefusal.TheVariants as s
+use Rattle.ps_parse.specs.declared.error.ParseRefusal.{ParseRefusal}
+use Rattle.ps_parse.specs.declared.error.ParseRefusal.TheVariants as p
+use Rattle.risc_image.specs.declared.refusal.ImageRefusal.{ImageRefusal}
+use Rattle.risc_image.specs.declared.refusal.ImageRefusal.TheVariants as i
+use Rattle.risc_load.specs.declared.budget.LoadRefusal.{LoadRefusal}
+use Rattle.risc_load.specs.declared.budget.LoadRefusal.TheVariants as l
+use Rattle.ps_build.specs.declared.refusal.Refusal.{Refusal}
+use Rattle.ps_build.specs.declared.refusal.Refusal.TheVariants.{TooLong, TooManyLines, NotYet, OutOfMemory, BadByte, OpenComment, OpenString, EmptyString, SeparatorMissing, NumberTooLarge, RealNumber, NotAProgram, TooDeep, NotInProfile, Unknown, Twice, UsedBefore, WrongKind, WrongType, NotAssignable, BadSubrange, SetBase, CaseTwice, ControlVariable, PackedVariable, NotCongruous, ForwardOpen, NoResultAssigned, NoInputOutput, Limit, CodeTooLarge, BadPlacement, Magic, Truncated, Trailing, TooLarge, BadTable, BudgetTooLarge, BudgetUneven}
+
+abbrev pub number_of : Refusal → ℕ
+number_of TooLong = 1
+number_of TooManyLines = 2
+number_of NotYet = 3
+number_of OutOfMemory = 9
+number_of (BadByte line) = 10
+number_of (OpenComment line) = 11
+number_of (OpenString line) = 12
+number_of (EmptyString line) = 13
+number_of (SeparatorMissing line) = 14
+number_of (NumberTooLarge line) = 15
+number_of (RealNumber line) = 16
+number_of (NotAProgram line token) = 20
+number_of (TooDeep line) = 21
+number_of (NotInProfile line) = 22
+number_of (Unknown line) = 30
+number_of (Twice line) = 31
+number_of (UsedBefore line) = 32
+number_of (WrongKind line) = 33
+number_of (WrongType line) = 34
+number_of (NotAssignable line) = 35
+number_of (BadSubrange line) = 36
+number_of (SetBase line) = 37
+number_of (CaseTwice line) = 38
+number_of (ControlVariable line) = 39
+number_of (PackedVariable line) = 40
+number_of (NotCongruous line) = 41
+number_of (ForwardOpen line) = 42
+number_of (NoResultAssigned line) = 43
+number_of (NoInputOutput line) = 44
+number_of (Limit line) = 45
+number_of CodeTooLarge = 50
+number_of BadPlacement = 51
+number_of Magic = 60
+number_of Truncated = 61
+number_of Trailing = 62
+number_of TooLarge = 63
+number_of BadTable = 64
+number_of BudgetTooLarge = 70
+number_of BudgetUneven = 71
+
+abbrev pub name_of : Refusal → List ℕ
+name_of TooLong = codes "TooLong"
+name_of TooManyLines = codes "TooManyLines"
+name_of NotYet = codes "NotYet"
+name_of OutOfMemory = codes "OutOfMemory"
+name_of (BadByte line) = codes "BadByte"
+name_of (OpenComment line) = codes "OpenComment"
+name_of (OpenString line) = codes "OpenString"
+name_of (EmptyString line) = codes "EmptyString"
+name_of (SeparatorMissing line) = codes "SeparatorMissing"
+name_of (NumberTooLarge line) = codes "NumberTooLarge"
+name_of (RealNumber line) = codes "RealNumber"
+name_of (NotAProgram line token) = codes "NotAProgram"
+name_of (TooDeep line) = codes "TooDeep"
+name_of (NotInProfile line) = codes "NotInProfile"
+name_of (Unknown line) = codes "Unknown"
+name_of (Twice line) = codes "Twice"
+name_of (UsedBefore line) = codes "UsedBefore"
+name_of (WrongKind line) = codes "WrongKind"
+name_of (WrongType line) = codes "WrongType"
+name_of (NotAssignable line) = codes "NotAssignable"
+name_of (BadSubrange line) = codes "BadSubrange"
+name_of (SetBase line) = codes "SetBase"
+name_of (CaseTwice line) = codes "CaseTwice"
+name_of (ControlVariable line) = codes "ControlVariable"
+name_of (PackedVariable line) = codes "PackedVariable"
+name_of (NotCongruous line) = codes "NotCongruous"
+name_of (ForwardOpen line) = codes "ForwardOpen"
+name_of (NoResultAssigned line) = codes "NoResultAssigned"
+name_of (NoInputOutput line) = codes "NoInputOutput"
+name_of (Limit line) = codes "Limit"
+name_of CodeTooLarge = codes "CodeTooLarge"
+name_of BadPlacement = codes "BadPlacement"
+name_of Magic = codes "Magic"
+name_of Truncated = codes "Truncated"
+name_of Trailing = codes "Trailing"
+name_of TooLarge = codes "TooLarge"
+name_of BadTable = codes "BadTable"
+name_of BudgetTooLarge = codes "BudgetTooLarge"
+name_of BudgetUneven = codes "BudgetUneven"
+
+abbrev pub line_of : Refusal → Option ℕ
+line_of (BadByte line) = Some line
+line_of (OpenComment line) = Some line
+line_of (OpenString line) = Some line
+line_of (EmptyString line) = Some line
+line_of (SeparatorMissing line) = Some line
+line_of (NumberTooLarge line) = Some line
+line_of (RealNumber line) = Some line
+line_of (NotAProgram line token) = Some line
+line_of (TooDeep line) = Some line
+line_of (NotInProfile line) = Some line
+line_of (Unknown line) = Some line
+line_of (Twice line) = Some line
+line_of (UsedBefore line) = Some line
+line_of (WrongKind line) = Some line
+line_of (WrongType line) = Some line
+line_of (NotAssignable line) = Some line
+line_of (BadSubrange line) = Some line
+line_of (SetBase line) = Some line
+line_of (CaseTwice line) = Some line
+line_of (ControlVariable line) = Some line
+line_of (PackedVariable line) = Some line
+line_of (NotCongruous line) = Some line
+line_of (ForwardOpen line) = Some line
+line_of (NoResultAssigned line) = Some line
+line_of (NoInputOutput line) = Some line
+line_of (Limit line) = Some line
+line_of _ = None
+
+-- NotYet is told only where a fact holds; no other refusal is told but the want of memory
+abbrev pub OnlyNotYet : Refusal → Type 0 → Type 0
+OnlyNotYet OutOfMemory fact = Unit {0}
+OnlyNotYet NotYet fact = fact
+OnlyNotYet _ fact = ⊥
+
+-- the same of CodeTooLarge
+abbrev pub OnlyTooLarge : Refusal → Type 0 → Type 0
+OnlyTooLarge OutOfMemory fact = Unit {0}
+OnlyTooLarge CodeTooLarge fact = fact
+OnlyTooLarge _ fact = ⊥
+
+-- ---- the refusals of the layers
+
+abbrev pub of_text : TextRefusal → Refusal
+of_text t.TooLong = TooLong
+of_text t.TooManyLines = TooManyLines
+
+abbrev pub of_scan : ScanRefusal → Refusal
+of_scan s.OutOfMemory = OutOfMemory
+of_scan (s.BadByte line) = BadByte line
+of_scan (s.OpenComment line) = OpenComment line
+of_scan (s.OpenString line) = OpenString line
+of_scan (s.EmptyString line) = EmptyString line
+of_scan (s.SeparatorMissing line) = SeparatorMissing line
+of_scan (s.NumberTooLarge line) = NumberTooLarge line
+of_scan (s.RealNumber line) = RealNumber line
+
+abbrev pub of_parse : ParseRefusal → Refusal
+of_parse (p.NotAProgram line token) = NotAProgram line token
+of_parse (p.TooDeep line) = TooDeep line
+of_parse (p.NotInProfile line) = NotInProfile line
+of_parse p.OutOfMemory = OutOfMemory
+
+abbrev pub of_image : ImageRefusal → Refusal
+of_image i.Magic = Magic
+of_image i.Truncated = Truncated
+of_image i.Trailing = Trailing
+of_image i.TooLarge = TooLarge
+of_image i.BadTable = BadTable
+
+abbrev pub of_load : LoadRefusal → Refusal
+of_load l.OutOfMemory = OutOfMemory
+of_load l.BudgetTooLarge = BudgetTooLarge
+of_load l.BudgetUneven = BudgetUneven

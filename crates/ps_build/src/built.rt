@@ -1,0 +1,102 @@
+//! Programs as images.
+
+ghost use Rattle.std.specs.Prelude.{◌≡◌, ℕ, ◌≤◌, ◌<◌, length, slice_index, IfOk, IfErr};
+ghost use Rattle.risc_image.specs.Format.{IsImage};
+ghost use Rattle.ps_build.specs.Code.{code_words, program_image};
+ghost use Rattle.ps_build.specs.Refusals.{OnlyTooLarge};
+ghost use Rattle.ps_build.specs.Accepts.{IsRefused, most_words};
+ghost use Rattle.ps_build.specs.Headline.{Compiles};
+
+use crate::check::{StringProgram, check};
+use crate::emit::{ENTRY_LINK, FRAME_BYTES, MAX_BYTES, OUT_OF_STACK, emit};
+use crate::refusal::Refusal;
+use ps_parse::parse;
+use ps_scan::scan;
+use ps_text::Source;
+use risc_image::{FrameRow, Parts, TrapRow, write};
+use std::alloc::Global;
+use std::marker::Model;
+
+/// A program that was built: its image. A contract sees it as the list of its bytes.
+#[derive(Drop)]
+pub struct Built {
+    bytes: Vec<u8>,
+}
+
+impl Model for Built {
+    ghost use Rattle.std.specs.Prelude.{List, ℕ};
+
+    ghost Value = { List ℕ };
+
+    ghost view = { λ built. built.bytes.items };
+}
+
+impl Built {
+    /// The bytes of the image.
+    pub fn bytes(&self) -> &[u8]
+        ensures { result.now ≡ self.now }
+    {
+        &self.bytes
+    }
+}
+
+// The parts of the image of a program.
+fn parts_of(alloc: Global, program: &StringProgram) -> Result<Parts, Refusal>
+    requires first_line { 1 ≤ program.now.line }
+    requires last_line { program.now.line ≤ 65535 }
+    ensures ok { IfOk result (λ parts. parts ≡ program_image program.now.line program.now.output.items) }
+    ensures narrow { IfOk result (λ _. (k : ℕ) → slice_index program.now.output.items k < 256) }
+    ensures err { IfErr result (λ e. OnlyTooLarge e (most_words < code_words (length program.now.output.items))) }
+{
+    if program.output.len() > MAX_BYTES {
+        return Err(Refusal::CodeTooLarge);
+    }
+    let frame = FrameRow {
+        entry: 0,
+        bytes: FRAME_BYTES,
+    };
+    let trap = TrapRow {
+        link: ENTRY_LINK,
+        error: OUT_OF_STACK,
+        line: program.line,
+    };
+    Ok(Parts {
+        global: 0,
+        code: emit(alloc, &program.output)?,
+        frames: Vec::from_slice(alloc, &[frame])?,
+        objects: Vec::new(alloc),
+        traps: Vec::from_slice(alloc, &[trap])?,
+        calls: None,
+    })
+}
+
+// The image of a program.
+fn image_of(alloc: Global, program: &StringProgram) -> Result<Vec<u8>, Refusal>
+    requires first_line { 1 ≤ program.now.line }
+    requires last_line { program.now.line ≤ 65535 }
+    ensures ok { IfOk result (λ bytes. IsImage bytes.items (program_image program.now.line program.now.output.items)) }
+    ensures narrow { IfOk result (λ _. (k : ℕ) → slice_index program.now.output.items k < 256) }
+    ensures err { IfErr result (λ e. OnlyTooLarge e (most_words < code_words (length program.now.output.items))) }
+{
+    let parts = parts_of(alloc, program)?;
+    let bytes = write(alloc, &parts)?;
+    Ok(bytes)
+}
+
+/// Builds the program of a text: the image does on every input and under every budget what the program means.
+///
+/// Refused are a text that isn't accepted, a program that isn't compiled yet, and one whose code would be too large.
+pub fn build(alloc: Global, text: &[u8]) -> Result<Built, Refusal>
+    ensures compiles { IfOk result (Compiles text.now) }
+    ensures refused { IfErr result (IsRefused text.now) }
+{
+    let source = Source::new(text)?;
+    let tokens = scan(alloc, &source)?;
+    let tree = match parse(alloc, &source, &tokens) {
+        Ok(tree) => tree,
+        Err(refusal) => return Err(Refusal::from(refusal)),
+    };
+    let program = check(alloc, &source, &tree)?;
+    let bytes = image_of(alloc, &program)?;
+    Ok(Built { bytes })
+}

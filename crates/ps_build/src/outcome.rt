@@ -1,0 +1,51 @@
+//! How a run of an image ends.
+
+ghost use Rattle.std.specs.Prelude.{◌≡◌};
+ghost use Rattle.risc_machine.specs.Exec.{fault_number as machine_fault};
+ghost use Rattle.ps_build.specs.Faults.{fault_number};
+
+use risc_machine::Fault;
+
+/// What a processor could not do, or a stop whose link the trap table doesn't have.
+#[derive(Clone, Copy, PartialEq, Eq, Debug)]
+pub enum FaultKind {
+    BadWord,
+    BadAddress,
+    BadDivisor,
+    BadJump,
+    UnknownTrap,
+}
+
+/// How a run ended. Errors and stops have their number and their line of the text.
+#[derive(Clone, Copy, PartialEq, Eq, Debug)]
+pub enum Outcome {
+    /// The program came to its end.
+    Normal,
+    /// An error of the program, 1 to 11.
+    Error { number: u32, line: u32 },
+    /// The frames would have passed the stack: 12, at the `begin` of the block that would have been entered.
+    Stack { number: u32, line: u32 },
+    /// The objects would have passed the heap: 13, at the name `new`.
+    Heap { number: u32, line: u32 },
+    /// The steps were used up.
+    Steps,
+    /// The console gave no byte.
+    InputFault,
+    /// The console took no byte.
+    OutputFault,
+    /// The processor could not go on. No image that `build` makes comes to this.
+    Fault(FaultKind),
+}
+
+impl From<Fault> for FaultKind {
+    ghost from_gives = { λ fault kind. fault_number kind ≡ machine_fault fault };
+
+    fn from(fault: Fault) -> FaultKind {
+        match fault {
+            Fault::BadWord => FaultKind::BadWord,
+            Fault::BadAddress => FaultKind::BadAddress,
+            Fault::BadDivisor => FaultKind::BadDivisor,
+            Fault::BadJump => FaultKind::BadJump,
+        }
+    }
+}

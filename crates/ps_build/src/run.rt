@@ -1,0 +1,132 @@
+//! Runs of images over a console.
+
+ghost use Rattle.std.specs.Prelude.{◌≡◌, Some, option_map, IfOk, IfErr, OnErr};
+ghost use Rattle.risc_machine.specs.Exec.{row_at, trap_ending};
+ghost use Rattle.ps_build.specs.Headline.{trap_row, trap_rows};
+ghost use Rattle.ps_build.specs.Runs.{ending_told, IsToldBy, Runs, RunsImage, IsLoadRefused, IsRunRefused};
+ghost use Rattle.ps_build.specs.Goes.{Goes, IsGoRefused};
+
+use crate::built::build;
+use crate::outcome::{FaultKind, Outcome};
+use crate::refusal::Refusal;
+use risc_image::{ImageView, TrapRow};
+use risc_load::{Budget, load};
+use risc_machine::{Console, Stop, run};
+use std::alloc::Global;
+
+// The trap table's row of a link.
+fn row_of(image: &ImageView<'_>, link: u32) -> Option<TrapRow>
+    ensures { option_map trap_row result ≡ row_at link (trap_rows image.now) }
+{
+    for k in 0..image.traps() {
+        let row = image.trap(k)?;
+        if row.link == link {
+            return Some(row);
+        }
+    }
+    None
+}
+
+// The outcome of a stop with this row.
+fn trap_outcome(row: Option<TrapRow>) -> Outcome
+    ensures { ending_told result ≡ Some (trap_ending (option_map trap_row row)) }
+{
+    let Some(TrapRow { error, line, .. }) = row else {
+        return Outcome::Fault(FaultKind::UnknownTrap);
+    };
+    if error < 12 {
+        Outcome::Error {
+            number: error,
+            line,
+        }
+    } else if error == 12 {
+        Outcome::Stack {
+            number: error,
+            line,
+        }
+    } else {
+        Outcome::Heap {
+            number: error,
+            line,
+        }
+    }
+}
+
+// The outcome of a stop.
+fn outcome_of(image: &ImageView<'_>, stop: Stop) -> Outcome
+    ensures { IsToldBy (trap_rows image.now) stop result }
+{
+    match stop {
+        Stop::Normal => Outcome::Normal,
+        Stop::Trap(link) => trap_outcome(row_of(image, link)),
+        Stop::Steps => Outcome::Steps,
+        Stop::InputFault => Outcome::InputFault,
+        Stop::OutputFault => Outcome::OutputFault,
+        Stop::Fault(fault) => Outcome::Fault(FaultKind::from(fault)),
+    }
+}
+
+// Runs an image that was read.
+fn run_view<C: Console>(
+    alloc: Global,
+    image: &ImageView<'_>,
+    budget: Budget,
+    console: &mut C,
+    max_steps: u64,
+) -> Result<Outcome, Refusal>
+    ensures runs { IfOk result (Runs image.now budget max_steps (C.world console.old) (C.world console.new)) }
+    ensures refused { IfErr result (IsLoadRefused image.now budget) }
+    ensures unchanged { OnErr result (C.world console.new ≡ C.world console.old) }
+{
+    let mut machine = load(alloc, image, budget)?;
+    let stop = run(&mut machine, console, max_steps);
+    Ok(outcome_of(image, stop))
+}
+
+/// Runs an image on a console for at most `max_steps` steps.
+///
+/// The image is refused as its format's checks name the fault, and the budget as BudgetUneven or BudgetTooLarge; then the console
+/// is as it was.
+pub fn run_image<C: Console>(
+    alloc: Global,
+    image: &[u8],
+    budget: Budget,
+    console: &mut C,
+    max_steps: u64,
+) -> Result<Outcome, Refusal>
+    ensures runs { IfOk result (RunsImage image.now budget max_steps (C.world console.old) (C.world console.new)) }
+    ensures refused { IfErr result (IsRunRefused image.now budget) }
+    ensures unchanged { OnErr result (C.world console.new ≡ C.world console.old) }
+{
+    let view = match ImageView::read(image) {
+        Ok(view) => view,
+        Err(refusal) => return Err(Refusal::from(refusal)),
+    };
+    run_view(alloc, &view, budget, console, max_steps)
+}
+
+/// Builds the program of a text and runs it on a console for at most `max_steps` steps: what is written, and the outcome, are what
+/// the program means under the budget, as far as the steps reach.
+///
+/// Refused are what `build` refuses, and the budget; then the console is as it was.
+pub fn go<C: Console>(
+    alloc: Global,
+    text: &[u8],
+    budget: Budget,
+    console: &mut C,
+    max_steps: u64,
+) -> Result<Outcome, Refusal>
+    ensures runs { IfOk result (Goes text.now budget max_steps (C.world console.old) (C.world console.new)) }
+    ensures refused { IfErr result (IsGoRefused text.now budget) }
+    ensures unchanged { OnErr result (C.world console.new ≡ C.world console.old) }
+{
+    let built = match build(alloc, text) {
+        Ok(built) => built,
+        Err(refusal) => return Err(refusal),
+    };
+    let view = match ImageView::read(built.bytes()) {
+        Ok(view) => view,
+        Err(refusal) => return Err(Refusal::from(refusal)),
+    };
+    run_view(alloc, &view, budget, console, max_steps)
+}

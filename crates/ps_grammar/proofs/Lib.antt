@@ -1,0 +1,7 @@
+pub mod Heights
+pub mod Levels
+pub mod ExpressionLevels
+pub mod StatementLevels
+pub mod TypeLevels
+pub mod ProgramLevels
+pub mod FirstPlaces

@@ -1,0 +1,7 @@
+pub mod Symbols
+pub mod Expressions
+pub mod Statements
+pub mod Programs
+pub mod Forward
+pub mod Trees
+pub mod Places

@@ -1,0 +1,7 @@
+mod Samples
+mod Operators
+mod Simple
+mod Routines
+pub mod Growth
+pub mod Limits
+pub mod Laws

@@ -1,0 +1,74 @@
+-- Short words for small programs, on which the definitions are tried.
+use Rattle.std.proofs.Common.{ℕ, ℤ, pos, negsuc, true, List, [], ◌∷◌, Some, None}
+use Rattle.ps_tree.specs.declared.types.Host.TheVariants.{Integer, Char}
+use Rattle.ps_tree.specs.declared.types.Ordinal.{Ordinal}
+use Rattle.ps_tree.specs.declared.tree.ArithmeticOperator.TheVariants.{Add}
+use Rattle.ps_tree.specs.declared.tree.Range.{Range}
+use Rattle.ps_tree.specs.declared.tree.Range.TheVariants.{Within}
+use Rattle.ps_tree.specs.Types.{DataType, OrdinalType, ArrayType}
+use Rattle.ps_tree.specs.Tree.{Place, Entry, Expr, Number, Load, Arithmetic, Argument, Arguments, no_argument, argument_before, Literal, Width, DefaultWidth, GivenWidth, WriteInteger, WriteText, Statement, Assign, Write, Statements, no_statement, statement_before, no_formal, Routine, Program}
+
+abbrev pub integer : Ordinal
+integer = record { host = Integer; subrange = None; low = negsuc 2147483647; high = pos 2147483647 }
+
+abbrev pub subrange : ℤ → ℤ → Ordinal
+subrange low high = record { host = Integer; subrange = Some 7; low = low; high = high }
+
+abbrev pub character : Ordinal
+character = record { host = Char; subrange = None; low = pos 0; high = pos 255 }
+
+abbrev pub integer_type : DataType
+integer_type = OrdinalType integer
+
+abbrev pub string_type : ℕ → DataType
+string_type n = ArrayType 8 true (subrange (pos 1) (pos n)) (OrdinalType character)
+
+abbrev pub any_integer : Range
+any_integer = Within (negsuc 2147483647) (pos 2147483647)
+
+abbrev pub n : ℕ → Expr
+n k = Number (pos k)
+
+abbrev pub own : ℕ → Place
+own i = Entry 0 i
+
+abbrev pub load : ℕ → Expr
+load i = Load (own i)
+
+abbrev pub set : ℕ → Expr → Statement
+set i e = Assign (own i) any_integer e 1
+
+abbrev pub plus : Expr → Expr → Expr
+plus a b = Arithmetic Add a b 1
+
+abbrev pub statements : List Statement → Statements
+statements [] = no_statement
+statements (s ∷ rest) = statement_before s (statements rest)
+
+abbrev pub arguments : List Argument → Arguments
+arguments [] = no_argument
+arguments (a ∷ rest) = argument_before a (arguments rest)
+
+abbrev pub width : ℕ → Width
+width k = GivenWidth (n k) 1
+
+abbrev pub write_narrow : Expr → Statement
+write_narrow e = Write (WriteInteger e (width 1) ∷ [])
+
+abbrev pub write_string : List ℕ → Statement
+write_string text = Write (WriteText (Literal text) DefaultWidth ∷ [])
+
+abbrev pub block : List DataType → List Statement → Routine
+block variables body = record { chain = 0 ∷ []; formals = no_formal; result = None; variables = variables; body = statements body; line = 1 }
+
+abbrev pub procedure : List ℕ → List DataType → List Statement → Routine
+procedure chain variables body = record { chain = chain; formals = no_formal; result = None; variables = variables; body = statements body; line = 1 }
+
+abbrev pub function : List ℕ → List DataType → List Statement → Routine
+function chain variables body = record { chain = chain; formals = no_formal; result = Some integer_type; variables = variables; body = statements body; line = 1 }
+
+abbrev pub alone : List DataType → List Statement → Program
+alone variables body = record { routines = block variables body ∷ []; domains = [] }
+
+abbrev pub with_routines : List DataType → List Statement → List Routine → Program
+with_routines variables body routines = record { routines = block variables body ∷ routines; domains = [] }

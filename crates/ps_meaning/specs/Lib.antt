@@ -1,0 +1,10 @@
+pub mod Values
+pub mod Operators
+pub mod Text
+pub mod Worlds
+pub mod Expressions
+pub mod Statements
+pub mod Calls
+pub mod Run
+pub mod Costs
+pub mod Laws

@@ -1,0 +1,34 @@
+-- What the reading of all tokens tells.
+use Rattle.std.proofs.Common.{◌≡◌, ◌≢◌, ℕ, List, [], ◌∷◌, length, Some, None, refl, sym, ap, ◌∙◌, arith}
+use Rattle.ps_syntax.specs.declared.program.Program.{Program}
+use Rattle.ps_grammar.specs.Symbols.{Tokens}
+use Rattle.ps_grammar.specs.Programs.{DerivesWithin}
+use Rattle.ps_grammar.specs.Forward.{is_forward}
+use Rattle.ps_grammar.specs.Trees.{IsTreeOf}
+use Rattle.ps_grammar.proofs.ProgramLevels.{within_is_low, low_is_within}
+use Rattle.ps_parse.specs.Steps.{Outcome}
+use Rattle.ps_parse.specs.ReadPrograms.{program, read_block}
+use Rattle.ps_parse.proofs.Exact.{first_part, second_part}
+use Rattle.ps_parse.proofs.ExactPrograms.{reads_derived, derived_is_read}
+
+nothing_left : (ts : Tokens) → length ts ≡ 0 → ts ≡ []
+nothing_left [] e = refl
+nothing_left (t ∷ ts) e = absurd (omega arith)
+
+module _ (text : List ℕ) (ts : Tokens) where
+  within : (q : Program) → IsTreeOf text ts q → DerivesWithin (is_forward text) 500 ts q
+  within q t = low_is_within (is_forward text) 500 ts q (t.derives, t.low)
+
+  pub derives : (y : Program) (r : Tokens) → program (is_forward text) (read_block (is_forward text) 500) ts ≡ Some (y, r) → length r ≡ 0 → IsTreeOf text ts y
+  derives y r e l =
+      let d = within_is_low (is_forward text) 500 ts y (reads_derived (is_forward text) 500 ts y (e ∙ ap (λ (q : Tokens). Some (y, q)) (nothing_left r l))) in
+      record { derives = d.0; low = d.1 }
+
+  pub only : (y : Program) (r : Tokens) → program (is_forward text) (read_block (is_forward text) 500) ts ≡ Some (y, r) → (q : Program) → IsTreeOf text ts q → q ≡ y
+  only y r e q t = sym (first_part y q r [] (sym e ∙ derived_is_read (is_forward text) 500 ts q (within q t)))
+
+  pub left_over : (y : Program) (r : Tokens) → program (is_forward text) (read_block (is_forward text) 500) ts ≡ Some (y, r) → length r ≢ 0 → (q : Program) → IsTreeOf text ts q → ⊥
+  left_over y r e l q t = l (ap length (second_part y q r [] (sym e ∙ derived_is_read (is_forward text) 500 ts q (within q t))))
+
+  pub never : program (is_forward text) (read_block (is_forward text) 500) ts ≡ None → (q : Program) → IsTreeOf text ts q → ⊥
+  never e q t = (let h : ◌≡◌ {A = Outcome Program} None (Some (q, [])) = sym e ∙ derived_is_read (is_forward text) 500 ts q (within q t) in cc)

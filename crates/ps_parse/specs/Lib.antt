@@ -1,0 +1,5 @@
+pub mod Steps
+pub mod ReadExpressions
+pub mod ReadStatements
+pub mod ReadPrograms
+pub mod Refusals

@@ -1,0 +1,367 @@
+//! Expressions.
+
+ghost use Rattle.std.specs.Prelude.{◌≡◌, Ok, Some};
+ghost use Rattle.ps_scan.specs.declared.token.Kind.TheVariants as k;
+ghost use Rattle.ps_parse.specs.Steps.{Reads, separated, many};
+ghost use Rattle.ps_parse.specs.ReadExpressions as read;
+
+use crate::error::Fault;
+use crate::parser::Parser;
+use ps_scan::{Kind, Token};
+use ps_syntax::{
+    AddedTerm, Adding, Boxed, Expr, Factor, Items, Member, MultipliedFactor, Multiplying, Relation,
+    Selector, Sign, Simple, Term, Variable,
+};
+use ps_text::Span;
+
+fn relation_of(kind: Kind) -> Option<Relation>
+    ensures { result ≡ read.relation_of kind }
+{
+    match kind {
+        Kind::Equal => Some(Relation::Equal),
+        Kind::NotEqual => Some(Relation::NotEqual),
+        Kind::Less => Some(Relation::Less),
+        Kind::Greater => Some(Relation::Greater),
+        Kind::LessEqual => Some(Relation::LessEqual),
+        Kind::GreaterEqual => Some(Relation::GreaterEqual),
+        Kind::In => Some(Relation::In),
+        _ => None,
+    }
+}
+
+fn sign_of(kind: Kind) -> Option<Sign>
+    ensures { result ≡ read.sign_of kind }
+{
+    match kind {
+        Kind::Plus => Some(Sign::Plus),
+        Kind::Minus => Some(Sign::Minus),
+        _ => None,
+    }
+}
+
+fn adding_of(kind: Kind) -> Option<Adding>
+    ensures { result ≡ read.adding_of kind }
+{
+    match kind {
+        Kind::Plus => Some(Adding::Plus),
+        Kind::Minus => Some(Adding::Minus),
+        Kind::Or => Some(Adding::Or),
+        _ => None,
+    }
+}
+
+fn multiplying_of(kind: Kind) -> Option<Multiplying>
+    ensures { result ≡ read.multiplying_of kind }
+{
+    match kind {
+        Kind::Star => Some(Multiplying::Times),
+        Kind::Div => Some(Multiplying::Div),
+        Kind::Mod => Some(Multiplying::Mod),
+        Kind::And => Some(Multiplying::And),
+        _ => None,
+    }
+}
+
+impl<'a> Parser<'a> {
+    fn begins_factor(&self) -> bool {
+        matches!(
+            self.rest,
+            [
+                Token {
+                    kind: Kind::Name
+                        | Kind::Number
+                        | Kind::Text
+                        | Kind::Nil
+                        | Kind::LeftBracket
+                        | Kind::LeftParen
+                        | Kind::Not,
+                    ..
+                },
+                ..
+            ]
+        )
+    }
+
+    fn begins_expression(&self) -> bool {
+        self.sees(Kind::Plus) || self.sees(Kind::Minus) || self.begins_factor()
+    }
+
+    #[tactic(auto, unfolding(crate::specs::ReadExpressions::eat_operator))]
+    fn relation(&mut self) -> Option<(Relation, Span)>
+        ensures { read.eat_operator read.relation_of self.old.rest.now ≡ Some (result, self.new.rest.now) }
+    {
+        let token = self.peek()?;
+        let relation = relation_of(token.kind)?;
+        self.skip();
+        Some((relation, token.span))
+    }
+
+    #[tactic(auto, unfolding(crate::specs::ReadExpressions::eat_operator))]
+    pub fn sign(&mut self) -> Option<(Sign, Span)>
+        ensures { read.eat_operator read.sign_of self.old.rest.now ≡ Some (result, self.new.rest.now) }
+    {
+        let token = self.peek()?;
+        let sign = sign_of(token.kind)?;
+        self.skip();
+        Some((sign, token.span))
+    }
+
+    #[tactic(auto, unfolding(crate::specs::ReadExpressions::eat_operator))]
+    fn adding(&mut self) -> Option<(Adding, Span)>
+        ensures { read.eat_operator read.adding_of self.old.rest.now ≡ Some (result, self.new.rest.now) }
+    {
+        let token = self.peek()?;
+        let operator = adding_of(token.kind)?;
+        self.skip();
+        Some((operator, token.span))
+    }
+
+    #[tactic(auto, unfolding(crate::specs::ReadExpressions::eat_operator))]
+    fn multiplying(&mut self) -> Option<(Multiplying, Span)>
+        ensures { read.eat_operator read.multiplying_of self.old.rest.now ≡ Some (result, self.new.rest.now) }
+    {
+        let token = self.peek()?;
+        let operator = multiplying_of(token.kind)?;
+        self.skip();
+        Some((operator, token.span))
+    }
+
+    #[cycle(expression)]
+    #[tactic(auto, unfolding(crate::specs::ReadExpressions::member, crate::specs::Steps::eat))]
+    fn member(&mut self, depth: u32) -> Result<Member, Fault>
+        ensures { Reads (read.member (read.read_expr depth) self.old.rest.now) result self.new.rest.now }
+    {
+        let first = self.expr(depth)?;
+        if self.eat(Kind::DotDot) {
+            Ok(Member::Range(first, self.expr(depth)?))
+        } else {
+            Ok(Member::One(first))
+        }
+    }
+
+    #[cycle(expression)]
+    #[tactic(auto, unfolding(crate::specs::ReadExpressions::read_expr, crate::specs::ReadExpressions::compared))]
+    pub fn expr(&mut self, depth: u32) -> Result<Expr, Fault>
+        ensures { Reads (read.read_expr depth self.old.rest.now) result self.new.rest.now }
+    {
+        if depth == 0 {
+            return Err(self.too_deep(self.begins_expression()));
+        }
+        let left = self.simple(depth - 1)?;
+        match self.relation() {
+            None => Ok(Expr::Simple(left)),
+            Some((relation, at)) => Ok(Expr::Compare(left, relation, at, self.simple(depth - 1)?)),
+        }
+    }
+
+    #[cycle(expression)]
+    #[tactic(auto, unfolding(crate::specs::ReadExpressions::simple))]
+    fn simple(&mut self, depth: u32) -> Result<Simple, Fault>
+        ensures { Reads (read.simple (read.term (read.read_factor depth)) self.old.rest.now) result self.new.rest.now }
+    {
+        let sign = self.sign();
+        let first = self.term(depth)?;
+        let more = self.terms(depth)?;
+        Ok(Simple { sign, first, more })
+    }
+
+    #[cycle(expression)]
+    fn terms(&mut self, depth: u32) -> Result<Items<AddedTerm>, Fault>
+        ensures { Reads (many (read.added (read.term (read.read_factor depth))) self.old.rest.now) result self.new.rest.now }
+    {
+        let mut found = Items::new(self.alloc);
+        for _turn in 0..self.left() {
+            let Some((operator, at)) = self.adding() else {
+                return Ok(found);
+            };
+            let term = self.term(depth)?;
+            found.push(AddedTerm { operator, at, term })?;
+        }
+        Ok(found)
+    }
+
+    #[cycle(expression)]
+    #[tactic(auto, unfolding(crate::specs::ReadExpressions::term))]
+    fn term(&mut self, depth: u32) -> Result<Term, Fault>
+        ensures { Reads (read.term (read.read_factor depth) self.old.rest.now) result self.new.rest.now }
+    {
+        let first = self.factor(depth)?;
+        let more = self.factors(depth)?;
+        Ok(Term { first, more })
+    }
+
+    #[cycle(expression)]
+    fn factors(&mut self, depth: u32) -> Result<Items<MultipliedFactor>, Fault>
+        ensures { Reads (many (read.multiplied (read.read_factor depth)) self.old.rest.now) result self.new.rest.now }
+    {
+        let mut found = Items::new(self.alloc);
+        for _turn in 0..self.left() {
+            let Some((operator, at)) = self.multiplying() else {
+                return Ok(found);
+            };
+            let factor = self.factor(depth)?;
+            found.push(MultipliedFactor {
+                operator,
+                at,
+                factor,
+            })?;
+        }
+        Ok(found)
+    }
+
+    #[cycle(expression)]
+    #[tactic(auto, unfolding(crate::specs::ReadExpressions::factor, crate::specs::ReadExpressions::read_negated))]
+    fn factor(&mut self, depth: u32) -> Result<Factor, Fault>
+        ensures { Reads (read.read_factor depth self.old.rest.now) result self.new.rest.now }
+    {
+        let Some(token) = self.peek() else {
+            return Err(self.refusal());
+        };
+        match token.kind {
+            Kind::Name => {
+                self.skip();
+                self.named(depth, token.span)
+            }
+            Kind::Number => {
+                self.skip();
+                Ok(Factor::Number(token.span))
+            }
+            Kind::Text => {
+                self.skip();
+                Ok(Factor::Text(token.span))
+            }
+            Kind::Nil => {
+                self.skip();
+                Ok(Factor::Nil(token.span))
+            }
+            Kind::LeftBracket => {
+                self.skip();
+                self.set(depth, token.span)
+            }
+            Kind::LeftParen => {
+                self.skip();
+                self.group(depth, token.span)
+            }
+            Kind::Not => {
+                self.skip();
+                if depth == 0 {
+                    return Err(self.too_deep(self.begins_factor()));
+                }
+                let factor = self.factor(depth - 1)?;
+                Ok(Factor::Not(token.span, Boxed::new(self.alloc, factor)?))
+            }
+            _ => Err(self.refusal()),
+        }
+    }
+
+    #[cycle(expression)]
+    #[tactic(auto, unfolding(crate::specs::ReadExpressions::group))]
+    fn group(&mut self, depth: u32, at: Span) -> Result<Factor, Fault>
+        ensures { Reads (read.group (read.read_expr depth) at self.old.rest.now) result self.new.rest.now }
+    {
+        let inner = self.expr(depth)?;
+        self.expect(Kind::RightParen)?;
+        Ok(Factor::Group(at, Boxed::new(self.alloc, inner)?))
+    }
+
+    #[cycle(expression)]
+    #[tactic(auto, unfolding(crate::specs::ReadExpressions::set, crate::specs::Steps::eat))]
+    fn set(&mut self, depth: u32, at: Span) -> Result<Factor, Fault>
+        ensures { Reads (read.set (read.read_expr depth) at self.old.rest.now) result self.new.rest.now }
+    {
+        if self.eat(Kind::RightBracket) {
+            return Ok(Factor::Set(at, Items::new(self.alloc)));
+        }
+        let members = self.members(depth)?;
+        self.expect(Kind::RightBracket)?;
+        Ok(Factor::Set(at, members))
+    }
+
+    #[cycle(expression)]
+    #[tactic(auto, unfolding(crate::specs::ReadExpressions::named, crate::specs::ReadExpressions::call, crate::specs::ReadExpressions::variable, crate::specs::Steps::eat))]
+    fn named(&mut self, depth: u32, at: Span) -> Result<Factor, Fault>
+        ensures { Reads (read.named (read.read_expr depth) at self.old.rest.now) result self.new.rest.now }
+    {
+        if self.eat(Kind::LeftParen) {
+            let parameters = self.exprs(depth)?;
+            self.expect(Kind::RightParen)?;
+            return Ok(Factor::Call(at, parameters));
+        }
+        let selectors = self.selectors(depth)?;
+        Ok(Factor::Variable(Variable {
+            name: at,
+            selectors,
+        }))
+    }
+
+    #[cycle(expression)]
+    pub fn selectors(&mut self, depth: u32) -> Result<Items<Selector>, Fault>
+        ensures { Reads (many (read.selector (read.read_expr depth)) self.old.rest.now) result self.new.rest.now }
+    {
+        let mut found = Items::new(self.alloc);
+        for _turn in 0..self.left() {
+            let Some(selector) = self.selector(depth)? else {
+                return Ok(found);
+            };
+            found.push(selector)?;
+        }
+        Ok(found)
+    }
+
+    #[cycle(expression)]
+    #[tactic(auto, unfolding(crate::specs::ReadExpressions::selector, crate::specs::ReadExpressions::index))]
+    fn selector(&mut self, depth: u32) -> Result<Option<Selector>, Fault>
+        ensures { Reads (read.selector (read.read_expr depth) self.old.rest.now) result self.new.rest.now }
+    {
+        let Some(token) = self.peek() else {
+            return Ok(None);
+        };
+        match token.kind {
+            Kind::LeftBracket => {
+                self.skip();
+                let indices = self.exprs(depth)?;
+                self.expect(Kind::RightBracket)?;
+                Ok(Some(Selector::Index(indices)))
+            }
+            Kind::Dot => {
+                self.skip();
+                Ok(Some(Selector::Field(self.expect(Kind::Name)?)))
+            }
+            Kind::Caret => {
+                self.skip();
+                Ok(Some(Selector::Content(token.span)))
+            }
+            _ => Ok(None),
+        }
+    }
+
+    #[cycle(expression)]
+    fn exprs(&mut self, depth: u32) -> Result<Items<Expr>, Fault>
+        ensures { Reads (separated k.Comma (read.read_expr depth) self.old.rest.now) result self.new.rest.now }
+    {
+        let mut found = Items::new(self.alloc);
+        found.push(self.expr(depth)?)?;
+        for _turn in 0..self.left() {
+            if !self.eat(Kind::Comma) {
+                return Ok(found);
+            }
+            found.push(self.expr(depth)?)?;
+        }
+        Ok(found)
+    }
+
+    #[cycle(expression)]
+    fn members(&mut self, depth: u32) -> Result<Items<Member>, Fault>
+        ensures { Reads (separated k.Comma (read.member (read.read_expr depth)) self.old.rest.now) result self.new.rest.now }
+    {
+        let mut found = Items::new(self.alloc);
+        found.push(self.member(depth)?)?;
+        for _turn in 0..self.left() {
+            if !self.eat(Kind::Comma) {
+                return Ok(found);
+            }
+            found.push(self.member(depth)?)?;
+        }
+        Ok(found)
+    }
+}

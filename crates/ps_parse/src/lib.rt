@@ -1,0 +1,13 @@
+//! The parser: from a text's tokens to the tree that derives from them (ISO 7185 6.2 to 6.10).
+#![tactic(auto)]
+
+mod error;
+mod expression;
+mod parser;
+mod program;
+mod public;
+mod statement;
+mod types;
+
+pub use error::ParseRefusal;
+pub use public::parse;

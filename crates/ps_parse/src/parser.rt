@@ -1,0 +1,149 @@
+//! The tokens that are left, and the steps that every rule is made of.
+
+ghost use Rattle.std.specs.Prelude.{◌≡◌, ◌≢◌, length, Some};
+ghost use Rattle.ps_parse.specs.Steps as spec;
+ghost use Rattle.ps_parse.specs.Steps.{Reads};
+ghost use Rattle.ps_parse.specs.declared.error.Fault.TheVariants.{OutOfMemory};
+
+use crate::error::Fault;
+use ps_scan::{Kind, Token, is};
+use ps_text::Span;
+use std::alloc::Global;
+
+#[derive(Drop)]
+pub struct Parser<'a> {
+    pub alloc: Global,
+    pub rest: &'a [Token],
+    /// How many tokens are left from one on that stands for a construction which the profile leaves out.
+    pub left_out: usize,
+}
+
+impl<'a> Parser<'a> {
+    pub fn left(&self) -> usize
+        ensures { result ≡ length self.now.rest.now }
+    {
+        self.rest.len()
+    }
+
+    /// The next token is one that no rule takes here.
+    pub fn refusal(&self) -> Fault
+        ensures { result ≢ OutOfMemory }
+    {
+        let left = self.rest.len();
+        match self.rest {
+            [token, ..] if left == self.left_out || is_left_out(token.kind) => {
+                Fault::NotInProfile(left)
+            }
+            _ => Fault::Unexpected(left),
+        }
+    }
+
+    /// Notes that the next token stands for a construction which the profile leaves out.
+    pub fn leave_out(&mut self)
+        ensures { self.new.rest.now ≡ self.old.rest.now }
+    {
+        self.left_out = self.rest.len();
+    }
+
+    /// A number and a colon are next.
+    pub fn sees_label(&self) -> bool {
+        matches!(
+            self.rest,
+            [
+                Token {
+                    kind: Kind::Number,
+                    ..
+                },
+                Token {
+                    kind: Kind::Colon,
+                    ..
+                },
+                ..
+            ]
+        )
+    }
+
+    /// A construction inside as many others as may be is too deep, if the next token can begin it.
+    pub fn too_deep(&self, can_begin: bool) -> Fault
+        ensures { result ≢ OutOfMemory }
+    {
+        if can_begin {
+            Fault::TooDeep(self.rest.len())
+        } else {
+            self.refusal()
+        }
+    }
+
+    pub fn peek(&self) -> Option<Token>
+        ensures { result ≡ spec.first self.now.rest.now }
+    {
+        match self.rest {
+            [token, ..] => Some(*token),
+            [] => None,
+        }
+    }
+
+    /// Goes past the next token.
+    pub fn skip(&mut self)
+        ensures { self.new.rest.now ≡ spec.rest self.old.rest.now }
+    {
+        if let [_, rest @ ..] = self.rest {
+            self.rest = rest;
+        }
+    }
+
+    pub fn sees(&self, kind: Kind) -> bool
+        ensures { result ≡ spec.sees kind self.now.rest.now }
+    {
+        match self.rest {
+            [token, ..] => is(token.kind, kind),
+            [] => false,
+        }
+    }
+
+    /// Takes the next token if it is of this kind.
+    #[tactic(auto, unfolding(crate::specs::Steps::eat))]
+    pub fn eat(&mut self, kind: Kind) -> bool
+        ensures found { result ≡ spec.sees kind self.old.rest.now }
+        ensures after { self.new.rest.now ≡ spec.after kind self.old.rest.now }
+    {
+        match self.rest {
+            [token, rest @ ..] if is(token.kind, kind) => {
+                self.rest = rest;
+                true
+            }
+            _ => false,
+        }
+    }
+
+    /// Takes the next token if it is of this kind, and answers where it stands.
+    #[tactic(auto, unfolding(crate::specs::Steps::accept))]
+    pub fn accept(&mut self, kind: Kind) -> Option<Span>
+        ensures { spec.accept kind self.old.rest.now ≡ Some (result, self.new.rest.now) }
+    {
+        let token = self.peek()?;
+        if !is(token.kind, kind) {
+            return None;
+        }
+        self.skip();
+        Some(token.span)
+    }
+
+    #[tactic(auto, unfolding(crate::specs::Steps::expect))]
+    pub fn expect(&mut self, kind: Kind) -> Result<Span, Fault>
+        ensures { Reads (spec.expect kind self.old.rest.now) result self.new.rest.now }
+    {
+        match self.rest {
+            [token, rest @ ..] if is(token.kind, kind) => {
+                self.rest = rest;
+                Ok(token.span)
+            }
+            _ => Err(self.refusal()),
+        }
+    }
+}
+
+/// What the profile leaves out.
+fn is_left_out(kind: Kind) -> bool {
+    matches!(kind, Kind::Label | Kind::Goto | Kind::File | Kind::Slash)
+}

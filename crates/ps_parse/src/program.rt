@@ -1,0 +1,397 @@
+//! Headings, blocks and programs.
+
+ghost use Rattle.std.specs.Prelude.{◌≡◌, ◌||◌};
+ghost use Rattle.ps_scan.specs.declared.token.Kind.TheVariants as k;
+ghost use Rattle.ps_parse.specs.Steps.{Reads, separated, many, part, if_begins};
+ghost use Rattle.ps_parse.specs.ReadStatements.{read_statement};
+ghost use Rattle.ps_parse.specs.ReadPrograms as read;
+ghost use Rattle.ps_grammar.specs.Forward.{is_forward};
+
+use crate::error::Fault;
+use crate::parser::Parser;
+use ps_scan::{Kind, Token};
+use ps_syntax::{
+    Block, ConstantDefinition, Heading, Items, Program, Routine, Section, TypeDefinition, Variables,
+};
+use ps_text::Span;
+
+impl<'a> Parser<'a> {
+    #[cycle(heading)]
+    #[tactic(auto, unfolding(crate::specs::ReadPrograms::optional_formals))]
+    fn optional_formals(&mut self, depth: u32) -> Result<Items<Section>, Fault>
+        ensures { Reads (read.optional_formals (read.read_formals depth) self.old.rest.now) result self.new.rest.now }
+    {
+        if self.sees(Kind::LeftParen) {
+            self.formals(depth)
+        } else {
+            Ok(Items::new(self.alloc))
+        }
+    }
+
+    #[cycle(heading)]
+    #[tactic(auto, unfolding(crate::specs::ReadPrograms::procedure))]
+    fn procedure(&mut self, depth: u32) -> Result<Heading, Fault>
+        ensures { Reads (read.procedure (read.read_formals depth) self.old.rest.now) result self.new.rest.now }
+    {
+        let name = self.expect(Kind::Name)?;
+        Ok(Heading::Procedure(name, self.optional_formals(depth)?))
+    }
+
+    #[cycle(heading)]
+    #[tactic(auto, unfolding(crate::specs::ReadPrograms::function_named))]
+    fn function_named(&mut self, depth: u32, name: Span) -> Result<Heading, Fault>
+        ensures { Reads (read.function_named (read.read_formals depth) name self.old.rest.now) result self.new.rest.now }
+    {
+        let formals = self.optional_formals(depth)?;
+        self.expect(Kind::Colon)?;
+        Ok(Heading::Function(name, formals, self.expect(Kind::Name)?))
+    }
+
+    #[cycle(heading)]
+    #[tactic(auto, unfolding(crate::specs::ReadPrograms::function))]
+    fn function(&mut self, depth: u32) -> Result<Heading, Fault>
+        ensures { Reads (read.function (read.read_formals depth) self.old.rest.now) result self.new.rest.now }
+    {
+        let name = self.expect(Kind::Name)?;
+        self.function_named(depth, name)
+    }
+
+    #[tactic(auto, unfolding(crate::specs::ReadPrograms::value_section))]
+    fn value_section(&mut self, depth: u32) -> Result<Section, Fault>
+        ensures { Reads (read.value_section (read.read_formals depth) self.old.rest.now) result self.new.rest.now }
+    {
+        let names = self.names()?;
+        self.expect(Kind::Colon)?;
+        Ok(Section::Value(names, self.expect(Kind::Name)?))
+    }
+
+    #[tactic(auto, unfolding(crate::specs::ReadPrograms::variable_section))]
+    fn variable_section(&mut self, depth: u32) -> Result<Section, Fault>
+        ensures { Reads (read.variable_section (read.read_formals depth) self.old.rest.now) result self.new.rest.now }
+    {
+        let names = self.names()?;
+        self.expect(Kind::Colon)?;
+        Ok(Section::Variable(names, self.expect(Kind::Name)?))
+    }
+
+    #[cycle(heading)]
+    #[tactic(auto, unfolding(crate::specs::ReadPrograms::section))]
+    fn section(&mut self, depth: u32) -> Result<Section, Fault>
+        ensures { Reads (read.section (read.read_formals depth) self.old.rest.now) result self.new.rest.now }
+    {
+        let Some(token) = self.peek() else {
+            return Err(self.refusal());
+        };
+        match token.kind {
+            Kind::Var => {
+                self.skip();
+                self.variable_section(depth)
+            }
+            Kind::Procedure => {
+                self.skip();
+                Ok(Section::Routine(self.procedure(depth)?))
+            }
+            Kind::Function => {
+                self.skip();
+                Ok(Section::Routine(self.function(depth)?))
+            }
+            _ => self.value_section(depth),
+        }
+    }
+
+    #[cycle(heading)]
+    fn sections(&mut self, depth: u32) -> Result<Items<Section>, Fault>
+        ensures { Reads (separated k.Semicolon (read.section (read.read_formals depth)) self.old.rest.now) result self.new.rest.now }
+    {
+        let mut found = Items::new(self.alloc);
+        found.push(self.section(depth)?)?;
+        for _turn in 0..self.left() {
+            if !self.eat(Kind::Semicolon) {
+                return Ok(found);
+            }
+            found.push(self.section(depth)?)?;
+        }
+        Ok(found)
+    }
+
+    #[cycle(heading)]
+    #[tactic(auto, unfolding(crate::specs::ReadPrograms::formal_list))]
+    fn formal_list(&mut self, depth: u32) -> Result<Items<Section>, Fault>
+        ensures { Reads (read.formal_list (read.read_formals depth) self.old.rest.now) result self.new.rest.now }
+    {
+        self.expect(Kind::LeftParen)?;
+        let sections = self.sections(depth)?;
+        self.expect(Kind::RightParen)?;
+        Ok(sections)
+    }
+
+    #[cycle(heading)]
+    #[tactic(auto, unfolding(crate::specs::ReadPrograms::read_formals))]
+    fn formals(&mut self, depth: u32) -> Result<Items<Section>, Fault>
+        ensures { Reads (read.read_formals depth self.old.rest.now) result self.new.rest.now }
+    {
+        if depth == 0 {
+            return Err(Fault::TooDeep(self.left()));
+        }
+        self.formal_list(depth - 1)
+    }
+
+    #[tactic(auto, unfolding(crate::specs::ReadPrograms::constant_definition))]
+    fn constant_definition(&mut self) -> Result<ConstantDefinition, Fault>
+        ensures { Reads (read.constant_definition self.old.rest.now) result self.new.rest.now }
+    {
+        let name = self.expect(Kind::Name)?;
+        self.expect(Kind::Equal)?;
+        let value = self.constant()?;
+        self.expect(Kind::Semicolon)?;
+        Ok(ConstantDefinition { name, value })
+    }
+
+    #[tactic(auto, unfolding(crate::specs::ReadPrograms::type_definition))]
+    fn type_definition(&mut self, depth: u32) -> Result<TypeDefinition, Fault>
+        ensures { Reads (read.type_definition (read.read_type depth) self.old.rest.now) result self.new.rest.now }
+    {
+        let name = self.expect(Kind::Name)?;
+        self.expect(Kind::Equal)?;
+        let ty = self.type_denoter(depth)?;
+        self.expect(Kind::Semicolon)?;
+        Ok(TypeDefinition { name, ty })
+    }
+
+    #[tactic(auto, unfolding(crate::specs::ReadPrograms::variables))]
+    fn declared_variables(&mut self, depth: u32) -> Result<Variables, Fault>
+        ensures { Reads (read.variables (read.read_type depth) self.old.rest.now) result self.new.rest.now }
+    {
+        let names = self.names()?;
+        self.expect(Kind::Colon)?;
+        let ty = self.type_denoter(depth)?;
+        self.expect(Kind::Semicolon)?;
+        Ok(Variables { names, ty })
+    }
+
+    fn constant_part(&mut self) -> Result<Items<ConstantDefinition>, Fault>
+        ensures { Reads (part k.Const read.begins_name read.constant_definition self.old.rest.now) result self.new.rest.now }
+    {
+        let mut found = Items::new(self.alloc);
+        if !self.eat(Kind::Const) {
+            return Ok(found);
+        }
+        found.push(self.constant_definition()?)?;
+        for _turn in 0..self.left() {
+            if !self.sees(Kind::Name) {
+                return Ok(found);
+            }
+            found.push(self.constant_definition()?)?;
+        }
+        Ok(found)
+    }
+
+    fn type_part(&mut self, depth: u32) -> Result<Items<TypeDefinition>, Fault>
+        ensures { Reads (part k.Type read.begins_name (read.type_definition (read.read_type depth)) self.old.rest.now) result self.new.rest.now }
+    {
+        let mut found = Items::new(self.alloc);
+        if !self.eat(Kind::Type) {
+            return Ok(found);
+        }
+        found.push(self.type_definition(depth)?)?;
+        for _turn in 0..self.left() {
+            if !self.sees(Kind::Name) {
+                return Ok(found);
+            }
+            found.push(self.type_definition(depth)?)?;
+        }
+        Ok(found)
+    }
+
+    fn variable_part(&mut self, depth: u32) -> Result<Items<Variables>, Fault>
+        ensures { Reads (part k.Var read.begins_name (read.variables (read.read_type depth)) self.old.rest.now) result self.new.rest.now }
+    {
+        let mut found = Items::new(self.alloc);
+        if !self.eat(Kind::Var) {
+            return Ok(found);
+        }
+        found.push(self.declared_variables(depth)?)?;
+        for _turn in 0..self.left() {
+            if !self.sees(Kind::Name) {
+                return Ok(found);
+            }
+            found.push(self.declared_variables(depth)?)?;
+        }
+        Ok(found)
+    }
+
+    fn begins_block(&self) -> bool {
+        matches!(
+            self.rest,
+            [
+                Token {
+                    kind: Kind::Const
+                        | Kind::Type
+                        | Kind::Var
+                        | Kind::Procedure
+                        | Kind::Function
+                        | Kind::Begin,
+                    ..
+                },
+                ..
+            ]
+        )
+    }
+
+    fn sees_routine(&self) -> bool
+        ensures { result ≡ read.begins_routine self.now.rest.now }
+    {
+        self.sees(Kind::Procedure) || self.sees(Kind::Function)
+    }
+
+    #[cycle(block)]
+    #[tactic(auto, unfolding(crate::specs::ReadPrograms::after_heading))]
+    fn after_heading(&mut self, text: &[u8], depth: u32, heading: Heading) -> Result<Routine, Fault>
+        ensures { Reads (read.after_heading (is_forward text.now) (read.read_formals depth) (read.read_block (is_forward text.now) depth) heading self.old.rest.now) result self.new.rest.now }
+    {
+        match self.accept(Kind::Name) {
+            Some(at) if names_forward(text, at) => Ok(Routine::Forward(heading)),
+            Some(_) => Err(Fault::Unexpected(self.left().saturating_add(1))),
+            None => Ok(Routine::Whole(heading, self.block(text, depth)?)),
+        }
+    }
+
+    #[cycle(block)]
+    #[tactic(auto, unfolding(crate::specs::ReadPrograms::procedure_routine))]
+    fn procedure_routine(&mut self, text: &[u8], depth: u32) -> Result<Routine, Fault>
+        ensures { Reads (read.procedure_routine (is_forward text.now) (read.read_formals depth) (read.read_block (is_forward text.now) depth) self.old.rest.now) result self.new.rest.now }
+    {
+        let heading = self.procedure(depth)?;
+        self.expect(Kind::Semicolon)?;
+        self.after_heading(text, depth, heading)
+    }
+
+    #[cycle(block)]
+    #[tactic(auto, unfolding(crate::specs::ReadPrograms::function_routine, crate::specs::Steps::eat))]
+    fn function_routine(&mut self, text: &[u8], depth: u32) -> Result<Routine, Fault>
+        ensures { Reads (read.function_routine (is_forward text.now) (read.read_formals depth) (read.read_block (is_forward text.now) depth) self.old.rest.now) result self.new.rest.now }
+    {
+        let name = self.expect(Kind::Name)?;
+        if self.eat(Kind::Semicolon) {
+            return Ok(Routine::Completion(name, self.block(text, depth)?));
+        }
+        let heading = self.function_named(depth, name)?;
+        self.expect(Kind::Semicolon)?;
+        self.after_heading(text, depth, heading)
+    }
+
+    #[cycle(block)]
+    #[tactic(auto, unfolding(crate::specs::ReadPrograms::routine_head))]
+    fn routine_head(&mut self, text: &[u8], depth: u32) -> Result<Routine, Fault>
+        ensures { Reads (read.routine_head (is_forward text.now) (read.read_formals depth) (read.read_block (is_forward text.now) depth) self.old.rest.now) result self.new.rest.now }
+    {
+        let Some(token) = self.peek() else {
+            return Err(self.refusal());
+        };
+        match token.kind {
+            Kind::Procedure => {
+                self.skip();
+                self.procedure_routine(text, depth)
+            }
+            Kind::Function => {
+                self.skip();
+                self.function_routine(text, depth)
+            }
+            _ => Err(self.refusal()),
+        }
+    }
+
+    #[cycle(block)]
+    #[tactic(auto, unfolding(crate::specs::ReadPrograms::routine))]
+    fn routine(&mut self, text: &[u8], depth: u32) -> Result<Routine, Fault>
+        ensures { Reads (read.routine (is_forward text.now) (read.read_formals depth) (read.read_block (is_forward text.now) depth) self.old.rest.now) result self.new.rest.now }
+    {
+        let routine = self.routine_head(text, depth)?;
+        self.expect(Kind::Semicolon)?;
+        Ok(routine)
+    }
+
+    #[cycle(block)]
+    fn routines(&mut self, text: &[u8], depth: u32) -> Result<Items<Routine>, Fault>
+        ensures { Reads (many (if_begins read.begins_routine (read.routine (is_forward text.now) (read.read_formals depth) (read.read_block (is_forward text.now) depth))) self.old.rest.now) result self.new.rest.now }
+    {
+        let mut found = Items::new(self.alloc);
+        for _turn in 0..self.left() {
+            if !self.sees_routine() {
+                return Ok(found);
+            }
+            found.push(self.routine(text, depth)?)?;
+        }
+        Ok(found)
+    }
+
+    #[cycle(block)]
+    #[tactic(auto, unfolding(crate::specs::ReadPrograms::any_block))]
+    fn any_block(&mut self, text: &[u8], depth: u32) -> Result<Block, Fault>
+        ensures { Reads (read.any_block (is_forward text.now) (read.read_type depth) (read.read_formals depth) (read_statement depth) (read.read_block (is_forward text.now) depth) self.old.rest.now) result self.new.rest.now }
+    {
+        let constants = self.constant_part()?;
+        let types = self.type_part(depth)?;
+        let variables = self.variable_part(depth)?;
+        let routines = self.routines(text, depth)?;
+        let begin = self.expect(Kind::Begin)?;
+        let statements = self.sequence(depth)?;
+        self.expect(Kind::End)?;
+        Ok(Block {
+            constants,
+            types,
+            variables,
+            routines,
+            begin,
+            statements,
+        })
+    }
+
+    #[cycle(block)]
+    #[tactic(auto, unfolding(crate::specs::ReadPrograms::read_block))]
+    fn block(&mut self, text: &[u8], depth: u32) -> Result<Block, Fault>
+        ensures { Reads (read.read_block (is_forward text.now) depth self.old.rest.now) result self.new.rest.now }
+    {
+        if depth == 0 {
+            return Err(self.too_deep(self.begins_block()));
+        }
+        self.any_block(text, depth - 1)
+    }
+
+    #[tactic(auto, unfolding(crate::specs::ReadPrograms::program_names, crate::specs::Steps::eat))]
+    fn program_names(&mut self, text: &[u8], depth: u32) -> Result<Items<Span>, Fault>
+        ensures { Reads (read.program_names (is_forward text.now) (read.read_block (is_forward text.now) depth) self.old.rest.now) result self.new.rest.now }
+    {
+        if !self.eat(Kind::LeftParen) {
+            return Ok(Items::new(self.alloc));
+        }
+        let names = self.names()?;
+        self.expect(Kind::RightParen)?;
+        Ok(names)
+    }
+
+    #[tactic(auto, unfolding(crate::specs::ReadPrograms::program))]
+    pub fn program(&mut self, text: &[u8], depth: u32) -> Result<Program, Fault>
+        ensures { Reads (read.program (is_forward text.now) (read.read_block (is_forward text.now) depth) self.old.rest.now) result self.new.rest.now }
+    {
+        self.expect(Kind::Program)?;
+        let name = self.expect(Kind::Name)?;
+        let parameters = self.program_names(text, depth)?;
+        self.expect(Kind::Semicolon)?;
+        let block = self.block(text, depth)?;
+        self.expect(Kind::Dot)?;
+        Ok(Program {
+            name,
+            parameters,
+            block,
+        })
+    }
+}
+
+/// Whether the name is spelled `forward`, in whichever case.
+fn names_forward(text: &[u8], at: Span) -> bool
+    ensures { result ≡ is_forward text.now at }
+{
+    let (from, to) = (at.from as usize, at.to as usize);
+    from <= to && to <= text.len() && text[from..to].eq_ignore_ascii_case(b"forward")
+}

@@ -1,0 +1,360 @@
+//! Statements.
+
+ghost use Rattle.std.specs.Prelude.{◌≡◌, Some};
+ghost use Rattle.ps_scan.specs.declared.token.Kind.TheVariants as k;
+ghost use Rattle.ps_parse.specs.Steps.{Reads, separated, terminated};
+ghost use Rattle.ps_parse.specs.ReadExpressions as expression;
+ghost use Rattle.ps_parse.specs.ReadStatements as read;
+
+use crate::error::Fault;
+use crate::parser::Parser;
+use ps_scan::Kind;
+use ps_syntax::{Boxed, Constant, Direction, Element, Expr, Items, Parameter, Statement, Variable};
+use ps_text::Span;
+
+fn direction_of(kind: Kind) -> Option<Direction>
+    ensures { result ≡ read.direction_of kind }
+{
+    match kind {
+        Kind::To => Some(Direction::Up),
+        Kind::Downto => Some(Direction::Down),
+        _ => None,
+    }
+}
+
+impl<'a> Parser<'a> {
+    #[tactic(auto, unfolding(crate::specs::ReadExpressions::eat_operator))]
+    fn direction(&mut self) -> Option<(Direction, Span)>
+        ensures { expression.eat_operator read.direction_of self.old.rest.now ≡ Some (result, self.new.rest.now) }
+    {
+        let token = self.peek()?;
+        let direction = direction_of(token.kind)?;
+        self.skip();
+        Some((direction, token.span))
+    }
+
+    #[tactic(auto, unfolding(crate::specs::ReadStatements::constant, crate::specs::ReadStatements::operand))]
+    pub fn constant(&mut self) -> Result<Constant, Fault>
+        ensures { Reads (read.constant self.old.rest.now) result self.new.rest.now }
+    {
+        if let Some(at) = self.accept(Kind::Text) {
+            return Ok(Constant::Text(at));
+        }
+        let sign = self.sign();
+        let Some(token) = self.peek() else {
+            return Err(self.refusal());
+        };
+        match token.kind {
+            Kind::Number => {
+                self.skip();
+                Ok(Constant::Number(sign, token.span))
+            }
+            Kind::Name => {
+                self.skip();
+                Ok(Constant::Name(sign, token.span))
+            }
+            _ => Err(self.refusal()),
+        }
+    }
+
+    pub fn constants(&mut self) -> Result<Items<Constant>, Fault>
+        ensures { Reads (separated k.Comma read.constant self.old.rest.now) result self.new.rest.now }
+    {
+        let mut found = Items::new(self.alloc);
+        found.push(self.constant()?)?;
+        for _turn in 0..self.left() {
+            if !self.eat(Kind::Comma) {
+                return Ok(found);
+            }
+            found.push(self.constant()?)?;
+        }
+        Ok(found)
+    }
+
+    #[tactic(auto, unfolding(crate::specs::ReadStatements::parameter, crate::specs::Steps::eat))]
+    fn parameter(&mut self, depth: u32) -> Result<Parameter, Fault>
+        ensures { Reads (read.parameter (expression.read_expr depth) self.old.rest.now) result self.new.rest.now }
+    {
+        let value = self.expr(depth)?;
+        if !self.eat(Kind::Colon) {
+            return Ok(Parameter::Plain(value));
+        }
+        let width = self.expr(depth)?;
+        if self.sees(Kind::Colon) {
+            self.leave_out();
+        }
+        Ok(Parameter::Width(value, width))
+    }
+
+    fn parameters(&mut self, depth: u32) -> Result<Items<Parameter>, Fault>
+        ensures { Reads (separated k.Comma (read.parameter (expression.read_expr depth)) self.old.rest.now) result self.new.rest.now }
+    {
+        let mut found = Items::new(self.alloc);
+        found.push(self.parameter(depth)?)?;
+        for _turn in 0..self.left() {
+            if !self.eat(Kind::Comma) {
+                return Ok(found);
+            }
+            found.push(self.parameter(depth)?)?;
+        }
+        Ok(found)
+    }
+
+    #[tactic(auto, unfolding(crate::specs::ReadStatements::named_variable, crate::specs::ReadExpressions::variable))]
+    fn named_variable(&mut self, depth: u32) -> Result<Variable, Fault>
+        ensures { Reads (read.named_variable (expression.read_expr depth) self.old.rest.now) result self.new.rest.now }
+    {
+        let name = self.expect(Kind::Name)?;
+        let selectors = self.selectors(depth)?;
+        Ok(Variable { name, selectors })
+    }
+
+    fn variables(&mut self, depth: u32) -> Result<Items<Variable>, Fault>
+        ensures { Reads (separated k.Comma (read.named_variable (expression.read_expr depth)) self.old.rest.now) result self.new.rest.now }
+    {
+        let mut found = Items::new(self.alloc);
+        found.push(self.named_variable(depth)?)?;
+        for _turn in 0..self.left() {
+            if !self.eat(Kind::Comma) {
+                return Ok(found);
+            }
+            found.push(self.named_variable(depth)?)?;
+        }
+        Ok(found)
+    }
+
+    #[tactic(auto, unfolding(crate::specs::ReadStatements::after_name, crate::specs::Steps::eat))]
+    fn after_name(&mut self, depth: u32, name: Span) -> Result<Statement, Fault>
+        ensures { Reads (read.after_name (expression.read_expr depth) name self.old.rest.now) result self.new.rest.now }
+    {
+        if self.eat(Kind::LeftParen) {
+            let parameters = self.parameters(depth)?;
+            self.expect(Kind::RightParen)?;
+            return Ok(Statement::Call(name, parameters));
+        }
+        let selectors = self.selectors(depth)?;
+        let becomes = self.accept(Kind::Assign);
+        self.assigned(depth, name, selectors, becomes)
+    }
+
+    fn assigned(
+        &mut self,
+        depth: u32,
+        name: Span,
+        selectors: Items<ps_syntax::Selector>,
+        becomes: Option<Span>,
+    ) -> Result<Statement, Fault>
+        ensures { Reads (read.assigned (expression.read_expr depth) name selectors becomes self.old.rest.now) result self.new.rest.now }
+    {
+        match becomes {
+            Some(at) => {
+                let value = self.expr(depth)?;
+                Ok(Statement::Assign(Variable { name, selectors }, at, value))
+            }
+            None if selectors.is_empty() => Ok(Statement::Call(name, Items::new(self.alloc))),
+            None => Err(self.refusal()),
+        }
+    }
+
+    #[cycle(statement)]
+    #[tactic(auto, unfolding(crate::specs::ReadStatements::read_statement))]
+    pub fn statement(&mut self, depth: u32) -> Result<Statement, Fault>
+        ensures { Reads (read.read_statement depth self.old.rest.now) result self.new.rest.now }
+    {
+        if depth == 0 {
+            return Err(Fault::TooDeep(self.left()));
+        }
+        self.any_statement(depth - 1)
+    }
+
+    #[cycle(statement)]
+    #[tactic(auto, unfolding(crate::specs::ReadStatements::any_statement))]
+    fn any_statement(&mut self, depth: u32) -> Result<Statement, Fault>
+        ensures { Reads (read.any_statement (expression.read_expr depth) (read.read_statement depth) self.old.rest.now) result self.new.rest.now }
+    {
+        let Some(token) = self.peek() else {
+            return Ok(Statement::Empty);
+        };
+        match token.kind {
+            Kind::Name => {
+                self.skip();
+                self.after_name(depth, token.span)
+            }
+            Kind::Begin => {
+                self.skip();
+                self.compound(depth)
+            }
+            Kind::If => {
+                self.skip();
+                self.if_statement(depth)
+            }
+            Kind::Case => {
+                self.skip();
+                self.case_statement(depth, token.span)
+            }
+            Kind::While => {
+                self.skip();
+                self.while_statement(depth)
+            }
+            Kind::Repeat => {
+                self.skip();
+                self.repeat_statement(depth)
+            }
+            Kind::For => {
+                self.skip();
+                self.for_statement(depth)
+            }
+            Kind::With => {
+                self.skip();
+                self.with_statement(depth)
+            }
+            Kind::Number => {
+                if self.sees_label() {
+                    self.leave_out();
+                }
+                Ok(Statement::Empty)
+            }
+            _ => Ok(Statement::Empty),
+        }
+    }
+
+    #[cycle(statement)]
+    pub fn sequence(&mut self, depth: u32) -> Result<Items<Statement>, Fault>
+        ensures { Reads (separated k.Semicolon (read.read_statement depth) self.old.rest.now) result self.new.rest.now }
+    {
+        let mut found = Items::new(self.alloc);
+        found.push(self.statement(depth)?)?;
+        for _turn in 0..self.left() {
+            if !self.eat(Kind::Semicolon) {
+                return Ok(found);
+            }
+            found.push(self.statement(depth)?)?;
+        }
+        Ok(found)
+    }
+
+    #[cycle(statement)]
+    #[tactic(auto, unfolding(crate::specs::ReadStatements::compound, crate::specs::ReadStatements::sequence))]
+    fn compound(&mut self, depth: u32) -> Result<Statement, Fault>
+        ensures { Reads (read.compound (expression.read_expr depth) (read.read_statement depth) self.old.rest.now) result self.new.rest.now }
+    {
+        let statements = self.sequence(depth)?;
+        self.expect(Kind::End)?;
+        Ok(Statement::Compound(statements))
+    }
+
+    #[cycle(statement)]
+    #[tactic(auto, unfolding(crate::specs::ReadStatements::if_statement, crate::specs::Steps::eat))]
+    fn if_statement(&mut self, depth: u32) -> Result<Statement, Fault>
+        ensures { Reads (read.if_statement (expression.read_expr depth) (read.read_statement depth) self.old.rest.now) result self.new.rest.now }
+    {
+        let condition = self.expr(depth)?;
+        self.expect(Kind::Then)?;
+        let chosen = Boxed::new(self.alloc, self.statement(depth)?)?;
+        if !self.eat(Kind::Else) {
+            return Ok(Statement::If(condition, chosen));
+        }
+        let other = Boxed::new(self.alloc, self.statement(depth)?)?;
+        Ok(Statement::IfElse(condition, chosen, other))
+    }
+
+    #[cycle(statement)]
+    #[tactic(auto, unfolding(crate::specs::ReadStatements::element))]
+    fn element(&mut self, depth: u32) -> Result<Element, Fault>
+        ensures { Reads (read.element (expression.read_expr depth) (read.read_statement depth) self.old.rest.now) result self.new.rest.now }
+    {
+        let constants = self.constants()?;
+        self.expect(Kind::Colon)?;
+        let statement = self.statement(depth)?;
+        Ok(Element {
+            constants,
+            statement,
+        })
+    }
+
+    #[cycle(statement)]
+    fn elements(&mut self, depth: u32) -> Result<Items<Element>, Fault>
+        ensures { Reads (terminated k.Semicolon k.End (read.element (expression.read_expr depth) (read.read_statement depth)) self.old.rest.now) result self.new.rest.now }
+    {
+        let mut found = Items::new(self.alloc);
+        found.push(self.element(depth)?)?;
+        for _turn in 0..self.left() {
+            if !self.eat(Kind::Semicolon) {
+                return Ok(found);
+            }
+            if self.sees(Kind::End) {
+                return Ok(found);
+            }
+            found.push(self.element(depth)?)?;
+        }
+        Ok(found)
+    }
+
+    #[cycle(statement)]
+    #[tactic(auto, unfolding(crate::specs::ReadStatements::case_statement))]
+    fn case_statement(&mut self, depth: u32, at: Span) -> Result<Statement, Fault>
+        ensures { Reads (read.case_statement (expression.read_expr depth) (read.read_statement depth) at self.old.rest.now) result self.new.rest.now }
+    {
+        let index = self.expr(depth)?;
+        self.expect(Kind::Of)?;
+        let elements = self.elements(depth)?;
+        self.expect(Kind::End)?;
+        Ok(Statement::Case(at, index, elements))
+    }
+
+    #[cycle(statement)]
+    #[tactic(auto, unfolding(crate::specs::ReadStatements::while_statement))]
+    fn while_statement(&mut self, depth: u32) -> Result<Statement, Fault>
+        ensures { Reads (read.while_statement (expression.read_expr depth) (read.read_statement depth) self.old.rest.now) result self.new.rest.now }
+    {
+        let condition = self.expr(depth)?;
+        self.expect(Kind::Do)?;
+        let body = Boxed::new(self.alloc, self.statement(depth)?)?;
+        Ok(Statement::While(condition, body))
+    }
+
+    #[cycle(statement)]
+    #[tactic(auto, unfolding(crate::specs::ReadStatements::repeat_statement, crate::specs::ReadStatements::sequence))]
+    fn repeat_statement(&mut self, depth: u32) -> Result<Statement, Fault>
+        ensures { Reads (read.repeat_statement (expression.read_expr depth) (read.read_statement depth) self.old.rest.now) result self.new.rest.now }
+    {
+        let statements = self.sequence(depth)?;
+        self.expect(Kind::Until)?;
+        let condition = self.expr(depth)?;
+        Ok(Statement::Repeat(statements, condition))
+    }
+
+    #[cycle(statement)]
+    #[tactic(auto, unfolding(crate::specs::ReadStatements::for_statement))]
+    fn for_statement(&mut self, depth: u32) -> Result<Statement, Fault>
+        ensures { Reads (read.for_statement (expression.read_expr depth) (read.read_statement depth) self.old.rest.now) result self.new.rest.now }
+    {
+        let variable = self.expect(Kind::Name)?;
+        self.expect(Kind::Assign)?;
+        let first = self.expr(depth)?;
+        let Some((direction, _)) = self.direction() else {
+            return Err(self.refusal());
+        };
+        let last = self.expr(depth)?;
+        self.expect(Kind::Do)?;
+        let body = Boxed::new(self.alloc, self.statement(depth)?)?;
+        Ok(Statement::For {
+            variable,
+            first,
+            direction,
+            last,
+            body,
+        })
+    }
+
+    #[cycle(statement)]
+    #[tactic(auto, unfolding(crate::specs::ReadStatements::with_statement))]
+    fn with_statement(&mut self, depth: u32) -> Result<Statement, Fault>
+        ensures { Reads (read.with_statement (expression.read_expr depth) (read.read_statement depth) self.old.rest.now) result self.new.rest.now }
+    {
+        let records = self.variables(depth)?;
+        self.expect(Kind::Do)?;
+        let body = Boxed::new(self.alloc, self.statement(depth)?)?;
+        Ok(Statement::With(records, body))
+    }
+}

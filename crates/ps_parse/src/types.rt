@@ -1,0 +1,248 @@
+//! Types.
+
+ghost use Rattle.std.specs.Prelude.{◌≡◌};
+ghost use Rattle.ps_scan.specs.declared.token.Kind.TheVariants as k;
+ghost use Rattle.ps_parse.specs.Steps.{Reads, separated, terminated};
+ghost use Rattle.ps_parse.specs.ReadPrograms as read;
+
+use crate::error::Fault;
+use crate::parser::Parser;
+use ps_scan::{Kind, Token};
+use ps_syntax::{Boxed, Constant, Fields, Items, Ordinal, Structure, TypeDenoter};
+use ps_text::Span;
+
+impl<'a> Parser<'a> {
+    fn begins_ordinal(&self) -> bool {
+        matches!(
+            self.rest,
+            [
+                Token {
+                    kind: Kind::Name
+                        | Kind::LeftParen
+                        | Kind::Plus
+                        | Kind::Minus
+                        | Kind::Number
+                        | Kind::Text,
+                    ..
+                },
+                ..
+            ]
+        )
+    }
+
+    fn begins_type(&self) -> bool {
+        matches!(
+            self.rest,
+            [
+                Token {
+                    kind: Kind::Caret | Kind::Packed | Kind::Array | Kind::Record | Kind::Set,
+                    ..
+                },
+                ..
+            ]
+        ) || self.begins_ordinal()
+    }
+
+    pub fn names(&mut self) -> Result<Items<Span>, Fault>
+        ensures { Reads (read.names self.old.rest.now) result self.new.rest.now }
+    {
+        let mut found = Items::new(self.alloc);
+        found.push(self.expect(Kind::Name)?)?;
+        for _turn in 0..self.left() {
+            if !self.eat(Kind::Comma) {
+                return Ok(found);
+            }
+            found.push(self.expect(Kind::Name)?)?;
+        }
+        Ok(found)
+    }
+
+    #[tactic(auto, unfolding(crate::specs::Steps::eat))]
+    fn after_constant(&mut self, first: Constant) -> Result<Ordinal, Fault>
+        ensures { Reads (read.after_constant first self.old.rest.now) result self.new.rest.now }
+    {
+        match first {
+            Constant::Name(None, at) => {
+                if self.eat(Kind::DotDot) {
+                    Ok(Ordinal::Subrange(first, self.constant()?))
+                } else {
+                    Ok(Ordinal::Name(at))
+                }
+            }
+            Constant::Name(Some(_), _) | Constant::Number(_, _) | Constant::Text(_) => {
+                self.expect(Kind::DotDot)?;
+                Ok(Ordinal::Subrange(first, self.constant()?))
+            }
+        }
+    }
+
+    #[tactic(auto, unfolding(crate::specs::ReadPrograms::enumeration))]
+    fn enumeration(&mut self, at: Span) -> Result<Ordinal, Fault>
+        ensures { Reads (read.enumeration at self.old.rest.now) result self.new.rest.now }
+    {
+        let names = self.names()?;
+        self.expect(Kind::RightParen)?;
+        Ok(Ordinal::Enumeration(at, names))
+    }
+
+    #[tactic(auto, unfolding(crate::specs::ReadPrograms::ordinal))]
+    fn ordinal(&mut self) -> Result<Ordinal, Fault>
+        ensures { Reads (read.ordinal self.old.rest.now) result self.new.rest.now }
+    {
+        if let Some(at) = self.accept(Kind::LeftParen) {
+            return self.enumeration(at);
+        }
+        let first = self.constant()?;
+        self.after_constant(first)
+    }
+
+    #[tactic(auto, unfolding(crate::specs::ReadPrograms::read_index))]
+    fn index(&mut self, depth: u32) -> Result<Ordinal, Fault>
+        ensures { Reads (read.read_index depth self.old.rest.now) result self.new.rest.now }
+    {
+        if depth == 0 {
+            return Err(self.too_deep(self.begins_ordinal()));
+        }
+        self.ordinal()
+    }
+
+    fn indices(&mut self, depth: u32) -> Result<Items<Ordinal>, Fault>
+        ensures { Reads (separated k.Comma (read.read_index depth) self.old.rest.now) result self.new.rest.now }
+    {
+        let mut found = Items::new(self.alloc);
+        found.push(self.index(depth)?)?;
+        for _turn in 0..self.left() {
+            if !self.eat(Kind::Comma) {
+                return Ok(found);
+            }
+            found.push(self.index(depth)?)?;
+        }
+        Ok(found)
+    }
+
+    #[cycle(ty)]
+    #[tactic(auto, unfolding(crate::specs::ReadPrograms::read_type))]
+    pub fn type_denoter(&mut self, depth: u32) -> Result<TypeDenoter, Fault>
+        ensures { Reads (read.read_type depth self.old.rest.now) result self.new.rest.now }
+    {
+        if depth == 0 {
+            return Err(self.too_deep(self.begins_type()));
+        }
+        self.any_type(depth - 1)
+    }
+
+    #[cycle(ty)]
+    #[tactic(auto, unfolding(crate::specs::ReadPrograms::any_type))]
+    fn any_type(&mut self, depth: u32) -> Result<TypeDenoter, Fault>
+        ensures { Reads (read.any_type (read.read_index depth) (read.read_type depth) self.old.rest.now) result self.new.rest.now }
+    {
+        let Some(token) = self.peek() else {
+            return Err(self.refusal());
+        };
+        match token.kind {
+            Kind::Caret => {
+                self.skip();
+                Ok(TypeDenoter::Pointer(token.span, self.expect(Kind::Name)?))
+            }
+            Kind::Packed => {
+                self.skip();
+                Ok(TypeDenoter::Packed(token.span, self.structure(depth)?))
+            }
+            Kind::Array | Kind::Record | Kind::Set => {
+                Ok(TypeDenoter::Structure(self.structure(depth)?))
+            }
+            _ => Ok(TypeDenoter::Ordinal(self.ordinal()?)),
+        }
+    }
+
+    #[cycle(ty)]
+    #[tactic(auto, unfolding(crate::specs::ReadPrograms::structure))]
+    fn structure(&mut self, depth: u32) -> Result<Structure, Fault>
+        ensures { Reads (read.structure (read.read_index depth) (read.read_type depth) self.old.rest.now) result self.new.rest.now }
+    {
+        let Some(token) = self.peek() else {
+            return Err(self.refusal());
+        };
+        match token.kind {
+            Kind::Array => {
+                self.skip();
+                self.array(depth, token.span)
+            }
+            Kind::Record => {
+                self.skip();
+                self.record(depth, token.span)
+            }
+            Kind::Set => {
+                self.skip();
+                self.set_type(depth, token.span)
+            }
+            _ => Err(self.refusal()),
+        }
+    }
+
+    #[cycle(ty)]
+    #[tactic(auto, unfolding(crate::specs::ReadPrograms::array))]
+    fn array(&mut self, depth: u32, at: Span) -> Result<Structure, Fault>
+        ensures { Reads (read.array (read.read_index depth) (read.read_type depth) at self.old.rest.now) result self.new.rest.now }
+    {
+        self.expect(Kind::LeftBracket)?;
+        let indices = self.indices(depth)?;
+        self.expect(Kind::RightBracket)?;
+        self.expect(Kind::Of)?;
+        let component = self.type_denoter(depth)?;
+        Ok(Structure::Array(at, indices, Boxed::new(self.alloc, component)?))
+    }
+
+    #[cycle(ty)]
+    #[tactic(auto, unfolding(crate::specs::ReadPrograms::record_of, crate::specs::Steps::eat))]
+    fn record(&mut self, depth: u32, at: Span) -> Result<Structure, Fault>
+        ensures { Reads (read.record_of (read.read_index depth) (read.read_type depth) at self.old.rest.now) result self.new.rest.now }
+    {
+        if self.eat(Kind::End) {
+            return Ok(Structure::Record(at, Items::new(self.alloc)));
+        }
+        let sections = self.sections_of_record(depth)?;
+        self.expect(Kind::End)?;
+        Ok(Structure::Record(at, sections))
+    }
+
+    #[tactic(auto, unfolding(crate::specs::ReadPrograms::set_of))]
+    fn set_type(&mut self, depth: u32, at: Span) -> Result<Structure, Fault>
+        ensures { Reads (read.set_of (read.read_index depth) (read.read_type depth) at self.old.rest.now) result self.new.rest.now }
+    {
+        self.expect(Kind::Of)?;
+        Ok(Structure::Set(at, self.index(depth)?))
+    }
+
+    #[cycle(ty)]
+    #[tactic(auto, unfolding(crate::specs::ReadPrograms::fields))]
+    fn fields(&mut self, depth: u32) -> Result<Fields, Fault>
+        ensures { Reads (read.fields (read.read_index depth) (read.read_type depth) self.old.rest.now) result self.new.rest.now }
+    {
+        if self.sees(Kind::Case) {
+            self.leave_out();
+        }
+        let names = self.names()?;
+        self.expect(Kind::Colon)?;
+        let ty = self.type_denoter(depth)?;
+        Ok(Fields { names, ty })
+    }
+
+    #[cycle(ty)]
+    fn sections_of_record(&mut self, depth: u32) -> Result<Items<Fields>, Fault>
+        ensures { Reads (terminated k.Semicolon k.End (read.fields (read.read_index depth) (read.read_type depth)) self.old.rest.now) result self.new.rest.now }
+    {
+        let mut found = Items::new(self.alloc);
+        found.push(self.fields(depth)?)?;
+        for _turn in 0..self.left() {
+            if !self.eat(Kind::Semicolon) {
+                return Ok(found);
+            }
+            if self.sees(Kind::End) {
+                return Ok(found);
+            }
+            found.push(self.fields(depth)?)?;
+        }
+        Ok(found)
+    }
+}

@@ -1,0 +1,103 @@
+-- Symbols at the front of bytes.
+use Rattle.std.proofs.Common.{◌≡◌, ℕ, suc, ◌⊎◌, inl, inr, true, false, ◌==◌, ◌&&◌, [], ◌∷◌, ◌++◌, length, Option, Some, None, slice_index, refl, sym, ap, ◌∙◌, subst, arith, eq-eqb}
+use Rattle.std.proofs.lemmas.Bool.{and_from}
+use Rattle.std.proofs.lemmas.Bool.Decides.{nat_tests}
+use Rattle.std.specs.Char.{is_ascii_alphabetic, is_ascii_digit}
+use Rattle.std.specs.Prelude.{nat_le}
+use Rattle.ps_scan.specs.declared.lexeme.Lexeme.{Lexeme}
+use Rattle.ps_scan.specs.declared.token.Kind.{Kind}
+use Rattle.ps_scan.specs.Lexemes.{IsWord, IsDigits, IsLexeme, symbol, of_symbol}
+use Rattle.ps_scan.specs.Lexis.{IsLongest}
+use Rattle.ps_scan.specs.Scanner as s
+use Rattle.ps_scan.specs.Scanner.{front, word_len, digits_len, separator_of, token_of, string_end, comment_end}
+use Rattle.ps_scan.specs.Tables.{Bytes, symbol_kind}
+use Rattle.ps_scan.proofs.FirstBytes.{begins, symbol_at}
+use Rattle.ps_scan.proofs.Fronts.{Front, stands}
+use Rattle.ps_scan.proofs.Reals.{digits_first}
+use Rattle.ps_scan.proofs.Symbols.{is_other, symbol_first, symbol_short, pair_is, single_is, pair_nil, AtSymbol, two, one, symbol_sound, symbol_two, symbol_one}
+
+-- the bytes of a symbol: one or two
+short_cases : (u : Bytes) (kind : Kind) → symbol_kind u ≡ Some kind → ((a : ℕ) × (u ≡ a ∷ [])) ⊎ ((a b : ℕ) × (u ≡ a ∷ b ∷ []))
+short_cases [] kind found = let short = symbol_short [] kind found in cc
+short_cases (a ∷ []) kind found = inl (a, refl)
+short_cases (a ∷ b ∷ []) kind found = inr (a, b, refl)
+short_cases (a ∷ b ∷ c ∷ cs) kind found = let short = symbol_short (a ∷ b ∷ c ∷ cs) kind found in absurd (too_long (length cs) short)
+  where
+    too_long : (n : ℕ) → (nat_le 1 (suc (suc (suc n))) && nat_le (suc (suc (suc n))) 2) ≡ true → ⊥
+    too_long n h = grind (arith, nat_tests)
+
+other_apart : (b : ℕ) (bs : Bytes) → is_other b ≡ true → IsWord (b ∷ bs) ⊎ IsDigits (b ∷ bs) → ⊥
+other_apart b bs other (inl is_word) = no_letter b other is_word.0
+  where
+    no_letter : (b : ℕ) → is_other b ≡ true → is_ascii_alphabetic b ≡ true → ⊥
+    no_letter b other letter = grind (arith, nat_tests)
+other_apart b bs other (inr is_digits) = no_digit b other (digits_first b bs is_digits)
+  where
+    no_digit : (b : ℕ) → is_other b ≡ true → is_ascii_digit b ≡ true → ⊥
+    no_digit b other digit = grind (arith, nat_tests)
+
+-- no comment opens where its two bytes don't stand
+no_opening : (a : ℕ) (bs : Bytes) → (a == 40 && slice_index bs 0 == 42) ≡ false → (v : Bytes) → a ∷ bs ≡ 40 ∷ 42 ∷ v → ⊥
+no_opening a [] none v e = cc
+no_opening a (b ∷ bs) none v e =
+    let first : a ≡ 40 = cc in
+    let second : b ≡ 42 = cc in
+    let both = and_from _ _ (eq-eqb a 40 first) (eq-eqb b 42 second) in cc
+
+symbols_at : (u v : Bytes) (a : ℕ) (bs : Bytes) → is_other a ≡ true → a ∷ bs ≡ u ++ v → IsLexeme u → (kind : Kind) × (symbol_kind u ≡ Some kind)
+symbols_at u v a bs other e is_lexeme = symbol_at u a other (begins u v a bs (sym e) is_lexeme)
+
+two_front : (a b : ℕ) (bs : Bytes) (kind : Kind) → symbol_kind (a ∷ b ∷ []) ≡ Some kind → (a == 40 && b == 42) ≡ false → IsLongest (a ∷ b ∷ []) bs
+two_front a b bs kind found none = record {
+  fits = symbol found;
+  longest = λ u v e is_lexeme.
+      (let s = symbols_at u v a (b ∷ bs) (symbol_first (a ∷ b ∷ []) kind found) e is_lexeme in
+      elim (short_cases u s.0 s.1) [ inl t ↦ omega (arith, ap length t.1) | inr t ↦ omega (arith, ap length t.2) ]);
+  no_comment = no_opening a (b ∷ bs) none;
+}
+
+one_front : (a : ℕ) (bs : Bytes) (kind : Kind) → symbol_kind (a ∷ []) ≡ Some kind → s.pair a (slice_index bs 0) ≡ None → (a == 40 && slice_index bs 0 == 42) ≡ false
+    → IsLongest (a ∷ []) bs
+one_front a bs kind found alone none = record {
+  fits = symbol found;
+  longest = λ u v e is_lexeme.
+      (let s = symbols_at u v a bs (symbol_first (a ∷ []) kind found) e is_lexeme in
+      elim (short_cases u s.0 s.1) [ inl t ↦ omega (arith, ap length t.1) | inr t ↦ absurd (no_second u v bs s.0 t.0 t.1 alone e s.1 t.2) ]);
+  no_comment = no_opening a bs none;
+}
+  where
+    no_second : (u v bs : Bytes) (kind : Kind) (c d : ℕ) → s.pair a (slice_index bs 0) ≡ None → a ∷ bs ≡ u ++ v → symbol_kind u ≡ Some kind → u ≡ c ∷ d ∷ [] → ⊥
+    no_second u v [] kind c d alone e found is = let split : a ∷ [] ≡ c ∷ d ∷ v = e ∙ ap (λ z. z ++ v) is in cc
+    no_second u v (b ∷ bs) kind c d alone e found is =
+        let split : a ∷ b ∷ bs ≡ c ∷ d ∷ v = e ∙ ap (λ z. z ++ v) is in
+        let first : a ≡ c = cc in
+        let second : b ≡ d = cc in
+        let pair' : s.pair a b ≡ Some kind = sym (pair_is a b) ∙ (ap (λ z. symbol_kind (z ∷ b ∷ [])) first ∙ ap (λ z. symbol_kind (c ∷ z ∷ [])) second) ∙ sym (ap symbol_kind is) ∙ found in
+        cc
+
+pub symbol_front_sound : (a : ℕ) (bs : Bytes) (l : Lexeme) → (a == 40 && slice_index bs 0 == 42) ≡ false → s.symbol (a ∷ bs) ≡ Some l → Front (a ∷ bs) l
+symbol_front_sound a bs l none found = at_symbol a bs l (symbol_sound a bs l found) none
+  where
+    at_symbol : (a : ℕ) (bs : Bytes) (l : Lexeme) → AtSymbol (a ∷ bs) l → (a == 40 && slice_index bs 0 == 42) ≡ false → Front (a ∷ bs) l
+    at_symbol a bs l (two {b = b} {bs = cs} {kind = kind} is) none =
+        let found = pair_is a b ∙ is in
+        stands (a ∷ b ∷ []) cs (two_front a b cs kind found none) (of_symbol found) (λ class. absurd (other_apart a (b ∷ []) (symbol_first (a ∷ b ∷ []) kind found) class))
+    at_symbol a bs l (one {kind = kind} alone is) none =
+        let found = single_is a ∙ is in
+        stands (a ∷ []) bs (one_front a bs kind found alone none) (of_symbol found) (λ class. absurd (other_apart a [] (symbol_first (a ∷ []) kind found) class))
+
+pub symbol_complete : (w rest : Bytes) (kind : Kind) → symbol_kind w ≡ Some kind → IsLongest w rest → s.symbol (w ++ rest) ≡ Some (token_of (length w) kind)
+symbol_complete w rest kind found longest = elim (short_cases w kind found) [
+  | inl t ↦ subst (λ z. s.symbol (z ++ rest) ≡ Some (token_of (length z) kind)) (sym t.1)
+      (symbol_one t.0 rest kind (sym (ap symbol_kind t.1) ∙ found) (alone t.0 rest (subst (λ z. IsLongest z rest) t.1 longest)))
+  | inr t ↦ subst (λ z. s.symbol (z ++ rest) ≡ Some (token_of (length z) kind)) (sym t.2) (symbol_two t.0 t.1 rest kind (sym (ap symbol_kind t.2) ∙ found))
+]
+  where
+    no_pair : (a b : ℕ) (bs : Bytes) (second : Option Kind) → s.pair a b ≡ second → IsLongest (a ∷ []) (b ∷ bs) → second ≡ None
+    no_pair a b bs None e longest = refl
+    no_pair a b bs (Some other) e longest =
+        let least = longest.longest (a ∷ b ∷ []) bs refl (symbol (pair_is a b ∙ e)) in absurd (omega (arith, least))
+
+    alone : (a : ℕ) (rest : Bytes) → IsLongest (a ∷ []) rest → s.pair a (slice_index rest 0) ≡ None
+    alone a [] longest = pair_nil a
+    alone a (b ∷ bs) longest = no_pair a b bs _ refl longest

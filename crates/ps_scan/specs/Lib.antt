@@ -1,0 +1,9 @@
+pub mod Kinds
+pub mod Tables
+pub mod Lexemes
+pub mod Separators
+pub mod Lexis
+pub mod Spans
+pub mod Refusals
+pub mod Scanner
+pub mod Values

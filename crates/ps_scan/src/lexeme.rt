@@ -1,0 +1,291 @@
+//! The token or the separator at the front of bytes.
+
+ghost use Rattle.std.specs.Prelude.{◌≡◌, ◌+◌, ◌*◌, ◌-◌, ◌^◌, ◌<◌, ◌≤◌, ◌↔◌, IsTrue, true, false, length, drop, slice_index, IfOk, IfSome, MatchOption, Some, None};
+ghost use Rattle.ps_scan.specs.Scanner as spec;
+ghost use Rattle.ps_scan.specs.Separators.{is_blank as blank};
+
+use crate::token::Kind;
+use crate::values::small_value;
+use crate::words::word_kind;
+
+/// What stands at the front of bytes: a token of a kind, or a separator where there is none, and how many bytes it takes.
+#[derive(Clone, Copy, Debug)]
+pub struct Lexeme {
+    pub kind: Option<Kind>,
+    pub length: usize,
+}
+
+/// Why nothing stands at the front of bytes.
+#[derive(Clone, Copy, Debug)]
+pub enum Fault {
+    BadByte,
+    OpenComment,
+    OpenString,
+    EmptyString,
+    SeparatorMissing,
+    NumberTooLarge,
+    RealNumber,
+}
+
+/// What stands at the front of the bytes: the longest token, or a separator.
+#[tactic(auto, unfolding(crate::specs::Scanner::front))]
+pub fn front(text: &[u8]) -> Result<Lexeme, Fault>
+    requires { 0 < length text.now }
+    ensures value { spec.Finds result (spec.front text.now) }
+    ensures within { IfOk result (λ found. (1 ≤ found.length) × (found.length ≤ length text.now)) }
+{
+    let first = text[0];
+    if is_blank(first) {
+        Ok(Lexeme {
+            kind: None,
+            length: 1,
+        })
+    } else if first.is_ascii_alphabetic() {
+        Ok(word(text))
+    } else if first.is_ascii_digit() {
+        number(text)
+    } else if first == b'\'' {
+        string(text)
+    } else if first == b'{' {
+        comment(1, text)
+    } else if first == b'(' && byte_at(text, 1) == b'*' {
+        comment(2, text)
+    } else {
+        symbol(text)
+    }
+}
+
+/// The byte at an index, or 0 past the end, which begins nothing.
+fn byte_at(text: &[u8], at: usize) -> u8
+    ensures value { result ≡ slice_index text.now at }
+    ensures within { 0 < result → at < length text.now }
+{
+    if at < text.len() { text[at] } else { 0 }
+}
+
+/// Whether the byte is a separator by itself.
+fn is_blank(byte: u8) -> bool
+    ensures { result ≡ blank byte }
+{
+    byte == b' ' || (byte == b'\t' || (byte == b'\r' || byte == b'\n'))
+}
+
+/// A name or a word-symbol.
+#[tactic(auto, unfolding(crate::specs::Scanner::word))]
+fn word(text: &[u8]) -> Lexeme
+    requires { 0 < spec.word_len text.now }
+    ensures value { result ≡ spec.word text.now }
+    ensures within { (1 ≤ result.length) × (result.length ≤ length text.now) }
+{
+    let length = word_len(text);
+    Lexeme {
+        kind: Some(word_kind(&text[..length])),
+        length,
+    }
+}
+
+/// How many letters and digits there are at the front.
+fn word_len(text: &[u8]) -> usize
+    ensures value { result ≡ spec.word_len text.now }
+    ensures within { result ≤ length text.now }
+{
+    for (at, byte) in text.iter().enumerate() {
+        if !byte.is_ascii_alphanumeric() {
+            return at;
+        }
+    }
+    text.len()
+}
+
+/// A number.
+#[tactic(auto, unfolding(crate::specs::Scanner::number))]
+fn number(text: &[u8]) -> Result<Lexeme, Fault>
+    requires { 0 < spec.digits_len text.now }
+    ensures value { spec.Finds result (spec.number text.now) }
+    ensures within { IfOk result (λ found. (1 ≤ found.length) × (found.length ≤ length text.now)) }
+{
+    let length = digits_len(text);
+    let after = &text[length..];
+    if makes_real(after) {
+        return Err(Fault::RealNumber);
+    }
+    if byte_at(after, 0).is_ascii_alphabetic() {
+        return Err(Fault::SeparatorMissing);
+    }
+    if small_value(&text[..length]).is_none() {
+        return Err(Fault::NumberTooLarge);
+    }
+    Ok(Lexeme {
+        kind: Some(Kind::Number),
+        length,
+    })
+}
+
+/// How many digits there are at the front.
+fn digits_len(text: &[u8]) -> usize
+    ensures value { result ≡ spec.digits_len text.now }
+    ensures within { result ≤ length text.now }
+{
+    for (at, byte) in text.iter().enumerate() {
+        if !byte.is_ascii_digit() {
+            return at;
+        }
+    }
+    text.len()
+}
+
+/// Whether digits before these bytes begin a real literal: a point and a digit come, or a scale.
+#[tactic(auto, unfolding(crate::specs::Scanner::makes_real))]
+fn makes_real(text: &[u8]) -> bool
+    ensures { result ≡ spec.makes_real text.now }
+{
+    let (first, second) = (byte_at(text, 0), byte_at(text, 1));
+    if first == b'.' {
+        return second.is_ascii_digit();
+    }
+    let is_signed = second == b'+' || second == b'-';
+    first.to_ascii_lowercase() == b'e'
+        && (second.is_ascii_digit() || (is_signed && byte_at(text, 2).is_ascii_digit()))
+}
+
+/// A string, from its opening apostrophe on.
+#[tactic(auto, unfolding(crate::specs::Scanner::string))]
+fn string(text: &[u8]) -> Result<Lexeme, Fault>
+    requires { 0 < length text.now }
+    ensures value { spec.Finds result (spec.string text.now) }
+    ensures within { IfOk result (λ found. (1 ≤ found.length) × (found.length ≤ length text.now)) }
+{
+    let Some(length) = string_end(&text[1..]) else {
+        return Err(Fault::OpenString);
+    };
+    if length == 2 {
+        return Err(Fault::EmptyString);
+    }
+    Ok(Lexeme {
+        kind: Some(Kind::Text),
+        length,
+    })
+}
+
+/// The length of a string, by the bytes after its opening apostrophe.
+fn string_end(text: &[u8]) -> Option<usize>
+    requires { length text.now < 2 ^ 63 }
+    ensures value { result ≡ spec.string_end false 1 text.now }
+    ensures within { IfSome result (λ end. (2 ≤ end) × (end ≤ length text.now + 1)) }
+{
+    // Whether the byte before was an apostrophe that closes the string unless another comes.
+    let mut is_pending = false;
+    for (at, byte) in text.iter().enumerate() {
+        if *byte == b'\'' {
+            is_pending = !is_pending;
+        } else if is_pending {
+            return Some(at + 1);
+        } else if *byte == b'\n' || *byte == b'\r' {
+            return None;
+        }
+    }
+    if is_pending {
+        Some(text.len() + 1)
+    } else {
+        None
+    }
+}
+
+/// A comment, whose opening has so many bytes.
+#[tactic(auto, unfolding(crate::specs::Scanner::comment))]
+fn comment(opening: usize, text: &[u8]) -> Result<Lexeme, Fault>
+    requires some { 1 ≤ opening }
+    requires within { opening ≤ length text.now }
+    ensures value { spec.Finds result (spec.comment opening text.now) }
+    ensures within { IfOk result (λ found. (1 ≤ found.length) × (found.length ≤ length text.now)) }
+{
+    match comment_end(&text[opening..]) {
+        Some(length) => Ok(Lexeme {
+            kind: None,
+            length: opening + length,
+        }),
+        None => Err(Fault::OpenComment),
+    }
+}
+
+/// How many bytes a comment has after its opening.
+fn comment_end(text: &[u8]) -> Option<usize>
+    ensures value { result ≡ spec.comment_end false 0 text.now }
+    ensures within { IfSome result (λ end. end ≤ length text.now) }
+{
+    let mut is_after_star = false;
+    for (at, byte) in text.iter().enumerate() {
+        if *byte == b'}' || (*byte == b')' && is_after_star) {
+            return Some(at + 1);
+        }
+        is_after_star = *byte == b'*';
+    }
+    None
+}
+
+/// A symbol: that of the first two bytes, or else that of the first.
+#[tactic(auto, unfolding(crate::specs::Scanner::symbol))]
+fn symbol(text: &[u8]) -> Result<Lexeme, Fault>
+    requires { 0 < length text.now }
+    ensures value { spec.Finds result (spec.symbol text.now) }
+    ensures within { IfOk result (λ found. (1 ≤ found.length) × (found.length ≤ length text.now)) }
+{
+    let first = text[0];
+    if let Some(kind) = pair(first, byte_at(text, 1)) {
+        return Ok(Lexeme {
+            kind: Some(kind),
+            length: 2,
+        });
+    }
+    match single(first) {
+        Some(kind) => Ok(Lexeme {
+            kind: Some(kind),
+            length: 1,
+        }),
+        None => Err(Fault::BadByte),
+    }
+}
+
+/// The kind of a symbol of two bytes.
+#[tactic(auto, unfolding(crate::specs::Scanner::pair))]
+fn pair(first: u8, second: u8) -> Option<Kind>
+    ensures value { result ≡ spec.pair first second }
+    ensures within { IfSome result (λ _. 0 < second) }
+{
+    match (first, second) {
+        (b'<', b'>') => Some(Kind::NotEqual),
+        (b'<', b'=') => Some(Kind::LessEqual),
+        (b'>', b'=') => Some(Kind::GreaterEqual),
+        (b'(', b'.') => Some(Kind::LeftBracket),
+        (b'.', b')') => Some(Kind::RightBracket),
+        (b'.', b'.') => Some(Kind::DotDot),
+        (b':', b'=') => Some(Kind::Assign),
+        _ => None,
+    }
+}
+
+/// The kind of a symbol of one byte.
+#[tactic(auto, unfolding(crate::specs::Scanner::single))]
+fn single(byte: u8) -> Option<Kind>
+    ensures { result ≡ spec.single byte }
+{
+    match byte {
+        b'+' => Some(Kind::Plus),
+        b'-' => Some(Kind::Minus),
+        b'*' => Some(Kind::Star),
+        b'/' => Some(Kind::Slash),
+        b'=' => Some(Kind::Equal),
+        b'<' => Some(Kind::Less),
+        b'>' => Some(Kind::Greater),
+        b'[' => Some(Kind::LeftBracket),
+        b']' => Some(Kind::RightBracket),
+        b'(' => Some(Kind::LeftParen),
+        b')' => Some(Kind::RightParen),
+        b'.' => Some(Kind::Dot),
+        b',' => Some(Kind::Comma),
+        b':' => Some(Kind::Colon),
+        b';' => Some(Kind::Semicolon),
+        b'^' | b'@' => Some(Kind::Caret),
+        _ => None,
+    }
+}

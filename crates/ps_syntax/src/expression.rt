@@ -1,0 +1,189 @@
+//! Expressions. Names, numbers and strings are spans of the text.
+
+ghost use Rattle.std.specs.Prelude.{◌≡◌};
+ghost use Rattle.ps_syntax.specs.First.{sign_or, first_of_factor, first_of_term, first_of_simple, first_of_expr, first_of_member};
+
+use ps_text::Span;
+use sqlite_items::{Boxed, Items};
+
+#[derive(Clone, Copy, Debug, PartialEq, Eq)]
+pub enum Relation {
+    Equal,
+    NotEqual,
+    Less,
+    Greater,
+    LessEqual,
+    GreaterEqual,
+    In,
+}
+
+#[derive(Clone, Copy, Debug, PartialEq, Eq)]
+pub enum Sign {
+    Plus,
+    Minus,
+}
+
+#[derive(Clone, Copy, Debug, PartialEq, Eq)]
+pub enum Adding {
+    Plus,
+    Minus,
+    Or,
+}
+
+#[derive(Clone, Copy, Debug, PartialEq, Eq)]
+pub enum Multiplying {
+    Times,
+    Div,
+    Mod,
+    And,
+}
+
+/// A simple expression, or two that a relation stands between.
+#[cycle(expression)]
+#[derive(Drop)]
+pub enum Expr {
+    Simple(Simple),
+    Compare(Simple, Relation, Span, Simple),
+}
+
+/// Terms with operators between them. A sign in front applies to the first term.
+#[cycle(expression)]
+#[derive(Drop)]
+pub struct Simple {
+    pub sign: Option<(Sign, Span)>,
+    pub first: Term,
+    pub more: Items<AddedTerm>,
+}
+
+#[cycle(expression)]
+#[derive(Drop)]
+pub struct AddedTerm {
+    pub operator: Adding,
+    pub at: Span,
+    pub term: Term,
+}
+
+#[cycle(expression)]
+#[derive(Drop)]
+pub struct Term {
+    pub first: Factor,
+    pub more: Items<MultipliedFactor>,
+}
+
+#[cycle(expression)]
+#[derive(Drop)]
+pub struct MultipliedFactor {
+    pub operator: Multiplying,
+    pub at: Span,
+    pub factor: Factor,
+}
+
+#[cycle(expression)]
+#[derive(Drop)]
+pub enum Factor {
+    Variable(Variable),
+    Call(Span, Items<Expr>),
+    Number(Span),
+    Text(Span),
+    Nil(Span),
+    /// The bracket, and the members.
+    Set(Span, Items<Member>),
+    /// The parenthesis, and the expression in it.
+    Group(Span, Boxed<Expr>),
+    Not(Span, Boxed<Factor>),
+}
+
+#[cycle(expression)]
+#[derive(Drop)]
+pub struct Variable {
+    pub name: Span,
+    pub selectors: Items<Selector>,
+}
+
+#[cycle(expression)]
+#[derive(Drop)]
+pub enum Selector {
+    /// Several indices are those of arrays in one another.
+    Index(Items<Expr>),
+    Field(Span),
+    /// The `^`.
+    Content(Span),
+}
+
+/// A member of a set, or those from the first to the last.
+#[cycle(expression)]
+#[derive(Drop)]
+pub enum Member {
+    One(Expr),
+    Range(Expr, Expr),
+}
+
+/// Where a part that a sign may stand before begins.
+pub(crate) fn after_sign(sign: &Option<(Sign, Span)>, at: u32) -> u32
+    ensures { result ≡ sign_or sign.now at }
+{
+    match sign {
+        None => at,
+        Some((_, sign)) => sign.from,
+    }
+}
+
+impl Expr {
+    /// Where the first token begins.
+    pub fn first_token(&self) -> u32
+        ensures { result ≡ first_of_expr self.now }
+    {
+        match self {
+            Expr::Simple(only) => only.first_token(),
+            Expr::Compare(left, ..) => left.first_token(),
+        }
+    }
+}
+
+impl Simple {
+    /// Where the first token begins.
+    pub fn first_token(&self) -> u32
+        ensures { result ≡ first_of_simple self.now }
+    {
+        after_sign(&self.sign, self.first.first_token())
+    }
+}
+
+impl Term {
+    /// Where the first token begins.
+    pub fn first_token(&self) -> u32
+        ensures { result ≡ first_of_term self.now }
+    {
+        self.first.first_token()
+    }
+}
+
+impl Factor {
+    /// Where the first token begins.
+    pub fn first_token(&self) -> u32
+        ensures { result ≡ first_of_factor self.now }
+    {
+        match self {
+            Factor::Variable(variable) => variable.name.from,
+            Factor::Call(at, _)
+            | Factor::Number(at)
+            | Factor::Text(at)
+            | Factor::Nil(at)
+            | Factor::Set(at, _)
+            | Factor::Group(at, _)
+            | Factor::Not(at, _) => at.from,
+        }
+    }
+}
+
+impl Member {
+    /// Where the first token begins.
+    pub fn first_token(&self) -> u32
+        ensures { result ≡ first_of_member self.now }
+    {
+        match self {
+            Member::One(only) => only.first_token(),
+            Member::Range(low, _) => low.first_token(),
+        }
+    }
+}

@@ -1,0 +1,74 @@
+//! Statements.
+
+ghost use Rattle.std.specs.Prelude.{◌≡◌};
+ghost use Rattle.ps_syntax.specs.First.{first_of_constant};
+
+use crate::expression::{Expr, Sign, Variable, after_sign};
+use ps_text::Span;
+use sqlite_items::{Boxed, Items};
+
+/// A constant as it is written.
+#[derive(Clone, Copy, Debug, PartialEq, Eq)]
+pub enum Constant {
+    Number(Option<(Sign, Span)>, Span),
+    Name(Option<(Sign, Span)>, Span),
+    Text(Span),
+}
+
+#[derive(Clone, Copy, Debug, PartialEq, Eq)]
+pub enum Direction {
+    Up,
+    Down,
+}
+
+/// An actual parameter, alone or with a width.
+#[derive(Drop)]
+pub enum Parameter {
+    Plain(Expr),
+    Width(Expr, Expr),
+}
+
+#[cycle(statement)]
+#[derive(Drop)]
+pub enum Statement {
+    Empty,
+    /// The variable, the `:=` and the value.
+    Assign(Variable, Span, Expr),
+    /// The routine's name and its parameters.
+    Call(Span, Items<Parameter>),
+    Compound(Items<Statement>),
+    If(Expr, Boxed<Statement>),
+    IfElse(Expr, Boxed<Statement>, Boxed<Statement>),
+    /// The `case`, the index and the elements.
+    Case(Span, Expr, Items<Element>),
+    While(Expr, Boxed<Statement>),
+    Repeat(Items<Statement>, Expr),
+    For {
+        variable: Span,
+        first: Expr,
+        direction: Direction,
+        last: Expr,
+        body: Boxed<Statement>,
+    },
+    With(Items<Variable>, Boxed<Statement>),
+}
+
+/// The statement that some constants choose.
+#[cycle(statement)]
+#[derive(Drop)]
+pub struct Element {
+    pub constants: Items<Constant>,
+    pub statement: Statement,
+}
+
+impl Constant {
+    /// Where the first token begins.
+    pub fn first_token(&self) -> u32
+        ensures { result ≡ first_of_constant self.now }
+    {
+        match self {
+            Constant::Number(sign, at) | Constant::Name(sign, at) => after_sign(sign, at.from),
+            Constant::Text(at) => at.from,
+        }
+    }
+}

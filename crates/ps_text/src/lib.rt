@@ -1,0 +1,136 @@
+//! Source texts: bytes within the limits, spans of them, and their lines.
+#![tactic(auto)]
+
+ghost use Rattle.std.specs.Prelude.{◌≡◌, ◌<◌, ◌≤◌, ◌+◌, ◌↔◌, ℕ, List, IsTrue, length, slice_range, IfOk, IsOk};
+ghost use Rattle.ps_text.specs.Lines.{line_count, line_at, IsSource};
+ghost use Rattle.ps_text.specs.Refusals.{number_of};
+
+mod table;
+#[cfg(test)]
+mod tests;
+
+use std::marker::Model;
+pub use table::{LineTable, OutOfMemory};
+use thiserror::Error;
+
+/// The most bytes that a text has.
+pub const MAX_LENGTH: usize = 1_048_576;
+
+/// The most lines that a text has.
+pub const MAX_LINES: usize = 65_535;
+
+/// Byte 10, which ends a line.
+const LINE_END: u8 = b'\n';
+
+/// A part of a text, from the offset of its first byte to the one after its last.
+#[derive(Clone, Copy, Debug, PartialEq, Eq)]
+pub struct Span {
+    pub from: u32,
+    pub to: u32,
+}
+
+/// Why bytes are no source text.
+#[derive(Clone, Copy, Debug, PartialEq, Eq, Error)]
+pub enum TextRefusal {
+    /// The text has more than `MAX_LENGTH` bytes.
+    #[error("TooLong")]
+    TooLong,
+    /// The text has more than `MAX_LINES` lines. This is told of a text that isn't too long.
+    #[error("TooManyLines")]
+    TooManyLines,
+}
+
+impl TextRefusal {
+    /// The refusal's number.
+    pub fn number(self) -> u32
+        ensures { result ≡ number_of self }
+    {
+        match self {
+            TextRefusal::TooLong => 1,
+            TextRefusal::TooManyLines => 2,
+        }
+    }
+}
+
+/// A source text: lent bytes within the limits. A contract sees it as the list of its bytes.
+#[derive(Drop)]
+pub struct Source<'a> {
+    bytes: &'a [u8],
+}
+
+impl<'a> Model for Source<'a> {
+    ghost Value = { List ℕ };
+
+    ghost view = { λ s. s.bytes.now };
+
+    ghost invariant = { λ s. IsSource s.bytes.now };
+}
+
+impl<'a> Source<'a> {
+    /// The text of these bytes. It takes no memory.
+    pub fn new(bytes: &'a [u8]) -> Result<Source<'a>, TextRefusal>
+        ensures source { IfOk result (λ source. source ≡ bytes.now) }
+        ensures accepted { IsOk result ↔ IsSource bytes.now }
+        ensures too_long { (result ≡ Err TextRefusal.TooLong) ↔ (MAX_LENGTH < length bytes.now) }
+        ensures too_many_lines { (result ≡ Err TextRefusal.TooManyLines)
+            ↔ ((length bytes.now ≤ MAX_LENGTH) × (MAX_LINES < line_count bytes.now)) }
+    {
+        if bytes.len() > MAX_LENGTH {
+            return Err(TextRefusal::TooLong);
+        }
+        if lines_of(bytes) as usize > MAX_LINES {
+            return Err(TextRefusal::TooManyLines);
+        }
+        Ok(Source { bytes })
+    }
+
+    /// How many bytes the text has.
+    pub fn len(&self) -> u32
+        ensures length { result ≡ length self.now }
+        ensures limits { IsSource self.now }
+    {
+        self.bytes.len() as u32
+    }
+
+    /// Whether the text has no byte.
+    pub fn is_empty(&self) -> bool
+        ensures { IsTrue result ↔ (length self.now ≡ 0) }
+    {
+        self.bytes.is_empty()
+    }
+
+    /// The text's bytes.
+    pub fn bytes(&self) -> &'a [u8]
+        ensures bytes { result.now ≡ self.now }
+        ensures limits { IsSource self.now }
+    {
+        self.bytes
+    }
+
+    /// The bytes of a span.
+    pub fn slice(&self, span: Span) -> &'a [u8]
+        requires ordered { span.from ≤ span.to }
+        requires within { span.to ≤ length self.now }
+        ensures { result.now ≡ slice_range self.now span.from span.to }
+    {
+        &self.bytes[span.from as usize..span.to as usize]
+    }
+
+    /// The line of an offset, from 1 on: 1 plus the bytes 10 before it.
+    pub fn line_of(&self, offset: u32) -> u32
+        requires { offset ≤ length self.now }
+        ensures line { result ≡ line_at self.now offset }
+        ensures range { (1 ≤ result) × (result ≤ MAX_LINES) }
+    {
+        lines_of(&self.bytes[..offset as usize])
+    }
+}
+
+/// How many lines the bytes have.
+fn lines_of(bytes: &[u8]) -> u32
+    requires { length bytes.now ≤ MAX_LENGTH }
+    ensures { result ≡ line_count bytes.now }
+{
+    let line_ends = bytes.iter().filter(|byte| **byte == LINE_END).count();
+    1 + line_ends as u32
+}

@@ -1,0 +1,7 @@
+pub mod ViewLemmas
+pub mod TreeLemmas
+pub mod StatementLemmas
+pub mod Compatibility
+pub mod SizeLemmas
+pub mod Sums
+pub mod FormalLemmas

@@ -1,0 +1,189 @@
+-- What the values of the program's types stand for in the definitions.
+use Rattle.std.specs.Prelude.{List, [], ◌∷◌, map, option_map}
+use Rattle.ps_tree.specs.Types.{DataType, OrdinalType, PointerType, NilType, SetType, EmptySetType, TextType, ArrayType, RecordType, FieldList, no_field, field_before}
+use Rattle.ps_tree.specs.Tree as Tree
+use Rattle.ps_tree.specs.declared.types.Ty.{Ty, Simple, Pointer, Nil as NilTy, Set as SetTy, EmptySet, Text, Array', Record'}
+use Rattle.ps_tree.specs.declared.types.Fields.{Fields, Fields', Row_of-Field, end_of-Field, more_of-Field}
+use Rattle.ps_tree.specs.declared.tree.Place.{Place, Entry, Opened, Element', Field', Target'}
+use Rattle.ps_tree.specs.declared.tree.Expr.{Expr, Number, Nil, Load', Plus', Minus', Not', Arithmetic', Logic', Compare', ComparePointers', CompareSets', CompareStrings', In', Apply', Eof, Eoln, Call', CallFormal', Row_of-Argument, end_of-Argument, more_of-Argument}
+use Rattle.ps_tree.specs.declared.tree.SetExpr.{SetExpr, Constructor', Combine', Row_of-Member, end_of-Member, more_of-Member}
+use Rattle.ps_tree.specs.declared.tree.SetExpr.{Load' as LoadSet'}
+use Rattle.ps_tree.specs.declared.tree.Member.{Member, One, Range as Several}
+use Rattle.ps_tree.specs.declared.tree.Structure.{Structure, Literal, Contents'}
+use Rattle.ps_tree.specs.declared.tree.Argument.{Argument, Value as ByValue, Set as BySet, Copy as ByCopy, Variable as ByVariable, Routine as ByRoutine, Formal as ByFormal}
+use Rattle.ps_tree.specs.declared.tree.ReadVariable.{ReadVariable}
+use Rattle.ps_tree.specs.declared.tree.ReadVariable.TheVariants.{Char as ReadChar, Integer as ReadInteger}
+use Rattle.ps_tree.specs.declared.tree.Width.{Width}
+use Rattle.ps_tree.specs.declared.tree.Width.TheVariants.{Default, Given}
+use Rattle.ps_tree.specs.declared.tree.WriteParameter.{WriteParameter}
+use Rattle.ps_tree.specs.declared.tree.WriteParameter.TheVariants.{Integer as WriteInteger, Char as WriteChar, Boolean as WriteBoolean, Text as WriteText}
+use Rattle.ps_tree.specs.declared.tree.Statement.{Statement, Empty, Assign, AssignSet, AssignStructure, Call as CallProcedure, CallFormal as CallFormalProcedure, Compound', If', IfElse', Case', While', Repeat', For', With', New, Pack, Unpack, Read, Readln, Write, Writeln, Row_of-Statement, end_of-Statement, more_of-Statement, Row_of-CaseElement, end_of-CaseElement, more_of-CaseElement}
+use Rattle.ps_tree.specs.declared.tree.CaseElement.{CaseElement, out-CaseElement}
+use Rattle.ps_tree.specs.declared.tree.Formal.{Formal, Value as ValueFormal, Variable as VariableFormal, Routine' as RoutineFormal', Row_of-Formal, end_of-Formal, more_of-Formal}
+use Rattle.ps_tree.specs.declared.tree.Routine.{Routine}
+
+unfoldable mutual
+  pub type_of : Ty → DataType
+  type_of (Simple o) = OrdinalType o
+  type_of (Pointer n) = PointerType n
+  type_of NilTy = NilType
+  type_of (SetTy at packing base) = SetType at packing base
+  type_of EmptySet = EmptySetType
+  type_of (Text length) = TextType length
+  type_of (Array' at packed index p component) = ArrayType at packed index (type_of component)
+  type_of (Record' at packed p fields) = RecordType at packed (fields_of fields)
+
+  pub fields_of : Fields → FieldList
+  fields_of (Fields' shape row) = fields_of_row row
+
+  pub fields_of_row : {m : _} → Row_of-Field m → FieldList
+  fields_of_row end_of-Field = no_field
+  fields_of_row (more_of-Field name ty rest) = field_before name.items (type_of ty) (fields_of_row rest)
+
+unfoldable mutual
+  pub place_of : Place → Tree.Place
+  place_of (Entry up index) = Tree.Entry up index
+  place_of (Opened which ty number) = Tree.Opened which (type_of ty) number
+  place_of (Element' p base ty q index line) = Tree.Element (place_of base) (type_of ty) (expr_of index) line.number
+  place_of (Field' p base ty number) = Tree.Field (place_of base) (type_of ty) number
+  place_of (Target' p base pointer line) = Tree.Target (place_of base) pointer line.number
+
+  pub expr_of : Expr → Tree.Expr
+  expr_of (Number n) = Tree.Number n
+  expr_of Nil = Tree.Nil
+  expr_of (Load' p place) = Tree.Load (place_of place)
+  expr_of (Plus' p e) = Tree.Plus (expr_of e)
+  expr_of (Minus' p e line) = Tree.Minus (expr_of e) line.number
+  expr_of (Not' p e) = Tree.Not (expr_of e)
+  expr_of (Arithmetic' operator p a q b line) = Tree.Arithmetic operator (expr_of a) (expr_of b) line.number
+  expr_of (Logic' operator p a q b) = Tree.Logic operator (expr_of a) (expr_of b)
+  expr_of (Compare' relation p a q b) = Tree.Compare relation (expr_of a) (expr_of b)
+  expr_of (ComparePointers' relation p a q b) = Tree.ComparePointers relation (expr_of a) (expr_of b)
+  expr_of (CompareSets' relation p a q b) = Tree.CompareSets relation (set_of a) (set_of b)
+  expr_of (CompareStrings' relation p a q b) = Tree.CompareStrings relation (structure_of a) (structure_of b)
+  expr_of (In' p a q b) = Tree.In (expr_of a) (set_of b)
+  expr_of (Apply' function p e line) = Tree.Apply function (expr_of e) line.number
+  expr_of Eof = Tree.Eof
+  expr_of (Eoln line) = Tree.Eoln line.number
+  expr_of (Call' routine up shape row line) = Tree.Call routine up (arguments_of_row row) line.number
+  expr_of (CallFormal' up index shape row line) = Tree.CallFormal up index (arguments_of_row row) line.number
+
+  pub set_of : SetExpr → Tree.SetExpr
+  set_of (LoadSet' p place) = Tree.LoadSet (place_of place)
+  set_of (Constructor' shape row) = Tree.Constructor (members_of_row row)
+  set_of (Combine' operator p a q b) = Tree.Combine operator (set_of a) (set_of b)
+
+  pub member_of : Member → Tree.Member
+  member_of (One e line) = Tree.One (expr_of e) line.number
+  member_of (Several a b line) = Tree.Several (expr_of a) (expr_of b) line.number
+
+  pub members_of_row : {m : _} → Row_of-Member m → Tree.Members
+  members_of_row end_of-Member = Tree.no_member
+  members_of_row (more_of-Member m rest) = Tree.member_before (member_of m) (members_of_row rest)
+
+  pub structure_of : Structure → Tree.Structure
+  structure_of (Literal characters) = Tree.Literal characters.items
+  structure_of (Contents' p place ty) = Tree.Contents (place_of place) (type_of ty)
+
+  pub argument_of : Argument → Tree.Argument
+  argument_of (ByValue e range line) = Tree.ByValue (expr_of e) range line.number
+  argument_of (BySet e low high line) = Tree.BySet (set_of e) low high line.number
+  argument_of (ByCopy e ty) = Tree.ByCopy (structure_of e) (type_of ty)
+  argument_of (ByVariable place) = Tree.ByVariable (place_of place)
+  argument_of (ByRoutine routine up) = Tree.ByRoutine routine up
+  argument_of (ByFormal up index) = Tree.ByFormal up index
+
+  pub arguments_of_row : {m : _} → Row_of-Argument m → Tree.Arguments
+  arguments_of_row end_of-Argument = Tree.no_argument
+  arguments_of_row (more_of-Argument a rest) = Tree.argument_before (argument_of a) (arguments_of_row rest)
+
+-- lists of arguments, as the tree has them
+unfoldable pub arguments_of : List Argument → Tree.Arguments
+arguments_of [] = Tree.no_argument
+arguments_of (a ∷ rest) = Tree.argument_before (argument_of a) (arguments_of rest)
+
+unfoldable pub members_of : List Member → Tree.Members
+members_of [] = Tree.no_member
+members_of (m ∷ rest) = Tree.member_before (member_of m) (members_of rest)
+
+unfoldable pub read_of : ReadVariable → Tree.ReadVariable
+read_of (ReadChar place low high line) = Tree.ReadChar (place_of place) low high line.number
+read_of (ReadInteger place low high line) = Tree.ReadInteger (place_of place) low high line.number
+
+unfoldable pub width_of : Width → Tree.Width
+width_of Default = Tree.DefaultWidth
+width_of (Given e line) = Tree.GivenWidth (expr_of e) line.number
+
+unfoldable pub write_of : WriteParameter → Tree.WriteParameter
+write_of (WriteInteger e width) = Tree.WriteInteger (expr_of e) (width_of width)
+write_of (WriteChar e width) = Tree.WriteChar (expr_of e) (width_of width)
+write_of (WriteBoolean e width) = Tree.WriteBoolean (expr_of e) (width_of width)
+write_of (WriteText e width) = Tree.WriteText (structure_of e) (width_of width)
+
+unfoldable mutual
+  pub statement_of : Statement → Tree.Statement
+  statement_of Empty = Tree.Empty
+  statement_of (Assign place range e line) = Tree.Assign (place_of place) range (expr_of e) line.number
+  statement_of (AssignSet place low high e line) = Tree.AssignSet (place_of place) low high (set_of e) line.number
+  statement_of (AssignStructure place e) = Tree.AssignStructure (place_of place) (structure_of e)
+  statement_of (CallProcedure routine up arguments line) = Tree.CallProcedure routine up (arguments_of arguments.items) line.number
+  statement_of (CallFormalProcedure up index arguments line) = Tree.CallFormalProcedure up index (arguments_of arguments.items) line.number
+  statement_of (Compound' shape row) = Tree.Compound (statements_of_row row)
+  statement_of (If' e p s) = Tree.If (expr_of e) (statement_of s)
+  statement_of (IfElse' e p s q t) = Tree.IfElse (expr_of e) (statement_of s) (statement_of t)
+  statement_of (Case' e shape row line) = Tree.Case (expr_of e) (elements_of_row row) line.number
+  statement_of (While' e p s) = Tree.While (expr_of e) (statement_of s)
+  statement_of (Repeat' shape row e) = Tree.Repeat (statements_of_row row) (expr_of e)
+  statement_of (For' variable low high a from_line direction b to_line p s) = Tree.For variable low high (expr_of a) from_line.number direction (expr_of b) to_line.number (statement_of s)
+  statement_of (With' places p s) = Tree.With (map place_of places.items) (statement_of s)
+  statement_of (New place pointer line) = Tree.New (place_of place) pointer line.number
+  statement_of (Pack a from_ty e line z to_ty) = Tree.Pack (place_of a) (type_of from_ty) (expr_of e) line.number (place_of z) (type_of to_ty)
+  statement_of (Unpack z from_ty a to_ty e line) = Tree.Unpack (place_of z) (type_of from_ty) (place_of a) (type_of to_ty) (expr_of e) line.number
+  statement_of (Read variables) = Tree.Read (map read_of variables.items)
+  statement_of (Readln variables line) = Tree.Readln (map read_of variables.items) line.number
+  statement_of (Write parameters) = Tree.Write (map write_of parameters.items)
+  statement_of (Writeln parameters) = Tree.Writeln (map write_of parameters.items)
+
+  pub statements_of_row : {m : _} → Row_of-Statement m → Tree.Statements
+  statements_of_row end_of-Statement = Tree.no_statement
+  statements_of_row (more_of-Statement s rest) = Tree.statement_before (statement_of s) (statements_of_row rest)
+
+  pub elements_of_row : {m : _} → Row_of-CaseElement m → Tree.Elements
+  elements_of_row end_of-CaseElement = Tree.no_element
+  elements_of_row (more_of-CaseElement constants s rest) = Tree.element_before constants.items (statement_of s) (elements_of_row rest)
+
+-- lists of statements and case elements
+unfoldable pub statements_of : List Statement → Tree.Statements
+statements_of [] = Tree.no_statement
+statements_of (s ∷ rest) = Tree.statement_before (statement_of s) (statements_of rest)
+
+unfoldable pub elements_of : List CaseElement → Tree.Elements
+elements_of [] = Tree.no_element
+elements_of (e ∷ rest) = Tree.element_before (out-CaseElement e).constants.items (statement_of (out-CaseElement e).body) (elements_of rest)
+
+unfoldable mutual
+  pub formal_of : Formal → Tree.Formal
+  formal_of (ValueFormal ty) = Tree.ValueFormal (type_of ty)
+  formal_of (VariableFormal ty) = Tree.VariableFormal (type_of ty)
+  formal_of (RoutineFormal' shape row result) = Tree.RoutineFormal (formals_of_row row) (option_map type_of result)
+
+  pub formals_of_row : {m : _} → Row_of-Formal m → Tree.Formals
+  formals_of_row end_of-Formal = Tree.no_formal
+  formals_of_row (more_of-Formal f rest) = Tree.formal_before (formal_of f) (formals_of_row rest)
+
+unfoldable pub formals_of : List Formal → Tree.Formals
+formals_of [] = Tree.no_formal
+formals_of (f ∷ rest) = Tree.formal_before (formal_of f) (formals_of rest)
+
+abbrev pub routine_of : Routine → Tree.Routine
+routine_of r = record {
+  chain = r.chain.items;
+  formals = formals_of r.formals.items;
+  result = option_map type_of r.result;
+  variables = map type_of r.variables.items;
+  body = statements_of r.body.items;
+  line = r.line.number;
+}
+
+abbrev pub program_of : List Routine → List Ty → Tree.Program
+program_of routines domains = record { routines = map routine_of routines; domains = map type_of domains }

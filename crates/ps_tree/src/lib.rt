@@ -1,0 +1,10 @@
+// The types of a program, and its checked tree, in which every name is resolved.
+#![tactic(auto)]
+
+mod count;
+pub mod line;
+pub mod program;
+#[cfg(test)]
+mod tests;
+pub mod tree;
+pub mod types;

@@ -1,0 +1,447 @@
+// Types: what they are, when two are one, and their sizes.
+
+ghost use Rattle.std.specs.Prelude.{◌≡◌, ◌↔◌, ◌-◌, ◌^◌, ◌≤◌, min, IfOk, IsTrue};
+ghost use Rattle.ps_tree.specs.Types.{Compatible, Assignable, is_same_host, are_same, is_same_ordinal, is_same_type, is_char, is_string_index, string_length, goes_with, has_variables, is_compatible, is_assignable};
+ghost use Rattle.ps_tree.specs.Sizes.{value_count, fits_byte, whole_words, cells, record_cells, bytes, field_bytes};
+ghost use Rattle.ps_tree.specs.View.{type_of, fields_of};
+
+use std::alloc::AllocError;
+use std::rc::Rc;
+
+/// What the values of an ordinal type are (6.4.2.2, 6.4.2.3). An enumerated type is known by its denoter.
+#[derive(Clone, Copy, PartialEq, Eq, Debug)]
+pub enum Host {
+    Integer,
+    Char,
+    Boolean,
+    /// `at` is the offset of the denoter's first token.
+    Enumeration { at: u32 },
+}
+
+/// An ordinal type (6.4.2): its host, the offset of its own denoter's first token where it is a subrange, and its
+/// lowest and highest value.
+#[derive(Clone, Copy, PartialEq, Eq, Debug)]
+pub struct Ordinal {
+    pub host: Host,
+    pub subrange: Option<u32>,
+    pub low: i32,
+    pub high: i32,
+}
+
+/// Whether a set type is packed. A set constructor's type is both packed and not (6.7.1).
+#[derive(Clone, Copy, PartialEq, Eq, Debug)]
+pub enum Packing {
+    Packed,
+    Unpacked,
+    Either,
+}
+
+/// A type (6.4). One that is made by a denoter of its own bears the offset of the denoter's first token, so that two
+/// denoters of one form are two types. A pointer type bears its number among the pointer types, counted in the order
+/// of their denoters; its domain type, which may contain it, stands in the program's list of domains.
+#[cycle(types)]
+#[derive(Drop)]
+pub enum Ty {
+    /// integer, char, Boolean, an enumerated type or a subrange
+    Simple(Ordinal),
+    Pointer {
+        number: u32,
+    },
+    /// the type of `nil`
+    Nil,
+    /// A set type; without a denoter the type of a set constructor or of an operation on sets.
+    Set {
+        at: Option<u32>,
+        packing: Packing,
+        base: Ordinal,
+    },
+    /// the type of `[]`
+    EmptySet,
+    /// the type of a string in the text, of `length` characters
+    Text {
+        length: u32,
+    },
+    Array {
+        at: u32,
+        packed: bool,
+        index: Ordinal,
+        component: Rc<Ty>,
+    },
+    Record {
+        at: u32,
+        packed: bool,
+        fields: Rc<Fields>,
+    },
+}
+
+/// The fields of a record type, in their order.
+#[cycle(types)]
+#[derive(Drop)]
+pub struct Fields {
+    pub fields: Vec<Field>,
+}
+
+/// A field of a record type; its name is in small letters.
+#[cycle(types)]
+#[derive(Drop)]
+pub struct Field {
+    pub name: Vec<u8>,
+    pub ty: Ty,
+}
+
+/// Two types have values of one kind: all their subranges apart, they are one type.
+pub fn same_host(a: Host, b: Host) -> bool
+    ensures { result ≡ is_same_host a b }
+{
+    match (a, b) {
+        (Host::Integer, Host::Integer)
+        | (Host::Char, Host::Char)
+        | (Host::Boolean, Host::Boolean) => true,
+        (Host::Enumeration { at: x }, Host::Enumeration { at: y }) => x == y,
+        (Host::Integer | Host::Char | Host::Boolean | Host::Enumeration { .. }, _) => false,
+    }
+}
+
+fn same_number(a: Option<u32>, b: Option<u32>) -> bool
+    ensures { result ≡ are_same a b }
+{
+    match (a, b) {
+        (Some(x), Some(y)) => x == y,
+        (Some(_) | None, _) => false,
+    }
+}
+
+fn same_ordinal(a: Ordinal, b: Ordinal) -> bool
+    ensures { result ≡ is_same_ordinal a b }
+{
+    same_host(a.host, b.host)
+        && (same_number(a.subrange, b.subrange) || (a.subrange.is_none() && b.subrange.is_none()))
+}
+
+fn packings_agree(a: Packing, b: Packing) -> bool
+    ensures { result ≡ goes_with a b }
+{
+    match (a, b) {
+        (Packing::Packed, Packing::Unpacked) | (Packing::Unpacked, Packing::Packed) => false,
+        (Packing::Packed | Packing::Unpacked | Packing::Either, _) => true,
+    }
+}
+
+impl Ordinal {
+    /// How many values the type has.
+    pub fn value_count(self) -> u64
+        ensures value { result ≡ value_count self }
+        ensures small { result ≤ 2 ^ 32 }
+    {
+        if self.high < self.low {
+            0
+        } else {
+            u64::from(self.high.abs_diff(self.low)) + 1
+        }
+    }
+
+    /// A subrange of integer from 1 to n > 1.
+    fn is_string_index(self) -> bool
+        ensures { result ≡ is_string_index self }
+    {
+        same_host(self.host, Host::Integer)
+            && self.subrange.is_some()
+            && self.low == 1
+            && 1 < self.high
+    }
+}
+
+impl Ty {
+    /// The same type.
+    #[tactic(auto, using(crate::proofs::ViewLemmas::type_of_Array, crate::proofs::ViewLemmas::type_of_Record), unfolding(crate::specs::View::type_of))]
+    pub fn copy(&self) -> Result<Ty, AllocError>
+        ensures { IfOk result (λ ty. type_of ty ≡ type_of self.now) }
+    {
+        match self {
+            Ty::Simple(ordinal) => Ok(Ty::Simple(*ordinal)),
+            Ty::Pointer { number } => Ok(Ty::Pointer { number: *number }),
+            Ty::Nil => Ok(Ty::Nil),
+            Ty::Set { at, packing, base } => Ok(Ty::Set {
+                at: *at,
+                packing: *packing,
+                base: *base,
+            }),
+            Ty::EmptySet => Ok(Ty::EmptySet),
+            Ty::Text { length } => Ok(Ty::Text { length: *length }),
+            Ty::Array {
+                at,
+                packed,
+                index,
+                component,
+            } => Ok(Ty::Array {
+                at: *at,
+                packed: *packed,
+                index: *index,
+                component: component.clone()?,
+            }),
+            Ty::Record { at, packed, fields } => Ok(Ty::Record {
+                at: *at,
+                packed: *packed,
+                fields: fields.clone()?,
+            }),
+        }
+    }
+
+    /// The type char itself.
+    #[tactic(auto, unfolding(crate::specs::View::type_of))]
+    fn is_char(&self) -> bool
+        ensures { result ≡ is_char (type_of self.now) }
+    {
+        match self {
+            Ty::Simple(ordinal) => same_host(ordinal.host, Host::Char)
+                && ordinal.subrange.is_none(),
+            Ty::Pointer { .. }
+            | Ty::Nil
+            | Ty::Set { .. }
+            | Ty::EmptySet
+            | Ty::Text { .. }
+            | Ty::Array { .. }
+            | Ty::Record { .. } => false,
+        }
+    }
+
+    /// The length of the strings that are the type's values, where it is a string type (6.4.3.2).
+    #[tactic(auto, unfolding(crate::specs::View::type_of, crate::specs::Types::string_length))]
+    pub fn string_length(&self) -> Option<u32>
+        ensures { result ≡ string_length (type_of self.now) }
+    {
+        match self {
+            Ty::Text { length } => Some(*length),
+            Ty::Array {
+                packed,
+                index,
+                component,
+                ..
+            } => {
+                if *packed && component.is_char() && index.is_string_index() {
+                    Some(index.high.unsigned_abs())
+                } else {
+                    None
+                }
+            }
+            Ty::Simple(_)
+            | Ty::Pointer { .. }
+            | Ty::Nil
+            | Ty::Set { .. }
+            | Ty::EmptySet
+            | Ty::Record { .. } => None,
+        }
+    }
+}
+
+/// One type (6.4.1).
+#[tactic(auto, unfolding(crate::specs::View::type_of, crate::specs::Types::is_same_type))]
+pub fn same_type(a: &Ty, b: &Ty) -> bool
+    ensures { result ≡ is_same_type (type_of a.now) (type_of b.now) }
+{
+    match (a, b) {
+        (Ty::Simple(x), Ty::Simple(y)) => same_ordinal(*x, *y),
+        (Ty::Pointer { number: x }, Ty::Pointer { number: y }) => *x == *y,
+        (Ty::Nil, Ty::Nil) | (Ty::EmptySet, Ty::EmptySet) => true,
+        (Ty::Set { at: x, .. }, Ty::Set { at: y, .. }) => same_number(*x, *y),
+        (Ty::Array { at: x, .. }, Ty::Array { at: y, .. }) => *x == *y,
+        (Ty::Record { at: x, .. }, Ty::Record { at: y, .. }) => *x == *y,
+        (
+            Ty::Simple(_)
+            | Ty::Pointer { .. }
+            | Ty::Nil
+            | Ty::Set { .. }
+            | Ty::EmptySet
+            | Ty::Text { .. }
+            | Ty::Array { .. }
+            | Ty::Record { .. },
+            _,
+        ) => false,
+    }
+}
+
+/// String types with equally many components.
+#[tactic(auto, unfolding(crate::specs::View::type_of))]
+fn same_strings(a: &Ty, b: &Ty) -> bool
+    ensures { result ≡ are_same (string_length (type_of a.now)) (string_length (type_of b.now)) }
+{
+    same_number(a.string_length(), b.string_length())
+}
+
+#[tactic(auto, unfolding(crate::specs::View::type_of, crate::specs::Types::is_compatible))]
+fn test_compatible(a: &Ty, b: &Ty) -> bool
+    ensures { result ≡ is_compatible (type_of a.now) (type_of b.now) }
+{
+    match (a, b) {
+        (Ty::Simple(x), Ty::Simple(y)) => same_host(x.host, y.host),
+        (
+            Ty::Set {
+                at: x,
+                packing: k,
+                base: o,
+            },
+            Ty::Set {
+                at: y,
+                packing: l,
+                base: p,
+            },
+        ) => same_number(*x, *y) || (same_host(o.host, p.host) && packings_agree(*k, *l)),
+        (Ty::EmptySet, Ty::Set { .. })
+        | (Ty::Set { .. }, Ty::EmptySet)
+        | (Ty::Nil, Ty::Pointer { .. })
+        | (Ty::Pointer { .. }, Ty::Nil) => true,
+        (
+            Ty::Simple(_)
+            | Ty::Pointer { .. }
+            | Ty::Nil
+            | Ty::Set { .. }
+            | Ty::EmptySet
+            | Ty::Text { .. }
+            | Ty::Array { .. }
+            | Ty::Record { .. },
+            _,
+        ) => same_type(a, b) || same_strings(a, b),
+    }
+}
+
+/// Two types are compatible (6.4.5).
+
+pub fn compatible(a: &Ty, b: &Ty) -> bool
+    ensures rule { IsTrue result ↔ Compatible (type_of a.now) (type_of b.now) }
+    ensures value { result ≡ is_compatible (type_of a.now) (type_of b.now) }
+{
+    test_compatible(a, b)
+}
+
+#[tactic(auto, unfolding(crate::specs::View::type_of))]
+fn may_be_of_a_variable(ty: &Ty) -> bool
+    ensures { result ≡ has_variables (type_of ty.now) }
+{
+    match ty {
+        Ty::Nil | Ty::EmptySet | Ty::Text { .. } => false,
+        Ty::Simple(_)
+        | Ty::Pointer { .. }
+        | Ty::Set { .. }
+        | Ty::Array { .. }
+        | Ty::Record { .. } => true,
+    }
+}
+
+/// A value of the first type may go into a variable of the second (6.4.6). The value itself is tested as the program
+/// runs.
+
+pub fn assignable(from: &Ty, to: &Ty) -> bool
+    ensures rule { IsTrue result ↔ Assignable (type_of from.now) (type_of to.now) }
+    ensures value { result ≡ is_assignable (type_of from.now) (type_of to.now) }
+{
+    may_be_of_a_variable(to) && compatible(from, to)
+}
+
+/// The next multiple of four.
+fn whole_words(n: u64) -> u64
+    requires { n ≤ 2 ^ 32 }
+    ensures { result ≡ whole_words n }
+{
+    4 * ((n + 3) / 4)
+}
+
+/// The number, or the largest of four bytes where it is above that.
+fn capped(n: u64) -> u32
+    ensures { result ≡ min n (2 ^ 32 - 1) }
+{
+    if n <= 0xFFFF_FFFF { n as u32 } else { u32::MAX }
+}
+
+impl Ty {
+    /// Whether all values of the type lie in 0..255.
+    #[tactic(auto, unfolding(crate::specs::View::type_of))]
+    fn fits_byte(&self) -> bool
+        ensures { result ≡ fits_byte (type_of self.now) }
+    {
+        match self {
+            Ty::Simple(ordinal) => 0 <= ordinal.low && ordinal.high <= 255,
+            Ty::Pointer { .. }
+            | Ty::Nil
+            | Ty::Set { .. }
+            | Ty::EmptySet
+            | Ty::Text { .. }
+            | Ty::Array { .. }
+            | Ty::Record { .. } => false,
+        }
+    }
+
+    /// The cells of a variable of the type: 1 for an ordinal or a pointer, 8 for a set, for an array its length times
+    /// its component's, for a record the sum, or 1 where it has no field. A count of 2^64 and more is told as 2^64 - 1.
+    #[cycle(cells)]
+    #[tactic(auto, using(crate::proofs::SizeLemmas::times_capped), unfolding(crate::specs::View::type_of, crate::specs::Sizes::cells))]
+    pub fn cells(&self) -> u64
+        ensures { result ≡ min (cells (type_of self.now)) (2 ^ 64 - 1) }
+    {
+        match self {
+            Ty::Simple(_) | Ty::Pointer { .. } | Ty::Nil => 1,
+            Ty::Set { .. } | Ty::EmptySet => 8,
+            Ty::Text { length } => u64::from(*length),
+            Ty::Array {
+                index,
+                component,
+                ..
+            } => index.value_count().saturating_mul(component.cells()),
+            Ty::Record { fields, .. } => fields.cells(),
+        }
+    }
+
+    /// The bytes of a variable of the type: 4 for an ordinal or a pointer, 32 for a set, for an array its length times
+    /// its component's, for a record the sum. A packed array whose components lie in 0..255 takes one for each, filled
+    /// up to a multiple of 4. A count of 2^32 and more is told as 2^32 - 1.
+    #[cycle(bytes)]
+    #[tactic(auto, using(crate::proofs::SizeLemmas::times_capped), unfolding(crate::specs::View::type_of, crate::specs::Sizes::bytes))]
+    pub fn bytes(&self) -> u32
+        ensures { result ≡ min (bytes (type_of self.now)) (2 ^ 32 - 1) }
+    {
+        match self {
+            Ty::Simple(_) | Ty::Pointer { .. } | Ty::Nil => 4,
+            Ty::Set { .. } | Ty::EmptySet => 32,
+            Ty::Text { length } => capped(whole_words(u64::from(*length))),
+            Ty::Array {
+                packed,
+                index,
+                component,
+                ..
+            } => {
+                if *packed && component.fits_byte() {
+                    capped(whole_words(index.value_count()))
+                } else {
+                    capped(index.value_count() * u64::from(component.bytes()))
+                }
+            }
+            Ty::Record { fields, .. } => fields.bytes(),
+        }
+    }
+}
+
+impl Fields {
+    #[cycle(cells)]
+    fn cells(&self) -> u64
+        ensures { result ≡ min (record_cells (fields_of self.now)) (2 ^ 64 - 1) }
+    {
+        if self.fields.is_empty() {
+            return 1;
+        }
+        let mut total: u64 = 0;
+        for field in &self.fields {
+            total = total.saturating_add(field.ty.cells());
+        }
+        total
+    }
+
+    #[cycle(bytes)]
+    fn bytes(&self) -> u32
+        ensures { result ≡ min (field_bytes (fields_of self.now)) (2 ^ 32 - 1) }
+    {
+        let mut total: u32 = 0;
+        for field in &self.fields {
+            total = total.saturating_add(field.ty.bytes());
+        }
+        total
+    }
+}

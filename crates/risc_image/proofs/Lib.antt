@@ -1,0 +1,10 @@
+pub mod Spelled
+pub mod RowLemmas
+pub mod Checked
+pub mod Written
+pub mod Unique
+pub mod Joined
+pub mod Candidate
+pub mod Passing
+pub mod Reading
+pub mod Found

@@ -1,0 +1,11 @@
+use Rattle.std.proofs.Common.{◌≡◌, ◌++◌, take}
+use Rattle.std.specs.Prelude.{All}
+use Rattle.std.specs.List.{flat_map}
+use Rattle.risc_image.specs.Format.{word_bytes, frame_words, AreWords}
+use Rattle.risc_image.proofs.writing.put_frames.Given as goal
+
+abbrev pub invariant-loop-row : goal.invariant-loop-row
+invariant-loop-row l = record {
+  bytes : l.out.items ≡ l.fn.out.items ++ flat_map (λ row. word_bytes (frame_words row)) (take l.row-index l.rows);
+  numbers : All (λ row. AreWords (frame_words row)) (take l.row-index l.rows);
+}

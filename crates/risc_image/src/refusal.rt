@@ -1,0 +1,41 @@
+//! Why bytes are no image.
+
+ghost use Rattle.std.specs.Prelude.{◌≡◌};
+ghost use Rattle.risc_image.specs.Refusal.{number_of};
+
+use thiserror::Error;
+
+/// The first check that the bytes fail.
+#[derive(Clone, Copy, PartialEq, Eq, Debug, Error)]
+pub enum ImageRefusal {
+    /// One of the first four bytes that are there differs from the magic.
+    #[error("Magic")]
+    Magic,
+    /// Bytes are missing, of the header or of what its counts ask for.
+    #[error("Truncated")]
+    Truncated,
+    /// Bytes follow what the counts ask for.
+    #[error("Trailing")]
+    Trailing,
+    /// The file, the globals or a count is above its limit.
+    #[error("TooLarge")]
+    TooLarge,
+    /// A number of the header or a row of a table is not what the format asks.
+    #[error("BadTable")]
+    BadTable,
+}
+
+impl ImageRefusal {
+    /// The number of the refusal.
+    pub fn number(self) -> u32
+        ensures { result ≡ number_of self }
+    {
+        match self {
+            ImageRefusal::Magic => 60,
+            ImageRefusal::Truncated => 61,
+            ImageRefusal::Trailing => 62,
+            ImageRefusal::TooLarge => 63,
+            ImageRefusal::BadTable => 64,
+        }
+    }
+}

@@ -1,0 +1,6 @@
+pub mod Console
+pub mod Streams
+pub mod Fused
+pub mod Step
+pub mod Exec
+pub mod Laws

@@ -1,0 +1,26 @@
+// Signed overflow of sums and differences of words.
+
+ghost use Rattle.std.specs.Prelude.{◌≡◌, pos, ◌+ℤ◌, ◌-ℤ◌};
+ghost use Rattle.std.specs.Int.{from_bool};
+ghost use Rattle.risc_machine.specs.Step.{signed, overflows};
+
+// Whether a signed number leaves 32 bits.
+fn leaves_word(value: i64) -> bool
+    ensures { result ≡ overflows value }
+{
+    value < i64::from(i32::MIN) || value > i64::from(i32::MAX)
+}
+
+// Whether the signed sum with a carry leaves 32 bits.
+pub(crate) fn sum_overflows(left: u32, right: u32, carry: bool) -> bool
+    ensures { result ≡ overflows (signed left +ℤ signed right +ℤ pos (from_bool carry)) }
+{
+    leaves_word(i64::from(left.cast_signed()) + i64::from(right.cast_signed()) + carry as i64)
+}
+
+// Whether the signed difference with a borrow leaves 32 bits.
+pub(crate) fn difference_overflows(left: u32, right: u32, borrow: bool) -> bool
+    ensures { result ≡ overflows (signed left -ℤ signed right -ℤ pos (from_bool borrow)) }
+{
+    leaves_word(i64::from(left.cast_signed()) - i64::from(right.cast_signed()) - borrow as i64)
+}

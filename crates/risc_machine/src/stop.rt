@@ -1,0 +1,31 @@
+// How a run ends.
+
+/// What an instruction could not do. The machine is left as before it.
+#[derive(Clone, Copy, PartialEq, Eq, Debug)]
+pub enum Fault {
+    /// The word at PC is no instruction.
+    BadWord,
+    /// A word's address that is no multiple of 4, an address past memory, or one of the device page that does not serve this access.
+    BadAddress,
+    /// A division by 0 or a number below it.
+    BadDivisor,
+    /// PC is past memory.
+    BadJump,
+}
+
+/// Why a run stopped.
+#[derive(Clone, Copy, PartialEq, Eq, Debug)]
+pub enum Stop {
+    /// The program stored 0 at FFFFC4H.
+    Normal,
+    /// The program stored this word, which is not 0, at FFFFC4H.
+    Trap(u32),
+    /// The steps that were asked for are made, and the machine has not stopped.
+    Steps,
+    /// The console did not give the byte that was asked for.
+    InputFault,
+    /// The console did not take the byte that was put.
+    OutputFault,
+    /// An instruction could not be done.
+    Fault(Fault),
+}

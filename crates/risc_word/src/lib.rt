@@ -1,0 +1,15 @@
+// The words of the processor: their instructions, the two ways between them, and the printed form.
+#![tactic(auto)]
+
+pub mod field;
+pub mod instr;
+pub mod text;
+pub mod word;
+
+pub use field::{Displacement, Immediate, Offset, Register};
+pub use instr::{Condition, Instr, Operand, Operation, Target, Width};
+pub use text::{OutOfMemory, print};
+pub use word::{decode, encode};
+
+#[cfg(test)]
+mod tests;

@@ -1,0 +1,167 @@
+// The printed form of an instruction.
+
+ghost use Rattle.std.specs.Prelude.{◌≡◌, IfOk, Some};
+ghost use Rattle.std.specs.String.{string_bytes};
+ghost use Rattle.risc_word.specs.Printed.{printed, printed_register, printed_operand, printed_target, operation_name, condition_name, load_name, store_name, branch_name};
+
+use crate::field::Register;
+use crate::instr::{Condition, Instr, Operand, Operation, Target, Width};
+use std::alloc::{AllocError, Global};
+use std::fmt;
+
+/// What a call answers where the host refuses memory.
+pub type OutOfMemory = AllocError;
+
+/// The printed form of an instruction, as `ADD R1, R1, 1` or `BL T, -12`: its name, and then its
+/// operands. Immediates and offsets are signed decimal numbers.
+pub fn print(alloc: Global, instr: Instr) -> Result<String, OutOfMemory>
+    ensures { IfOk result (λ text. string_bytes text ≡ printed instr) }
+{
+    format!(in alloc; "{instr}")
+}
+
+impl fmt::Display for Register {
+    ghost output = { λ a. Some (printed_register a) };
+
+    fn fmt<W: fmt::Write>(&self, f: &mut fmt::Formatter<W>) -> fmt::Result {
+        let number = self.number();
+        write!(f, "R{number}")
+    }
+}
+
+impl fmt::Display for Operand {
+    ghost output = { λ n. Some (printed_operand n) };
+
+    fn fmt<W: fmt::Write>(&self, f: &mut fmt::Formatter<W>) -> fmt::Result {
+        match *self {
+            Operand::Content(register) => write!(f, "{register}"),
+            Operand::Constant(immediate) => {
+                let value = immediate.value();
+                write!(f, "{value}")
+            }
+        }
+    }
+}
+
+impl fmt::Display for Target {
+    ghost output = { λ n. Some (printed_target n) };
+
+    fn fmt<W: fmt::Write>(&self, f: &mut fmt::Formatter<W>) -> fmt::Result {
+        match *self {
+            Target::Relative(distance) => {
+                let value = distance.value();
+                write!(f, "{value}")
+            }
+            Target::Absolute(register) => write!(f, "{register}"),
+        }
+    }
+}
+
+impl fmt::Display for Instr {
+    ghost output = { λ i. Some (printed i) };
+
+    fn fmt<W: fmt::Write>(&self, f: &mut fmt::Formatter<W>) -> fmt::Result {
+        match *self {
+            Instr::Move { to, operand } => write!(f, "MOV {to}, {operand}"),
+            Instr::MoveTop { to, top } => write!(f, "MOVH {to}, {top}"),
+            Instr::MoveHigh { to } => write!(f, "MOV {to}, H"),
+            Instr::Operate {
+                operation,
+                to,
+                left,
+                right,
+            } => {
+                let name = name_of_operation(operation);
+                write!(f, "{name} {to}, {left}, {right}")
+            }
+            Instr::Load {
+                width,
+                to,
+                base,
+                offset,
+            } => {
+                let name = name_of_load(width);
+                let distance = offset.value();
+                write!(f, "{name} {to}, {base}, {distance}")
+            }
+            Instr::Store {
+                width,
+                from,
+                base,
+                offset,
+            } => {
+                let name = name_of_store(width);
+                let distance = offset.value();
+                write!(f, "{name} {from}, {base}, {distance}")
+            }
+            Instr::Branch {
+                condition,
+                link,
+                target,
+            } => {
+                let name = if link { "BL" } else { "B" };
+                let when = name_of_condition(condition);
+                write!(f, "{name} {when}, {target}")
+            }
+        }
+    }
+}
+
+fn name_of_operation(operation: Operation) -> &'static str
+    ensures { result.now ≡ operation_name operation }
+{
+    match operation {
+        Operation::Lsl => "LSL",
+        Operation::Asr => "ASR",
+        Operation::Ror => "ROR",
+        Operation::And => "AND",
+        Operation::Ann => "ANN",
+        Operation::Ior => "IOR",
+        Operation::Xor => "XOR",
+        Operation::Add => "ADD",
+        Operation::Sub => "SUB",
+        Operation::Mul => "MUL",
+        Operation::Div => "DIV",
+        Operation::Adc => "ADC",
+        Operation::Sbc => "SBC",
+    }
+}
+
+fn name_of_load(width: Width) -> &'static str
+    ensures { result.now ≡ load_name width }
+{
+    match width {
+        Width::Word => "LD",
+        Width::Byte => "LDB",
+    }
+}
+
+fn name_of_store(width: Width) -> &'static str
+    ensures { result.now ≡ store_name width }
+{
+    match width {
+        Width::Word => "ST",
+        Width::Byte => "STB",
+    }
+}
+
+fn name_of_condition(condition: Condition) -> &'static str
+    ensures { result.now ≡ condition_name condition }
+{
+    match condition {
+        Condition::Minus => "MI",
+        Condition::Equal => "EQ",
+        Condition::CarrySet => "CS",
+        Condition::OverflowSet => "VS",
+        Condition::Less => "LT",
+        Condition::LessEqual => "LE",
+        Condition::Always => "T",
+        Condition::Plus => "PL",
+        Condition::NotEqual => "NE",
+        Condition::CarryClear => "CC",
+        Condition::OverflowClear => "VC",
+        Condition::GreaterEqual => "GE",
+        Condition::Greater => "GT",
+        Condition::Never => "F",
+    }
+}

@@ -1,0 +1,9 @@
+pub mod Same
+pub mod Numbers
+pub mod Memory
+pub mod Meaning
+pub mod Sound
+pub mod Run
+pub mod Laws
+pub mod Runner
+pub mod Effect

@@ -1,0 +1,116 @@
+-- The invariant of the code: each target and each operand exists, and numbers lie in their ranges.
+use Rattle.std.specs.Prelude.{◌≡◌, ℕ, suc, ◌+◌, ◌<◌, ◌≤◌, ◌%◌, List, ◌++◌, length, slice_get, Option, Some}
+use Rattle.std.specs.List.{All}
+use Rattle.tac_code.specs.declared.code.Instruction.{Instruction}
+use Rattle.tac_code.specs.declared.code.Instruction.TheVariants.{Literal, Copy, Arithmetic, Bits, Compare, SamePointer, CheckRange, CheckPointer, FrameAddress, ScratchAddress, ConstantAddress, Offset, Index, RoutineValue, Load, Store, LoadByte, StoreByte, Jump, JumpBack, Branch, Call, CallValue, Return, Trap, Take, Put, New, End}
+use Rattle.tac_code.specs.declared.code.TacRoutine.{TacRoutine}
+use Rattle.tac_code.specs.declared.code.TacRaw.{TacRaw}
+use Rattle.tac_code.specs.declared.check.Limits.{Limits}
+use Rattle.tac_code.specs.Meaning.{Code, size}
+
+-- each element, at its place, keeps a fact
+abbrev pub Each : {X : Type 0} → (ℕ → X → Type 0) → List X → Type 0
+Each {X} P xs = (i : ℕ) (x : X) → slice_get xs i ≡ Some x → P i x
+
+-- what the parts of a `TacRaw` are as code
+abbrev pub code_of : TacRaw → Code
+code_of raw =
+    record { program = raw.program.items; run_time = raw.run_time.items; constants = raw.constants.items; objects = raw.objects.items }
+
+-- 12 and 13 are the stops for stack and heap
+abbrev pub IsErrorNumber : ℕ → Type 0
+IsErrorNumber n = (1 ≤ n) × (n ≤ 13)
+
+abbrev pub IsLine : ℕ → Type 0
+IsLine n = (1 ≤ n) × (n ≤ 65535)
+
+-- the operands of a call: at most 65, which are the static link and two words for each of 32 parameters
+abbrev pub AreOperands : ℕ → List ℕ → Type 0
+AreOperands temporaries list = (length list ≤ 65) × All (λ t. t < temporaries) list
+
+-- what an instruction at a place asks
+abbrev pub IsSoundAt : Limits → ℕ → Instruction → Type 0
+IsSoundAt l place (Literal t z) = t < l.temporaries
+IsSoundAt l place (Copy t a) = (t < l.temporaries) × (a < l.temporaries)
+IsSoundAt l place (Arithmetic operator t a b error line) =
+    (t < l.temporaries) × (a < l.temporaries) × (b < l.temporaries) × IsErrorNumber error × IsLine line
+IsSoundAt l place (Bits operator t a b) = (t < l.temporaries) × (a < l.temporaries) × (b < l.temporaries)
+IsSoundAt l place (Compare relation t a b) = (t < l.temporaries) × (a < l.temporaries) × (b < l.temporaries)
+IsSoundAt l place (SamePointer t a b) = (t < l.temporaries) × (a < l.temporaries) × (b < l.temporaries)
+IsSoundAt l place (CheckRange a low high error line) = (a < l.temporaries) × IsErrorNumber error × IsLine line
+IsSoundAt l place (CheckPointer a error line) = (a < l.temporaries) × IsErrorNumber error × IsLine line
+IsSoundAt l place (FrameAddress t offset) = t < l.temporaries
+IsSoundAt l place (ScratchAddress t offset) = t < l.temporaries
+IsSoundAt l place (ConstantAddress t c) = (t < l.temporaries) × (c < l.constants)
+IsSoundAt l place (Offset t a bytes) = (t < l.temporaries) × (a < l.temporaries)
+IsSoundAt l place (Index t a i low width) = (t < l.temporaries) × (a < l.temporaries) × (i < l.temporaries)
+IsSoundAt l place (RoutineValue t r) = (t < l.temporaries) × (r < l.routines)
+IsSoundAt l place (Load t a offset) = (t < l.temporaries) × (a < l.temporaries)
+IsSoundAt l place (Store a offset b) = (a < l.temporaries) × (b < l.temporaries)
+IsSoundAt l place (LoadByte t a offset) = (t < l.temporaries) × (a < l.temporaries)
+IsSoundAt l place (StoreByte a offset b) = (a < l.temporaries) × (b < l.temporaries)
+IsSoundAt l place (Jump n) = suc place + n < l.places
+IsSoundAt l place (JumpBack n) = n ≤ place
+IsSoundAt l place (Branch a on n) = (a < l.temporaries) × (suc place + n < l.places)
+IsSoundAt l place (Call t r list line) =
+    (t < l.temporaries) × (r < l.routines) × AreOperands l.temporaries list × IsLine line
+IsSoundAt l place (CallValue t a list line) =
+    (t < l.temporaries) × (a < l.temporaries) × AreOperands l.temporaries list × IsLine line
+IsSoundAt l place (Return a) = a < l.temporaries
+IsSoundAt l place (Trap error line) = IsErrorNumber error × IsLine line
+IsSoundAt l place (Take t) = t < l.temporaries
+IsSoundAt l place (Put a) = a < l.temporaries
+IsSoundAt l place (New t object_type line) = (t < l.temporaries) × (object_type < l.object_types) × IsLine line
+IsSoundAt l place End = Unit {0}
+
+abbrev pub IsSoundBody : Limits → List Instruction → Type 0
+IsSoundBody l body = Each (IsSoundAt l) body
+
+-- what there is: for a routine of the code
+abbrev pub limits_of : Code → TacRoutine → Limits
+limits_of code routine =
+    record { temporaries = routine.temporaries; places = length routine.body; routines = length code.program + length code.run_time; constants = length code.constants; object_types = length code.objects }
+
+pub record IsSoundRoutine (l : Limits) (routine : TacRoutine) : Type 0 where
+  pub parameters : routine.parameters ≤ routine.temporaries
+  pub frame : routine.frame % 4 ≡ 0
+  pub scratch : routine.scratch % 4 ≡ 0
+  pub bytes : size routine < 2147483648
+  pub begins : IsLine routine.line
+  pub body : IsSoundBody l routine.body
+
+abbrev pub CallsNone : Instruction → Type 0
+CallsNone (Call t r list line) = ⊥
+CallsNone (CallValue t a list line) = ⊥
+CallsNone _ = Unit {0}
+
+-- A run-time routine calls none and is small: its frame lies within its caller's.
+pub record IsLeaf (routine : TacRoutine) : Type 0 where
+  pub parameters : routine.parameters ≤ 8
+  pub bytes : size routine ≤ 160
+  pub body : Each (λ _ i. CallsNone i) routine.body
+
+-- the bytes of an object of a type
+pub record IsObjectSize (bytes : ℕ) : Type 0 where
+  pub aligned : bytes % 4 ≡ 0
+  pub below : bytes < 2147483648
+
+abbrev pub AreSoundRoutines : Code → List TacRoutine → Type 0
+AreSoundRoutines code list = Each (λ _ routine. IsSoundRoutine (limits_of code routine) routine) list
+
+abbrev pub AreLeaves : List TacRoutine → Type 0
+AreLeaves list = Each (λ _ routine. IsLeaf routine) list
+
+abbrev pub AreSoundConstants : List (List ℕ) → Type 0
+AreSoundConstants list = Each (λ _ bytes. length bytes % 4 ≡ 0) list
+
+abbrev pub AreObjectSizes : List ℕ → Type 0
+AreObjectSizes list = Each (λ _ bytes. IsObjectSize bytes) list
+
+pub record IsSound (code : Code) : Type 0 where
+  pub program : AreSoundRoutines code code.program
+  pub run_time : AreSoundRoutines code code.run_time
+  pub leaves : AreLeaves code.run_time
+  pub constants : AreSoundConstants code.constants
+  pub objects : AreObjectSizes code.objects
+  pub types : length code.objects ≤ 1048576

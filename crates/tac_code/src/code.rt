@@ -1,0 +1,340 @@
+// The code: instructions over numbered temporaries, routines, and what the untested whole is made of.
+
+use smallvec::SmallVec;
+use std::alloc::{AllocError, Global};
+use std::marker::Model;
+
+pub type OutOfMemory = AllocError;
+
+/// The temporaries whose values a call passes, first parameter first.
+#[derive(Drop)]
+pub struct Operands {
+    list: SmallVec<u32, 8>,
+}
+
+impl Model for Operands {
+    ghost use Rattle.std.specs.Prelude.{ℕ, List};
+
+    ghost Value = { List ℕ };
+
+    ghost view = { λ o. o.list.items };
+}
+
+ghost use Rattle.std.specs.Prelude.{◌≡◌, [], ◌∷◌, ◌++◌, OnOk, OnErr};
+
+impl Operands {
+    pub fn new(alloc: Global) -> Operands
+        ensures { result ≡ [] }
+    {
+        Operands {
+            list: SmallVec::new(alloc),
+        }
+    }
+
+    pub fn push(&mut self, temporary: u32) -> Result<(), OutOfMemory>
+        ensures ok { OnOk result (self.new ≡ self.old ++ temporary ∷ []) }
+        ensures err { OnErr result (self.new ≡ self.old) }
+    {
+        self.list.push(temporary)?;
+        Ok(())
+    }
+
+    pub fn as_slice(&self) -> &[u32]
+        ensures { result.now ≡ self.now }
+    {
+        self.list.as_slice()
+    }
+}
+
+/// Operators on numbers. A result outside -2147483648..2147483647 is the error that the instruction names.
+#[derive(Clone, Copy, PartialEq, Eq, Debug)]
+pub enum Operator {
+    Add,
+    Subtract,
+    Multiply,
+    /// Truncates toward zero; a divisor of 0 is error 2.
+    Divide,
+    /// The k in 0..j-1 for which i - k is a multiple of j; a j below 1 is error 3.
+    Modulo,
+}
+
+/// Operators on the bits of words, which never fail.
+#[derive(Clone, Copy, PartialEq, Eq, Debug)]
+pub enum BitOperator {
+    And,
+    Or,
+    /// The bits of the left word that aren't in the right one.
+    AndNot,
+    /// By the right number modulo 32; what leaves the word is lost.
+    ShiftLeft,
+}
+
+#[derive(Clone, Copy, PartialEq, Eq, Debug)]
+pub enum Relation {
+    Equal,
+    NotEqual,
+    Less,
+    LessEqual,
+    Greater,
+    GreaterEqual,
+}
+
+/// A block of memory. Activations and objects are counted from 0 over the whole run, so no name is used twice.
+#[derive(Clone, Copy, PartialEq, Eq, Debug)]
+pub enum Block {
+    /// The variables of an activation, with its parameters, result and static link.
+    Frame(u64),
+    /// Room of an activation for copied structures and sets between their turn and their use.
+    Scratch(u64),
+    Object(u64),
+    /// A constant of the code, which is only read.
+    Constant(u32),
+}
+
+/// What a temporary or a word of memory holds. A truth value is 1 or 0, and nil is 0.
+#[derive(Clone, Copy, PartialEq, Eq, Debug)]
+pub enum Value {
+    Number(i32),
+    /// A block and an offset in bytes.
+    Address(Block, u32),
+    Routine(u32),
+}
+
+/// One instruction. Offsets and widths are in bytes, jumps in instructions; `to` is the temporary that is written.
+#[derive(Drop)]
+pub enum Instruction {
+    Literal {
+        to: u32,
+        value: i32,
+    },
+    Copy {
+        to: u32,
+        from: u32,
+    },
+    Arithmetic {
+        operator: Operator,
+        to: u32,
+        left: u32,
+        right: u32,
+        error: u8,
+        line: u16,
+    },
+    Bits {
+        operator: BitOperator,
+        to: u32,
+        left: u32,
+        right: u32,
+    },
+    /// Compares numbers, and gives 1 or 0.
+    Compare {
+        relation: Relation,
+        to: u32,
+        left: u32,
+        right: u32,
+    },
+    /// Whether two pointers are the same. A pointer is nil or the address of an object.
+    SamePointer {
+        to: u32,
+        left: u32,
+        right: u32,
+    },
+    /// The error unless the number lies in `low`..`high`.
+    CheckRange {
+        value: u32,
+        low: i32,
+        high: i32,
+        error: u8,
+        line: u16,
+    },
+    /// The error where the pointer is nil.
+    CheckPointer {
+        pointer: u32,
+        error: u8,
+        line: u16,
+    },
+    /// An address in the frame block of the activation itself.
+    FrameAddress {
+        to: u32,
+        offset: u32,
+    },
+    /// An address in the scratch block of the activation itself.
+    ScratchAddress {
+        to: u32,
+        offset: u32,
+    },
+    ConstantAddress {
+        to: u32,
+        constant: u32,
+    },
+    /// An address in the same block, so many bytes on.
+    Offset {
+        to: u32,
+        base: u32,
+        bytes: u32,
+    },
+    /// The address of a component: `index - low` widths on.
+    Index {
+        to: u32,
+        base: u32,
+        index: u32,
+        low: i32,
+        width: u32,
+    },
+    RoutineValue {
+        to: u32,
+        routine: u32,
+    },
+    Load {
+        to: u32,
+        base: u32,
+        offset: u32,
+    },
+    Store {
+        base: u32,
+        offset: u32,
+        from: u32,
+    },
+    LoadByte {
+        to: u32,
+        base: u32,
+        offset: u32,
+    },
+    StoreByte {
+        base: u32,
+        offset: u32,
+        from: u32,
+    },
+    /// Passes so many instructions.
+    Jump {
+        forward: u32,
+    },
+    /// Goes back so many instructions, counted from the jump itself.
+    JumpBack {
+        back: u32,
+    },
+    /// Passes so many instructions where the number is not 0 (`on`), or is 0 (not `on`).
+    Branch {
+        test: u32,
+        on: bool,
+        forward: u32,
+    },
+    /// The line is that of the called name.
+    Call {
+        to: u32,
+        routine: u32,
+        operands: Operands,
+        line: u16,
+    },
+    CallValue {
+        to: u32,
+        callee: u32,
+        operands: Operands,
+        line: u16,
+    },
+    Return {
+        from: u32,
+    },
+    Trap {
+        error: u8,
+        line: u16,
+    },
+    /// The next byte of the input, or -1 at its end.
+    Take {
+        to: u32,
+    },
+    /// Writes a byte.
+    Put {
+        from: u32,
+    },
+    /// A new object of a type, with the line of the name `new`.
+    New {
+        to: u32,
+        object_type: u32,
+        line: u16,
+    },
+    /// The end of the program.
+    End,
+}
+
+/// The instructions of a routine.
+#[derive(Drop)]
+pub struct Body {
+    list: Vec<Instruction>,
+}
+
+impl Model for Body {
+    ghost use Rattle.std.specs.Prelude.{List};
+    ghost use Rattle.tac_code.specs.declared.code.Instruction.{Instruction};
+
+    ghost Value = { List Instruction };
+
+    ghost view = { λ b. b.list.items };
+}
+
+impl Body {
+    pub fn new(instructions: Vec<Instruction>) -> Body
+        ensures { result ≡ instructions.items }
+    {
+        Body { list: instructions }
+    }
+
+    pub fn as_slice(&self) -> &[Instruction]
+        ensures { result.now ≡ self.now }
+    {
+        self.list.as_slice()
+    }
+}
+
+/// A constant's bytes, as those of a string.
+#[derive(Drop)]
+pub struct Constant {
+    list: Vec<u8>,
+}
+
+impl Model for Constant {
+    ghost use Rattle.std.specs.Prelude.{ℕ, List};
+
+    ghost Value = { List ℕ };
+
+    ghost view = { λ c. c.list.items };
+}
+
+impl Constant {
+    pub fn new(bytes: Vec<u8>) -> Constant
+        ensures { result ≡ bytes.items }
+    {
+        Constant { list: bytes }
+    }
+
+    pub fn as_slice(&self) -> &[u8]
+        ensures { result.now ≡ self.now }
+    {
+        self.list.as_slice()
+    }
+}
+
+/// A routine. Its parameters arrive in its first temporaries.
+#[derive(Drop)]
+pub struct TacRoutine {
+    pub parameters: u32,
+    pub temporaries: u32,
+    /// The bytes of its frame block.
+    pub frame: u32,
+    /// The bytes of its scratch block.
+    pub scratch: u32,
+    /// The line of the `begin` of its block.
+    pub line: u16,
+    pub body: Body,
+}
+
+/// The parts of a `Tac`, untested. Routines are numbered through both lists, the program's first.
+#[derive(Drop)]
+pub struct TacRaw {
+    /// The program block, routine 0, and the program's other routines.
+    pub program: Vec<TacRoutine>,
+    /// The routines of the run-time library, which call none.
+    pub run_time: Vec<TacRoutine>,
+    pub constants: Vec<Constant>,
+    /// The bytes of an object of each type.
+    pub objects: Vec<u32>,
+}

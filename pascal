@@ -1,0 +1,60 @@
+#!/usr/bin/env bash
+# Runs the proved program `pascal` with the words given. Where it is missing, or older than its sources, it is proved and built first.
+set -u
+
+top=$(dirname "$(readlink -f "$0")")
+program=$top/crates/pascal/out/pascal
+log=$top/crates/pascal/out/build.log
+
+# The libraries of this repository that a crate stands on, and the crate itself, lowest first.
+stands_on() {
+    awk -v crate="$1" '
+        { sub(/#.*/, "") }
+        /:/ { split($0, sides, ":"); split(sides[1], head, " "); deps[head[1]] = sides[2] }
+        function visit(name,   list, count, at) {
+            if (!(name in deps) || seen[name]++) return
+            count = split(deps[name], list, " ")
+            for (at = 1; at <= count; at++) visit(list[at])
+            print name
+        }
+        END { visit(crate) }
+    ' "$top/crates.txt"
+}
+
+is_current() {
+    [ -x "$program" ] || return 1
+    local sources=("$top/crates.txt")
+    for crate in $crates; do
+        for part in src specs proofs; do
+            [ -d "$top/crates/$crate/$part" ] && sources+=("$top/crates/$crate/$part")
+        done
+    done
+    [ -z "$(find "${sources[@]}" -newer "$program" -print -quit)" ]
+}
+
+# Proves each crate in turn, telling how far it is.
+build() {
+    local total at=0
+    total=$(wc -w <<<"$crates")
+    for crate in $crates; do
+        at=$((at + 1))
+        echo "pascal: proving $crate ($at of $total)" >&2
+        if [ "$crate" = pascal ]; then
+            (cd "$top/crates/pascal" && rt run -- --help) </dev/null >"$log" 2>&1
+        else
+            (cd "$top/crates/$crate" && rt lib) </dev/null >"$log" 2>&1
+        fi || { echo "pascal: $crate was not proved; $log tells why" >&2; exit 1; }
+    done
+    touch "$program"
+}
+
+crates=$(stands_on pascal | xargs)
+if ! is_current; then
+    command -v rt >/dev/null || { echo "pascal: the command rt of the Rattle kit is not on the path" >&2; exit 1; }
+    mkdir -p "$top/crates/pascal/out"
+    exec 9>"$top/crates/pascal/out/build.lock"
+    flock 9
+    is_current || build
+    exec 9>&-
+fi
+exec "$program" "$@"
