@@ -1,9 +1,8 @@
 -- A budget only stops a run.
-use Rattle.std.proofs.Common.{◌≡◌, ℕ, ◌⊎◌, Bool, true, false, cond, List, [], inl, inr, refl}
+use Rattle.std.proofs.Common.{◌≡◌, ℕ, ◌⊎◌, Bool, true, false, cond, [], inl, inr, refl}
 use Rattle.std.specs.Prelude.{nat_lt}
 use Rattle.tac_code.specs.Same.{Shown, out_of_stack}
-use Rattle.ps_build.specs.Program.{Checked}
-use Rattle.ps_build.specs.Meaning.{run, run_within, IsStop, Begins, BudgetOnlyStops}
+use Rattle.ps_build.specs.Meaning.{run, IsStop, Begins, BudgetOnlyStops}
 
 by_room : (small : Bool) (line : ℕ) (whole : Shown) → (cond small ([], out_of_stack line) whole ≡ whole) ⊎ (IsStop (cond small ([], out_of_stack line) whole).1 × Begins (cond small ([], out_of_stack line) whole) whole)
 by_room true line whole = inr (inl refl, (whole.0, refl))

@@ -1,18 +1,16 @@
 -- The image of a program is one, and does what the program means.
-use Rattle.std.proofs.Common.{◌≡◌, ◌≢◌, ℕ, zero, suc, ◌+◌, ◌*◌, ◌/◌, ◌%◌, ◌<◌, ◌≤◌, Bool, true, false, cond, List, [], ◌∷◌, ◌++◌, length, map, get_or, Option, Some, None, refl, sym, ap, ◌∙◌, subst, arith, lit≤, lit<}
-use Rattle.std.specs.Prelude.{nat_lt, All}
-use Rattle.std.specs.List.Sorted.{IsStrictlyIncreasing}
+use Rattle.std.proofs.Common.{◌≡◌, ◌≢◌, ℕ, suc, ◌+◌, ◌*◌, ◌/◌, ◌%◌, ◌<◌, ◌≤◌, Bool, true, false, cond, List, [], ◌∷◌, length, map, get_or, Some, None, refl, sym, ap, ◌∙◌, subst, arith, lit≤}
+use Rattle.std.specs.Prelude.{nat_lt}
 use Rattle.std.proofs.lemmas.List.Elements.{All-nil, All-cons}
-use Rattle.tac_code.specs.Same.{Shown, Same, normal, out_of_stack}
+use Rattle.tac_code.specs.Same.{Same, normal, out_of_stack}
 use Rattle.risc_word.specs.Words.{word_of}
 use Rattle.risc_machine.specs.Step.{start_state}
-use Rattle.risc_machine.specs.Exec.{Tape, Halt, Stopped, fresh, exec, outcome_of}
+use Rattle.risc_machine.specs.Exec.{Stopped, fresh, exec, outcome_of}
 use Rattle.risc_view.specs.Start.{code_bytes, start_size}
 use Rattle.risc_image.specs.declared.rows.FrameRow.{FrameRow}
 use Rattle.risc_image.specs.declared.rows.ObjectRow.{ObjectRow}
 use Rattle.risc_image.specs.declared.rows.TrapRow.{TrapRow}
-use Rattle.risc_image.specs.declared.rows.CallRow.{CallRow}
-use Rattle.risc_image.specs.Image.{Image, IsFrame, IsObject, IsTrap, IsCall, IsWellFormed, call_rows, code_end}
+use Rattle.risc_image.specs.Image.{Image, IsFrame, IsObject, IsTrap, IsCall, IsWellFormed, code_end}
 use Rattle.risc_image.specs.Format.{IsImage, word_bytes}
 use Rattle.ps_scan.specs.declared.token.Token.{Token}
 use Rattle.ps_scan.specs.Lexis.{IsTokens}
@@ -26,9 +24,9 @@ use Rattle.ps_build.specs.Code.{program_code, code_words, frame_bytes as block_b
 use Rattle.ps_parse.specs.declared.error.ParseRefusal.{ParseRefusal}
 use Rattle.ps_parse.specs.declared.error.ParseRefusal.TheVariants as p
 use Rattle.ps_build.specs.Refusals.{of_parse}
-use Rattle.ps_build.specs.Accepts.{Accepts, most_words, IsRefused}
+use Rattle.ps_build.specs.Accepts.{most_words, IsRefused}
 use Rattle.ps_build.specs.Headline.{frame_bytes, object_bytes, trap_rows, image_shows, IsBudget, DoesAsMeant, Compiles}
-use Rattle.ps_build.proofs.Simulation.{AreBytes, Writes, outcome_bytes, outcome_word, length_program, program_writes}
+use Rattle.ps_build.proofs.Simulation.{AreBytes, outcome_bytes, outcome_word, length_program, program_writes}
 
 -- ---- the image is well formed
 

@@ -1,7 +1,6 @@
 pub mod Simulation
 pub mod Emission
 pub mod Traversal
-pub mod Characters
 pub mod Statements
 pub mod Rows
 pub mod Told

@@ -1,6 +1,6 @@
 -- The machine that runs a program's code writes the program's bytes and stops.
 use Rattle.std.proofs.Common.{◌≡◌, ℕ, zero, suc, ◌+◌, ◌*◌, ◌-◌, ◌%◌, ◌^◌, ◌<◌, ◌≤◌, Bool, true, false, List, [], ◌∷◌, ◌++◌, length, map, Some, pos, negsuc, refl, sym, ap, ◌∙◌, subst, arith, append_assoc, length-append}
-use Rattle.std.specs.Prelude.{nat_lt, slice_get, ◌≤ℤ◌}
+use Rattle.std.specs.Prelude.{nat_lt, ◌≤ℤ◌}
 use Rattle.std.proofs.Math.Seq.{get_or-append_seam}
 use Rattle.std.proofs.lemmas.Option.{slice_get-get_or}
 use Rattle.std.proofs.lemmas.List.{append-nil}
@@ -20,7 +20,7 @@ use Rattle.risc_view.specs.View.{View, Fits, IsAt, HasAt, Shows, after, at_view,
 use Rattle.risc_view.specs.Start.{code_bytes, AreWords, start_size, start_view}
 use Rattle.risc_view.proofs.Runs.{plain_to, put_to, stop_at, branch_taken, branch_passed}
 use Rattle.risc_view.proofs.Start.{shows_start}
-use Rattle.ps_build.specs.Code.{entry_code, entry_link, put_code, end_code, program_code, code_words}
+use Rattle.ps_build.specs.Code.{entry_link, put_code, end_code, program_code, code_words}
 
 -- where the device page begins
 abbrev device : ℕ

@@ -1,5 +1,5 @@
 -- An outcome tells what the machine's run over plain lists came to.
-use Rattle.std.proofs.Common.{◌≡◌, ℕ, zero, suc, ◌+◌, ◌*◌, ◌%◌, ◌≤◌, Bool, true, false, cond, List, [], ◌∷◌, ◌++◌, length, arith, Option, Some, None, refl, sym, ap, ◌∙◌, subst}
+use Rattle.std.proofs.Common.{◌≡◌, ℕ, zero, suc, ◌+◌, ◌*◌, ◌%◌, ◌≤◌, Bool, true, false, cond, List, [], ◌∷◌, ◌++◌, length, arith, Some, None, refl, sym, ap, ◌∙◌, subst}
 use Rattle.std.specs.Prelude.{nat_lt, nat_eq, ◌==◌, ◌||◌, not}
 use Rattle.risc_load.specs.Refusal.{budget_fault}
 use Rattle.risc_load.specs.declared.budget.LoadRefusal.TheVariants.{BudgetUneven, BudgetTooLarge}
@@ -8,8 +8,8 @@ use Rattle.risc_machine.specs.declared.stop.Stop.{Stop}
 use Rattle.risc_machine.specs.declared.stop.Stop.TheVariants as m
 use Rattle.risc_machine.specs.Console.{World}
 use Rattle.risc_machine.specs.Step.{State}
-use Rattle.risc_machine.specs.Exec.{Halt, Running, Stopped, Faulted, Tape, fresh, exec, output_of, ending_of, outcome_of, fault_number as machine_fault}
-use Rattle.risc_machine.specs.Laws.{stop_at, Ended, Broken, Follows, FollowsExec, Counts}
+use Rattle.risc_machine.specs.Exec.{Halt, Running, Stopped, Faulted, fresh, exec, output_of, ending_of, fault_number as machine_fault}
+use Rattle.risc_machine.specs.Laws.{stop_at, Ended, Broken, FollowsExec, Counts}
 use Rattle.risc_image.specs.Image.{Image}
 use Rattle.risc_load.specs.declared.budget.Budget.{Budget}
 use Rattle.risc_load.specs.Loaded.{loaded_state}

@@ -1,19 +1,17 @@
 -- Which checked program a syntax tree has, and which text is accepted.
-use Rattle.std.specs.Prelude.{◌≡◌, ℕ, ◌+◌, ◌-◌, Bool, true, false, not, ◌&&◌, ◌==◌, nat_le, if◌then◌else◌, List, [], ◌∷◌, take, drop, length, slice_range, Option, Some, None, option_and_then, codes}
+use Rattle.std.specs.Prelude.{ℕ, Bool, true, false, not, ◌&&◌, nat_le, if◌then◌else◌, List, [], ◌∷◌, length, slice_range, Option, Some, None, option_and_then, codes}
 use Rattle.std.specs.Str.{str_eq_ignore_ascii_case}
 use Rattle.ps_text.specs.declared.Span.{Span}
 use Rattle.ps_text.specs.Lines.{line_at}
+use Rattle.ps_scan.specs.Values.{characters}
 use Rattle.ps_syntax.specs.declared.expression.Sign.{Sign}
 use Rattle.ps_syntax.specs.declared.expression.Expr.{Expr, out-Expr}
 use Rattle.ps_syntax.specs.declared.expression.Expr.TheOpen.{Expr-F, Factor-F}
-use Rattle.ps_syntax.specs.declared.expression.Factor.{Factor, out-Factor}
-use Rattle.ps_syntax.specs.declared.expression.Member.{Member}
-use Rattle.ps_syntax.specs.declared.expression.Selector.{Selector}
+use Rattle.ps_syntax.specs.declared.expression.Factor.{out-Factor}
 use Rattle.ps_syntax.specs.declared.expression.AddedTerm.{AddedTerm}
 use Rattle.ps_syntax.specs.declared.expression.MultipliedFactor.{MultipliedFactor}
 use Rattle.ps_syntax.specs.declared.expression.Simple.{Simple, out-Simple}
 use Rattle.ps_syntax.specs.declared.expression.Term.{Term, out-Term}
-use Rattle.ps_syntax.specs.declared.expression.Variable.{Variable}
 use Rattle.ps_syntax.specs.declared.statement.Parameter.{Parameter}
 use Rattle.ps_syntax.specs.declared.statement.Parameter.TheVariants as p
 use Rattle.ps_syntax.specs.First as first
@@ -45,16 +43,6 @@ bytes_at text at = if nat_le at.from at.to && nat_le at.to (length text) then sl
 -- a name is spelled so, in whichever case (6.1.1)
 abbrev pub spells : List ℕ → Span → List ℕ → Bool
 spells text at word = str_eq_ignore_ascii_case (bytes_at text at) word
-
--- the characters of what stands between a string's apostrophes: of two apostrophes the second is left out (6.1.7)
-abbrev pub without_pairs : Bool → List ℕ → Text
-without_pairs after [] = []
-without_pairs true (b ∷ bs) = without_pairs false bs
-without_pairs false (b ∷ bs) = b ∷ without_pairs (b == 39) bs
-
--- the characters of a string with its apostrophes
-abbrev pub characters : List ℕ → Text
-characters bytes = without_pairs false (take (length bytes - 2) (drop 1 bytes))
 
 -- ---- expressions (6.7.1): strings alone
 

@@ -1,5 +1,5 @@
 -- What a checked program means: the bytes that it writes, and how it ends.
-use Rattle.std.specs.Prelude.{◌≡◌, ◌≢◌, ℕ, ◌⊎◌, List, [], ◌∷◌, ◌++◌, nat_lt, if◌then◌else◌}
+use Rattle.std.specs.Prelude.{◌≡◌, ℕ, ◌⊎◌, List, [], ◌∷◌, ◌++◌, nat_lt, if◌then◌else◌}
 use Rattle.std.specs.List.{flat_map}
 use Rattle.tac_code.specs.Same.{Ending, Shown, normal, out_of_stack}
 use Rattle.ps_build.specs.Program.{Text, Statement, Empty, Write, WriteLine, Checked}

@@ -1,5 +1,5 @@
 -- The programs that a checked tree can hold: so far those that write strings.
-use Rattle.std.specs.Prelude.{◌≡◌, ℕ, ◌+◌, ◌*◌, ◌<◌, ◌≤◌, List, [], ◌∷◌, length, slice_index}
+use Rattle.std.specs.Prelude.{ℕ, ◌+◌, ◌*◌, ◌<◌, ◌≤◌, List, [], ◌∷◌, length}
 
 -- the characters of a string, as bytes
 abbrev pub Text : Type 0

@@ -3,11 +3,13 @@
 ghost use Rattle.std.specs.Prelude.{◌≡◌, ◌≤◌, Some, None, IfOk, IfErr, OnOk, ◌++◌, List, false, codes};
 ghost use Rattle.ps_build.specs.Program.{Text, Statement as StatementOf, Checked};
 ghost use Rattle.ps_build.specs.Meaning.{joined, written_by, written};
-ghost use Rattle.ps_build.specs.Checks.{bytes_at, spells, string_of, string_of_term, string_of_simple, characters, without_pairs, traverse, parameter_text, call_statement, statement_of, listed, checked_of, declares_nothing};
+ghost use Rattle.ps_build.specs.Checks.{bytes_at, spells, string_of, string_of_term, string_of_simple, traverse, parameter_text, call_statement, statement_of, listed, checked_of, declares_nothing};
 ghost use Rattle.ps_build.specs.Refusals.{OnlyNotYet};
+ghost use Rattle.ps_scan.specs.Values.{characters};
 ghost use Rattle.ps_syntax.specs.declared.program.Block.{out-Block};
 
 use crate::refusal::Refusal;
+use ps_scan::string_value;
 use ps_syntax::{Block, Expr, Factor, Parameter, Program, Simple, Statement, Term};
 use ps_text::{Source, Span};
 use std::alloc::{AllocError, Global};
@@ -73,34 +75,17 @@ fn string_of(expr: &Expr) -> Option<Span>
     }
 }
 
-// Appends the characters of what stands between a string's apostrophes.
-fn append_inner(output: &mut Vec<u8>, inner: &[u8]) -> Result<(), AllocError>
-    ensures { OnOk result (output.new.items ≡ output.old.items ++ without_pairs false inner.now) }
-{
-    let mut after_apostrophe = false;
-    for byte in inner {
-        if after_apostrophe {
-            after_apostrophe = false;
-        } else {
-            output.push(*byte)?;
-            after_apostrophe = *byte == b'\'';
-        }
-    }
-    Ok(())
-}
-
 // Appends the characters of a string.
-fn append_string(output: &mut Vec<u8>, string: &[u8]) -> Result<(), AllocError>
+fn append_string(alloc: Global, output: &mut Vec<u8>, string: &[u8]) -> Result<(), AllocError>
     ensures { OnOk result (output.new.items ≡ output.old.items ++ characters string.now) }
 {
-    if string.len() < 2 {
-        return Ok(());
-    }
-    append_inner(output, &string[1..string.len() - 1])
+    let found = string_value(alloc, string)?;
+    output.extend_from_slice(&found)
 }
 
 // Appends the characters of the strings that the parameters are.
 fn append_parameters(
+    alloc: Global,
     output: &mut Vec<u8>,
     source: &Source<'_>,
     parameters: &[Parameter],
@@ -115,13 +100,14 @@ fn append_parameters(
         let Some(at) = string_of(expr) else {
             return Err(Refusal::NotYet);
         };
-        append_string(output, bytes_at(source, at))?;
+        append_string(alloc, output, bytes_at(source, at))?;
     }
     Ok(())
 }
 
 // Appends what a call of `write` or `writeln` writes.
 fn append_call(
+    alloc: Global,
     output: &mut Vec<u8>,
     source: &Source<'_>,
     name: Span,
@@ -131,19 +117,20 @@ fn append_call(
     ensures err { IfErr result (λ e. OnlyNotYet e (call_statement source.now name parameters.now ≡ None)) }
 {
     if spells(source, name, b"writeln") {
-        append_parameters(output, source, parameters)?;
+        append_parameters(alloc, output, source, parameters)?;
         output.push(b'\n')?;
         return Ok(());
     }
     if !spells(source, name, b"write") || parameters.is_empty() {
         return Err(Refusal::NotYet);
     }
-    append_parameters(output, source, parameters)?;
+    append_parameters(alloc, output, source, parameters)?;
     Ok(())
 }
 
 // Appends what a statement writes.
 fn append_statement(
+    alloc: Global,
     output: &mut Vec<u8>,
     source: &Source<'_>,
     heading: Heading,
@@ -155,7 +142,7 @@ fn append_statement(
     match statement {
         Statement::Empty => Ok(()),
         Statement::Call(name, parameters) if heading.output => {
-            append_call(output, source, *name, parameters.as_slice())
+            append_call(alloc, output, source, *name, parameters.as_slice())
         }
         _ => Err(Refusal::NotYet),
     }
@@ -163,6 +150,7 @@ fn append_statement(
 
 // Appends what statements write, one after the other.
 fn append_statements(
+    alloc: Global,
     output: &mut Vec<u8>,
     source: &Source<'_>,
     heading: Heading,
@@ -172,7 +160,7 @@ fn append_statements(
     ensures err { IfErr result (λ e. OnlyNotYet e (traverse (statement_of source.now heading.output) statements.now ≡ None)) }
 {
     for statement in statements {
-        append_statement(output, source, heading, statement)?;
+        append_statement(alloc, output, source, heading, statement)?;
     }
     Ok(())
 }
@@ -224,7 +212,13 @@ pub(crate) fn check(
         return Err(Refusal::NotYet);
     }
     let mut output = Vec::new(alloc);
-    append_statements(&mut output, source, heading, block.statements.as_slice())?;
+    append_statements(
+        alloc,
+        &mut output,
+        source,
+        heading,
+        block.statements.as_slice(),
+    )?;
     Ok(StringProgram {
         line: source.line_of(block.begin.from.min(source.len())),
         output,

@@ -1,7 +1,7 @@
 //! Runs of images over a console.
 
 ghost use Rattle.std.specs.Prelude.{◌≡◌, Some, option_map, IfOk, IfErr, OnErr};
-ghost use Rattle.risc_machine.specs.Exec.{row_at, trap_ending};
+ghost use Rattle.risc_machine.specs.Exec.{trap_ending};
 ghost use Rattle.ps_build.specs.Headline.{trap_row, trap_rows};
 ghost use Rattle.ps_build.specs.Runs.{ending_told, IsToldBy, Runs, RunsImage, IsLoadRefused, IsRunRefused};
 ghost use Rattle.ps_build.specs.Goes.{Goes, IsGoRefused};
@@ -13,19 +13,6 @@ use risc_image::{ImageView, TrapRow};
 use risc_load::{Budget, load};
 use risc_machine::{Console, Stop, run};
 use std::alloc::Global;
-
-// The trap table's row of a link.
-fn row_of(image: &ImageView<'_>, link: u32) -> Option<TrapRow>
-    ensures { option_map trap_row result ≡ row_at link (trap_rows image.now) }
-{
-    for k in 0..image.traps() {
-        let row = image.trap(k)?;
-        if row.link == link {
-            return Some(row);
-        }
-    }
-    None
-}
 
 // The outcome of a stop with this row.
 fn trap_outcome(row: Option<TrapRow>) -> Outcome
@@ -53,12 +40,13 @@ fn trap_outcome(row: Option<TrapRow>) -> Outcome
 }
 
 // The outcome of a stop.
+#[tactic(auto, using(crate::proofs::Rows::row_of_link))]
 fn outcome_of(image: &ImageView<'_>, stop: Stop) -> Outcome
     ensures { IsToldBy (trap_rows image.now) stop result }
 {
     match stop {
         Stop::Normal => Outcome::Normal,
-        Stop::Trap(link) => trap_outcome(row_of(image, link)),
+        Stop::Trap(link) => trap_outcome(image.trap_of(link)),
         Stop::Steps => Outcome::Steps,
         Stop::InputFault => Outcome::InputFault,
         Stop::OutputFault => Outcome::OutputFault,

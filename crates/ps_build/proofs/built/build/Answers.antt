@@ -20,12 +20,12 @@ returns-clause-compiles c =
     let lent = c.deref.ensures.value in
     subst (λ t. Compiles t bytes) same
     (compiles text c.in_ok-tokens.tokens.items tree checked.0 program.output.items bytes
-        (subst IsSource (sym same) (c.in_ok-source.ensures.accepted.0 refl))
-        c.in_ok-tokens.ensures.tokens
-        c.in_ok-tokens.ensures.only
-        (subst (λ ts. IsTreeOf text ts tree) lent c.in-Ok.ensures.derives)
-        (subst (λ ts. (other : Program) → IsTreeOf text ts other → other ≡ tree) lent c.in-Ok.ensures.only)
-        checked.1
-        checked.3
-        (are_bytes program.output.items c.in_ok-bytes.ensures.narrow)
-        (subst (λ line. IsImage bytes (program_image line program.output.items)) checked.2 c.in_ok-bytes.ensures.ok))
+    (subst IsSource (sym same) (c.in_ok-source.ensures.accepted.0 refl))
+    c.in_ok-tokens.ensures.tokens
+    c.in_ok-tokens.ensures.only
+    (subst (λ ts. IsTreeOf text ts tree) lent c.in-Ok.ensures.derives)
+    (subst (λ ts. (other : Program) → IsTreeOf text ts other → other ≡ tree) lent c.in-Ok.ensures.only)
+    checked.1
+    checked.3
+    (are_bytes program.output.items c.in_ok-bytes.ensures.narrow)
+    (subst (λ line. IsImage bytes (program_image line program.output.items)) checked.2 c.in_ok-bytes.ensures.ok))

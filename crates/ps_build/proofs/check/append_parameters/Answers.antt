@@ -1,7 +1,8 @@
 -- Each parameter is a string, whose characters are appended.
-use Rattle.std.proofs.Common.{◌≡◌, Some, ap, sym, ◌∙◌, ◌++◌}
+use Rattle.std.proofs.Common.{Some, ap, sym, ◌∙◌, ◌++◌}
 use Rattle.std.specs.Prelude.{option_and_then}
-use Rattle.ps_build.specs.Checks.{bytes_at, string_of, characters, parameter_text}
+use Rattle.ps_scan.specs.Values.{characters}
+use Rattle.ps_build.specs.Checks.{bytes_at, parameter_text}
 use Rattle.ps_build.proofs.Traversal.{appended_next}
 use Rattle.ps_build.proofs.check.append_parameters.Goals as goal
 

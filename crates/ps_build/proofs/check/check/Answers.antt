@@ -1,5 +1,5 @@
 -- The statements, and the line of the block's `begin`, are those of the checked program.
-use Rattle.std.proofs.Common.{◌+◌, ◌++◌, Some, false, ap, sym, ◌∙◌, count_by, min}
+use Rattle.std.proofs.Common.{◌+◌, ◌++◌, false, ap, sym, ◌∙◌, count_by, min}
 use Rattle.std.proofs.lemmas.List.{take_min}
 use Rattle.ps_text.specs.Lines.{line_at, is_line_end}
 use Rattle.ps_syntax.specs.declared.program.Block.{out-Block}
