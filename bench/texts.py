@@ -1,24 +1,28 @@
 #!/usr/bin/env python3
-"""Writes Pascal texts of about a megabyte into a folder, one for each way in which a text can be long or deep."""
+"""Writes Pascal texts of 1,048,576 bytes, the longest that there are, into a folder, one for each way in which a text can be long or deep."""
 
 import os
 import sys
 
-LENGTH = 1_000_000
+LENGTH = 1_048_576
+
+
+def parts_of(make, room):
+    """Parts, each numbered, as many as there is room for."""
+    parts = []
+    while make and len(make(len(parts))) + 2 <= room:
+        parts.append(make(len(parts)))
+        room -= len(parts[-1]) + 2
+    return parts
 
 
 def program(declarations, statements):
-    """A program of parts that are repeated, each numbered, until the text is as long as wanted."""
+    """A program of parts that are repeated; spaces at its end make it as long as wanted."""
     head = "program bench(output);\nvar a, b, c, x: integer; y: Boolean;\n"
-    parts, size = [], len(head)
-    while size < LENGTH and declarations:
-        parts.append(declarations(len(parts)))
-        size += len(parts[-1])
-    body = []
-    while size < LENGTH and statements:
-        body.append(statements(len(body)))
-        size += len(body[-1]) + 2
-    return head + "".join(parts) + "begin\n" + ";\n".join(body or ["x := 1"]) + "\nend.\n"
+    room = LENGTH - len(head) - len("begin\nx := 1\nend.\n")
+    body = parts_of(statements, room) or ["x := 1"]
+    text = head + "".join(parts_of(declarations, room)) + "begin\n" + ";\n".join(body) + "\nend."
+    return text + " " * (LENGTH - len(text) - 1) + "\n"
 
 
 def routine(k):
@@ -34,12 +38,14 @@ def expression(k):
 
 
 def nest(k):
-    depth = 240
+    """With the block and the statement, the greatest height that there is: 500."""
+    depth = 497
     return "x := " + "(" * depth + f"a + {k}" + ")" * depth
 
 
 def blocks(k):
-    depth = 120
+    """Two statements each, so that with the block, the assignment and its value the height is 499."""
+    depth = 248
     return "if y then begin " * depth + f"x := {k} " + "end " * depth
 
 

@@ -1,1 +1,3 @@
+pub mod App
+pub mod Command
 pub mod Report

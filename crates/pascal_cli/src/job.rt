@@ -1,7 +1,10 @@
 // The words of the command line.
 
-ghost use Rattle.std.specs.Prelude.{◌≡◌, ◌≤◌, IfOk};
-ghost use Rattle.pascal_cli.specs.declared.job.Task.TheVariants.{GoStandardInput};
+ghost use Rattle.std.specs.Prelude.{◌≡◌, ◌≤◌, IfOk, IfErr, IfSome, List, None, Some, codes, ℕ, true, false, map};
+ghost use Rattle.clap.specs.Words.{app_of, fault_of, found_of, one_of, rows_of, rule_of, subcommand_rows_of};
+ghost use Rattle.pascal_cli.specs.App.{HasLimits, IsLineOf, IsWithin, compile_app, fault_in, go_app, has_globals, limited, pascal_app, path_rule, row_path, row_request, row_work, budget_rule, run_app, steps_rule, whole};
+ghost use Rattle.pascal_cli.specs.Command.{is_line_fault, request_in, request_of, work_of};
+ghost use Rattle.pascal_cli.specs.declared.job.CommandFault.TheVariants.{OutOfMemory};
 
 use clap::error::ErrorKind;
 use clap::{Arg, ArgMatches, Command, value_parser};
@@ -56,12 +59,16 @@ pub enum CommandFault {
 }
 
 impl From<AllocError> for CommandFault {
+    ghost from_gives = { λ _ fault. fault ≡ OutOfMemory };
+
     fn from(_error: AllocError) -> CommandFault {
         CommandFault::OutOfMemory
     }
 }
 
 impl From<clap::Error> for CommandFault {
+    ghost from_gives = { λ error fault. fault ≡ fault_in error };
+
     fn from(error: clap::Error) -> CommandFault {
         match error.kind() {
             ErrorKind::OutOfMemory => CommandFault::OutOfMemory,
@@ -70,11 +77,17 @@ impl From<clap::Error> for CommandFault {
     }
 }
 
-fn path<'a>(alloc: Global, name: &'a str, help: &'a str) -> Arg<'a> {
+fn path<'a>(alloc: Global, name: &'a str, help: &'a str) -> Arg<'a>
+    ensures rule { rule_of result ≡ path_rule name.entry.now }
+    ensures local { result.global ≡ false }
+{
     Arg::new(alloc, name).required(true).help(help)
 }
 
-fn budget<'a>(alloc: Global, name: &'a str, default: &'a str, help: &'a str) -> Arg<'a> {
+fn budget<'a>(alloc: Global, name: &'a str, default: &'a str, help: &'a str) -> Arg<'a>
+    ensures rule { rule_of result ≡ budget_rule name.entry.now default.entry.now }
+    ensures local { result.global ≡ false }
+{
     Arg::new(alloc, name)
         .long(name)
         .value_name("BYTES")
@@ -83,7 +96,10 @@ fn budget<'a>(alloc: Global, name: &'a str, default: &'a str, help: &'a str) -> 
         .help(help)
 }
 
-fn step_limit<'a>(alloc: Global) -> Arg<'a> {
+fn step_limit<'a>(alloc: Global) -> Arg<'a>
+    ensures rule { rule_of result ≡ steps_rule }
+    ensures local { result.global ≡ false }
+{
     Arg::new(alloc, "steps")
         .long("steps")
         .value_name("COUNT")
@@ -93,38 +109,65 @@ fn step_limit<'a>(alloc: Global) -> Arg<'a> {
 }
 
 // The three options of a command that runs an image.
-fn with_limits<'a>(alloc: Global, command: Command<'a>) -> Result<Command<'a>, AllocError> {
+fn with_limits<'a>(alloc: Global, command: Command<'a>) -> Result<Command<'a>, AllocError>
+    ensures app { IfOk result (λ r. app_of r ≡ limited (app_of command.entry)) }
+    ensures local { IfOk result (λ r. has_globals r ≡ has_globals command.entry) }
+{
     command
         .arg(budget(alloc, "stack", "4194304", "Bytes of the stack"))?
         .arg(budget(alloc, "heap", "1048576", "Bytes of the heap"))?
         .arg(step_limit(alloc))
 }
 
-fn pascal<'a>(alloc: Global) -> Result<Command<'a>, AllocError> {
-    let source = "The Pascal text";
-    let image = "The image";
-    let compile = Command::new(alloc, "compile")
+fn compile_command<'a>(alloc: Global) -> Result<Command<'a>, AllocError>
+    ensures app { IfOk result (λ r. app_of r ≡ compile_app) }
+    ensures local { IfOk result (λ r. has_globals r ≡ false) }
+{
+    Command::new(alloc, "compile")
         .about("Compiles a text and writes its image")
-        .arg(path(alloc, "SRC", source))?
-        .arg(path(alloc, "IMG", image))?;
+        .arg(path(alloc, "SRC", "The Pascal text"))?
+        .arg(path(alloc, "IMG", "The image"))
+}
+
+fn run_command<'a>(alloc: Global) -> Result<Command<'a>, AllocError>
+    ensures app { IfOk result (λ r. app_of r ≡ run_app) }
+    ensures local { IfOk result (λ r. has_globals r ≡ false) }
+{
     let run = Command::new(alloc, "run")
         .about("Runs an image on standard input and output")
-        .arg(path(alloc, "IMG", image))?;
+        .arg(path(alloc, "IMG", "The image"))?;
+    with_limits(alloc, run)
+}
+
+fn go_command<'a>(alloc: Global) -> Result<Command<'a>, AllocError>
+    ensures app { IfOk result (λ r. app_of r ≡ go_app) }
+    ensures local { IfOk result (λ r. has_globals r ≡ false) }
+{
     let go = Command::new(alloc, "go")
         .about("Compiles a text and runs it on standard input and output")
-        .arg(path(alloc, "SRC", source))?;
+        .arg(path(alloc, "SRC", "The Pascal text"))?;
+    with_limits(alloc, go)
+}
+
+fn pascal<'a>(alloc: Global) -> Result<Command<'a>, AllocError>
+    ensures { IfOk result (λ r. app_of r ≡ pascal_app) }
+{
     Command::new(alloc, "pascal")
         .about("A Pascal compiler whose images mean what their programs mean")
         .no_binary_name(true)
-        .subcommand(compile)?
-        .subcommand(with_limits(alloc, run)?)?
-        .subcommand(with_limits(alloc, go)?)
+        .bin_name("pascal")?
+        .subcommand(compile_command(alloc)?)?
+        .subcommand(run_command(alloc)?)?
+        .subcommand(go_command(alloc)?)
 }
 
 // A budget as it was given. `clap` has refused what lies outside the range.
 fn budget_of(matches: &ArgMatches<'_>, name: &str, default: u32) -> u32
     requires { default ≤ MAX_BUDGET }
-    ensures { result ≤ MAX_BUDGET }
+    ensures most { result ≤ MAX_BUDGET }
+    ensures none { one_of name.now (rows_of (found_of matches.now)) ≡ None → result ≡ default }
+    ensures some { (text : List ℕ) → one_of name.now (rows_of (found_of matches.now)) ≡ Some text
+        → IsWithin 0 16777152 text → result ≡ whole text }
 {
     matches
         .get_one::<u32>(name)
@@ -135,6 +178,9 @@ fn budget_of(matches: &ArgMatches<'_>, name: &str, default: u32) -> u32
 fn steps_of(matches: &ArgMatches<'_>) -> u64
     ensures least { 1 ≤ result }
     ensures most { result ≤ MAX_STEPS }
+    ensures none { one_of (codes "steps") (rows_of (found_of matches.now)) ≡ None → result ≡ DEFAULT_STEPS }
+    ensures some { (text : List ℕ) → one_of (codes "steps") (rows_of (found_of matches.now)) ≡ Some text
+        → IsWithin 1 1000000000000 text → result ≡ whole text }
 {
     matches
         .get_one::<u64>("steps")
@@ -143,11 +189,15 @@ fn steps_of(matches: &ArgMatches<'_>) -> u64
 }
 
 // A path that the command must have: `clap` has refused the words without it.
-fn path_of<'a>(matches: &ArgMatches<'a>, name: &str) -> &'a str {
+fn path_of<'a>(matches: &ArgMatches<'a>, name: &str) -> &'a str
+    ensures { result.now ≡ row_path name.now (rows_of (found_of matches.now)) }
+{
     matches.get_str(name).unwrap_or("")
 }
 
-fn task_of<'a>(name: &str, matches: &ArgMatches<'a>) -> Task<'a> {
+fn task_of<'a>(name: &str, matches: &ArgMatches<'a>) -> Task<'a>
+    ensures { work_of result ≡ row_work name.now (rows_of (found_of matches.now)) }
+{
     match name {
         "compile" => Task::Compile {
             source: path_of(matches, "SRC"),
@@ -164,7 +214,8 @@ fn task_of<'a>(name: &str, matches: &ArgMatches<'a>) -> Task<'a> {
 
 // The job of no words.
 fn default_job() -> Job<'static>
-    ensures { result ≡ record { task = GoStandardInput; stack = DEFAULT_STACK; heap = DEFAULT_HEAP; steps = DEFAULT_STEPS } }
+    ensures request { request_in result ≡ row_request None }
+    ensures numbers { (result.stack ≡ DEFAULT_STACK) × (result.heap ≡ DEFAULT_HEAP) × (result.steps ≡ DEFAULT_STEPS) }
 {
     Job {
         task: Task::GoStandardInput,
@@ -174,8 +225,34 @@ fn default_job() -> Job<'static>
     }
 }
 
-/// Reads the words after the program's name. An Ok has its three numbers within their ranges.
+// The job of what a parse found.
+fn job_of<'a>(matches: &ArgMatches<'a>) -> Job<'a>
+    ensures request { IfSome (subcommand_rows_of matches.now) (λ entered. HasLimits entered.1)
+        → request_in result ≡ row_request (subcommand_rows_of matches.now) }
+    ensures stack { result.stack ≤ MAX_BUDGET }
+    ensures heap { result.heap ≤ MAX_BUDGET }
+    ensures least { 1 ≤ result.steps }
+    ensures most { result.steps ≤ MAX_STEPS }
+{
+    match matches.subcommand() {
+        None => default_job(),
+        Some((name, inner)) => Job {
+            task: task_of(name, inner),
+            stack: budget_of(inner, "stack", DEFAULT_STACK),
+            heap: budget_of(inner, "heap", DEFAULT_HEAP),
+            steps: steps_of(inner),
+        },
+    }
+}
+
+/// Reads the words after the program's name: an `Ok` is the job that they ask for, and `Line` comes only where
+/// they ask for none, with an error of a kind that `clap` gives at the first step that fails: help is told as help.
+/// An `Ok` has its three numbers within their ranges.
 pub fn command<'a>(alloc: Global, words: &'a [&'a str]) -> Result<Job<'a>, CommandFault>
+    ensures asked { IfOk result (λ job. request_of (map (λ word. word.now) words.entry.now) ≡ Some (request_in job)) }
+    ensures line { IfErr result (λ fault. is_line_fault fault ≡ true
+        → request_of (map (λ word. word.now) words.entry.now) ≡ None) }
+    ensures kind { IfErr result (IsLineOf (fault_of pascal_app (map (λ word. word.now) words.entry.now))) }
     ensures stack { IfOk result (λ job. job.stack ≤ MAX_BUDGET) }
     ensures heap { IfOk result (λ job. job.heap ≤ MAX_BUDGET) }
     ensures least { IfOk result (λ job. 1 ≤ job.steps) }
@@ -183,13 +260,5 @@ pub fn command<'a>(alloc: Global, words: &'a [&'a str]) -> Result<Job<'a>, Comma
 {
     let command = pascal(alloc)?;
     let matches = command.try_get_matches_from(words)?;
-    match matches.subcommand() {
-        None => Ok(default_job()),
-        Some((name, inner)) => Ok(Job {
-            task: task_of(name, inner),
-            stack: budget_of(inner, "stack", DEFAULT_STACK),
-            heap: budget_of(inner, "heap", DEFAULT_HEAP),
-            steps: steps_of(inner),
-        }),
-    }
+    Ok(job_of(&matches))
 }

@@ -57,8 +57,21 @@ fn reads_a_compilation_and_no_words(rt: HostRuntime) -> Result<(), Fail> {
 }
 
 #[test]
+fn reads_what_two_hyphens_end(rt: HostRuntime) -> Result<(), Fail> {
+    let job = command(rt.alloc(), &["run", "--heap=7", "--", "-a.img"])?;
+    assert_eq!(rt; job.task, Task::Run { image: "-a.img" });
+    assert_eq!(rt; (job.stack, job.heap), (4_194_304, 7));
+    let none = command(rt.alloc(), &["--"])?;
+    assert_eq!(rt; none.task, Task::GoStandardInput);
+    Ok(())
+}
+
+#[test]
 fn refuses_other_words(rt: HostRuntime) {
-    let refused: [&[&str]; 9] = [
+    let refused: [&[&str]; 12] = [
+        &["--help"],
+        &["go", "a.pas", "--heap", "1", "--heap", "2"],
+        &["compile", "a.pas", "a.img", "--heap", "1"],
         &["go"],
         &["go", "a.pas", "b.pas"],
         &["fly", "a.pas"],

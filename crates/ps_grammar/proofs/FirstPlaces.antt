@@ -1,8 +1,7 @@
 -- Each part of a tree begins where its first token begins.
-use Rattle.std.proofs.Common.{ℕ, zero, suc, refl}
+use Rattle.std.proofs.Common.{◌≡◌, ℕ, zero, suc, refl, sym, ap, ◌∙◌}
 use Rattle.ps_syntax.specs.declared.expression.Expr.{Expr}
 use Rattle.ps_syntax.specs.declared.expression.Factor.{Factor}
-use Rattle.ps_syntax.specs.declared.expression.Member.{Member}
 use Rattle.ps_syntax.specs.declared.expression.Simple.{Simple}
 use Rattle.ps_syntax.specs.declared.expression.Term.{Term}
 use Rattle.ps_syntax.specs.declared.program.Ordinal.{Ordinal}
@@ -12,10 +11,12 @@ use Rattle.ps_syntax.specs.declared.program.TypeDenoter.{TypeDenoter}
 use Rattle.ps_syntax.specs.declared.program.TypeDenoter as types
 use Rattle.ps_syntax.specs.declared.expression.Expr as views
 use Rattle.ps_syntax.specs.declared.expression.Factor as factors
-use Rattle.ps_syntax.specs.declared.expression.Member as members
+use Rattle.ps_syntax.specs.declared.expression.Member.TheVariants as member
+use Rattle.ps_syntax.specs.declared.expression.Expr.TheViews.{out-roll-Member}
+use Rattle.ps_syntax.specs.declared.expression.Expr.TheOpen.{Member-F}
 use Rattle.ps_syntax.specs.declared.expression.Simple as simples
 use Rattle.ps_syntax.specs.declared.expression.Term as terms
-use Rattle.ps_syntax.specs.First.{first_of_factor, first_of_term, first_of_simple, first_of_expr, first_of_member, first_of_constant, first_of_ordinal, first_of_structure, first_of_type}
+use Rattle.ps_syntax.specs.First.{first_of_factor, first_of_term, first_of_simple, first_of_expr, first_of_member, member_layer_first, first_of_constant, first_of_ordinal, first_of_structure, first_of_type}
 use Rattle.ps_grammar.specs.Symbols.{Symbol}
 use Rattle.ps_grammar.specs.Expressions.{IsMember, single, range, selected, IsFactor, variable, call, number, text, nil, empty, set, group, not, IsTerm, term, IsSimple, plain, signed, IsExpr, alone, compare, factor_within, expr_within}
 use Rattle.ps_grammar.specs.Statements.{IsConstant, number as plain_number, signed_number, name, signed_name, text as plain_text}
@@ -48,10 +49,15 @@ unfolding views.out-Expr denote.Hole.Carrier.out
 compared_first S h y ts r (alone {x = x} d) = h x ts r d
 compared_first S h y ts r (compare op at x z d d') = h x ts _ d
 
+first_of_one : (x : Expr) → first_of_member (member.One x) ≡ first_of_expr x
+first_of_one x = ap first_of_member (sym (member.rolls-One x)) ∙ ap member_layer_first (out-roll-Member (Member-F.One x))
+
+first_of_range : (x y : Expr) → first_of_member (member.Range x y) ≡ first_of_expr x
+first_of_range x y = ap first_of_member (sym (member.rolls-Range x y)) ∙ ap member_layer_first (out-roll-Member (Member-F.Range x y))
+
 member_first : (E : Symbol Expr) → BeginsAtFirst E first_of_expr → BeginsAtFirst (IsMember E) first_of_member
-unfolding members.out-Member denote.Hole.Carrier.out
-member_first E h y ts r (single {x = x} d) = h x ts r d
-member_first E h y ts r (range {x = x} d d') = h x ts _ d
+member_first E h y ts r (single {x = x} d) = first_of_one x ∙ h x ts r d
+member_first E h y ts r (range {x = x} {y = z} d d') = first_of_range x z ∙ h x ts _ d
 
 factors_first : (n : ℕ) → BeginsAtFirst (factor_within n) first_of_factor
 factors_first zero = factor_first _ _

@@ -4,6 +4,7 @@ ghost use Rattle.std.specs.Prelude.{◌≡◌, Ok, Some};
 ghost use Rattle.ps_scan.specs.declared.token.Kind.TheVariants as k;
 ghost use Rattle.ps_parse.specs.Steps.{Reads, separated, many};
 ghost use Rattle.ps_parse.specs.ReadExpressions as read;
+ghost use Rattle.ps_parse.specs.Refusals as refusals;
 
 use crate::error::Fault;
 use crate::parser::Parser;
@@ -63,7 +64,9 @@ fn multiplying_of(kind: Kind) -> Option<Multiplying>
 }
 
 impl<'a> Parser<'a> {
-    fn begins_factor(&self) -> bool {
+    fn begins_factor(&self) -> bool
+        ensures { result ≡ refusals.begins_factor self.now.rest.now }
+    {
         matches!(
             self.rest,
             [
@@ -82,7 +85,9 @@ impl<'a> Parser<'a> {
         )
     }
 
-    fn begins_expression(&self) -> bool {
+    fn begins_expression(&self) -> bool
+        ensures { result ≡ refusals.begins_expression self.now.rest.now }
+    {
         self.sees(Kind::Plus) || self.sees(Kind::Minus) || self.begins_factor()
     }
 
@@ -131,9 +136,9 @@ impl<'a> Parser<'a> {
     fn member(&mut self, depth: u32) -> Result<Member, Fault>
         ensures { Reads (read.member (read.read_expr depth) self.old.rest.now) result self.new.rest.now }
     {
-        let first = self.expr(depth)?;
+        let first = self.boxed_expr(depth)?;
         if self.eat(Kind::DotDot) {
-            Ok(Member::Range(first, self.expr(depth)?))
+            Ok(Member::Range(first, self.boxed_expr(depth)?))
         } else {
             Ok(Member::One(first))
         }
@@ -150,8 +155,19 @@ impl<'a> Parser<'a> {
         let left = self.simple(depth - 1)?;
         match self.relation() {
             None => Ok(Expr::Simple(left)),
-            Some((relation, at)) => Ok(Expr::Compare(left, relation, at, self.simple(depth - 1)?)),
+            Some((relation, at)) => {
+                let right = self.simple(depth - 1)?;
+                Ok(Expr::Compare(left, relation, at, Boxed::new(self.alloc, right)?))
+            }
         }
+    }
+
+    #[cycle(expression)]
+    pub fn boxed_expr(&mut self, depth: u32) -> Result<Boxed<Expr>, Fault>
+        ensures { Reads (read.read_expr depth self.old.rest.now) result self.new.rest.now }
+    {
+        let value = self.expr(depth)?;
+        Ok(Boxed::new(self.alloc, value)?)
     }
 
     #[cycle(expression)]
@@ -244,14 +260,22 @@ impl<'a> Parser<'a> {
             }
             Kind::Not => {
                 self.skip();
-                if depth == 0 {
-                    return Err(self.too_deep(self.begins_factor()));
-                }
-                let factor = self.factor(depth - 1)?;
-                Ok(Factor::Not(token.span, Boxed::new(self.alloc, factor)?))
+                let negated = Boxed::new(self.alloc, self.negated(depth)?)?;
+                Ok(Factor::Not(token.span, negated))
             }
             _ => Err(self.refusal()),
         }
+    }
+
+    #[cycle(expression)]
+    #[tactic(auto, unfolding(crate::specs::ReadExpressions::read_negated))]
+    fn negated(&mut self, depth: u32) -> Result<Factor, Fault>
+        ensures { Reads (read.read_negated depth self.old.rest.now) result self.new.rest.now }
+    {
+        if depth == 0 {
+            return Err(self.too_deep(self.begins_factor()));
+        }
+        self.factor(depth - 1)
     }
 
     #[cycle(expression)]
@@ -259,9 +283,9 @@ impl<'a> Parser<'a> {
     fn group(&mut self, depth: u32, at: Span) -> Result<Factor, Fault>
         ensures { Reads (read.group (read.read_expr depth) at self.old.rest.now) result self.new.rest.now }
     {
-        let inner = self.expr(depth)?;
+        let inner = self.boxed_expr(depth)?;
         self.expect(Kind::RightParen)?;
-        Ok(Factor::Group(at, Boxed::new(self.alloc, inner)?))
+        Ok(Factor::Group(at, inner))
     }
 
     #[cycle(expression)]

@@ -1,9 +1,10 @@
 //! The tokens that are left, and the steps that every rule is made of.
 
-ghost use Rattle.std.specs.Prelude.{◌≡◌, ◌≢◌, length, Some};
+ghost use Rattle.std.specs.Prelude.{◌≡◌, ◌≢◌, if◌then◌else◌, length, Some};
 ghost use Rattle.ps_parse.specs.Steps as spec;
 ghost use Rattle.ps_parse.specs.Steps.{Reads};
-ghost use Rattle.ps_parse.specs.declared.error.Fault.TheVariants.{OutOfMemory};
+ghost use Rattle.ps_parse.specs.Refusals.{begins_label, refusal_at, left_out_by};
+ghost use Rattle.ps_parse.specs.declared.error.Fault.TheVariants.{OutOfMemory, TooDeep};
 
 use crate::error::Fault;
 use ps_scan::{Kind, Token, is};
@@ -27,7 +28,8 @@ impl<'a> Parser<'a> {
 
     /// The next token is one that no rule takes here.
     pub fn refusal(&self) -> Fault
-        ensures { result ≢ OutOfMemory }
+        ensures fault { result ≡ refusal_at self.now.left_out self.now.rest.now }
+        ensures memory { result ≢ OutOfMemory }
     {
         let left = self.rest.len();
         match self.rest {
@@ -40,14 +42,18 @@ impl<'a> Parser<'a> {
 
     /// Notes that the next token stands for a construction which the profile leaves out.
     pub fn leave_out(&mut self)
-        ensures { self.new.rest.now ≡ self.old.rest.now }
+        ensures rest { self.new.rest.now ≡ self.old.rest.now }
+        ensures seen { self.new.left_out ≡ length self.old.rest.now }
     {
         self.left_out = self.rest.len();
     }
 
-    /// A number and a colon are next.
-    pub fn sees_label(&self) -> bool {
-        matches!(
+    /// Notes a label, a number before a colon, if one is next.
+    pub fn leave_out_label(&mut self)
+        ensures rest { self.new.rest.now ≡ self.old.rest.now }
+        ensures seen { self.new.left_out ≡ (if begins_label self.old.rest.now then length self.old.rest.now else self.old.left_out) }
+    {
+        let is_label = matches!(
             self.rest,
             [
                 Token {
@@ -60,12 +66,16 @@ impl<'a> Parser<'a> {
                 },
                 ..
             ]
-        )
+        );
+        if is_label {
+            self.leave_out();
+        }
     }
 
     /// A construction inside as many others as may be is too deep, if the next token can begin it.
     pub fn too_deep(&self, can_begin: bool) -> Fault
-        ensures { result ≢ OutOfMemory }
+        ensures fault { result ≡ (if can_begin then TooDeep (length self.now.rest.now) else refusal_at self.now.left_out self.now.rest.now) }
+        ensures memory { result ≢ OutOfMemory }
     {
         if can_begin {
             Fault::TooDeep(self.rest.len())
@@ -144,6 +154,8 @@ impl<'a> Parser<'a> {
 }
 
 /// What the profile leaves out.
-fn is_left_out(kind: Kind) -> bool {
+fn is_left_out(kind: Kind) -> bool
+    ensures { result ≡ left_out_by kind }
+{
     matches!(kind, Kind::Label | Kind::Goto | Kind::File | Kind::Slash)
 }

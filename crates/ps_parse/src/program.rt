@@ -6,6 +6,7 @@ ghost use Rattle.ps_parse.specs.Steps.{Reads, separated, many, part, if_begins};
 ghost use Rattle.ps_parse.specs.ReadStatements.{read_statement};
 ghost use Rattle.ps_parse.specs.ReadPrograms as read;
 ghost use Rattle.ps_grammar.specs.Forward.{is_forward};
+ghost use Rattle.ps_parse.specs.Refusals as refusals;
 
 use crate::error::Fault;
 use crate::parser::Parser;
@@ -220,7 +221,9 @@ impl<'a> Parser<'a> {
         Ok(found)
     }
 
-    fn begins_block(&self) -> bool {
+    fn begins_block(&self) -> bool
+        ensures { result ≡ refusals.begins_block self.now.rest.now }
+    {
         matches!(
             self.rest,
             [

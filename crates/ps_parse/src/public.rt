@@ -5,6 +5,7 @@ ghost use Rattle.ps_syntax.specs.declared.program.Program.{Program};
 ghost use Rattle.ps_parse.specs.declared.error.Fault.TheVariants as faults;
 ghost use Rattle.ps_parse.specs.declared.error.ParseRefusal.TheVariants.{OutOfMemory};
 ghost use Rattle.ps_grammar.specs.Trees.{IsTreeOf};
+ghost use Rattle.ps_parse.specs.Refusals as refusals;
 ghost use Rattle.ps_parse.specs.Refusals.{IsPlaced, token_line};
 
 use crate::error::{Fault, ParseRefusal};
@@ -58,6 +59,7 @@ fn whole_program(alloc: Global, text: &[u8], tokens: &[Token]) -> Result<Program
 
 /// The refusal of a fault, with the line of its token.
 fn refusal_of(source: &Source, tokens: &[Token], fault: Fault) -> ParseRefusal
+    ensures told { result ≡ refusals.refusal_of source.now tokens.now fault }
     ensures memory { fault ≡ faults.OutOfMemory → result ≡ OutOfMemory }
     ensures placed { IsPlaced source.now tokens.now result }
 {
@@ -81,7 +83,8 @@ fn refusal_of(source: &Source, tokens: &[Token], fault: Fault) -> ParseRefusal
 
 /// The number of the token from which on some are left.
 fn token_at(tokens: &[Token], left: usize) -> u32
-    ensures { result ≤ length tokens.now }
+    ensures number { result ≡ refusals.token_from tokens.now left }
+    ensures within { result ≤ length tokens.now }
 {
     let token = tokens.len().saturating_sub(left);
     u32::try_from(token).unwrap_or(u32::MAX)

@@ -79,7 +79,7 @@ impl<'a> Parser<'a> {
         if !self.eat(Kind::Colon) {
             return Ok(Parameter::Plain(value));
         }
-        let width = self.expr(depth)?;
+        let width = self.boxed_expr(depth)?;
         if self.sees(Kind::Colon) {
             self.leave_out();
         }
@@ -148,7 +148,7 @@ impl<'a> Parser<'a> {
     {
         match becomes {
             Some(at) => {
-                let value = self.expr(depth)?;
+                let value = self.boxed_expr(depth)?;
                 Ok(Statement::Assign(Variable { name, selectors }, at, value))
             }
             None if selectors.is_empty() => Ok(Statement::Call(name, Items::new(self.alloc))),
@@ -208,13 +208,10 @@ impl<'a> Parser<'a> {
                 self.skip();
                 self.with_statement(depth)
             }
-            Kind::Number => {
-                if self.sees_label() {
-                    self.leave_out();
-                }
+            _ => {
+                self.leave_out_label();
                 Ok(Statement::Empty)
             }
-            _ => Ok(Statement::Empty),
         }
     }
 
@@ -248,7 +245,7 @@ impl<'a> Parser<'a> {
     fn if_statement(&mut self, depth: u32) -> Result<Statement, Fault>
         ensures { Reads (read.if_statement (expression.read_expr depth) (read.read_statement depth) self.old.rest.now) result self.new.rest.now }
     {
-        let condition = self.expr(depth)?;
+        let condition = self.boxed_expr(depth)?;
         self.expect(Kind::Then)?;
         let chosen = Boxed::new(self.alloc, self.statement(depth)?)?;
         if !self.eat(Kind::Else) {
@@ -295,7 +292,7 @@ impl<'a> Parser<'a> {
     fn case_statement(&mut self, depth: u32, at: Span) -> Result<Statement, Fault>
         ensures { Reads (read.case_statement (expression.read_expr depth) (read.read_statement depth) at self.old.rest.now) result self.new.rest.now }
     {
-        let index = self.expr(depth)?;
+        let index = self.boxed_expr(depth)?;
         self.expect(Kind::Of)?;
         let elements = self.elements(depth)?;
         self.expect(Kind::End)?;
@@ -307,7 +304,7 @@ impl<'a> Parser<'a> {
     fn while_statement(&mut self, depth: u32) -> Result<Statement, Fault>
         ensures { Reads (read.while_statement (expression.read_expr depth) (read.read_statement depth) self.old.rest.now) result self.new.rest.now }
     {
-        let condition = self.expr(depth)?;
+        let condition = self.boxed_expr(depth)?;
         self.expect(Kind::Do)?;
         let body = Boxed::new(self.alloc, self.statement(depth)?)?;
         Ok(Statement::While(condition, body))
@@ -320,7 +317,7 @@ impl<'a> Parser<'a> {
     {
         let statements = self.sequence(depth)?;
         self.expect(Kind::Until)?;
-        let condition = self.expr(depth)?;
+        let condition = self.boxed_expr(depth)?;
         Ok(Statement::Repeat(statements, condition))
     }
 
@@ -331,11 +328,11 @@ impl<'a> Parser<'a> {
     {
         let variable = self.expect(Kind::Name)?;
         self.expect(Kind::Assign)?;
-        let first = self.expr(depth)?;
+        let first = self.boxed_expr(depth)?;
         let Some((direction, _)) = self.direction() else {
             return Err(self.refusal());
         };
-        let last = self.expr(depth)?;
+        let last = self.boxed_expr(depth)?;
         self.expect(Kind::Do)?;
         let body = Boxed::new(self.alloc, self.statement(depth)?)?;
         Ok(Statement::For {

@@ -4,6 +4,7 @@ ghost use Rattle.std.specs.Prelude.{◌≡◌};
 ghost use Rattle.ps_scan.specs.declared.token.Kind.TheVariants as k;
 ghost use Rattle.ps_parse.specs.Steps.{Reads, separated, terminated};
 ghost use Rattle.ps_parse.specs.ReadPrograms as read;
+ghost use Rattle.ps_parse.specs.Refusals as refusals;
 
 use crate::error::Fault;
 use crate::parser::Parser;
@@ -12,7 +13,9 @@ use ps_syntax::{Boxed, Constant, Fields, Items, Ordinal, Structure, TypeDenoter}
 use ps_text::Span;
 
 impl<'a> Parser<'a> {
-    fn begins_ordinal(&self) -> bool {
+    fn begins_ordinal(&self) -> bool
+        ensures { result ≡ refusals.begins_ordinal self.now.rest.now }
+    {
         matches!(
             self.rest,
             [
@@ -30,7 +33,9 @@ impl<'a> Parser<'a> {
         )
     }
 
-    fn begins_type(&self) -> bool {
+    fn begins_type(&self) -> bool
+        ensures { result ≡ refusals.begins_type self.now.rest.now }
+    {
         matches!(
             self.rest,
             [

@@ -43,7 +43,7 @@ pub enum Multiplying {
 #[derive(Drop)]
 pub enum Expr {
     Simple(Simple),
-    Compare(Simple, Relation, Span, Simple),
+    Compare(Simple, Relation, Span, Boxed<Simple>),
 }
 
 /// Terms with operators between them. A sign in front applies to the first term.
@@ -114,8 +114,8 @@ pub enum Selector {
 #[cycle(expression)]
 #[derive(Drop)]
 pub enum Member {
-    One(Expr),
-    Range(Expr, Expr),
+    One(Boxed<Expr>),
+    Range(Boxed<Expr>, Boxed<Expr>),
 }
 
 /// Where a part that a sign may stand before begins.
@@ -182,8 +182,8 @@ impl Member {
         ensures { result ≡ first_of_member self.now }
     {
         match self {
-            Member::One(only) => only.first_token(),
-            Member::Range(low, _) => low.first_token(),
+            Member::One(only) => only.get().first_token(),
+            Member::Range(low, _) => low.get().first_token(),
         }
     }
 }

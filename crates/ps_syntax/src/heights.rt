@@ -29,7 +29,7 @@ fn expr_height(expr: &Expr) -> u32
         Expr::Simple(only) => simple_height(only).saturating_add(1),
         Expr::Compare(left, _, _, right) => {
             simple_height(left)
-                .max(simple_height(right))
+                .max(simple_height(right.get()))
                 .saturating_add(1)
         }
     }
@@ -101,8 +101,8 @@ fn member_height(member: &Member) -> u32
     ensures { result ≡ min (height_of_member member.now) u32.MAX }
 {
     match member {
-        Member::One(only) => expr_height(only),
-        Member::Range(low, high) => expr_height(low).max(expr_height(high)),
+        Member::One(only) => expr_height(only.get()),
+        Member::Range(low, high) => expr_height(low.get()).max(expr_height(high.get())),
     }
 }
 
@@ -150,7 +150,7 @@ fn parameter_height(parameter: &Parameter) -> u32
 {
     match parameter {
         Parameter::Plain(value) => expr_height(value),
-        Parameter::Width(value, width) => expr_height(value).max(expr_height(width)),
+        Parameter::Width(value, width) => expr_height(value).max(expr_height(width.get())),
     }
 }
 
@@ -180,24 +180,26 @@ fn statement_height(statement: &Statement) -> u32
 {
     let inner = match statement {
         Statement::Empty => 0,
-        Statement::Assign(variable, _, value) => variable_height(variable).max(expr_height(value)),
+        Statement::Assign(variable, _, value) => variable_height(variable).max(expr_height(
+            value.get(),
+        )),
         Statement::Call(_, parameters) => parameters_height(parameters.as_slice()),
         Statement::Compound(statements) => statements_height(statements.as_slice()),
-        Statement::If(condition, chosen) => expr_height(condition).max(statement_height(
+        Statement::If(condition, chosen) => expr_height(condition.get()).max(statement_height(
             chosen.get(),
         )),
         Statement::IfElse(condition, chosen, other) => {
             let either = statement_height(chosen.get()).max(statement_height(other.get()));
-            expr_height(condition).max(either)
+            expr_height(condition.get()).max(either)
         }
-        Statement::Case(_, index, elements) => expr_height(index).max(elements_height(
+        Statement::Case(_, index, elements) => expr_height(index.get()).max(elements_height(
             elements.as_slice(),
         )),
-        Statement::While(condition, body) => expr_height(condition).max(statement_height(
+        Statement::While(condition, body) => expr_height(condition.get()).max(statement_height(
             body.get(),
         )),
         Statement::Repeat(statements, condition) => statements_height(statements.as_slice()).max(
-            expr_height(condition),
+            expr_height(condition.get()),
         ),
         Statement::For {
             first,
@@ -205,7 +207,7 @@ fn statement_height(statement: &Statement) -> u32
             body,
             ..
         } => {
-            let bounds = expr_height(first).max(expr_height(last));
+            let bounds = expr_height(first.get()).max(expr_height(last.get()));
             bounds.max(statement_height(body.get()))
         }
         Statement::With(records, body) => variables_height(records.as_slice()).max(statement_height(

@@ -25,7 +25,7 @@ pub enum Direction {
 #[derive(Drop)]
 pub enum Parameter {
     Plain(Expr),
-    Width(Expr, Expr),
+    Width(Expr, Boxed<Expr>),
 }
 
 #[cycle(statement)]
@@ -33,21 +33,21 @@ pub enum Parameter {
 pub enum Statement {
     Empty,
     /// The variable, the `:=` and the value.
-    Assign(Variable, Span, Expr),
+    Assign(Variable, Span, Boxed<Expr>),
     /// The routine's name and its parameters.
     Call(Span, Items<Parameter>),
     Compound(Items<Statement>),
-    If(Expr, Boxed<Statement>),
-    IfElse(Expr, Boxed<Statement>, Boxed<Statement>),
+    If(Boxed<Expr>, Boxed<Statement>),
+    IfElse(Boxed<Expr>, Boxed<Statement>, Boxed<Statement>),
     /// The `case`, the index and the elements.
-    Case(Span, Expr, Items<Element>),
-    While(Expr, Boxed<Statement>),
-    Repeat(Items<Statement>, Expr),
+    Case(Span, Boxed<Expr>, Items<Element>),
+    While(Boxed<Expr>, Boxed<Statement>),
+    Repeat(Items<Statement>, Boxed<Expr>),
     For {
         variable: Span,
-        first: Expr,
+        first: Boxed<Expr>,
         direction: Direction,
-        last: Expr,
+        last: Boxed<Expr>,
         body: Boxed<Statement>,
     },
     With(Items<Variable>, Boxed<Statement>),

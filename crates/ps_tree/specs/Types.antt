@@ -31,7 +31,7 @@ abbrev pub is_same_host : Host → Host → Bool
 is_same_host Integer Integer = true
 is_same_host Char Char = true
 is_same_host Boolean Boolean = true
-is_same_host (Enumeration a) (Enumeration b) = a == b
+is_same_host (Enumeration a m) (Enumeration b n) = a == b
 is_same_host _ _ = false
 
 -- both there, and one number

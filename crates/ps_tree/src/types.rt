@@ -14,8 +14,8 @@ pub enum Host {
     Integer,
     Char,
     Boolean,
-    /// `at` is the offset of the denoter's first token.
-    Enumeration { at: u32 },
+    /// `at` is the offset of the denoter's first token, `greatest` the ordinal of the last constant.
+    Enumeration { at: u32, greatest: i32 },
 }
 
 /// An ordinal type (6.4.2): its host, the offset of its own denoter's first token where it is a subrange, and its
@@ -97,7 +97,7 @@ pub fn same_host(a: Host, b: Host) -> bool
         (Host::Integer, Host::Integer)
         | (Host::Char, Host::Char)
         | (Host::Boolean, Host::Boolean) => true,
-        (Host::Enumeration { at: x }, Host::Enumeration { at: y }) => x == y,
+        (Host::Enumeration { at: x, .. }, Host::Enumeration { at: y, .. }) => x == y,
         (Host::Integer | Host::Char | Host::Boolean | Host::Enumeration { .. }, _) => false,
     }
 }

@@ -5,7 +5,8 @@ use std::marker::Model;
 /// The number of a register, at most 15.
 #[derive(Clone, Copy, PartialEq, Eq, Debug)]
 pub struct Register {
-    number: u8,
+    // a word, not a byte: the emulator is faster where an instruction's fields aren't packed
+    number: u32,
 }
 
 impl Model for Register {
@@ -28,7 +29,9 @@ impl Register {
         requires { number < 16 }
         ensures { result ≡ number }
     {
-        Register { number }
+        Register {
+            number: u32::from(number),
+        }
     }
 
     /// Its number, at most 15.
@@ -36,7 +39,7 @@ impl Register {
         ensures value { result ≡ self }
         ensures range { result < 16 }
     {
-        self.number
+        self.number as u8
     }
 }
 

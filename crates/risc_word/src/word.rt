@@ -180,7 +180,9 @@ fn branch_word(condition: Condition, link: bool, target: Target) -> u32
     }
 }
 
+// In a loop of steps decoding is inlined, so that no instruction is ever put together.
 /// The instruction of a word, where it has one.
+#[inline(always)]
 pub fn decode(word: u32) -> Option<Instr>
     ensures value { result ≡ instr_at word }
     ensures denotes { IfSome result (Denotes word) }
@@ -189,6 +191,7 @@ pub fn decode(word: u32) -> Option<Instr>
     instruction_of(word)
 }
 
+#[inline(always)]
 fn instruction_of(word: u32) -> Option<Instr>
     ensures { result ≡ instr_at word }
 {
@@ -199,6 +202,7 @@ fn instruction_of(word: u32) -> Option<Instr>
     match word >> 28 {
         0 => decode_register_form(false, a, b, op, low),
         2 => decode_register_form(true, a, b, op, low),
+        1 | 3 => None,
         4 => decode_immediate_form(false, false, a, b, op, low),
         5 => decode_immediate_form(false, true, a, b, op, low),
         6 => decode_immediate_form(true, false, a, b, op, low),
@@ -230,8 +234,8 @@ fn instruction_of(word: u32) -> Option<Instr>
         12 => decode_absolute(false, a.number(), word % 16777216),
         13 => decode_absolute(true, a.number(), word % 16777216),
         14 => decode_relative(false, a.number(), word),
-        15 => decode_relative(true, a.number(), word),
-        _ => None,
+        // 15, the last of four bits
+        _ => decode_relative(true, a.number(), word),
     }
 }
 

@@ -1,6 +1,6 @@
 -- A fact of each element of a list, found element by element.
-use Rattle.std.proofs.Common.{◌≡◌, ℕ, ◌+◌, ◌<◌, ◌≤◌, ◌⊎◌, Bool, true, false, IsTrue, nat_lt, inl, inr, List, length, get_or, slice_get, Option, Some, ap, sym, subst, ◌∙◌, refl, arith}
-use Rattle.std.proofs.lemmas.Option.{get_or_from_slice_get, slice_get-get_or, slice_get_read, slice_get_within}
+use Rattle.std.proofs.Common.{◌≡◌, ℕ, ◌+◌, ◌<◌, ◌≤◌, ◌⊎◌, Bool, true, false, IsTrue, nat_lt, inl, inr, List, length, get_or, slice_get, Some, ap, sym, subst, ◌∙◌, refl, arith}
+use Rattle.std.proofs.lemmas.Option.{slice_get_read, slice_get_within}
 use Rattle.std.proofs.lemmas.Bool.{ltb-true, ltb-false}
 use Rattle.tac_code.specs.Sound.{Each}
 

@@ -1,7 +1,2 @@
-pub mod Sameness
-pub mod Growth
 pub mod Each
-pub mod Places
-pub mod Temps
-mod Examples
-pub mod Performs
+pub mod Texts

@@ -4,6 +4,4 @@ pub mod Memory
 pub mod Meaning
 pub mod Sound
 pub mod Run
-pub mod Laws
-pub mod Runner
-pub mod Effect
+pub mod Printed

@@ -1,17 +1,24 @@
 -- Memory: living blocks of words. A word is unwritten or holds a value; bytes are those of words that hold numbers, lowest first.
-use Rattle.std.specs.Prelude.{ℕ, zero, suc, ◌+◌, ◌*◌, ◌/◌, ◌%◌, Bool, true, false, ◌&&◌, nat_eq, nat_lt, if◌then◌else◌, List, [], ◌∷◌, ◌++◌, map, length, slice_get, slice_set, Option, Some, None, pos}
+use Rattle.std.specs.Prelude.{ℕ, zero, suc, ◌+◌, ◌*◌, ◌/◌, ◌%◌, Bool, ◌&&◌, nat_eq, nat_lt, if◌then◌else◌, List, [], ◌∷◌, length, slice_get, slice_set, Option, Some, None}
 use Rattle.tac_code.specs.declared.code.Block.{Block}
 use Rattle.tac_code.specs.declared.code.Block.TheVariants.{Frame, Scratch, Object, Constant}
 use Rattle.tac_code.specs.declared.code.Value.{Value}
 use Rattle.tac_code.specs.declared.code.Value.TheVariants.{Number, Address, Routine}
--- a block of an open activation: the activation's number, and the words
-pub use Rattle.tac_code.specs.declared.memory.Living.{Living}
--- the blocks of the open activations, innermost first, and the words of the objects in the order in which they were made
-pub use Rattle.tac_code.specs.declared.memory.Memory.{Memory}
 use Rattle.tac_code.specs.Numbers.{number_of, byte_of, with_byte}
 
 abbrev pub Words : Type 0
 Words = List (Option Value)
+
+-- a block of an open activation: the activation's number, and the words
+pub record Living : Type 0 where
+  pub number : ℕ
+  pub words : Words
+
+-- the blocks of the open activations, innermost first, and the words of the objects in the order in which they were made
+pub record Memory : Type 0 where
+  pub frames : List Living
+  pub scratch : List Living
+  pub objects : List Words
 
 -- ---- the words of one block
 

@@ -1,7 +1,7 @@
 -- Whole runs of three-address code, under a budget of stack and heap.
-use Rattle.std.specs.Prelude.{ℕ, zero, suc, false, nat_eq, if◌then◌else◌, List, [], length, Option, None}
+use Rattle.std.specs.Prelude.{ℕ, zero, suc, false, nat_eq, if◌then◌else◌, List, [], length, None}
 use Rattle.tac_code.specs.Same.{Ending, more, Shown}
-use Rattle.tac_code.specs.Meaning.{Code, Activation, State, Step, Goes, Over, open_calls, enter, step}
+use Rattle.tac_code.specs.Meaning.{Code, State, Step, Goes, Over, open_calls, enter, step}
 
 -- what a run shows, and at an error the lines of the open calls
 abbrev pub Outcome : Type 0

@@ -1,5 +1,5 @@
 -- The invariant of the code: each target and each operand exists, and numbers lie in their ranges.
-use Rattle.std.specs.Prelude.{◌≡◌, ℕ, suc, ◌+◌, ◌<◌, ◌≤◌, ◌%◌, List, ◌++◌, length, slice_get, Option, Some}
+use Rattle.std.specs.Prelude.{◌≡◌, ℕ, suc, ◌+◌, ◌<◌, ◌≤◌, ◌%◌, List, length, slice_get, Some}
 use Rattle.std.specs.List.{All}
 use Rattle.tac_code.specs.declared.code.Instruction.{Instruction}
 use Rattle.tac_code.specs.declared.code.Instruction.TheVariants.{Literal, Copy, Arithmetic, Bits, Compare, SamePointer, CheckRange, CheckPointer, FrameAddress, ScratchAddress, ConstantAddress, Offset, Index, RoutineValue, Load, Store, LoadByte, StoreByte, Jump, JumpBack, Branch, Call, CallValue, Return, Trap, Take, Put, New, End}

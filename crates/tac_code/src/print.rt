@@ -1,5 +1,9 @@
 // The printed form of the code, for people and tests.
 
+ghost use Rattle.std.specs.Prelude.{◌≡◌, ◌+◌, ◌<◌, ◌^◌, ◌++◌, length, Some, IfOk, OnOk};
+ghost use Rattle.std.specs.String.{string_bytes};
+ghost use Rattle.tac_code.specs.Printed.{operator_sign, bit_operator_sign, relation_sign, printed_operands, or_error, printed, numbered, instruction_line, count_line, printed_routine, printed_bytes, constant_line, type_line, printed_code};
+
 use crate::code::{
     BitOperator, Constant, Instruction, Operands, Operator, OutOfMemory, Relation, TacRoutine,
 };
@@ -8,6 +12,8 @@ use std::alloc::Global;
 use std::fmt;
 
 impl fmt::Display for Operator {
+    ghost output = { λ a. Some (operator_sign a) };
+
     fn fmt<W: fmt::Write>(&self, f: &mut fmt::Formatter<W>) -> fmt::Result {
         f.write_str(match self {
             Operator::Add => "+",
@@ -20,6 +26,8 @@ impl fmt::Display for Operator {
 }
 
 impl fmt::Display for BitOperator {
+    ghost output = { λ a. Some (bit_operator_sign a) };
+
     fn fmt<W: fmt::Write>(&self, f: &mut fmt::Formatter<W>) -> fmt::Result {
         f.write_str(match self {
             BitOperator::And => "and",
@@ -31,6 +39,8 @@ impl fmt::Display for BitOperator {
 }
 
 impl fmt::Display for Relation {
+    ghost output = { λ a. Some (relation_sign a) };
+
     fn fmt<W: fmt::Write>(&self, f: &mut fmt::Formatter<W>) -> fmt::Result {
         f.write_str(match self {
             Relation::Equal => "=",
@@ -44,23 +54,46 @@ impl fmt::Display for Relation {
 }
 
 impl fmt::Display for Operands {
+    ghost output = { λ o. Some (printed_operands o) };
+
     fn fmt<W: fmt::Write>(&self, f: &mut fmt::Formatter<W>) -> fmt::Result {
-        f.write_str("(")?;
-        for (i, temporary) in self.as_slice().iter().enumerate() {
-            if i > 0 {
-                f.write_str(", ")?;
-            }
-            write!(f, "t{temporary}")?;
+        for temporary in self.as_slice() {
+            write!(f, " t{temporary}")?;
         }
-        f.write_str(")")
+        Ok(())
     }
 }
 
+// The error that an instruction may end with, and its line.
+#[derive(Clone, Copy)]
+struct Otherwise {
+    error: u8,
+    line: u16,
+}
+
+#[tactic(auto, unfolding(crate::specs::Printed::or_error))]
+impl fmt::Display for Otherwise {
+    ghost output = { λ o. Some (or_error o.error o.line) };
+
+    fn fmt<W: fmt::Write>(&self, f: &mut fmt::Formatter<W>) -> fmt::Result {
+        let (error, line) = (self.error, self.line);
+        write!(f, ", else error {error} at line {line}")
+    }
+}
+
+fn error_at(error: u8, line: u16) -> Otherwise
+    ensures { result ≡ record { error = error; line = line } }
+{
+    Otherwise { error, line }
+}
+
 impl fmt::Display for Instruction {
+    ghost output = { λ a. Some (printed a) };
+
     fn fmt<W: fmt::Write>(&self, f: &mut fmt::Formatter<W>) -> fmt::Result {
         match self {
-            Instruction::Literal { to, value } => write!(f, "t{to} := {value}"),
-            Instruction::Copy { to, from } => write!(f, "t{to} := t{from}"),
+            Instruction::Literal { to, value } => write!(f, "{value} -> t{to}"),
+            Instruction::Copy { to, from } => write!(f, "t{from} -> t{to}"),
             Instruction::Arithmetic {
                 operator,
                 to,
@@ -69,25 +102,23 @@ impl fmt::Display for Instruction {
                 error,
                 line,
             } => {
-                write!(
-                    f,
-                    "t{to} := t{left} {operator} t{right}, else error {error} at line {line}"
-                )
+                let or_error = error_at(*error, *line);
+                write!(f, "t{left} {operator} t{right} -> t{to}{or_error}")
             }
             Instruction::Bits {
                 operator,
                 to,
                 left,
                 right,
-            } => { write!(f, "t{to} := t{left} {operator} t{right}") }
+            } => { write!(f, "t{left} {operator} t{right} -> t{to}") }
             Instruction::Compare {
                 relation,
                 to,
                 left,
                 right,
-            } => { write!(f, "t{to} := t{left} {relation} t{right}") }
+            } => { write!(f, "t{left} {relation} t{right} -> t{to}") }
             Instruction::SamePointer { to, left, right } => {
-                write!(f, "t{to} := t{left} same pointer t{right}")
+                write!(f, "t{left} is t{right} -> t{to}")
             }
             Instruction::CheckRange {
                 value,
@@ -96,98 +127,83 @@ impl fmt::Display for Instruction {
                 error,
                 line,
             } => {
-                write!(
-                    f,
-                    "check t{value} in {low}..{high}, else error {error} at line {line}"
-                )
+                let or_error = error_at(*error, *line);
+                write!(f, "check t{value} in {low}..{high}{or_error}")
             }
             Instruction::CheckPointer {
                 pointer,
                 error,
                 line,
             } => {
-                write!(
-                    f,
-                    "check t{pointer} <> nil, else error {error} at line {line}"
-                )
+                let or_error = error_at(*error, *line);
+                write!(f, "check t{pointer} <> nil{or_error}")
             }
-            Instruction::FrameAddress { to, offset } => write!(f, "t{to} := frame + {offset}"),
-            Instruction::ScratchAddress { to, offset } => write!(f, "t{to} := scratch + {offset}"),
+            Instruction::FrameAddress { to, offset } => write!(f, "frame + {offset} -> t{to}"),
+            Instruction::ScratchAddress { to, offset } => write!(f, "scratch + {offset} -> t{to}"),
             Instruction::ConstantAddress { to, constant } => write!(
                 f,
-                "t{to} := constant {constant}"
+                "constant {constant} -> t{to}"
             ),
-            Instruction::Offset { to, base, bytes } => write!(f, "t{to} := t{base} + {bytes}"),
+            Instruction::Offset { to, base, bytes } => write!(f, "t{base} + {bytes} -> t{to}"),
             Instruction::Index {
                 to,
                 base,
                 index,
                 low,
                 width,
-            } => { write!(f, "t{to} := t{base} + (t{index} - {low}) * {width}") }
-            Instruction::RoutineValue { to, routine } => write!(f, "t{to} := routine {routine}"),
-            Instruction::Load { to, base, offset } => write!(f, "t{to} := word t{base} + {offset}"),
+            } => { write!(f, "t{base} + (t{index} - {low}) * {width} -> t{to}") }
+            Instruction::RoutineValue { to, routine } => write!(f, "routine {routine} -> t{to}"),
+            Instruction::Load { to, base, offset } => write!(f, "word t{base} + {offset} -> t{to}"),
             Instruction::Store { base, offset, from } => write!(
                 f,
-                "word t{base} + {offset} := t{from}"
+                "t{from} -> word t{base} + {offset}"
             ),
             Instruction::LoadByte { to, base, offset } => write!(
                 f,
-                "t{to} := byte t{base} + {offset}"
+                "byte t{base} + {offset} -> t{to}"
             ),
             Instruction::StoreByte { base, offset, from } => write!(
                 f,
-                "byte t{base} + {offset} := t{from}"
+                "t{from} -> byte t{base} + {offset}"
             ),
             Instruction::Jump { forward } => write!(f, "jump forward {forward}"),
             Instruction::JumpBack { back } => write!(f, "jump back {back}"),
             Instruction::Branch { test, on, forward } => {
-                let word = if *on { "if" } else { "unless" };
-                write!(f, "{word} t{test} jump forward {forward}")
+                if *on {
+                    write!(f, "jump forward {forward} if t{test}")
+                } else {
+                    write!(f, "jump forward {forward} unless t{test}")
+                }
             }
             Instruction::Call {
                 to,
                 routine,
                 operands,
                 line,
-            } => { write!(f, "t{to} := call {routine}{operands} at line {line}") }
+            } => { write!(f, "call {routine} at line {line} ({operands} ) -> t{to}") }
             Instruction::CallValue {
                 to,
                 callee,
                 operands,
                 line,
-            } => { write!(f, "t{to} := call t{callee}{operands} at line {line}") }
+            } => { write!(f, "call t{callee} at line {line} ({operands} ) -> t{to}") }
             Instruction::Return { from } => write!(f, "return t{from}"),
             Instruction::Trap { error, line } => write!(f, "error {error} at line {line}"),
-            Instruction::Take { to } => write!(f, "t{to} := take"),
+            Instruction::Take { to } => write!(f, "take -> t{to}"),
             Instruction::Put { from } => write!(f, "put t{from}"),
             Instruction::New {
                 to,
                 object_type,
                 line,
-            } => { write!(f, "t{to} := new type {object_type} at line {line}") }
+            } => { write!(f, "new {object_type} at line {line} -> t{to}") }
             Instruction::End => f.write_str("end"),
         }
     }
 }
 
-impl fmt::Display for TacRoutine {
-    fn fmt<W: fmt::Write>(&self, f: &mut fmt::Formatter<W>) -> fmt::Result {
-        let (parameters, temporaries, line) = (self.parameters, self.temporaries, self.line);
-        let (frame, scratch) = (self.frame, self.scratch);
-        write!(f, "{parameters} parameters, {temporaries} temporaries, ")?;
-        write!(
-            f,
-            "{frame} bytes of frame, {scratch} bytes of scratch, line {line}\n"
-        )?;
-        for (place, instruction) in self.body.as_slice().iter().enumerate() {
-            write!(f, "{place:5}  {instruction}\n")?;
-        }
-        Ok(())
-    }
-}
-
 impl fmt::Display for Constant {
+    ghost output = { λ c. Some (printed_bytes c) };
+
     fn fmt<W: fmt::Write>(&self, f: &mut fmt::Formatter<W>) -> fmt::Result {
         for byte in self.as_slice() {
             write!(f, " {byte}")?;
@@ -196,26 +212,98 @@ impl fmt::Display for Constant {
     }
 }
 
+// Adds a line for each instruction.
+fn add_instructions(
+    alloc: Global,
+    text: &mut String,
+    body: &[Instruction],
+) -> Result<(), OutOfMemory>
+    ensures { OnOk result (string_bytes text.new ≡ string_bytes text.old ++ numbered instruction_line 0 body.now) }
+{
+    for (place, instruction) in body.iter().enumerate() {
+        let line = format!(in alloc; "{place}: {instruction}\n")?;
+        text.push_str(line.as_str())?;
+    }
+    Ok(())
+}
+
+// Adds a line with a count.
+#[tactic(auto, unfolding(crate::specs::Printed::count_line))]
+fn add_count(alloc: Global, text: &mut String, name: &str, n: u64) -> Result<(), OutOfMemory>
+    ensures { OnOk result (string_bytes text.new ≡ string_bytes text.old ++ count_line name.now n) }
+{
+    let line = format!(in alloc; "{name} {n}\n")?;
+    text.push_str(line.as_str())?;
+    Ok(())
+}
+
+fn add_routine(
+    alloc: Global,
+    text: &mut String,
+    number: usize,
+    routine: &TacRoutine,
+) -> Result<(), OutOfMemory>
+    ensures { OnOk result (string_bytes text.new ≡ string_bytes text.old ++ printed_routine number routine.now) }
+{
+    add_count(alloc, text, "routine", number as u64)?;
+    add_count(alloc, text, "parameters", u64::from(routine.parameters))?;
+    add_count(alloc, text, "temporaries", u64::from(routine.temporaries))?;
+    add_count(alloc, text, "frame", u64::from(routine.frame))?;
+    add_count(alloc, text, "scratch", u64::from(routine.scratch))?;
+    add_count(alloc, text, "line", u64::from(routine.line))?;
+    add_instructions(alloc, text, routine.body.as_slice())?;
+    Ok(())
+}
+
+// Adds routines, whose numbers begin with the first.
+fn add_routines(
+    alloc: Global,
+    text: &mut String,
+    first: usize,
+    routines: &[TacRoutine],
+) -> Result<(), OutOfMemory>
+    requires { first + length routines.now < 2 ^ 64 }
+    ensures { OnOk result (string_bytes text.new ≡ string_bytes text.old ++ numbered printed_routine first routines.now) }
+{
+    for (place, routine) in routines.iter().enumerate() {
+        add_routine(alloc, text, first + place, routine)?;
+    }
+    Ok(())
+}
+
+fn add_constants(
+    alloc: Global,
+    text: &mut String,
+    constants: &[Constant],
+) -> Result<(), OutOfMemory>
+    ensures { OnOk result (string_bytes text.new ≡ string_bytes text.old ++ numbered constant_line 0 constants.now) }
+{
+    for (number, constant) in constants.iter().enumerate() {
+        let line = format!(in alloc; "constant {number}:{constant}\n")?;
+        text.push_str(line.as_str())?;
+    }
+    Ok(())
+}
+
+fn add_types(alloc: Global, text: &mut String, objects: &[u32]) -> Result<(), OutOfMemory>
+    ensures { OnOk result (string_bytes text.new ≡ string_bytes text.old ++ numbered type_line 0 objects.now) }
+{
+    for (number, bytes) in objects.iter().enumerate() {
+        let line = format!(in alloc; "type {number}: {bytes} bytes\n")?;
+        text.push_str(line.as_str())?;
+    }
+    Ok(())
+}
+
 /// The whole code as text: its routines with numbered instructions, the bytes of its constants, and the bytes of its object types.
-pub fn print(alloc: Global, tac: &Tac) -> Result<String, OutOfMemory> {
+pub fn print(alloc: Global, tac: &Tac) -> Result<String, OutOfMemory>
+    ensures { IfOk result (λ text. string_bytes text ≡ printed_code tac.now) }
+{
     let mut text = String::new(alloc);
     let program = tac.program();
-    for (number, routine) in program.iter().enumerate() {
-        let part = format!(in alloc; "routine {number}: {routine}")?;
-        text.push_str(part.as_str())?;
-    }
-    for (place, routine) in tac.run_time().iter().enumerate() {
-        let number = program.len() + place;
-        let part = format!(in alloc; "run-time routine {number}: {routine}")?;
-        text.push_str(part.as_str())?;
-    }
-    for (number, constant) in tac.constants().iter().enumerate() {
-        let part = format!(in alloc; "constant {number}:{constant}\n")?;
-        text.push_str(part.as_str())?;
-    }
-    for (number, bytes) in tac.objects().iter().enumerate() {
-        let part = format!(in alloc; "type {number}: {bytes} bytes\n")?;
-        text.push_str(part.as_str())?;
-    }
+    add_routines(alloc, &mut text, 0, program)?;
+    add_routines(alloc, &mut text, program.len(), tac.run_time())?;
+    add_constants(alloc, &mut text, tac.constants())?;
+    add_types(alloc, &mut text, tac.objects())?;
     Ok(text)
 }

@@ -1,4 +1,4 @@
-use Rattle.std.proofs.Common.{sym, subst}
+use Rattle.std.proofs.Common.{subst}
 use Rattle.tac_code.specs.declared.check.Limits.{Limits}
 use Rattle.tac_code.specs.Sound.{code_of, limits_of, IsSoundRoutine}
 use Rattle.tac_code.proofs.Each.{each_below_next, all_told}

@@ -1,0 +1,5 @@
+pub mod Agreement
+pub mod GivenRows
+pub mod Leaves
+pub mod LineWalk
+pub mod RowReads

@@ -1,0 +1,122 @@
+-- The commands as `clap` has them.
+use Rattle.std.specs.Prelude.{⊤, ◌≤◌, ℕ, Bool, pos, true, false, List, [], ◌∷◌, Option, Some, None, IfSome, codes, unwrap_or, if◌then◌else◌}
+use Rattle.std.specs.Option.{option_map_or}
+use Rattle.std.specs.Str.{bytes_eq}
+use Rattle.std.specs.Str.Parse.{IsNumeral, digits_value, without_leading_plus}
+use Rattle.clap.specs.Walk.{Row, Rule, Text, first_of, one_of}
+use Rattle.clap.specs.Kinds.{IsAmong, Kinds}
+use Rattle.clap.specs.Values.{kind_of}
+use Rattle.clap.specs.Simple.{App, new_app, new_rule, on_top, with_rule, with_subcommand}
+use Rattle.clap.specs.declared.builder.command.Command.{Command}
+use Rattle.clap.specs.declared.builder.command.Command.TheViews.{out-Command}
+use Rattle.clap.specs.declared.builder.value_parser.ValueParser.TheVariants as vp
+use Rattle.clap.specs.declared.error.Error.{Error}
+use Rattle.clap.specs.declared.error.kind.ErrorKind.{ErrorKind}
+use Rattle.clap.specs.declared.error.kind.ErrorKind.TheVariants as kind
+use Rattle.pascal_cli.specs.Command.{Limits, Request, Work, compile, default_limits, go, go_standard_input, image_name, run, source_name}
+use Rattle.pascal_cli.specs.declared.job.CommandFault.{CommandFault}
+use Rattle.pascal_cli.specs.declared.job.CommandFault.TheVariants as fault
+
+-- an argument is global
+abbrev pub has_globals : Command → Bool
+has_globals command = (out-Command command).has_globals
+
+-- a path, which must be given
+abbrev pub path_rule : Text → Rule
+path_rule name = record (new_rule name) { required = true }
+
+-- an option of bytes
+abbrev pub budget_rule : Text → Text → Rule
+budget_rule name default = record (new_rule name) {
+  long = Some name;
+  value_names = 1;
+  defaults = default ∷ [];
+  parser = Some (vp.Signed (pos 0) (pos 16777152));
+}
+
+-- the option of steps
+abbrev pub steps_rule : Rule
+steps_rule = record (new_rule (codes "steps")) {
+  long = Some (codes "steps");
+  value_names = 1;
+  defaults = codes "1000000000" ∷ [];
+  parser = Some (vp.Unsigned 1 1000000000000);
+}
+
+-- a command with the three options
+abbrev pub limited : App → App
+limited app = with_rule (with_rule (with_rule app (budget_rule (codes "stack") (codes "4194304")))
+    (budget_rule (codes "heap") (codes "1048576"))) steps_rule
+
+abbrev pub compile_app : App
+compile_app = with_rule (with_rule (new_app (codes "compile")) (path_rule (codes "SRC"))) (path_rule (codes "IMG"))
+
+abbrev pub run_app : App
+run_app = limited (with_rule (new_app (codes "run")) (path_rule (codes "IMG")))
+
+abbrev pub go_app : App
+go_app = limited (with_rule (new_app (codes "go")) (path_rule (codes "SRC")))
+
+-- the program, whose words begin after its name
+abbrev pub pascal_app : App
+pascal_app = with_subcommand (with_subcommand (with_subcommand
+    (on_top (λ shape. record shape { no_binary_name = true }) (new_app (codes "pascal")))
+    compile_app.top) run_app.top) go_app.top
+
+-- ---- what the rows of a parse ask for
+
+abbrev pub row_path : Text → List Row → Text
+row_path name rows = unwrap_or (first_of name rows) []
+
+-- the work of a command's name and rows
+abbrev pub row_work : Text → List Row → Work
+row_work name rows =
+    if bytes_eq name (codes "compile") then compile (row_path source_name rows) (row_path image_name rows)
+    else if bytes_eq name (codes "run") then run (row_path image_name rows)
+    else go (row_path source_name rows)
+
+abbrev pub whole : Text → ℕ
+whole text = digits_value 10 (without_leading_plus text)
+
+abbrev pub row_number : ℕ → Text → List Row → ℕ
+row_number default name rows = option_map_or whole (one_of name rows) default
+
+abbrev pub row_limits : List Row → Limits
+row_limits rows = record {
+  stack = row_number 4194304 (codes "stack") rows;
+  heap = row_number 1048576 (codes "heap") rows;
+  steps = row_number 1000000000 (codes "steps") rows;
+}
+
+abbrev pub row_request : Option (Text × List Row) → Request
+row_request None = record { work = go_standard_input; limits = default_limits }
+row_request (Some entered) = record {
+  work = row_work entered.0 entered.1;
+  limits = row_limits entered.1;
+}
+
+-- the text is a number within the bounds
+abbrev pub IsWithin : ℕ → ℕ → Text → Type 0
+IsWithin least most text =
+    IsNumeral 10 (without_leading_plus text) × (least ≤ whole text) × (whole text ≤ most)
+
+-- the rows have numbers within their ranges, where they have them
+abbrev pub HasLimits : List Row → Type 0
+HasLimits rows = IfSome (one_of (codes "stack") rows) (IsWithin 0 16777152)
+    × IfSome (one_of (codes "heap") rows) (IsWithin 0 16777152)
+    × IfSome (one_of (codes "steps") rows) (IsWithin 1 1000000000000)
+
+-- ---- faults
+
+abbrev pub is_memory : ErrorKind → Bool
+is_memory kind.OutOfMemory = true
+is_memory _ = false
+
+-- an error of `clap` is a fault of the line, but where it tells of memory
+abbrev pub fault_in : Error → CommandFault
+fault_in error = if is_memory (kind_of error) then fault.OutOfMemory else fault.Line error
+
+-- a fault of the line is of one of the kinds
+abbrev pub IsLineOf : Kinds → CommandFault → Type 0
+IsLineOf kinds (fault.Line error) = IsAmong (kind_of error) kinds
+IsLineOf kinds fault.OutOfMemory = ⊤

@@ -1,0 +1,200 @@
+-- What the words of the command line ask for, and which words ask for nothing.
+use Rattle.std.specs.Prelude.{◌++◌, ◌||◌, ℕ, Bool, true, false, not, pos, List, [], ◌∷◌, Option, Some, None, is_some, if◌then◌else◌}
+use Rattle.std.specs.Prelude.{codes, find, slice_get, option_map, option_and_then}
+use Rattle.std.specs.Option.{option_map_or}
+use Rattle.std.specs.List.{list_any}
+use Rattle.std.specs.Str.{bytes_eq, chars}
+use Rattle.std.specs.Str.Parse.{digits_value, without_leading_sign}
+use Rattle.clap.specs.Lexer.{long_of, short_of}
+use Rattle.clap.specs.ValueTests.{is_signed_in, is_unsigned_in}
+use Rattle.pascal_cli.specs.declared.job.CommandFault.{CommandFault}
+use Rattle.pascal_cli.specs.declared.job.CommandFault.TheVariants as fault
+use Rattle.pascal_cli.specs.declared.job.Job.{Job}
+use Rattle.pascal_cli.specs.declared.job.Task.{Task}
+use Rattle.pascal_cli.specs.declared.job.Task.TheVariants as task
+
+abbrev pub Text : Type 0
+Text = List ℕ
+
+-- to compile a source to an image, to run an image, to compile a source and run it, or to do so with standard input
+pub data Work : Type 0 where
+  compile : Text → Text → Work
+  run : Text → Work
+  go : Text → Work
+  go_standard_input : Work
+
+-- the bytes of the stack and of the heap, and the steps that a run may make
+pub record Limits : Type 0 where
+  pub stack : ℕ
+  pub heap : ℕ
+  pub steps : ℕ
+
+pub record Request : Type 0 where
+  pub work : Work
+  pub limits : Limits
+
+-- ---- what the words give: values, each under the name of its path or option, in the order of the words
+
+abbrev pub Given : Type 0
+Given = List (Text × Text)
+
+abbrev pub is_given : Text → Given → Bool
+is_given name given = list_any (λ g. bytes_eq g.0 name) given
+
+abbrev pub value_of : Text → Given → Option Text
+value_of name given = option_map (λ g. g.1) (find (λ g. bytes_eq g.0 name) given)
+
+-- The text may be the value of the name. A number is decimal, and a sign may stand before it: bytes of the stack
+-- and of the heap from 0 to 16777152, steps from 1 to 1000000000000 with no minus. A path is any text.
+abbrev pub fits : Text → Text → Bool
+fits name text =
+    if bytes_eq name (codes "stack") || bytes_eq name (codes "heap")
+    then is_signed_in (pos 0) (pos 16777152) text
+    else if bytes_eq name (codes "steps") then is_unsigned_in 1 1000000000000 text else true
+
+-- the name gets its value, which no earlier word may have given
+abbrev pub with_value : Text → Text → Given → (Given → Option Given) → Option Given
+with_value name text given next =
+    if is_given name given || not (fits name text) then None else next (given ++ (name, text) ∷ [])
+
+-- the word is the next path of those that are still wanted
+abbrev pub with_path : List Text → Text → Given → (List Text → Given → Option Given) → Option Given
+with_path [] word given next = None
+with_path (name ∷ names) word given next = with_value name word given (next names)
+
+-- `--name=text` gives the value, and after `--name` the next word is the value
+abbrev pub with_option : Text → Option Text → Given → (Option Text → Given → Option Given) → Option Given
+with_option name (Some text) given next = with_value name text given (next None)
+with_option name None given next = next (Some name) given
+
+abbrev pub is_among : Text → List Text → Bool
+is_among name names = list_any (λ other. bytes_eq other name) names
+
+-- the letters of a hyphen with letters
+abbrev pub letters_of : Text → List ℕ
+letters_of word = option_map_or chars (short_of word) []
+
+abbrev pub has_letters : Text → Bool
+has_letters word = is_some (slice_get (letters_of word) 0)
+
+-- `--`, `--name`, `--name=text`, or a hyphen with letters
+abbrev pub is_flag : Text → Bool
+is_flag word = bytes_eq word (codes "--") || (is_some (long_of word) || has_letters word)
+
+-- after `--` each word is a path
+abbrev pub paths_after : List Text → Given → List Text → Option Given
+paths_after paths given [] = Some given
+paths_after paths given (word ∷ rest) = with_path paths word given (λ left more. paths_after left more rest)
+
+-- a word that is no value of an option before it, and not `--`
+abbrev pub with_word : List Text → List Text → Given → Text → Option (Text × Option Text)
+    → (List Text → Option Text → Given → Option Given) → Option Given
+with_word options paths given word (Some named) next =
+    if is_among named.0 options then with_option named.0 named.1 given (next paths) else None
+with_word options paths given word None next =
+    if has_letters word then None else with_path paths word given (λ left more. next left None more)
+
+-- The words after the command's name, where the command takes these options and still wants these paths. `wanted`
+-- is the option whose value is the next word, and `given` what earlier words gave.
+abbrev pub read : List Text → List Text → Option Text → Given → List Text → Option Given
+read options paths None given [] = Some given
+read options paths (Some name) given [] = None
+read options paths None given (word ∷ rest) =
+    if bytes_eq word (codes "--") then paths_after paths given rest
+    else with_word options paths given word (long_of word)
+    (λ left wanted more. read options left wanted more rest)
+read options paths (Some name) given (word ∷ rest) =
+    if is_flag word then None
+    else with_value name word given (λ more. read options paths None more rest)
+
+-- ---- the commands
+
+abbrev pub number_of : Text → ℕ
+number_of text = digits_value 10 (without_leading_sign text)
+
+-- the number given for the name, or its default
+abbrev pub number_or : ℕ → Text → Given → ℕ
+number_or default name given = option_map_or number_of (value_of name given) default
+
+abbrev pub limits_of : Given → Limits
+limits_of given = record {
+  stack = number_or 4194304 (codes "stack") given;
+  heap = number_or 1048576 (codes "heap") given;
+  steps = number_or 1000000000 (codes "steps") given;
+}
+
+abbrev pub default_limits : Limits
+default_limits = limits_of []
+
+abbrev pub source_name : Text
+source_name = codes "SRC"
+
+abbrev pub image_name : Text
+image_name = codes "IMG"
+
+abbrev pub limit_names : List Text
+limit_names = codes "stack" ∷ codes "heap" ∷ codes "steps" ∷ []
+
+abbrev pub compile_given : Given → Option Request
+compile_given given = option_and_then (λ source. option_map (λ image. record {
+  work = compile source image;
+  limits = default_limits;
+}) (value_of image_name given)) (value_of source_name given)
+
+abbrev pub run_given : Given → Option Request
+run_given given = option_map (λ image. record {
+  work = run image;
+  limits = limits_of given;
+}) (value_of image_name given)
+
+abbrev pub go_given : Given → Option Request
+go_given given = option_map (λ source. record {
+  work = go source;
+  limits = limits_of given;
+}) (value_of source_name given)
+
+-- `compile SRC IMG`; and `run IMG` and `go SRC`, with limits
+abbrev pub compile_request : List Text → Option Request
+compile_request words = option_and_then compile_given (read [] (source_name ∷ image_name ∷ []) None [] words)
+
+abbrev pub run_request : List Text → Option Request
+run_request words = option_and_then run_given (read limit_names (image_name ∷ []) None [] words)
+
+abbrev pub go_request : List Text → Option Request
+go_request words = option_and_then go_given (read limit_names (source_name ∷ []) None [] words)
+
+-- the run of standard input
+abbrev pub standard_request : List Text → Option Request
+standard_request [] = Some (record { work = go_standard_input; limits = default_limits })
+standard_request (word ∷ rest) = None
+
+-- What the words after the program's name ask for. No words ask for the run of standard input, and so does `--` alone.
+-- A call for help is no request.
+abbrev pub request_of : List Text → Option Request
+request_of [] = standard_request []
+request_of (word ∷ rest) =
+    if bytes_eq (codes "compile") word then compile_request rest
+    else if bytes_eq (codes "run") word then run_request rest
+    else if bytes_eq (codes "go") word then go_request rest
+    else if bytes_eq word (codes "--") then standard_request rest
+    else None
+
+-- ---- what the code answers
+
+abbrev pub work_of : Task → Work
+work_of (task.Compile source image) = compile source.now image.now
+work_of (task.Run image) = run image.now
+work_of (task.Go source) = go source.now
+work_of task.GoStandardInput = go_standard_input
+
+-- the request that a job answers
+abbrev pub request_in : Job → Request
+request_in job = record {
+  work = work_of job.task;
+  limits = record { stack = job.stack; heap = job.heap; steps = job.steps };
+}
+
+-- the words are at fault, and not the memory
+abbrev pub is_line_fault : CommandFault → Bool
+is_line_fault (fault.Line error) = true
+is_line_fault fault.OutOfMemory = false

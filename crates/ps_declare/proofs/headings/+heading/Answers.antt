@@ -1,0 +1,17 @@
+use Rattle.std.proofs.Common.{rules, ◌≡◌, ◌<◌, length, arith, None, [], map}
+use Rattle.ps_regions.specs.Option.{steps}
+use Rattle.ps_regions.specs.Views.{meaning_of, section_of}
+use Rattle.ps_regions.proofs.Lists.{stepped_fault_map}
+use Rattle.ps_declare.specs.Headings.{add_section, section}
+use Rattle.ps_declare.specs.Views.{frame_of, hidden_of}
+use Rattle.ps_declare.proofs.HeadingLemmas.{section_Routine, routine_made}
+use Rattle.ps_declare.proofs.headings.+heading.Goals as goal
+
+pub all_sections-returns-in_err-add_section-clause-err : goal.all_sections-returns-in_err-add_section-clause-err
+all_sections-returns-in_err-add_section-clause-err t c =
+    let below : c.loop-written.written-index < length c.args.list.now = omega (arith, c.loop-written-test.true) in
+    let fault : add_section (frame_of c.args.frame.now) (map meaning_of c.args.known.now) (hidden_of c.args.hidden.now) (map section_of c.loop-written.done.items) (section (frame_of c.args.frame.now) (map meaning_of c.args.known.now) c.written-item.result) ≡ None → steps (add_section (frame_of c.args.frame.now) (map meaning_of c.args.known.now) (hidden_of c.args.hidden.now)) [] (map (section (frame_of c.args.frame.now) (map meaning_of c.args.known.now)) c.args.list.now) ≡ None = λ e. stepped_fault_map (add_section (frame_of c.args.frame.now) (map meaning_of c.args.known.now) (hidden_of c.args.hidden.now)) (section (frame_of c.args.frame.now) (map meaning_of c.args.known.now)) [] c.args.list.now c.loop-written.written-index (map section_of c.loop-written.done.items) c.written-item.result below c.written-item.is c.loop-written.invariant e in
+    search (rules, fault)
+
+pub section-returns-in_ok-new-in-Routine-clause-ok : goal.section-returns-in_ok-new-in-Routine-clause-ok
+section-returns-in_ok-new-in-Routine-clause-ok t c = search (rules, section_Routine, routine_made)

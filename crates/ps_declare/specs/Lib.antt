@@ -1,0 +1,5 @@
+pub mod Points
+pub mod Denoters
+pub mod Declarations
+pub mod Headings
+pub mod Views

@@ -1,0 +1,29 @@
+-- What the values of the program stand for in the definitions.
+use Rattle.std.specs.Prelude.{ℕ, List, [], ◌∷◌, map, option_map}
+use Rattle.ps_tree.specs.declared.types.Field.{Field}
+use Rattle.ps_tree.specs.Types.{DataType}
+use Rattle.ps_tree.specs.View.{type_of}
+use Rattle.ps_regions.specs.Views.{scope_of, meaning_of, section_of}
+use Rattle.ps_declare.specs.declared.frame.Frame as RustFrame
+use Rattle.ps_declare.specs.declared.frame.Declared as RustDeclared
+use Rattle.ps_declare.specs.declared.frame.Hidden as RustHidden
+use Rattle.ps_declare.specs.declared.frame.Hidden.{Nothing, Record'}
+use Rattle.ps_declare.specs.declared.headings.Signature as RustSignature
+use Rattle.ps_declare.specs.Denoters.{Frame, Declared, Hidden}
+use Rattle.ps_declare.specs.Headings.{Signature}
+
+abbrev pub frame_of : RustFrame.Frame → Frame
+frame_of f = record { text = f.reading.now.source.now; routine = f.routine; names = f.names.now; outer = scope_of f.outer.now }
+
+abbrev pub declared_of : RustDeclared.Declared → Declared
+declared_of d = record { known = map meaning_of d.known.items; domains = map type_of d.domains.items; pending = d.pending.items; variables = map type_of d.variables.items }
+
+unfoldable pub hidden_of : RustHidden.Hidden → Hidden
+hidden_of Nothing = []
+hidden_of (Record' names p outer) = names.now ∷ hidden_of outer
+
+abbrev pub field_of : Field → List ℕ × DataType
+field_of f = (f.name.items, type_of f.ty)
+
+abbrev pub signature_of : RustSignature.Signature → Signature
+signature_of s = (map section_of s.sections.items, option_map type_of s.result)

@@ -1,0 +1,4 @@
+pub mod Values
+pub mod Loops
+pub mod Worlds
+pub mod Written

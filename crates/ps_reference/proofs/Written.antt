@@ -1,0 +1,49 @@
+-- Texts that grow byte by byte.
+use Rattle.std.proofs.Common.{◌≡◌, ℕ, zero, suc, ◌+◌, ◌-◌, ◌*◌, ◌^◌, ◌<◌, ◌≤◌, min, List, [], ◌∷◌, ◌++◌, length, get_or, take, take_while, drop, true, false, replicate, refl, sym, ap, ◌∙◌, add-one, arith}
+use Rattle.std.proofs.lemmas.List.{take_more, take_all, length-drop, length-take}
+use Rattle.std.specs.List.{prefix_len}
+use Rattle.ps_meaning.specs.Text.{number_written, is_digit, is_empty}
+
+written_more : (n : ℕ) (xs : List ℕ) (b : ℕ) → number_written n (xs ++ b ∷ []) ≡ 10 * number_written n xs + (b - 48)
+written_more n [] b = refl
+written_more n (x ∷ xs) b = written_more (10 * n + (x - 48)) xs b
+
+capped : (n d : ℕ) → min (10 * min n (2 ^ 32) + d) (2 ^ 32) ≡ min (10 * n + d) (2 ^ 32)
+capped n d = omega arith
+
+pub written_next : (xs : List ℕ) (i sum : ℕ) → i < length xs → sum ≡ min (number_written 0 (take i xs)) (2 ^ 32) → min (10 * sum + (get_or xs i 0 - 48)) (2 ^ 32) ≡ min (number_written 0 (take (i + 1) xs)) (2 ^ 32)
+written_next xs i sum lt is =
+    ap (λ s. min (10 * s + (get_or xs i 0 - 48)) (2 ^ 32)) is ∙ capped (number_written 0 (take i xs)) (get_or xs i 0 - 48) ∙ ap (λ n. min n (2 ^ 32)) (sym (ap (number_written 0) (take_more xs i 0 lt) ∙ written_more 0 (take i xs) (get_or xs i 0)))
+
+replicate_more : (n x : ℕ) → replicate (suc n) x ≡ replicate n x ++ x ∷ []
+replicate_more zero x = refl
+replicate_more (suc n) x = ap (λ l. x ∷ l) (replicate_more n x)
+
+pub replicate_next : (n x : ℕ) → replicate (n + 1) x ≡ replicate n x ++ x ∷ []
+replicate_next n x = ap (λ k. replicate k x) (add-one n) ∙ replicate_more n x
+
+prefix_within : (n : ℕ) (xs : List ℕ) → length (take n xs) ≤ length xs
+prefix_within n xs = omega (arith, length-take n xs)
+
+prefix_first : (n : ℕ) (xs : List ℕ) → take (length (take n xs)) xs ≡ take n xs
+prefix_first zero xs = refl
+prefix_first (suc n) [] = refl
+prefix_first (suc n) (x ∷ xs) = ap (λ l. x ∷ l) (prefix_first n xs)
+
+-- the digits that bytes begin with
+pub digits_within : (bytes : List ℕ) → length (take_while is_digit bytes) ≤ length bytes
+digits_within bytes = prefix_within (prefix_len is_digit bytes) bytes
+
+pub digits_first : (bytes : List ℕ) → take (length (take_while is_digit bytes)) bytes ≡ take_while is_digit bytes
+digits_first bytes = prefix_first (prefix_len is_digit bytes) bytes
+
+pub whole_rest : (bytes : List ℕ) (n : ℕ) → take (length bytes - n) (drop n bytes) ≡ drop n bytes
+whole_rest bytes n = take_all (length bytes - n) (drop n bytes) (omega (arith, length-drop n bytes))
+
+pub no_bytes : (bytes : List ℕ) → length bytes ≡ 0 → is_empty bytes ≡ true
+no_bytes [] e = refl
+no_bytes (b ∷ rest) e = absurd (omega arith)
+
+pub some_bytes : (bytes : List ℕ) → 1 ≤ length bytes → is_empty bytes ≡ false
+some_bytes [] e = absurd (omega arith)
+some_bytes (b ∷ rest) e = refl

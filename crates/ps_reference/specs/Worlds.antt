@@ -1,0 +1,126 @@
+-- What the runner's environments, contexts and worlds stand for in the definitions.
+use Rattle.std.specs.Prelude.{◌≡◌, ℕ, zero, suc, List, [], ◌∷◌, map, Vec, Result, Ok, Err}
+use Rattle.std.specs.Global.{Global}
+use Rattle.ps_tree.specs.Checked.{program_in}
+use Rattle.ps_tree.specs.Tree.{Program}
+use Rattle.ps_meaning.specs.Values as v
+use Rattle.ps_meaning.specs.Text as t
+use Rattle.ps_meaning.specs.Worlds as m
+use Rattle.ps_meaning.specs.Statements.{Costs, Next}
+use Rattle.ps_meaning.specs.Expressions as e
+use Rattle.ps_meaning.specs.Expressions.{Caller}
+use Rattle.ps_meaning.specs.Calls.{call_routine, execute}
+use Rattle.ps_meaning.specs.Run.{costs_of}
+use Rattle.ps_reference.specs.declared.value.Value.{Value}
+use Rattle.ps_reference.specs.declared.stop.Ending.{Ending}
+use Rattle.ps_reference.specs.declared.stop.Ending.TheVariants.{Normal, Error, Stack, Heap, More}
+use Rattle.ps_reference.specs.declared.stop.Stop.{Stop}
+use Rattle.ps_reference.specs.declared.stop.Stop.TheVariants.{Ended, Refused}
+use Rattle.ps_reference.specs.declared.world.Job.{Job}
+use Rattle.ps_reference.specs.declared.world.Env.{Env, Outside, Within', Row_of-Entry, end_of-Entry, more_of-Entry}
+use Rattle.ps_reference.specs.declared.world.Entry.{Entry, Variable, Routine'}
+use Rattle.ps_reference.specs.declared.world.Numbers.{Numbers, End, Number'}
+use Rattle.ps_reference.specs.declared.world.Context.{Context}
+use Rattle.ps_reference.specs.declared.world.Input.{Input}
+use Rattle.ps_reference.specs.declared.world.World.{World}
+use Rattle.ps_reference.specs.declared.expressions.Actual.{Actual}
+use Rattle.ps_reference.specs.declared.expressions.Actual.TheVariants.{Value as ValueOf, Variable as VariableAt, Routine as RoutineIn}
+use Rattle.ps_reference.specs.declared.expressions.Held.{Held}
+use Rattle.ps_reference.specs.declared.expressions.Held.TheVariants.{Text, Place}
+use Rattle.ps_reference.specs.View.{value_of, spot_of}
+
+unfoldable mutual
+  pub env_of : Env → m.Env
+  env_of Outside = m.Outside
+  env_of (Within' shape row p outer) = m.Within (frame_of_row row) (env_of outer)
+
+  pub frame_of_row : {n : _} → Row_of-Entry n → m.Frame
+  frame_of_row end_of-Entry = m.no_entry
+  frame_of_row (more_of-Entry e rest) = entry_before e (frame_of_row rest)
+
+  pub entry_before : Entry → m.Frame → m.Frame
+  entry_before (Variable s) frame = m.variable_before (spot_of s) frame
+  entry_before (Routine' routine p env) frame = m.routine_before routine (env_of env) frame
+
+-- lists of entries
+unfoldable pub entries_of : List Entry → m.Frame
+entries_of [] = m.no_entry
+entries_of (e ∷ rest) = entry_before e (entries_of rest)
+
+-- what an entry is
+unfoldable pub entry_spot : Entry → v.Spot
+entry_spot (Variable s) = spot_of s
+entry_spot (Routine' routine p env) = m.no_spot
+
+unfoldable pub entry_routine : Entry → ℕ
+entry_routine (Variable s) = 0
+entry_routine (Routine' routine p env) = routine
+
+unfoldable pub entry_env : Entry → m.Env
+entry_env (Variable s) = m.Outside
+entry_env (Routine' routine p env) = env_of env
+
+unfoldable pub numbers_of : Numbers → List ℕ
+numbers_of End = []
+numbers_of (Number' first p rest) = first ∷ numbers_of rest
+
+abbrev pub context_of : Context → m.Context
+context_of c = record { env = env_of c.env.value; opened = map spot_of c.opened.items; active = numbers_of c.active.value; calls = numbers_of c.calls.value }
+
+-- the values of names; those that were not given one are unset
+unfoldable pub stored : List Value → ℕ → v.Value
+stored [] name = m.unset
+stored (x ∷ rest) zero = value_of x
+stored (x ∷ rest) (suc name) = stored rest name
+
+abbrev pub input_of : Input → t.Input
+input_of i = record { left = i.left.now; looked = i.looked; in_line = i.in_line }
+
+abbrev pub world_of : World → m.World
+world_of w = record { next = w.next; store = stored w.store.items; objects = map value_of w.objects.items; made = w.made.items; input = input_of w.input; transcript = w.transcript.items }
+
+abbrev pub program_of : Job → Program
+program_of job = program_in job.program.now
+
+abbrev pub costs_in : Job → Costs
+costs_in job = costs_of job.frames.now job.objects.now job.stack job.heap
+
+-- a call, and a task, with so much fuel
+unfoldable pub caller : Job → ℕ → Caller
+caller job n = call_routine (program_of job) (costs_in job) (execute (program_of job) (costs_in job) n)
+
+unfoldable pub next : Job → ℕ → Next
+next job n = execute (program_of job) (costs_in job) n
+
+abbrev pub ending_of : Ending → m.Ending
+ending_of Normal = m.Normal
+ending_of (Error number line) = m.Error number line
+ending_of (Stack line) = m.Stack line
+ending_of (Heap line) = m.Heap line
+ending_of More = m.More
+
+-- where the definition's answer is known to end the run; nothing is said where the runner gave up
+abbrev pub Stopped : {A : Type 0} → m.Answer A → Stop → World → Type 0
+Stopped answer (Ended ending calls) w = answer ≡ m.Ends w.transcript.items (ending_of ending) calls.items
+Stopped answer (Refused refusal) w = Unit {0}
+
+-- a part of the runner answers what the definition's answer is
+abbrev pub Answers : {A R : Type 0} → (R → A) → m.Answer A → Result R Stop → World → Type 0
+Answers view answer (Ok r) w = answer ≡ m.Gives (view r) (world_of w)
+Answers view answer (Err stop) w = Stopped answer stop w
+
+-- actual parameters and operands as they were taken
+unfoldable pub actual_of : Actual → e.Actual
+actual_of (ValueOf v) = e.ValueActual (value_of v)
+actual_of (VariableAt s) = e.VariableActual (spot_of s)
+actual_of (RoutineIn r env) = e.RoutineActual r (env_of env.value)
+
+unfoldable pub held_of : Held → e.Held
+held_of (Text characters) = e.HeldText characters.now
+held_of (Place s) = e.HeldSpot (spot_of s)
+
+abbrev pub actuals_in : Vec Actual Global → List e.Actual
+actuals_in actuals = map actual_of actuals.items
+
+abbrev pub done_of : Unit {0} → m.Done
+done_of _ = m.done

@@ -1,0 +1,4 @@
+pub mod Lists
+pub mod Searches
+pub mod DenotesLemmas
+pub mod ViewLemmas

@@ -1,0 +1,7 @@
+pub mod Option
+pub mod Spelling
+pub mod Regions
+pub mod Denotes
+pub mod Constants
+pub mod Views
+pub mod Refusal

@@ -1,0 +1,11 @@
+//! The regions that enclose a place in a program, and what a name denotes there.
+#![tactic(auto)]
+
+pub mod constants;
+pub mod meaning;
+pub mod names;
+pub mod reading;
+pub mod refusal;
+pub mod scope;
+#[cfg(test)]
+mod tests;

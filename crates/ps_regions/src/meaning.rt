@@ -1,0 +1,96 @@
+//! What names stand for.
+
+use ps_tree::types::{Ordinal, Ty};
+use std::rc::Rc;
+
+/// The files that a program heading may list.
+#[derive(Clone, Copy, PartialEq, Eq, Debug)]
+pub enum File {
+    Input,
+    Output,
+}
+
+/// The required functions and procedures of the profile (ISO 7185, 6.6.5 and 6.6.6).
+#[derive(Clone, Copy, PartialEq, Eq, Debug)]
+pub enum Required {
+    Abs,
+    Sqr,
+    Odd,
+    Chr,
+    Ord,
+    Succ,
+    Pred,
+    Eof,
+    Eoln,
+    Read,
+    Readln,
+    Write,
+    Writeln,
+    New,
+    Pack,
+    Unpack,
+}
+
+/// A section of a formal parameter list (6.6.3.1); `count` is how many names it has.
+#[derive(Drop)]
+pub enum Section {
+    Value {
+        count: u32,
+        ty: Ty,
+    },
+    Variable {
+        count: u32,
+        ty: Ty,
+    },
+    /// A procedural parameter, or a functional one, which has a result.
+    Routine {
+        sections: Rc<Vec<Section>>,
+        result: Option<Ty>,
+    },
+}
+
+/// A routine's heading. `names` has the formal parameters' names in small letters, in order; a forward heading's block
+/// comes later.
+#[derive(Drop)]
+pub struct Heading {
+    pub number: u32,
+    pub sections: Rc<Vec<Section>>,
+    pub result: Option<Ty>,
+    pub names: Vec<Vec<u8>>,
+    pub is_forward: bool,
+}
+
+/// What a defining point gives its name. The entries of a routine count from 0: a function's result, formal
+/// parameters, variables.
+#[derive(Drop)]
+pub enum Meaning {
+    /// A constant of an ordinal type; a string of one character is one of type char.
+    Constant {
+        ordinal: Ordinal,
+        value: i32,
+    },
+    /// A constant that is a string of several characters.
+    Text(Vec<u8>),
+    Type(Ty),
+    /// A variable that is declared in a variable part.
+    Variable {
+        entry: u32,
+        ty: Ty,
+    },
+    /// A value or variable parameter.
+    Parameter {
+        entry: u32,
+        ty: Ty,
+    },
+    RoutineParameter {
+        entry: u32,
+        sections: Rc<Vec<Section>>,
+        result: Option<Ty>,
+    },
+    Routine(Heading),
+    /// Input and output, which the program heading defines for the program's block.
+    File(File),
+    Required(Required),
+    /// A required name that the profile leaves out.
+    LeftOut,
+}

@@ -1,0 +1,169 @@
+//! The regions that enclose a place, and the search through them.
+
+ghost use Rattle.std.specs.Prelude.{◌≡◌, ℕ, option_map};
+ghost use Rattle.ps_tree.specs.View.{type_of, fields_of};
+ghost use Rattle.ps_regions.specs.Spelling.{same};
+ghost use Rattle.ps_regions.specs.Regions.{one_more, field_in, find_past, find};
+ghost use Rattle.ps_regions.specs.Views.{field_list, scope_of, found};
+ghost use Rattle.ps_regions.specs.Denotes.{FindsWhatIsDenoted};
+
+use crate::meaning::Meaning;
+use crate::names::Names;
+use ps_tree::types::{Field, Fields, Ty};
+
+/// The regions that enclose a place, from the inside out.
+#[derive(Clone, Copy)]
+pub enum Scope<'a> {
+    Outside,
+    /// A block: its routine's number, the names of all its defining points in the order in which their definitions end,
+    /// and what the first of them, those before the place, stand for.
+    Block {
+        routine: u32,
+        names: &'a Names,
+        known: &'a [Meaning],
+        outer: &'a Scope<'a>,
+    },
+    /// A record that a `with` opens, and its fields.
+    Record {
+        ty: &'a Ty,
+        fields: &'a Fields,
+        outer: &'a Scope<'a>,
+    },
+    /// A record within its own denoter: the names of its fields, of which the first `defined` stand before the place.
+    Fields {
+        names: &'a Names,
+        defined: usize,
+        outer: &'a Scope<'a>,
+    },
+}
+
+/// The defining point that a name denotes.
+#[derive(Clone, Copy)]
+pub enum Found<'a> {
+    /// A name of a block that is `up` blocks further out.
+    Name {
+        up: u32,
+        meaning: &'a Meaning,
+    },
+    /// The field with this number of an opened record, the innermost of which is `which` 0.
+    Field {
+        which: u32,
+        record: &'a Ty,
+        number: u32,
+        ty: &'a Ty,
+    },
+}
+
+/// What a search through regions found.
+#[derive(Clone, Copy)]
+pub enum Lookup<'a> {
+    Found(Found<'a>),
+    /// The name's defining point in the closest region that has one stands after the place.
+    Later,
+    /// It is a field's of a record within its own denoter.
+    OwnField,
+    /// No region has one.
+    Missing,
+}
+
+/// One more, where a count can tell it.
+pub fn one_more(count: u32) -> Option<u32>
+    ensures { result ≡ one_more count }
+{
+    if count < u32::MAX {
+        Some(count + 1)
+    } else {
+        None
+    }
+}
+
+fn is_named(field: &Field, name: &[u8]) -> bool
+    ensures { result ≡ same name.now field.now.name.items }
+{
+    name == field.name.as_slice()
+}
+
+/// The first field of this name from the one with number `from` on, which is the first of these.
+fn field_from<'a>(fields: &'a [Field], from: u32, name: &[u8]) -> Option<(u32, &'a Ty)>
+    ensures { option_map (λ f. (f.0, type_of f.1.now)) result ≡ field_in from (field_list fields.now) name.now }
+{
+    let mut number = from;
+    for field in fields {
+        if is_named(field, name) {
+            return Some((number, &field.ty));
+        }
+        number = one_more(number)?;
+    }
+    None
+}
+
+/// The first field of this name, by its number and its type.
+#[tactic(auto, using(crate::proofs::Searches::fields_of_out))]
+pub fn field_of<'a>(fields: &'a Fields, name: &[u8]) -> Option<(u32, &'a Ty)>
+    ensures { option_map (λ f. (f.0, type_of f.1.now)) result ≡ field_in 0 (fields_of fields.now) name.now }
+{
+    field_from(&fields.fields, 0, name)
+}
+
+/// The defining point that a name denotes, behind `up` blocks and `which` opened records.
+#[tactic(auto, unfolding(crate::specs::Regions::find_past, crate::specs::Views::scope_of))]
+fn find_past<'a>(scope: &'a Scope<'a>, up: u32, which: u32, name: &[u8]) -> Lookup<'a>
+    ensures { found result ≡ find_past up which (scope_of scope.now) name.now }
+{
+    match scope {
+        Scope::Outside => Lookup::Missing,
+        Scope::Block {
+            names,
+            known,
+            outer,
+            ..
+        } => match names.find(name) {
+            None => match one_more(up) {
+                None => Lookup::Missing,
+                Some(up) => find_past(outer, up, which, name),
+            },
+            Some(index) => match known.get(index) {
+                None => Lookup::Later,
+                Some(meaning) => Lookup::Found(Found::Name { up, meaning }),
+            },
+        },
+        Scope::Record { ty, fields, outer } => match field_of(fields, name) {
+            None => match one_more(which) {
+                None => Lookup::Missing,
+                Some(which) => find_past(outer, up, which, name),
+            },
+            Some((number, field_ty)) => Lookup::Found(Found::Field {
+                which,
+                record: ty,
+                number,
+                ty: field_ty,
+            }),
+        },
+        Scope::Fields {
+            names,
+            defined,
+            outer,
+        } => match names.find(name) {
+            None => find_past(outer, up, which, name),
+            Some(index) => {
+                if index < *defined {
+                    Lookup::OwnField
+                } else {
+                    Lookup::Later
+                }
+            }
+        },
+    }
+}
+
+/// The defining point that a name denotes at a place that these regions enclose.
+pub fn find<'a>(scope: &'a Scope<'a>, name: &[u8]) -> Lookup<'a>
+    ensures { found result ≡ find (scope_of scope.now) name.now }
+{
+    find_past(scope, 0, 0, name)
+}
+
+/// A search finds the defining point that the name denotes, and finds none only where it denotes none.
+pub fn scope_rules()
+    ensures { FindsWhatIsDenoted }
+{}

@@ -1,0 +1,4 @@
+pub mod Equations
+pub mod Judgement
+pub mod ParameterLemmas
+pub mod CallLemmas

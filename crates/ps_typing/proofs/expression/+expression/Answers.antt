@@ -1,0 +1,81 @@
+use Rattle.std.proofs.Common.{rules, ◌≡◌, ◌∙◌, ap, map, None, arith}
+use Rattle.std.proofs.lemmas.Result.{err_from_is_err_and}
+use Rattle.ps_tree.specs.View.{argument_of}
+use Rattle.ps_regions.specs.Option.{traverse_both}
+use Rattle.ps_regions.specs.Refusal.{IsFault}
+use Rattle.ps_regions.specs.Spelling.{line_in}
+use Rattle.ps_regions.specs.Views.{point_of, section_of, sections_of}
+use Rattle.ps_regions.proofs.Lists.{both_next_of, stepped_next_map, stepped_fault_map}
+use Rattle.ps_typing.specs.Calls.{actual, called, parameters}
+use Rattle.ps_typing.specs.Expressions.{operand}
+use Rattle.ps_typing.specs.View.{context_at, regions_at}
+use Rattle.ps_typing.proofs.CallLemmas.{actual_routine, uneven_listed, fault_listed, routine_gives, routine_refuses, formal_gives, formal_refuses, gathered_next}
+use Rattle.ps_typing.proofs.Judgement.{simple_value, term_value, variable_variable}
+use Rattle.ps_typing.proofs.expression.+expression.Goals as goal
+
+pub argument_all-returns-then-len-operands-clause-err : goal.argument_all-returns-then-len-operands-clause-err
+argument_all-returns-then-len-operands-clause-err t c = search (rules, uneven_listed)
+
+pub argument_all-returns-in_err-argument-clause-err : goal.argument_all-returns-in_err-argument-clause-err
+argument_all-returns-in_err-argument-clause-err t c =
+    let p = err_from_is_err_and c.from_residual-in_err-argument.result c.from_residual-in_err-argument.ensures.1 in
+    let parts : IsFault c.in_err-argument.field-0.0 → traverse_both (λ s x. actual (context_at c.args.site) (regions_at c.args.site) s (operand (context_at c.args.site) (regions_at c.args.site) x)) (parameters (sections_of c.args.sections.now)) c.args.operands.now ≡ None =
+    λ fault. fault_listed (λ s x. actual (context_at c.args.site) (regions_at c.args.site) s (operand (context_at c.args.site) (regions_at c.args.site) x)) (λ s. section_of s.now) c.in_ok-formals.formals.items _ c.args.operands.now c.loop-i.i _ c.index.result.now c.index-operands-i.result c.in_ok-formals.ensures (omega arith) c.loop-i-test.true c.index.ensures c.index-operands-i.is c.loop-i.invariant (c.in_err-argument.ensures.err fault) in
+    rw (p.1, p.2) parts
+
+pub argument_all-loop-i-preserved : goal.argument_all-loop-i-preserved
+argument_all-loop-i-preserved t c =
+    both_next_of (λ s x. actual (context_at c.args.site) (regions_at c.args.site) s (operand (context_at c.args.site) (regions_at c.args.site) x)) (λ s. section_of s.now) argument_of c.in_ok-formals.formals.items c.args.operands.now c.loop-i.i c.loop-i.list.items c.push.new.self.items c.index.result.now c.index-operands-i.result c.in_ok-argument.argument (omega arith) c.loop-i-test.true c.index.ensures c.index-operands-i.is c.loop-i.invariant c.in_ok-argument.ensures.ok c.in_ok-push.ensures.items
+
+pub argument_one-returns-in_ok-found-in-Some-clause-ok : goal.argument_one-returns-in_ok-found-in-Some-clause-ok
+argument_one-returns-in_ok-found-in-Some-clause-ok t c = search (rules, actual_routine)
+
+pub argument_one-returns-in_ok-found-in-Some-clause-err : goal.argument_one-returns-in_ok-found-in-Some-clause-err
+argument_one-returns-in_ok-found-in-Some-clause-err t c = search (rules, actual_routine)
+
+pub call_value-returns-in_err-arguments-in-Routine-clause-err : goal.call_value-returns-in_err-arguments-in-Routine-clause-err
+call_value-returns-in_err-arguments-in-Routine-clause-err t c =
+    let p = err_from_is_err_and c.from_residual-in_err-arguments-in-Routine.result c.from_residual-in_err-arguments-in-Routine.ensures.1 in
+    let parts : IsFault c.in_err-arguments-in-Routine.field-0.0 → called (context_at c.args.site) (regions_at c.args.site) (line_in c.args.site.reading.now.source.now c.args.name.from) (point_of c.args.found) (map (operand (context_at c.args.site) (regions_at c.args.site)) c.args.operands.now) ≡ None =
+    λ fault. routine_refuses (context_at c.args.site) (regions_at c.args.site) (line_in c.args.site.reading.now.source.now c.args.name.from) c.args.found c.in-Name.up c.in-Name.meaning _ c.deref-in-Routine.result.now c.args.operands.now c.in-Routine.heading c.in-Name.is c.in-Routine.is c.in_ok-ty-in-Routine.ensures.ok (c.deref-in-Routine.ensures.value ∙ ap (λ v. v.items) c.deref.ensures) (c.in_err-arguments-in-Routine.ensures.err fault) in
+    rw (p.1, p.2) parts
+
+pub call_value-returns-in_err-arguments-in-RoutineParameter-clause-err : goal.call_value-returns-in_err-arguments-in-RoutineParameter-clause-err
+call_value-returns-in_err-arguments-in-RoutineParameter-clause-err t c =
+    let p = err_from_is_err_and c.from_residual-in_err-arguments-in-RoutineParameter.result c.from_residual-in_err-arguments-in-RoutineParameter.ensures.1 in
+    let parts : IsFault c.in_err-arguments-in-RoutineParameter.field-0.0 → called (context_at c.args.site) (regions_at c.args.site) (line_in c.args.site.reading.now.source.now c.args.name.from) (point_of c.args.found) (map (operand (context_at c.args.site) (regions_at c.args.site)) c.args.operands.now) ≡ None =
+    λ fault. formal_refuses (context_at c.args.site) (regions_at c.args.site) (line_in c.args.site.reading.now.source.now c.args.name.from) c.args.found c.in-Name.up c.in-Name.meaning _ c.deref-in-RoutineParameter-2.result.now c.args.operands.now c.in-RoutineParameter.entry c.in-RoutineParameter.sections c.in-RoutineParameter.outcome c.in-Name.is c.in-RoutineParameter.is c.in_ok-ty-in-RoutineParameter.ensures.ok (c.deref-in-RoutineParameter-2.ensures.value ∙ ap (λ v. v.items) c.deref-in-RoutineParameter.ensures) (c.in_err-arguments-in-RoutineParameter.ensures.err fault) in
+    rw (p.1, p.2) parts
+
+pub call_value-returns-in_ok-arguments-in-Routine-clause-ok : goal.call_value-returns-in_ok-arguments-in-Routine-clause-ok
+call_value-returns-in_ok-arguments-in-Routine-clause-ok t c =
+    routine_gives (context_at c.args.site) (regions_at c.args.site) (line_in c.args.site.reading.now.source.now c.args.name.from) c.args.found c.in-Name.up c.in-Name.meaning _ c.deref-in-Routine.result.now c.args.operands.now c.in-Routine.heading _ c.line-line.result.number _ c.in-Name.is c.in-Routine.is c.in_ok-ty-in-Routine.ensures.ok (c.deref-in-Routine.ensures.value ∙ ap (λ v. v.items) c.deref.ensures) c.in_ok-arguments-in-Routine.ensures.ok c.line-line.ensures c.declared_call.ensures
+
+pub call_value-returns-in_ok-arguments-in-RoutineParameter-clause-ok : goal.call_value-returns-in_ok-arguments-in-RoutineParameter-clause-ok
+call_value-returns-in_ok-arguments-in-RoutineParameter-clause-ok t c =
+    formal_gives (context_at c.args.site) (regions_at c.args.site) (line_in c.args.site.reading.now.source.now c.args.name.from) c.args.found c.in-Name.up c.in-Name.meaning _ c.deref-in-RoutineParameter-2.result.now c.args.operands.now c.in-RoutineParameter.entry c.in-RoutineParameter.sections c.in-RoutineParameter.outcome _ c.line-line.result.number _ c.in-Name.is c.in-RoutineParameter.is c.in_ok-ty-in-RoutineParameter.ensures.ok (c.deref-in-RoutineParameter-2.ensures.value ∙ ap (λ v. v.items) c.deref-in-RoutineParameter.ensures) c.in_ok-arguments-in-RoutineParameter.ensures.ok c.line-line.ensures c.formal_call.ensures
+
+pub index_all-returns-in_err-place-clause-err : goal.index_all-returns-in_err-place-clause-err
+index_all-returns-in_err-place-clause-err t c = search (rules, stepped_fault_map)
+
+pub index_all-loop-index-preserved : goal.index_all-loop-index-preserved
+index_all-loop-index-preserved t c = search (rules, stepped_next_map)
+
+pub set_value-returns-in_err-member-clause-err : goal.set_value-returns-in_err-member-clause-err
+set_value-returns-in_err-member-clause-err t c = search (rules, stepped_fault_map)
+
+pub set_value-returns-in_err-joined-clause-err : goal.set_value-returns-in_err-joined-clause-err
+set_value-returns-in_err-joined-clause-err t c = search (rules, stepped_fault_map)
+
+pub set_value-loop-x-preserved : goal.set_value-loop-x-preserved
+set_value-loop-x-preserved t c =
+    gathered_next (context_at c.args.site) (regions_at c.args.site) c.args.members.now c.loop-x.x-index c.loop-x.list.items c.push.new.self.items c.loop-x.base c.x-item.result c.in_ok-member.member c.in_ok-member.ordinal c.in_ok-joined.field-0 c.loop-x-test.true c.x-item.is c.loop-x.invariant c.in_ok-member.ensures.ok c.in_ok-joined.ensures.ok c.in_ok-push.ensures.items
+
+pub simple_value-returns-clause-err : goal.simple_value-returns-clause-err
+simple_value-returns-clause-err t c = rw (simple_value, c.in_ok-term.ensures.ok, c.in_ok-first.ensures.ok, ← c.as_slice.ensures) c.add_terms.ensures.err
+
+pub term_value-returns-clause-err : goal.term_value-returns-clause-err
+term_value-returns-clause-err t c = rw (term_value, c.in_ok-first.ensures.ok, ← c.as_slice.ensures) c.multiply_factors.ensures.err
+
+pub variable_place-returns-clause-err : goal.variable_place-returns-clause-err
+variable_place-returns-clause-err t c = rw (variable_variable, c.in_ok-found.ensures.ok, c.in_ok-entire.ensures.ok, ← c.as_slice.ensures) c.select_all.ensures.err

@@ -1,0 +1,218 @@
+//! Constants as operands, and the required functions (ISO 7185, 6.6.6).
+
+ghost use Rattle.std.specs.Prelude.{◌≡◌, IfOk, IfErr, Some, None};
+ghost use Rattle.ps_tree.specs.View.{expr_of};
+ghost use Rattle.ps_regions.specs.Refusal.{IsFault};
+ghost use Rattle.ps_regions.specs.Views.{point_of};
+ghost use Rattle.ps_typing.specs.Values.{ordinal_of};
+ghost use Rattle.ps_typing.specs.Calls.{needs_integer, function_of, required_value, look, is_input};
+ghost use Rattle.ps_typing.specs.Expressions.{constant_value};
+ghost use Rattle.ps_typing.specs.View.{context_at, value_of};
+ghost use Rattle.ps_scan.specs.Values.{characters};
+ghost use Rattle.ps_regions.specs.Spelling.{bytes_at};
+ghost use Rattle.ps_regions.specs.Constants.{text_constant};
+ghost use Rattle.ps_regions.specs.Views.{constant_of};
+
+use crate::operators::{Operands, wrong_type};
+use crate::place::wrong_kind;
+use crate::site::Site;
+use crate::value::{TypedValue, host_type};
+use ps_regions::constants::{BOOLEAN, CHAR, ConstantValue, INTEGER, text_constant};
+use ps_regions::meaning::{File, Meaning, Required};
+use ps_regions::refusal::{Fault, Rule};
+use ps_regions::scope::Found;
+use ps_scan::string_value;
+use ps_text::Span;
+use ps_tree::line::Line;
+use ps_tree::tree::{Expr, RequiredFunction, Structure};
+use ps_tree::types::{Host, Ordinal, Ty, same_host};
+use std::alloc::{AllocError, Global};
+
+/// The constant that a string's token is.
+pub fn text_at(site: Site<'_>, at: Span) -> Result<ConstantValue, AllocError>
+    ensures { IfOk result (λ v. constant_of v ≡ text_constant (characters (bytes_at (context_at site.entry).text at))) }
+{
+    let characters = string_value(site.alloc, site.reading.bytes(at))?;
+    Ok(text_constant(characters))
+}
+
+/// The value of a constant, whose first token is at `at`.
+#[tactic(auto, unfolding(crate::specs::Expressions::constant_value, ps_regions::specs::Views::constant_of, crate::specs::View::value_of, ps_tree::specs::View::type_of, ps_tree::specs::View::expr_of, ps_tree::specs::View::structure_of))]
+pub fn of_constant(constant: ConstantValue, at: u32) -> Result<TypedValue, Fault>
+    ensures ok { IfOk result (λ v. constant_value (constant_of constant) ≡ Some (value_of v)) }
+    ensures err { IfErr result (λ fault. IsFault fault → constant_value (constant_of constant) ≡ None) }
+{
+    match constant {
+        ConstantValue::Ordinal(ordinal, value) => Ok(TypedValue::Simple(
+            Expr::Number(value),
+            Ty::Simple(ordinal),
+        )),
+        ConstantValue::Text(characters) => {
+            let length = characters.len();
+            if length > 4_294_967_295 {
+                return Err(wrong_type(at));
+            }
+            let ty = Ty::Text {
+                length: length as u32,
+            };
+            Ok(TypedValue::Structure(Structure::Literal(characters), ty))
+        }
+    }
+}
+
+/// An expression of an ordinal type, which begins at `at`.
+#[tactic(auto, unfolding(crate::specs::Values::ordinal_of, crate::specs::View::value_of, ps_tree::specs::View::type_of))]
+pub fn ordinal_of(value: TypedValue, at: u32) -> Result<(Expr, Ordinal), Fault>
+    ensures ok { IfOk result (λ v. ordinal_of (value_of value) ≡ Some (expr_of v.0, v.1)) }
+    ensures err { IfErr result (λ fault. IsFault fault → ordinal_of (value_of value) ≡ None) }
+{
+    match value {
+        TypedValue::Simple(value, ty) => match ty {
+            Ty::Simple(ordinal) => Ok((value, ordinal)),
+            Ty::Pointer { .. }
+            | Ty::Nil
+            | Ty::Set { .. }
+            | Ty::EmptySet
+            | Ty::Text { .. }
+            | Ty::Array { .. }
+            | Ty::Record { .. } => Err(wrong_type(at)),
+        },
+        TypedValue::Set(..) | TypedValue::Structure(..) => Err(wrong_type(at)),
+    }
+}
+
+/// Whether the operand of a required function has to be an integer.
+pub fn needs_integer(required: Required) -> bool
+    ensures { result ≡ needs_integer required }
+{
+    match required {
+        Required::Abs | Required::Sqr | Required::Odd | Required::Chr => true,
+        Required::Ord
+        | Required::Succ
+        | Required::Pred
+        | Required::Eof
+        | Required::Eoln
+        | Required::Read
+        | Required::Readln
+        | Required::Write
+        | Required::Writeln
+        | Required::New
+        | Required::Pack
+        | Required::Unpack => false,
+    }
+}
+
+/// The required function of an operand of an ordinal type (6.6.6.2 to 6.6.6.4), and the type of its value.
+pub fn function_of(required: Required, ordinal: Ordinal) -> Option<(RequiredFunction, Ordinal)>
+    ensures { result ≡ function_of required ordinal }
+{
+    match required {
+        Required::Abs => Some((RequiredFunction::Abs, INTEGER)),
+        Required::Sqr => Some((RequiredFunction::Sqr, INTEGER)),
+        Required::Odd => Some((RequiredFunction::Odd, BOOLEAN)),
+        Required::Chr => Some((RequiredFunction::Chr, CHAR)),
+        Required::Ord => Some((RequiredFunction::Ord, INTEGER)),
+        Required::Succ => {
+            let ty = host_type(ordinal.host);
+            Some((RequiredFunction::Succ { high: ty.high }, ty))
+        }
+        Required::Pred => {
+            let ty = host_type(ordinal.host);
+            Some((RequiredFunction::Pred { low: ty.low }, ty))
+        }
+        Required::Eof
+        | Required::Eoln
+        | Required::Read
+        | Required::Readln
+        | Required::Write
+        | Required::Writeln
+        | Required::New
+        | Required::Pack
+        | Required::Unpack => None,
+    }
+}
+
+/// The value of a required function, whose name is at `at.first`, of one operand, which begins at `at.second`.
+#[tactic(auto, unfolding(crate::specs::Calls::required_value, crate::specs::View::value_of, ps_tree::specs::View::type_of, ps_tree::specs::View::expr_of))]
+pub fn required_value(
+    alloc: Global,
+    required: Required,
+    line: Line,
+    operand: TypedValue,
+    at: Operands,
+) -> Result<TypedValue, Fault>
+    ensures ok { IfOk result (λ v. required_value required line.number (value_of operand) ≡ Some (value_of v)) }
+    ensures err { IfErr result (λ fault. IsFault fault → required_value required line.number (value_of operand) ≡ None) }
+{
+    let (operand, ordinal) = ordinal_of(operand, at.second)?;
+    let Some((function, ty)) = function_of(required, ordinal) else {
+        return Err(wrong_type(at.second));
+    };
+    if needs_integer(required) && !same_host(ordinal.host, Host::Integer) {
+        return Err(wrong_type(at.second));
+    }
+    let operand = Box::new(alloc, operand)?;
+    let value = Expr::Apply {
+        function,
+        operand,
+        line,
+    };
+    Ok(TypedValue::Simple(value, Ty::Simple(ty)))
+}
+
+/// What eof or eoln tells of the input; the name is at `at`.
+#[tactic(auto, unfolding(crate::specs::Calls::look, crate::specs::View::value_of, ps_tree::specs::View::type_of, ps_tree::specs::View::expr_of))]
+pub fn look(required: Required, line: Line, at: u32) -> Result<TypedValue, Fault>
+    ensures ok { IfOk result (λ v. look required line.number ≡ Some (value_of v)) }
+    ensures err { IfErr result (λ fault. IsFault fault → look required line.number ≡ None) }
+{
+    let value = match required {
+        Required::Eof => Expr::Eof,
+        Required::Eoln => Expr::Eoln { line },
+        Required::Abs
+        | Required::Sqr
+        | Required::Odd
+        | Required::Chr
+        | Required::Ord
+        | Required::Succ
+        | Required::Pred => {
+            return Err(Fault::Broken {
+                rule: Rule::NotCongruous,
+                at,
+            });
+        }
+        Required::Read
+        | Required::Readln
+        | Required::Write
+        | Required::Writeln
+        | Required::New
+        | Required::Pack
+        | Required::Unpack => return Err(wrong_kind(at)),
+    };
+    Ok(TypedValue::Simple(value, Ty::Simple(BOOLEAN)))
+}
+
+/// The name of the input.
+#[tactic(auto, unfolding(crate::specs::Calls::is_input, ps_regions::specs::Views::meaning_of))]
+pub fn is_input(found: Found<'_>) -> bool
+    ensures { result ≡ is_input (point_of found.entry) }
+{
+    match found {
+        Found::Field { .. } => false,
+        Found::Name { meaning, .. } => match meaning {
+            Meaning::File(file) => match file {
+                File::Input => true,
+                File::Output => false,
+            },
+            Meaning::Constant { .. }
+            | Meaning::Text(_)
+            | Meaning::Type(_)
+            | Meaning::Variable { .. }
+            | Meaning::Parameter { .. }
+            | Meaning::RoutineParameter { .. }
+            | Meaning::Routine(_)
+            | Meaning::Required(_)
+            | Meaning::LeftOut => false,
+        },
+    }
+}

@@ -1,0 +1,12 @@
+//! The typing of variables, expressions and statements (ISO 7185, 6.5 to 6.9).
+#![tactic(auto)]
+
+pub mod expression;
+pub mod function;
+pub mod operators;
+pub mod parameter;
+pub mod place;
+pub mod site;
+#[cfg(test)]
+mod tests;
+pub mod value;

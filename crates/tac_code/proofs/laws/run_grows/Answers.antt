@@ -1,5 +1,0 @@
-use Rattle.tac_code.proofs.Growth.{run_goes_on}
-use Rattle.tac_code.proofs.laws.run_grows.Goals as goal
-
-pub returns : goal.returns
-returns c = run_goes_on

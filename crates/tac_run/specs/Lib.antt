@@ -1,0 +1,2 @@
+pub mod Runner
+pub mod Effect

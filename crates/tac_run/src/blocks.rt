@@ -1,0 +1,162 @@
+// The blocks of the open activations.
+
+use crate::words::Words;
+use std::alloc::Global;
+use std::marker::Model;
+use tac_code::code::{OutOfMemory, Value};
+
+/// A block of an open activation.
+#[derive(Drop)]
+pub struct Living {
+    number: u64,
+    words: Words,
+}
+
+impl Model for Living {
+    ghost use Rattle.tac_code.specs.Memory.{Living as Block};
+
+    ghost Value = { Block };
+
+    ghost view = { λ b. record { number = b.number; words = b.words } };
+}
+
+/// The blocks of the open activations, innermost first.
+#[derive(Drop)]
+pub struct Blocks {
+    list: Vec<Living>,
+}
+
+impl Model for Blocks {
+    ghost use Rattle.std.specs.Prelude.{List};
+    ghost use Rattle.tac_code.specs.Memory.{Living as Block};
+
+    ghost Value = { List Block };
+
+    ghost view = { λ b. b.list.items };
+}
+
+ghost use Rattle.std.specs.Prelude.{◌≡◌, ◌<◌, if◌then◌else◌, [], ◌∷◌, length, Some, None, IfSome, OnOk};
+ghost use Rattle.tac_code.specs.Memory.{with_word, with_byte_at, living, changed, value_in, byte_value_in};
+ghost use Rattle.tac_code.specs.Meaning.{without_first};
+ghost use Rattle.tac_run.specs.Runner.{place_of_block};
+
+impl Living {
+    fn set_word(&mut self, offset: usize, value: Value) -> bool
+        ensures words { with_word self.old.words offset value ≡ (if result then Some self.new.words else None) }
+        ensures number { self.new.number ≡ self.old.number }
+    {
+        self.words.set_word(offset, value)
+    }
+
+    fn set_byte(&mut self, offset: usize, byte: u8) -> bool
+        ensures words { with_byte_at self.old.words offset byte ≡ (if result then Some self.new.words else None) }
+        ensures number { self.new.number ≡ self.old.number }
+    {
+        self.words.set_byte(offset, byte)
+    }
+}
+
+fn load_in(blocks: &[Living], number: u64, offset: usize) -> Option<Value>
+    ensures { result ≡ value_in (living blocks.now number) offset }
+{
+    match blocks {
+        [] => None,
+        [first, rest @ ..] => {
+            if first.number == number {
+                first.words.word_at(offset)
+            } else {
+                load_in(rest, number, offset)
+            }
+        }
+    }
+}
+
+fn load_byte_in(blocks: &[Living], number: u64, offset: usize) -> Option<u8>
+    ensures { result ≡ byte_value_in (living blocks.now number) offset }
+{
+    match blocks {
+        [] => None,
+        [first, rest @ ..] => {
+            if first.number == number {
+                first.words.byte_at(offset)
+            } else {
+                load_byte_in(rest, number, offset)
+            }
+        }
+    }
+}
+
+// The place of a block in the list.
+fn find_place(blocks: &[Living], number: u64) -> Option<usize>
+    ensures place { result ≡ place_of_block blocks.now number }
+    ensures within { IfSome result (λ i. i < length blocks.now) }
+{
+    match blocks {
+        [] => None,
+        [first, rest @ ..] => {
+            if first.number == number {
+                Some(0)
+            } else {
+                let place = find_place(rest, number)?;
+                Some(place + 1)
+            }
+        }
+    }
+}
+
+impl Blocks {
+    pub fn new(alloc: Global) -> Blocks
+        ensures { result ≡ [] }
+    {
+        Blocks {
+            list: Vec::new(alloc),
+        }
+    }
+
+    /// Adds the block of a new activation.
+    pub fn enter(&mut self, number: u64, words: Words) -> Result<(), OutOfMemory>
+        ensures { OnOk result (self.new ≡ record { number = number; words = words } ∷ self.old) }
+    {
+        self.list.insert(0, Living { number, words })?;
+        Ok(())
+    }
+
+    /// Drops the innermost block.
+    pub fn leave(&mut self)
+        ensures { self.new ≡ without_first self.old }
+    {
+        if self.list.len() > 0 {
+            let _ = self.list.remove(0);
+        }
+    }
+
+    pub fn load(&self, number: u64, offset: usize) -> Option<Value>
+        ensures { result ≡ value_in (living self.now number) offset }
+    {
+        load_in(self.list.as_slice(), number, offset)
+    }
+
+    pub fn load_byte(&self, number: u64, offset: usize) -> Option<u8>
+        ensures { result ≡ byte_value_in (living self.now number) offset }
+    {
+        load_byte_in(self.list.as_slice(), number, offset)
+    }
+
+    pub fn store(&mut self, number: u64, offset: usize, value: Value) -> bool
+        ensures { changed self.old number (λ words. with_word words offset value) ≡ (if result then Some self.new else None) }
+    {
+        match find_place(self.list.as_slice(), number) {
+            None => false,
+            Some(i) => self.list[i].set_word(offset, value),
+        }
+    }
+
+    pub fn store_byte(&mut self, number: u64, offset: usize, byte: u8) -> bool
+        ensures { changed self.old number (λ words. with_byte_at words offset byte) ≡ (if result then Some self.new else None) }
+    {
+        match find_place(self.list.as_slice(), number) {
+            None => false,
+            Some(i) => self.list[i].set_byte(offset, byte),
+        }
+    }
+}

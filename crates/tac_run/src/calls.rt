@@ -1,0 +1,104 @@
+// Calls, under the budget of the stack.
+
+use crate::effect::Ending;
+use crate::machine::{Activation, Machine};
+use crate::temporaries::gather;
+use std::alloc::Global;
+use tac_code::code::OutOfMemory;
+use tac_code::tac::Tac;
+
+/// What a run may use: the frame bytes of each routine, the bytes of an object of each type, and the sums.
+#[derive(Clone, Copy)]
+pub struct Budget<'b> {
+    pub frames: &'b [u32],
+    pub objects: &'b [u32],
+    pub stack: u32,
+    pub heap: u32,
+}
+
+ghost use Rattle.std.specs.Prelude.{◌≡◌, ◌+◌, ◌<◌, ◌≤◌, ◌^◌, ◌∷◌, map, nat_le, slice_index, IfOk, OnSome};
+ghost use Rattle.tac_code.specs.Meaning.{onward, is_full, calls, frame_cost, open_bytes};
+ghost use Rattle.tac_run.specs.Effect.{state_of, activation_of, led, KeepsShown};
+
+// The frame bytes that a routine counts.
+pub(crate) fn frame_cost(tac: &Tac, frames: &[u32], routine: u32) -> u32
+    ensures { result ≡ frame_cost tac.now (λ r. slice_index frames.now r) routine }
+{
+    let number = routine as usize;
+    if number < tac.program().len() {
+        frames.get(number).copied().unwrap_or(0)
+    } else {
+        0
+    }
+}
+
+// Whether so many bytes hold the frames of these activations.
+fn fits(tac: &Tac, frames: &[u32], left: u64, activations: &[Activation]) -> bool
+    ensures { result ≡ nat_le (open_bytes tac.now (λ r. slice_index frames.now r) (map activation_of activations.now)) left }
+{
+    match activations {
+        [] => true,
+        [first, rest @ ..] => {
+            let cost = u64::from(frame_cost(tac, frames, first.routine));
+            cost <= left && fits(tac, frames, left - cost, rest)
+        }
+    }
+}
+
+// Whether entering a routine would pass the budget of the stack.
+fn is_full(
+    tac: &Tac,
+    budget: Budget,
+    routine: u32,
+    current: &Activation,
+    callers: &[Activation],
+) -> bool
+    ensures { result ≡ is_full tac.now (λ r. slice_index budget.entry.frames.now r) (λ t. slice_index budget.entry.objects.now t) budget.entry.stack budget.entry.heap routine (onward (activation_of current.now) ∷ map activation_of callers.now) }
+{
+    if routine as usize >= tac.program().len() {
+        return false;
+    }
+    let stack = u64::from(budget.stack);
+    let cost = u64::from(frame_cost(tac, budget.frames, routine));
+    let current_cost = u64::from(frame_cost(tac, budget.frames, current.routine));
+    cost + current_cost > stack || !fits(tac, budget.frames, stack - cost - current_cost, callers)
+}
+
+impl<'a> Machine<'a> {
+    // Calls a routine, with the values of these temporaries.
+    pub(crate) fn call(
+        &mut self,
+        alloc: Global,
+        tac: &Tac,
+        budget: Budget,
+        to: u32,
+        routine: u32,
+        operands: &[u32],
+        line: u16,
+    ) -> Result<Option<Ending>, OutOfMemory>
+        requires place { self.old.current.place + 1 < 2 ^ 64 }
+        requires count { self.old.count + 1 < 2 ^ 64 }
+        ensures led { IfOk result (λ over. calls tac.now (λ r. slice_index budget.entry.frames.now r) (λ t. slice_index budget.entry.objects.now t) budget.entry.stack budget.entry.heap to routine operands.now line (state_of self.old) ≡ led over (state_of self.new)) }
+        ensures kept { IfOk result (λ over. OnSome over (KeepsShown (state_of self.old) (state_of self.new))) }
+        ensures count { IfOk result (λ over. self.new.count ≤ self.old.count + 1) }
+        ensures heap { IfOk result (λ over. self.new.heap ≡ self.old.heap) }
+    {
+        let mut values = Vec::new(alloc);
+        if !gather(&mut values, &self.current.temporaries, operands)? {
+            return Ok(Some(Ending::Stuck));
+        }
+        let number = routine as usize;
+        if number >= tac.program().len() + tac.run_time().len() {
+            return Ok(Some(Ending::Stuck));
+        }
+        let called = tac.routine(number);
+        if values.as_slice().len() != called.parameters as usize {
+            return Ok(Some(Ending::Stuck));
+        }
+        if is_full(tac, budget, routine, &self.current, self.callers.as_slice()) {
+            return Ok(Some(Ending::OutOfStack { line: called.line }));
+        }
+        self.enter(alloc, called, routine, values.as_slice(), to, line)?;
+        Ok(None)
+    }
+}

@@ -1,0 +1,322 @@
+// What an instruction comes to, once its operands are read.
+
+use tac_code::code::{BitOperator, Block, Operator, Relation, Value};
+
+/// How a run ended, or that its bound was used up.
+#[derive(Clone, Copy, PartialEq, Eq, Debug)]
+pub enum Ending {
+    More,
+    Normal,
+    Error { number: u8, line: u16 },
+    OutOfStack { line: u16 },
+    OutOfHeap { line: u16 },
+    Stuck,
+}
+
+/// What is left to be done of an instruction.
+#[derive(Clone, Copy)]
+pub enum Effect {
+    Stop(Ending),
+    Proceed,
+    GoTo(usize),
+    Give(u32, Value),
+    Write(Block, usize, Value),
+    WriteByte(Block, usize, u8),
+    Enter {
+        to: u32,
+        routine: u32,
+        line: u16,
+    },
+    Leave(Value),
+    TakeByte(u32),
+    PutByte(u8),
+    Make {
+        to: u32,
+        object_type: u32,
+        line: u16,
+    },
+}
+
+ghost use Rattle.std.specs.Prelude.{◌≡◌, MatchResult, MatchOption, MatchBool, IsTrue, ◌↔◌, if◌then◌else◌, FitsSigned, Some, None, ℤ, pos, ◌-ℤ◌, ◌+◌, ◌*◌, nat_lt, int_lt, false, not, ◌&&◌, ◌||◌, length, List, ℕ};
+ghost use Rattle.tac_code.specs.Numbers.{computed, Gives, Fails, bits, compared, truth, is_zero, is_integer};
+ghost use Rattle.tac_code.specs.Meaning.{pointer_of, same_pointer, is_nil};
+ghost use Rattle.tac_run.specs.Effect.{ended_by, if_some, if_number, if_address, if_routine, if_byte, if_natural, checked_by, given_address, given_computed};
+
+/// The ending that the number of an error stands for.
+pub(crate) fn ending_by_number(number: u8, line: u16) -> Ending
+    ensures { result ≡ ended_by number line }
+{
+    match number {
+        12 => Ending::OutOfStack { line },
+        13 => Ending::OutOfHeap { line },
+        _ => Ending::Error { number, line },
+    }
+}
+
+fn fitting(z: i64, error: u8) -> Result<i32, u8>
+    ensures { MatchResult result (λ y. (y ≡ z) × IsTrue (is_integer z)) (λ e. (e ≡ error) × (is_integer z ≡ false)) }
+{
+    if -2147483648 <= z && z <= 2147483647 {
+        Ok(z as i32)
+    } else {
+        Err(error)
+    }
+}
+
+fn compute(operator: Operator, error: u8, x: i32, y: i32) -> Result<i32, u8>
+    ensures { MatchResult result (λ z. computed operator error x y ≡ Gives z) (λ e. computed operator error x y ≡ Fails e) }
+{
+    let (left, right) = (i64::from(x), i64::from(y));
+    match operator {
+        Operator::Add => fitting(left + right, error),
+        Operator::Subtract => fitting(left - right, error),
+        Operator::Multiply => fitting(left * right, error),
+        Operator::Divide => {
+            if y == 0 {
+                Err(2)
+            } else {
+                fitting(left / right, error)
+            }
+        }
+        Operator::Modulo => { if 0 < y { Ok(x.rem_euclid(y)) } else { Err(3) } }
+    }
+}
+
+fn combine(operator: BitOperator, x: i32, y: i32) -> i32
+    ensures { result ≡ bits operator x y }
+{
+    let (left, right) = (x.cast_unsigned(), y.cast_unsigned());
+    let word = match operator {
+        BitOperator::And => left & right,
+        BitOperator::Or => left | right,
+        BitOperator::AndNot => left & !right,
+        BitOperator::ShiftLeft => left.wrapping_shl(right),
+    };
+    word.cast_signed()
+}
+
+fn compare(relation: Relation, x: i32, y: i32) -> bool
+    ensures { result ≡ compared relation x y }
+{
+    match relation {
+        Relation::Equal => x == y,
+        Relation::NotEqual => x != y,
+        Relation::Less => x < y,
+        Relation::LessEqual => x <= y,
+        Relation::Greater => y < x,
+        Relation::GreaterEqual => y <= x,
+    }
+}
+
+fn number_of_truth(b: bool) -> Value
+    ensures { result ≡ Value.Number (truth b) }
+{
+    Value::Number(if b { 1 } else { 0 })
+}
+
+const STUCK: Effect = Effect::Stop(Ending::Stuck);
+
+pub(crate) fn arithmetic(
+    operator: Operator,
+    to: u32,
+    left: Option<Value>,
+    right: Option<Value>,
+    error: u8,
+    line: u16,
+) -> Effect
+    ensures { result ≡ if_number left (λ x. if_number right (λ y. given_computed to (computed operator error x y) line)) }
+{
+    let (Some(Value::Number(x)), Some(Value::Number(y))) = (left, right) else {
+        return STUCK;
+    };
+    match compute(operator, error, x, y) {
+        Ok(z) => Effect::Give(to, Value::Number(z)),
+        Err(number) => Effect::Stop(ending_by_number(number, line)),
+    }
+}
+
+pub(crate) fn bitwise(
+    operator: BitOperator,
+    to: u32,
+    left: Option<Value>,
+    right: Option<Value>,
+) -> Effect
+    ensures { result ≡ if_number left (λ x. if_number right (λ y. Effect.Give to (Value.Number (bits operator x y)))) }
+{
+    let (Some(Value::Number(x)), Some(Value::Number(y))) = (left, right) else {
+        return STUCK;
+    };
+    Effect::Give(to, Value::Number(combine(operator, x, y)))
+}
+
+pub(crate) fn comparison(
+    relation: Relation,
+    to: u32,
+    left: Option<Value>,
+    right: Option<Value>,
+) -> Effect
+    ensures { result ≡ if_number left (λ x. if_number right (λ y. Effect.Give to (Value.Number (truth (compared relation x y))))) }
+{
+    let (Some(Value::Number(x)), Some(Value::Number(y))) = (left, right) else {
+        return STUCK;
+    };
+    Effect::Give(to, number_of_truth(compare(relation, x, y)))
+}
+
+// A pointer: nil, or the object that it points to.
+fn pointer(value: Option<Value>) -> Option<Option<u64>>
+    ensures { result ≡ pointer_of value }
+{
+    match value {
+        Some(Value::Number(0)) => Some(None),
+        Some(Value::Address(Block::Object(n), 0)) => Some(Some(n)),
+        _ => None,
+    }
+}
+
+pub(crate) fn pointer_comparison(to: u32, left: Option<Value>, right: Option<Value>) -> Effect
+    ensures { result ≡ if_some (pointer_of left) (λ p. if_some (pointer_of right) (λ q. Effect.Give to (Value.Number (truth (same_pointer p q))))) }
+{
+    let (Some(p), Some(q)) = (pointer(left), pointer(right)) else {
+        return STUCK;
+    };
+    let same = match (p, q) {
+        (None, None) => true,
+        (Some(m), Some(n)) => m == n,
+        _ => false,
+    };
+    Effect::Give(to, number_of_truth(same))
+}
+
+fn check(holds: bool, error: u8, line: u16) -> Effect
+    ensures { result ≡ checked_by holds error line }
+{
+    if holds {
+        Effect::Proceed
+    } else {
+        Effect::Stop(ending_by_number(error, line))
+    }
+}
+
+pub(crate) fn range_check(value: Option<Value>, low: i32, high: i32, error: u8, line: u16) -> Effect
+    ensures { result ≡ if_number value (λ x. checked_by (not (int_lt x low) && not (int_lt high x)) error line) }
+{
+    match value {
+        Some(Value::Number(x)) => check(low <= x && x <= high, error, line),
+        _ => STUCK,
+    }
+}
+
+pub(crate) fn pointer_check(value: Option<Value>, error: u8, line: u16) -> Effect
+    ensures { result ≡ if_some (pointer_of value) (λ p. checked_by (not (is_nil p)) error line) }
+{
+    match pointer(value) {
+        Some(p) => check(p.is_some(), error, line),
+        None => STUCK,
+    }
+}
+
+pub(crate) fn address(to: u32, block: Block, offset: u64) -> Effect
+    ensures { result ≡ given_address to block offset }
+{
+    if offset < 2147483648 {
+        Effect::Give(to, Value::Address(block, offset as u32))
+    } else {
+        STUCK
+    }
+}
+
+pub(crate) fn offset_address(to: u32, base: Option<Value>, bytes: u32) -> Effect
+    ensures { result ≡ if_address base (λ block offset. given_address to block (offset + bytes)) }
+{
+    match base {
+        Some(Value::Address(block, offset)) => address(
+            to,
+            block,
+            u64::from(offset) + u64::from(bytes),
+        ),
+        _ => STUCK,
+    }
+}
+
+pub(crate) fn index_address(
+    to: u32,
+    base: Option<Value>,
+    index: Option<Value>,
+    low: i32,
+    width: u32,
+) -> Effect
+    ensures { result ≡ if_address base (λ block offset. if_number index (λ x. if_natural (x -ℤ low) (λ n. given_address to block (offset + n * width)))) }
+{
+    let (Some(Value::Address(block, offset)), Some(Value::Number(x))) = (base, index) else {
+        return STUCK;
+    };
+    let components = i64::from(x) - i64::from(low);
+    if components < 0 {
+        return STUCK;
+    }
+    address(
+        to,
+        block,
+        u64::from(offset) + components as u64 * u64::from(width),
+    )
+}
+
+pub(crate) fn word_write(base: Option<Value>, offset: u32, value: Option<Value>) -> Effect
+    ensures { result ≡ if_address base (λ block start. if_some value (λ v. Effect.Write block (start + offset) v)) }
+{
+    let (Some(Value::Address(block, start)), Some(v)) = (base, value) else {
+        return STUCK;
+    };
+    Effect::Write(block, start as usize + offset as usize, v)
+}
+
+pub(crate) fn byte_write(base: Option<Value>, offset: u32, value: Option<Value>) -> Effect
+    ensures { result ≡ if_address base (λ block start. if_number value (λ x. if_byte x (λ b. Effect.WriteByte block (start + offset) b))) }
+{
+    let (Some(Value::Address(block, start)), Some(Value::Number(x))) = (base, value) else {
+        return STUCK;
+    };
+    if 0 <= x && x < 256 {
+        Effect::WriteByte(block, start as usize + offset as usize, x as u8)
+    } else {
+        STUCK
+    }
+}
+
+pub(crate) fn output(value: Option<Value>) -> Effect
+    ensures { result ≡ if_number value (λ x. if_byte x (λ b. Effect.PutByte b)) }
+{
+    match value {
+        Some(Value::Number(x)) => {
+            if 0 <= x && x < 256 {
+                Effect::PutByte(x as u8)
+            } else {
+                STUCK
+            }
+        }
+        _ => STUCK,
+    }
+}
+
+// Whether a branch on this number is taken.
+fn is_taken(x: i32, on: bool) -> bool
+    ensures { result ≡ (not (is_zero x) && on || is_zero x && not on) }
+{
+    (x != 0) == on
+}
+
+pub(crate) fn branch(value: Option<Value>, on: bool, place: usize) -> Effect
+    ensures { result ≡ if_number value (λ x. if not (is_zero x) && on || is_zero x && not on then Effect.GoTo place else Effect.Proceed) }
+{
+    match value {
+        Some(Value::Number(x)) => {
+            if is_taken(x, on) {
+                Effect::GoTo(place)
+            } else {
+                Effect::Proceed
+            }
+        }
+        _ => STUCK,
+    }
+}

@@ -1,0 +1,16 @@
+// A slow runner of three-address code, for tests. Its contract is the code's meaning.
+#![tactic(auto)]
+
+mod blocks;
+mod calls;
+mod effect;
+mod machine;
+mod memory;
+mod runner;
+mod steps;
+mod temporaries;
+mod words;
+
+pub use calls::Budget;
+pub use effect::Ending;
+pub use runner::{Report, run};

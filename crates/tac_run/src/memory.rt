@@ -1,0 +1,242 @@
+// Memory as the runner keeps it: the blocks of the open activations, and objects. The constants stand in the code.
+
+use crate::blocks::Blocks;
+use crate::words::{Words, byte_of_number};
+use std::alloc::Global;
+use std::marker::Model;
+use tac_code::code::{Block, Constant, OutOfMemory, Value};
+
+/// The objects, in the order in which they were made.
+#[derive(Drop)]
+pub struct Objects {
+    list: Vec<Words>,
+}
+
+impl Model for Objects {
+    ghost use Rattle.std.specs.Prelude.{List, Option};
+    ghost use Rattle.tac_code.specs.declared.code.Value.{Value as Held};
+
+    ghost Value = { List (List (Option Held)) };
+
+    ghost view = { λ o. o.list.items };
+}
+
+/// All memory but the constants, which the code holds.
+#[derive(Drop)]
+pub struct Memory {
+    frames: Blocks,
+    scratch: Blocks,
+    objects: Objects,
+}
+
+impl Model for Memory {
+    ghost use Rattle.tac_code.specs.Memory.{Memory as Blocks};
+
+    ghost Value = { Blocks };
+
+    ghost view = { λ m. record { frames = m.frames; scratch = m.scratch; objects = m.objects } };
+}
+
+ghost use Rattle.std.specs.Prelude.{◌≡◌, if◌then◌else◌, slice_get, [], ◌∷◌, ◌++◌, length, Some, None, OnOk};
+ghost use Rattle.tac_code.specs.Memory.{known, with_word, with_byte_at, constant_words, changed_object, value_in, byte_value_in, constant_at};
+ghost use Rattle.tac_code.specs.Memory.{load, load_byte, store, store_byte};
+ghost use Rattle.tac_code.specs.Meaning.{without_first};
+
+fn constant_word(bytes: &[u8], index: usize) -> Option<Value>
+    ensures { result ≡ known (slice_get (constant_words bytes.now) index) }
+{
+    match bytes {
+        [a, b, c, d, rest @ ..] => {
+            if index == 0 {
+                let word = u32::from(*a)
+                    + 256 * u32::from(*b)
+                    + 65536 * u32::from(*c)
+                    + 16777216 * u32::from(*d);
+                Some(Value::Number(word.cast_signed()))
+            } else {
+                constant_word(rest, index - 1)
+            }
+        }
+        _ => None,
+    }
+}
+
+impl Objects {
+    pub fn new(alloc: Global) -> Objects
+        ensures { result ≡ [] }
+    {
+        Objects {
+            list: Vec::new(alloc),
+        }
+    }
+
+    pub fn len(&self) -> usize
+        ensures { result ≡ length self.now }
+    {
+        self.list.as_slice().len()
+    }
+
+    /// Adds an object of these words.
+    pub fn make(&mut self, words: Words) -> Result<(), OutOfMemory>
+        ensures { OnOk result (self.new ≡ self.old ++ words ∷ []) }
+    {
+        self.list.push(words)?;
+        Ok(())
+    }
+
+    pub fn load(&self, number: usize, offset: usize) -> Option<Value>
+        ensures { result ≡ value_in (slice_get self.now number) offset }
+    {
+        match self.list.get(number) {
+            Some(words) => words.word_at(offset),
+            None => None,
+        }
+    }
+
+    pub fn load_byte(&self, number: usize, offset: usize) -> Option<u8>
+        ensures { result ≡ byte_value_in (slice_get self.now number) offset }
+    {
+        match self.list.get(number) {
+            Some(words) => words.byte_at(offset),
+            None => None,
+        }
+    }
+
+    pub fn store(&mut self, number: usize, offset: usize, value: Value) -> bool
+        ensures { changed_object self.old number (λ words. with_word words offset value) ≡ (if result then Some self.new else None) }
+    {
+        if number < self.list.as_slice().len() {
+            self.list[number].set_word(offset, value)
+        } else {
+            false
+        }
+    }
+
+    pub fn store_byte(&mut self, number: usize, offset: usize, byte: u8) -> bool
+        ensures { changed_object self.old number (λ words. with_byte_at words offset byte) ≡ (if result then Some self.new else None) }
+    {
+        if number < self.list.as_slice().len() {
+            self.list[number].set_byte(offset, byte)
+        } else {
+            false
+        }
+    }
+}
+
+fn load_constant(constants: &[Constant], number: u32, offset: usize) -> Option<Value>
+    ensures { result ≡ value_in (constant_at (slice_get constants.now number)) offset }
+{
+    match constants.get(number as usize) {
+        Some(constant) => {
+            if offset % 4 == 0 {
+                constant_word(constant.as_slice(), offset / 4)
+            } else {
+                None
+            }
+        }
+        None => None,
+    }
+}
+
+fn load_constant_byte(constants: &[Constant], number: u32, offset: usize) -> Option<u8>
+    ensures { result ≡ byte_value_in (constant_at (slice_get constants.now number)) offset }
+{
+    match constants.get(number as usize) {
+        Some(constant) => match constant_word(constant.as_slice(), offset / 4) {
+            Some(Value::Number(z)) => Some(byte_of_number(z, offset % 4)),
+            _ => None,
+        },
+        None => None,
+    }
+}
+
+impl Memory {
+    /// No block, and no object.
+    pub fn new(alloc: Global) -> Memory
+        ensures { result ≡ record { frames = []; scratch = []; objects = [] } }
+    {
+        Memory {
+            frames: Blocks::new(alloc),
+            scratch: Blocks::new(alloc),
+            objects: Objects::new(alloc),
+        }
+    }
+
+    /// Adds the blocks of a new activation.
+    pub fn enter(&mut self, number: u64, frame: Words, scratch: Words) -> Result<(), OutOfMemory>
+        ensures { OnOk result (self.new ≡ record self.old { frames = record { number = number; words = frame } ∷ self.old.frames; scratch = record { number = number; words = scratch } ∷ self.old.scratch }) }
+    {
+        self.frames.enter(number, frame)?;
+        self.scratch.enter(number, scratch)
+    }
+
+    /// Drops the innermost activation's blocks.
+    pub fn leave(&mut self)
+        ensures { self.new ≡ record self.old { frames = without_first self.old.frames; scratch = without_first self.old.scratch } }
+    {
+        self.frames.leave();
+        self.scratch.leave();
+    }
+
+    /// How many objects there are, which is the number of the next.
+    pub fn object_count(&self) -> usize
+        ensures { result ≡ length self.now.objects }
+    {
+        self.objects.len()
+    }
+
+    /// Adds an object of these words.
+    pub fn make(&mut self, words: Words) -> Result<(), OutOfMemory>
+        ensures { OnOk result (self.new ≡ record self.old { objects = self.old.objects ++ words ∷ [] }) }
+    {
+        self.objects.make(words)
+    }
+
+    /// The value at an address, if one was written there.
+    pub fn load(&self, constants: &[Constant], block: Block, offset: usize) -> Option<Value>
+        ensures { result ≡ load constants.now self.now block offset }
+    {
+        match block {
+            Block::Frame(a) => self.frames.load(a, offset),
+            Block::Scratch(a) => self.scratch.load(a, offset),
+            Block::Object(n) => self.objects.load(n as usize, offset),
+            Block::Constant(c) => load_constant(constants, c, offset),
+        }
+    }
+
+    pub fn load_byte(&self, constants: &[Constant], block: Block, offset: usize) -> Option<u8>
+        ensures { result ≡ load_byte constants.now self.now block offset }
+    {
+        match block {
+            Block::Frame(a) => self.frames.load_byte(a, offset),
+            Block::Scratch(a) => self.scratch.load_byte(a, offset),
+            Block::Object(n) => self.objects.load_byte(n as usize, offset),
+            Block::Constant(c) => load_constant_byte(constants, c, offset),
+        }
+    }
+
+    /// Writes a word at an address, if there is such a word.
+    pub fn store(&mut self, block: Block, offset: usize, value: Value) -> bool
+        ensures { store self.old block offset value ≡ (if result then Some self.new else None) }
+    {
+        match block {
+            Block::Frame(a) => self.frames.store(a, offset, value),
+            Block::Scratch(a) => self.scratch.store(a, offset, value),
+            Block::Object(n) => self.objects.store(n as usize, offset, value),
+            // A constant is only read.
+            Block::Constant(_) => false,
+        }
+    }
+
+    /// Writes a byte at an address, if its word holds a number.
+    pub fn store_byte(&mut self, block: Block, offset: usize, byte: u8) -> bool
+        ensures { store_byte self.old block offset byte ≡ (if result then Some self.new else None) }
+    {
+        match block {
+            Block::Frame(a) => self.frames.store_byte(a, offset, byte),
+            Block::Scratch(a) => self.scratch.store_byte(a, offset, byte),
+            Block::Object(n) => self.objects.store_byte(n as usize, offset, byte),
+            Block::Constant(_) => false,
+        }
+    }
+}
