@@ -6,6 +6,7 @@ ghost use Rattle.ps_syntax.specs.First.{sign_or, first_of_factor, first_of_term,
 use ps_text::Span;
 use sqlite_items::{Boxed, Items};
 
+/// A relational operator (ISO 7185, 6.7.2.5).
 #[derive(Clone, Copy, Debug, PartialEq, Eq)]
 pub enum Relation {
     Equal,
@@ -17,12 +18,14 @@ pub enum Relation {
     In,
 }
 
+/// The sign of a term or of a constant.
 #[derive(Clone, Copy, Debug, PartialEq, Eq)]
 pub enum Sign {
     Plus,
     Minus,
 }
 
+/// An adding operator (6.7.2.1).
 #[derive(Clone, Copy, Debug, PartialEq, Eq)]
 pub enum Adding {
     Plus,
@@ -30,6 +33,7 @@ pub enum Adding {
     Or,
 }
 
+/// A multiplying operator (6.7.2.1).
 #[derive(Clone, Copy, Debug, PartialEq, Eq)]
 pub enum Multiplying {
     Times,
@@ -55,6 +59,7 @@ pub struct Simple {
     pub more: Items<AddedTerm>,
 }
 
+/// An adding operator, where it stands, and the term after it.
 #[cycle(expression)]
 #[derive(Drop)]
 pub struct AddedTerm {
@@ -63,6 +68,7 @@ pub struct AddedTerm {
     pub term: Term,
 }
 
+/// Factors with operators between them.
 #[cycle(expression)]
 #[derive(Drop)]
 pub struct Term {
@@ -78,6 +84,7 @@ pub struct MultipliedFactor {
     pub factor: Factor,
 }
 
+/// A factor (6.7.1). Each but a variable begins at its span.
 #[cycle(expression)]
 #[derive(Drop)]
 pub enum Factor {
@@ -93,6 +100,7 @@ pub enum Factor {
     Not(Span, Boxed<Factor>),
 }
 
+/// A name, and what selects a part of what it denotes (6.5).
 #[cycle(expression)]
 #[derive(Drop)]
 pub struct Variable {
@@ -100,6 +108,7 @@ pub struct Variable {
     pub selectors: Items<Selector>,
 }
 
+/// An index, a field or what a pointer identifies (6.5.3, 6.5.4).
 #[cycle(expression)]
 #[derive(Drop)]
 pub enum Selector {

@@ -16,6 +16,7 @@ pub enum Ordinal {
     Subrange(Constant, Constant),
 }
 
+/// A type denoter (6.4.1).
 #[cycle(ty)]
 #[derive(Drop)]
 pub enum TypeDenoter {
@@ -27,6 +28,7 @@ pub enum TypeDenoter {
     Packed(Span, Structure),
 }
 
+/// A structured type (6.4.3).
 #[cycle(ty)]
 #[derive(Drop)]
 pub enum Structure {
@@ -46,18 +48,21 @@ pub struct Fields {
     pub ty: TypeDenoter,
 }
 
+/// A constant definition (6.3).
 #[derive(Drop)]
 pub struct ConstantDefinition {
     pub name: Span,
     pub value: Constant,
 }
 
+/// A type definition (6.4.1).
 #[derive(Drop)]
 pub struct TypeDefinition {
     pub name: Span,
     pub ty: TypeDenoter,
 }
 
+/// A declaration of variables of one type (6.5.1).
 #[derive(Drop)]
 pub struct Variables {
     pub names: Items<Span>,
@@ -81,6 +86,7 @@ pub enum Heading {
     Function(Span, Items<Section>, Span),
 }
 
+/// A procedure or function declaration (6.6.1, 6.6.2).
 #[cycle(block)]
 #[derive(Drop)]
 pub enum Routine {
@@ -91,6 +97,7 @@ pub enum Routine {
     Completion(Span, Block),
 }
 
+/// A block (6.2.1).
 #[cycle(block)]
 #[derive(Drop)]
 pub struct Block {
@@ -103,6 +110,7 @@ pub struct Block {
     pub statements: Items<Statement>,
 }
 
+/// A program: its name, the names of its parameters, and its block (6.10).
 #[derive(Drop)]
 pub struct Program {
     pub name: Span,

@@ -15,6 +15,7 @@ pub enum Constant {
     Text(Span),
 }
 
+/// Which way a `for` statement counts: `to` or `downto`.
 #[derive(Clone, Copy, Debug, PartialEq, Eq)]
 pub enum Direction {
     Up,
@@ -28,6 +29,7 @@ pub enum Parameter {
     Width(Expr, Boxed<Expr>),
 }
 
+/// A statement (6.8).
 #[cycle(statement)]
 #[derive(Drop)]
 pub enum Statement {

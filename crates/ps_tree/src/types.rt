@@ -305,7 +305,6 @@ fn test_compatible(a: &Ty, b: &Ty) -> bool
 }
 
 /// Two types are compatible (6.4.5).
-
 pub fn compatible(a: &Ty, b: &Ty) -> bool
     ensures rule { IsTrue result ↔ Compatible (type_of a.now) (type_of b.now) }
     ensures value { result ≡ is_compatible (type_of a.now) (type_of b.now) }
@@ -329,7 +328,6 @@ fn may_be_of_a_variable(ty: &Ty) -> bool
 
 /// A value of the first type may go into a variable of the second (6.4.6). The value itself is tested as the program
 /// runs.
-
 pub fn assignable(from: &Ty, to: &Ty) -> bool
     ensures rule { IsTrue result ↔ Assignable (type_of from.now) (type_of to.now) }
     ensures value { result ≡ is_assignable (type_of from.now) (type_of to.now) }

@@ -4,6 +4,7 @@ use smallvec::SmallVec;
 use std::alloc::{AllocError, Global};
 use std::marker::Model;
 
+/// Want of memory: a growth was refused.
 pub type OutOfMemory = AllocError;
 
 /// The temporaries whose values a call passes, first parameter first.
@@ -23,6 +24,7 @@ impl Model for Operands {
 ghost use Rattle.std.specs.Prelude.{◌≡◌, [], ◌∷◌, ◌++◌, OnOk, OnErr};
 
 impl Operands {
+    /// No operands.
     pub fn new(alloc: Global) -> Operands
         ensures { result ≡ [] }
     {
@@ -31,6 +33,7 @@ impl Operands {
         }
     }
 
+    /// Adds the temporary of the next parameter. After an error the operands are as they were.
     pub fn push(&mut self, temporary: u32) -> Result<(), OutOfMemory>
         ensures ok { OnOk result (self.new ≡ self.old ++ temporary ∷ []) }
         ensures err { OnErr result (self.new ≡ self.old) }
@@ -39,6 +42,7 @@ impl Operands {
         Ok(())
     }
 
+    /// The temporaries, first parameter first.
     pub fn as_slice(&self) -> &[u32]
         ensures { result.now ≡ self.now }
     {
@@ -69,6 +73,7 @@ pub enum BitOperator {
     ShiftLeft,
 }
 
+/// A relation between two numbers.
 #[derive(Clone, Copy, PartialEq, Eq, Debug)]
 pub enum Relation {
     Equal,
@@ -272,12 +277,14 @@ impl Model for Body {
 }
 
 impl Body {
+    /// A body of these instructions.
     pub fn new(instructions: Vec<Instruction>) -> Body
         ensures { result ≡ instructions.items }
     {
         Body { list: instructions }
     }
 
+    /// The instructions, in order.
     pub fn as_slice(&self) -> &[Instruction]
         ensures { result.now ≡ self.now }
     {
@@ -300,12 +307,14 @@ impl Model for Constant {
 }
 
 impl Constant {
+    /// A constant of these bytes.
     pub fn new(bytes: Vec<u8>) -> Constant
         ensures { result ≡ bytes.items }
     {
         Constant { list: bytes }
     }
 
+    /// Its bytes, in order.
     pub fn as_slice(&self) -> &[u8]
         ensures { result.now ≡ self.now }
     {

@@ -72,6 +72,7 @@ impl Tac {
         }
     }
 
+    /// The constants, by their numbers.
     pub fn constants(&self) -> &[Constant]
         ensures { result.now ≡ self.now.constants }
     {
