@@ -1,0 +1,168 @@
+-- What lists of parts do, item by item, and calls and case statements by their lists.
+use Rattle.std.proofs.Common.{◌≡◌, ℕ, map, List, [], ◌∷◌, ◌++◌, Vec, Global, Bool, false, ◌||◌, refl, sym, ap, ◌∙◌}
+use Rattle.ps_tree.specs.declared.line.Line.{Line}
+use Rattle.ps_tree.specs.declared.tree.Place.{Place}
+use Rattle.ps_tree.specs.declared.tree.Argument.{Argument}
+use Rattle.ps_tree.specs.declared.tree.Member.{Member}
+use Rattle.ps_tree.specs.declared.tree.Expr.{Expr, Call, CallFormal}
+use Rattle.ps_tree.specs.declared.tree.ReadVariable.{ReadVariable}
+use Rattle.ps_tree.specs.declared.tree.WriteParameter.{WriteParameter}
+use Rattle.ps_tree.specs.declared.tree.Statement.{Statement, Repeat, Case}
+use Rattle.ps_tree.specs.declared.tree.CaseElement.{CaseElement, out-CaseElement}
+use Rattle.ps_tree.specs.View.{place_of, expr_of, argument_of, arguments_of, member_of, members_of, read_of, write_of, statement_of, statements_of, elements_of}
+use Rattle.ps_tree.proofs.TreeLemmas.{expr_of_Call, expr_of_CallFormal}
+use Rattle.ps_tree.proofs.StatementLemmas.{statement_of_Repeat, statement_of_Case}
+use Rattle.ps_changes.specs.Changes.{place_threatens, expr_threatens, member_threatens, members_threaten, argument_threatens, arguments_threaten, places_threaten, read_threatens, reads_threaten, parameter_threatens, parameters_threaten, statement_threatens, statements_threaten, elements_threaten, statement_controls, statements_control, elements_control, statement_assigns, statements_assign, elements_assign}
+
+abbrev pub arguments_answer : ℕ → ℕ → List Argument → Bool
+arguments_answer up index items = arguments_threaten up index (arguments_of items)
+
+pub arguments_none : (up index : ℕ) → arguments_answer up index [] ≡ false
+unfolding arguments_threaten arguments_of
+arguments_none up index = refl
+
+pub arguments_more : (up index : ℕ) (x : Argument) (xs : List Argument) → arguments_answer up index (x ∷ xs) ≡ argument_threatens up index (argument_of x) || arguments_answer up index xs
+unfolding arguments_threaten arguments_of
+arguments_more up index x xs = refl
+
+abbrev pub members_answer : ℕ → ℕ → List Member → Bool
+members_answer up index items = members_threaten up index (members_of items)
+
+pub members_none : (up index : ℕ) → members_answer up index [] ≡ false
+unfolding members_threaten members_of
+members_none up index = refl
+
+pub members_more : (up index : ℕ) (x : Member) (xs : List Member) → members_answer up index (x ∷ xs) ≡ member_threatens up index (member_of x) || members_answer up index xs
+unfolding members_threaten members_of
+members_more up index x xs = refl
+
+abbrev pub places_answer : ℕ → ℕ → List Place → Bool
+places_answer up index items = places_threaten up index (map place_of items)
+
+pub places_none : (up index : ℕ) → places_answer up index [] ≡ false
+unfolding places_threaten
+places_none up index = refl
+
+pub places_more : (up index : ℕ) (x : Place) (xs : List Place) → places_answer up index (x ∷ xs) ≡ place_threatens up index (place_of x) || places_answer up index xs
+unfolding places_threaten
+places_more up index x xs = refl
+
+abbrev pub reads_answer : ℕ → ℕ → List ReadVariable → Bool
+reads_answer up index items = reads_threaten up index (map read_of items)
+
+pub reads_none : (up index : ℕ) → reads_answer up index [] ≡ false
+unfolding reads_threaten
+reads_none up index = refl
+
+pub reads_more : (up index : ℕ) (x : ReadVariable) (xs : List ReadVariable) → reads_answer up index (x ∷ xs) ≡ read_threatens up index (read_of x) || reads_answer up index xs
+unfolding reads_threaten
+reads_more up index x xs = refl
+
+abbrev pub parameters_answer : ℕ → ℕ → List WriteParameter → Bool
+parameters_answer up index items = parameters_threaten up index (map write_of items)
+
+pub parameters_none : (up index : ℕ) → parameters_answer up index [] ≡ false
+unfolding parameters_threaten
+parameters_none up index = refl
+
+pub parameters_more : (up index : ℕ) (x : WriteParameter) (xs : List WriteParameter) → parameters_answer up index (x ∷ xs) ≡ parameter_threatens up index (write_of x) || parameters_answer up index xs
+unfolding parameters_threaten
+parameters_more up index x xs = refl
+
+abbrev pub statements_answer : ℕ → ℕ → List Statement → Bool
+statements_answer up index items = statements_threaten up index (statements_of items)
+
+pub statements_none : (up index : ℕ) → statements_answer up index [] ≡ false
+unfolding statements_threaten statements_of
+statements_none up index = refl
+
+pub statements_more : (up index : ℕ) (x : Statement) (xs : List Statement) → statements_answer up index (x ∷ xs) ≡ statement_threatens up index (statement_of x) || statements_answer up index xs
+unfolding statements_threaten statements_of
+statements_more up index x xs = refl
+
+abbrev pub elements_answer : ℕ → ℕ → List CaseElement → Bool
+elements_answer up index items = elements_threaten up index (elements_of items)
+
+pub elements_none : (up index : ℕ) → elements_answer up index [] ≡ false
+unfolding elements_threaten elements_of
+elements_none up index = refl
+
+pub elements_more : (up index : ℕ) (x : CaseElement) (xs : List CaseElement) → elements_answer up index (x ∷ xs) ≡ statement_threatens up index (statement_of (out-CaseElement x).body) || elements_answer up index xs
+unfolding elements_threaten elements_of
+elements_more up index x xs = refl
+
+abbrev pub assigning_answer : ℕ → ℕ → List Statement → Bool
+assigning_answer up index items = statements_assign up index (statements_of items)
+
+pub assigning_none : (up index : ℕ) → assigning_answer up index [] ≡ false
+unfolding statements_assign statements_of
+assigning_none up index = refl
+
+pub assigning_more : (up index : ℕ) (x : Statement) (xs : List Statement) → assigning_answer up index (x ∷ xs) ≡ statement_assigns up index (statement_of x) || assigning_answer up index xs
+unfolding statements_assign statements_of
+assigning_more up index x xs = refl
+
+abbrev pub assigning_elements_answer : ℕ → ℕ → List CaseElement → Bool
+assigning_elements_answer up index items = elements_assign up index (elements_of items)
+
+pub assigning_elements_none : (up index : ℕ) → assigning_elements_answer up index [] ≡ false
+unfolding elements_assign elements_of
+assigning_elements_none up index = refl
+
+pub assigning_elements_more : (up index : ℕ) (x : CaseElement) (xs : List CaseElement) → assigning_elements_answer up index (x ∷ xs) ≡ statement_assigns up index (statement_of (out-CaseElement x).body) || assigning_elements_answer up index xs
+unfolding elements_assign elements_of
+assigning_elements_more up index x xs = refl
+
+abbrev pub controls_given : List Statement → List ℕ
+controls_given items = statements_control (statements_of items)
+
+pub controls_none : controls_given [] ≡ []
+unfolding statements_control statements_of
+controls_none = refl
+
+pub controls_more : (x : Statement) (xs : List Statement) → controls_given (x ∷ xs) ≡ statement_controls (statement_of x) ++ controls_given xs
+unfolding statements_control statements_of
+controls_more x xs = refl
+
+abbrev pub element_controls_given : List CaseElement → List ℕ
+element_controls_given items = elements_control (elements_of items)
+
+pub element_controls_none : element_controls_given [] ≡ []
+unfolding elements_control elements_of
+element_controls_none = refl
+
+pub element_controls_more : (x : CaseElement) (xs : List CaseElement) → element_controls_given (x ∷ xs) ≡ statement_controls (statement_of (out-CaseElement x).body) ++ element_controls_given xs
+unfolding elements_control elements_of
+element_controls_more x xs = refl
+
+pub call_threatens : (up index : ℕ) (e : Expr) (routine levels : ℕ) (v : Vec Argument Global) (line : Line) (items : List Argument) → e ≡ Call routine levels v line → items ≡ v.items → arguments_threaten up index (arguments_of items) ≡ expr_threatens up index (expr_of e)
+unfolding expr_threatens
+call_threatens up index e routine levels v line items f g = ap (arguments_answer up index) g ∙ sym (ap (expr_threatens up index) (ap expr_of f ∙ expr_of_Call routine levels v line))
+
+pub call_formal_threatens : (up index : ℕ) (e : Expr) (levels number : ℕ) (v : Vec Argument Global) (line : Line) (items : List Argument) → e ≡ CallFormal levels number v line → items ≡ v.items → arguments_threaten up index (arguments_of items) ≡ expr_threatens up index (expr_of e)
+unfolding expr_threatens
+call_formal_threatens up index e levels number v line items f g = ap (arguments_answer up index) g ∙ sym (ap (expr_threatens up index) (ap expr_of f ∙ expr_of_CallFormal levels number v line))
+
+-- where the index of a case statement threatens nothing
+pub case_threatens : (up index : ℕ) (s : Statement) (e : Expr) (v : Vec CaseElement Global) (line : Line) (items : List CaseElement) (b : Bool) → s ≡ Case e v line → items ≡ v.items → b ≡ expr_threatens up index (expr_of e) → b ≡ false → elements_threaten up index (elements_of items) ≡ statement_threatens up index (statement_of s)
+unfolding statement_threatens
+case_threatens up index s e v line items b f g h k =
+    ap (elements_answer up index) g
+    ∙ ap (λ x. x || elements_answer up index v.items) (sym k ∙ h)
+    ∙ sym (ap (statement_threatens up index) (ap statement_of f ∙ statement_of_Case e v line))
+
+pub case_assigns : (up index : ℕ) (s : Statement) (e : Expr) (v : Vec CaseElement Global) (line : Line) (items : List CaseElement) → s ≡ Case e v line → items ≡ v.items → elements_assign up index (elements_of items) ≡ statement_assigns up index (statement_of s)
+unfolding statement_assigns
+case_assigns up index s e v line items f g = ap (assigning_elements_answer up index) g ∙ sym (ap (statement_assigns up index) (ap statement_of f ∙ statement_of_Case e v line))
+
+pub case_controls : (s : Statement) (e : Expr) (v : Vec CaseElement Global) (line : Line) (items : List CaseElement) → s ≡ Case e v line → items ≡ v.items → elements_control (elements_of items) ≡ statement_controls (statement_of s)
+unfolding statement_controls
+case_controls s e v line items f g = ap element_controls_given g ∙ sym (ap statement_controls (ap statement_of f ∙ statement_of_Case e v line))
+
+pub repeat_controls : (s : Statement) (v : Vec Statement Global) (e : Expr) (items : List Statement) → s ≡ Repeat v e → items ≡ v.items → statements_control (statements_of items) ≡ statement_controls (statement_of s)
+unfolding statement_controls
+repeat_controls s v e items f g = ap controls_given g ∙ sym (ap statement_controls (ap statement_of f ∙ statement_of_Repeat v e))
+
+pub repeat_assigns : (up index : ℕ) (s : Statement) (v : Vec Statement Global) (e : Expr) (items : List Statement) → s ≡ Repeat v e → items ≡ v.items → statements_assign up index (statements_of items) ≡ statement_assigns up index (statement_of s)
+unfolding statement_assigns
+repeat_assigns up index s v e items f g = ap (assigning_answer up index) g ∙ sym (ap (statement_assigns up index) (ap statement_of f ∙ statement_of_Repeat v e))

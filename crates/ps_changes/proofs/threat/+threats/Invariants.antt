@@ -1,0 +1,9 @@
+use Rattle.ps_changes.proofs.Walks.{Passed}
+use Rattle.ps_changes.proofs.Lists.{elements_answer, statements_answer}
+use Rattle.ps_changes.proofs.threat.+threats.Given as goal
+
+abbrev pub invariant-by_elements-loop-element : goal.invariant-by_elements-loop-element
+invariant-by_elements-loop-element l = Passed (elements_answer l.up l.index) l.elements l.element-index
+
+abbrev pub invariant-threatens-loop-statement : goal.invariant-threatens-loop-statement
+invariant-threatens-loop-statement l = Passed (statements_answer l.up l.index) l.statements l.statement-index
