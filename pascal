@@ -1,10 +1,12 @@
 #!/usr/bin/env bash
-# Runs the proved program `pascal` with the words given. Where it is missing, or older than its sources, it is proved and built first.
+# Runs the proved program `pascal`, or the one that PASCAL_PROGRAM names, with the words given. Where it is missing, or older than its
+# sources, it is proved and built first.
 set -u
 
 top=$(dirname "$(readlink -f "$0")")
-program=$top/crates/pascal/out/pascal
-log=$top/crates/pascal/out/build.log
+name=${PASCAL_PROGRAM:-pascal}
+program=$top/crates/$name/out/$name
+log=$top/crates/$name/out/build.log
 
 # The libraries of this repository that a crate stands on, and the crate itself, lowest first.
 stands_on() {
@@ -38,23 +40,25 @@ build() {
     total=$(wc -w <<<"$crates")
     for crate in $crates; do
         at=$((at + 1))
-        echo "pascal: proving $crate ($at of $total)" >&2
-        if [ "$crate" = pascal ]; then
-            (cd "$top/crates/pascal" && rt run -- --help) </dev/null >"$log" 2>&1
+        echo "$name: proving $crate ($at of $total)" >&2
+        if [ "$crate" = "$name" ]; then
+            (cd "$top/crates/$name" && rt run -- --help) </dev/null >"$log" 2>&1
         else
             (cd "$top/crates/$crate" && rt lib) </dev/null >"$log" 2>&1
-        fi || { echo "pascal: $crate was not proved; $log tells why" >&2; exit 1; }
+        fi || { echo "$name: $crate was not proved; $log tells why" >&2; exit 1; }
     done
     touch "$program"
 }
 
-crates=$(stands_on pascal | xargs)
+crates=$(stands_on "$name" | xargs)
 if ! is_current; then
-    command -v rt >/dev/null || { echo "pascal: the command rt of the Rattle kit is not on the path" >&2; exit 1; }
-    mkdir -p "$top/crates/pascal/out"
-    exec 9>"$top/crates/pascal/out/build.lock"
+    command -v rt >/dev/null || { echo "$name: the command rt of the Rattle kit is not on the path" >&2; exit 1; }
+    mkdir -p "$top/crates/$name/out"
+    exec 9>"$top/crates/$name/out/build.lock"
     flock 9
     is_current || build
     exec 9>&-
 fi
+# a long sum is a deep tree, and takes the stack of the host
+ulimit -s unlimited 2>/dev/null || ulimit -s "$(ulimit -Hs)"
 exec "$program" "$@"

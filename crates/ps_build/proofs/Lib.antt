@@ -1,9 +1,8 @@
 pub mod Simulation
 pub mod Emission
-pub mod Traversal
-pub mod Statements
 pub mod Rows
 pub mod Told
 pub mod Compiled
 pub mod Results
-pub mod Budgets
+pub mod Appending
+pub mod Meant

@@ -1,5 +1,5 @@
 -- Which texts are accepted, each as which checked program, and why the others are refused.
-use Rattle.std.specs.Prelude.{◌≡◌, ℕ, ◌<◌, ◌≤◌, List, length, Some, None}
+use Rattle.std.specs.Prelude.{◌≡◌, ◌⊎◌, ℕ, ◌<◌, ◌≤◌, List, length, Some, None}
 use Rattle.ps_text.specs.declared.TheConstants.{MAX_LENGTH, MAX_LINES}
 use Rattle.ps_text.specs.Lines.{IsSource, line_count}
 use Rattle.ps_scan.specs.declared.token.Token.{Token}
@@ -7,10 +7,10 @@ use Rattle.ps_scan.specs.Lexis.{IsTokens}
 use Rattle.ps_syntax.specs.declared.program.Program.{Program}
 use Rattle.ps_grammar.specs.Trees.{IsTreeOf}
 use Rattle.ps_build.specs.declared.refusal.Refusal.{Refusal}
-use Rattle.ps_build.specs.declared.refusal.Refusal.TheVariants.{TooLong, TooManyLines, NotYet, OutOfMemory, BadByte, OpenComment, OpenString, EmptyString, SeparatorMissing, NumberTooLarge, RealNumber, NotAProgram, TooDeep, NotInProfile, CodeTooLarge}
-use Rattle.ps_build.specs.Program.{Checked}
-use Rattle.ps_build.specs.Meaning.{written}
-use Rattle.ps_build.specs.Checks.{checked_of}
+use Rattle.ps_build.specs.declared.refusal.Refusal.TheVariants.{TooLong, TooManyLines, NotYet, OutOfMemory, BadByte, OpenComment, OpenString, EmptyString, SeparatorMissing, NumberTooLarge, RealNumber, NotAProgram, TooDeep, NotInProfile, Unknown, Twice, UsedBefore, WrongKind, WrongType, NotAssignable, BadSubrange, SetBase, CaseTwice, ControlVariable, PackedVariable, NotCongruous, ForwardOpen, NoResultAssigned, NoInputOutput, Limit, CodeTooLarge}
+use Rattle.ps_tree.specs.Tree as Tree
+use Rattle.ps_check.specs.Programs.{program}
+use Rattle.ps_build.specs.Strings.{compiled_of}
 use Rattle.ps_build.specs.Code.{code_words}
 
 -- the text is within the limits, has tokens, and these have a tree that is not too high
@@ -19,12 +19,17 @@ pub record IsParsed (text : List ℕ) (tokens : List Token) (tree : Program) : T
   pub scanned : IsTokens text tokens
   pub derived : IsTreeOf text tokens tree
 
--- the text is accepted as this checked program
-pub record Accepts (text : List ℕ) (checked : Checked) : Type 0 where
+-- The text is accepted as this checked program: it keeps the rules of regions, types and statements, and the limits.
+pub record Accepts (text : List ℕ) (checked : Tree.Program) : Type 0 where
   pub tokens : List Token
   pub tree : Program
   pub parsed : IsParsed text tokens tree
-  pub checks : checked_of text tree ≡ Some checked
+  pub checks : program text tree ≡ Some checked
+
+-- the text is accepted as this checked program, and as no other
+pub record IsProgramOf (text : List ℕ) (checked : Tree.Program) : Type 0 where
+  pub accepts : Accepts text checked
+  pub only : (other : Tree.Program) → Accepts text other → other ≡ checked
 
 -- no list of tokens is the text's
 pub record HasNoTokens (text : List ℕ) : Type 0 where
@@ -36,14 +41,20 @@ pub record HasNoTree (text : List ℕ) : Type 0 where
   pub limits : IsSource text
   pub tokens : List Token
   pub scanned : IsTokens text tokens
-  pub none : (tree : Program) → IsTreeOf text tokens tree → ⊥
+  pub none : (others : List Token) (tree : Program) → IsTokens text others → IsTreeOf text others tree → ⊥
 
--- the text has a tree, which is no program that is compiled so far
-pub record IsNotYet (text : List ℕ) : Type 0 where
+-- the text has a tree, which breaks a rule or a limit
+pub record HasNoProgram (text : List ℕ) : Type 0 where
   pub tokens : List Token
   pub tree : Program
   pub parsed : IsParsed text tokens tree
-  pub unchecked : checked_of text tree ≡ None
+  pub none : (others : List Token) (other : Program) → IsParsed text others other → program text other ≡ None
+
+-- the text is accepted, as a program that is not compiled so far
+pub record IsNotYet (text : List ℕ) : Type 0 where
+  pub checked : Tree.Program
+  pub accepts : Accepts text checked
+  pub none : compiled_of checked ≡ None
 
 -- the most words of code
 abbrev pub most_words : ℕ
@@ -51,9 +62,12 @@ most_words = 1048576
 
 -- the text is accepted, but its code would be too large
 pub record IsTooLarge (text : List ℕ) : Type 0 where
-  pub checked : Checked
+  pub checked : Tree.Program
   pub accepts : Accepts text checked
-  pub words : most_words < code_words (length (written checked.statements))
+  pub line : ℕ
+  pub bytes : List ℕ
+  pub compiled : compiled_of checked ≡ Some (line, bytes)
+  pub words : most_words < code_words (length bytes)
 
 -- what each refusal of a text says of it; the others are never told
 abbrev pub IsRefused : List ℕ → Refusal → Type 0
@@ -70,6 +84,59 @@ IsRefused text (NumberTooLarge line) = HasNoTokens text
 IsRefused text (RealNumber line) = HasNoTokens text
 IsRefused text (NotAProgram line token) = HasNoTree text
 IsRefused text (TooDeep line) = HasNoTree text
-IsRefused text (NotInProfile line) = HasNoTree text
+-- a construction that is left out, or a required name
+IsRefused text (NotInProfile line) = HasNoTree text ⊎ HasNoProgram text
+IsRefused text (Unknown line) = HasNoProgram text
+IsRefused text (Twice line) = HasNoProgram text
+IsRefused text (UsedBefore line) = HasNoProgram text
+IsRefused text (WrongKind line) = HasNoProgram text
+IsRefused text (WrongType line) = HasNoProgram text
+IsRefused text (NotAssignable line) = HasNoProgram text
+IsRefused text (BadSubrange line) = HasNoProgram text
+IsRefused text (SetBase line) = HasNoProgram text
+IsRefused text (CaseTwice line) = HasNoProgram text
+IsRefused text (ControlVariable line) = HasNoProgram text
+IsRefused text (PackedVariable line) = HasNoProgram text
+IsRefused text (NotCongruous line) = HasNoProgram text
+IsRefused text (ForwardOpen line) = HasNoProgram text
+IsRefused text (NoResultAssigned line) = HasNoProgram text
+IsRefused text (NoInputOutput line) = HasNoProgram text
+IsRefused text (Limit line) = HasNoProgram text
 IsRefused text CodeTooLarge = IsTooLarge text
 IsRefused text _ = ⊥
+
+-- a refusal that tells a fault of the text: 1, 2, and 10 to 45
+abbrev pub IsFaulty : Refusal → Type 0
+IsFaulty TooLong = Unit {0}
+IsFaulty TooManyLines = Unit {0}
+IsFaulty (BadByte line) = Unit {0}
+IsFaulty (OpenComment line) = Unit {0}
+IsFaulty (OpenString line) = Unit {0}
+IsFaulty (EmptyString line) = Unit {0}
+IsFaulty (SeparatorMissing line) = Unit {0}
+IsFaulty (NumberTooLarge line) = Unit {0}
+IsFaulty (RealNumber line) = Unit {0}
+IsFaulty (NotAProgram line token) = Unit {0}
+IsFaulty (TooDeep line) = Unit {0}
+IsFaulty (NotInProfile line) = Unit {0}
+IsFaulty (Unknown line) = Unit {0}
+IsFaulty (Twice line) = Unit {0}
+IsFaulty (UsedBefore line) = Unit {0}
+IsFaulty (WrongKind line) = Unit {0}
+IsFaulty (WrongType line) = Unit {0}
+IsFaulty (NotAssignable line) = Unit {0}
+IsFaulty (BadSubrange line) = Unit {0}
+IsFaulty (SetBase line) = Unit {0}
+IsFaulty (CaseTwice line) = Unit {0}
+IsFaulty (ControlVariable line) = Unit {0}
+IsFaulty (PackedVariable line) = Unit {0}
+IsFaulty (NotCongruous line) = Unit {0}
+IsFaulty (ForwardOpen line) = Unit {0}
+IsFaulty (NoResultAssigned line) = Unit {0}
+IsFaulty (NoInputOutput line) = Unit {0}
+IsFaulty (Limit line) = Unit {0}
+IsFaulty _ = ⊥
+
+-- the text is accepted as no program
+abbrev pub IsNotAccepted : List ℕ → Type 0
+IsNotAccepted text = (checked : Tree.Program) → Accepts text checked → ⊥

@@ -1,8 +1,6 @@
-pub mod Program
-pub mod Meaning
+pub mod Strings
 pub mod Code
 pub mod Refusals
-pub mod Checks
 pub mod Accepts
 pub mod Faults
 pub mod Headline

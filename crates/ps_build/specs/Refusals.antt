@@ -6,6 +6,10 @@ use Rattle.ps_scan.specs.declared.refusal.ScanRefusal.{ScanRefusal}
 use Rattle.ps_scan.specs.declared.refusal.ScanRefusal.TheVariants as s
 use Rattle.ps_parse.specs.declared.error.ParseRefusal.{ParseRefusal}
 use Rattle.ps_parse.specs.declared.error.ParseRefusal.TheVariants as p
+use Rattle.ps_regions.specs.declared.refusal.Rule.{Rule}
+use Rattle.ps_regions.specs.declared.refusal.Rule.TheVariants as r
+use Rattle.ps_regions.specs.declared.refusal.CheckRefusal.{CheckRefusal}
+use Rattle.ps_regions.specs.declared.refusal.CheckRefusal.TheVariants as c
 use Rattle.risc_image.specs.declared.refusal.ImageRefusal.{ImageRefusal}
 use Rattle.risc_image.specs.declared.refusal.ImageRefusal.TheVariants as i
 use Rattle.risc_load.specs.declared.budget.LoadRefusal.{LoadRefusal}
@@ -157,6 +161,29 @@ of_parse (p.NotAProgram line token) = NotAProgram line token
 of_parse (p.TooDeep line) = TooDeep line
 of_parse (p.NotInProfile line) = NotInProfile line
 of_parse p.OutOfMemory = OutOfMemory
+
+abbrev pub of_rule : Rule → ℕ → Refusal
+of_rule r.NotInProfile line = NotInProfile line
+of_rule r.Unknown line = Unknown line
+of_rule r.Twice line = Twice line
+of_rule r.UsedBefore line = UsedBefore line
+of_rule r.WrongKind line = WrongKind line
+of_rule r.WrongType line = WrongType line
+of_rule r.NotAssignable line = NotAssignable line
+of_rule r.BadSubrange line = BadSubrange line
+of_rule r.SetBase line = SetBase line
+of_rule r.CaseTwice line = CaseTwice line
+of_rule r.ControlVariable line = ControlVariable line
+of_rule r.PackedVariable line = PackedVariable line
+of_rule r.NotCongruous line = NotCongruous line
+of_rule r.ForwardOpen line = ForwardOpen line
+of_rule r.NoResultAssigned line = NoResultAssigned line
+of_rule r.NoInputOutput line = NoInputOutput line
+of_rule r.Limit line = Limit line
+
+abbrev pub of_check : CheckRefusal → Refusal
+of_check c.OutOfMemory = OutOfMemory
+of_check (c.Broken rule line) = of_rule rule line
 
 abbrev pub of_image : ImageRefusal → Refusal
 of_image i.Magic = Magic

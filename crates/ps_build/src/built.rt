@@ -4,15 +4,18 @@ ghost use Rattle.std.specs.Prelude.{◌≡◌, ℕ, ◌≤◌, ◌<◌, length, 
 ghost use Rattle.risc_image.specs.Format.{IsImage};
 ghost use Rattle.ps_build.specs.Code.{code_words, program_image};
 ghost use Rattle.ps_build.specs.Refusals.{OnlyTooLarge};
-ghost use Rattle.ps_build.specs.Accepts.{IsRefused, most_words};
+ghost use Rattle.ps_tree.specs.Checked.{program_in};
+ghost use Rattle.ps_build.specs.Accepts.{IsProgramOf, IsRefused, IsFaulty, IsNotAccepted, most_words};
 ghost use Rattle.ps_build.specs.Headline.{Compiles};
 
-use crate::check::{StringProgram, check};
 use crate::emit::{ENTRY_LINK, FRAME_BYTES, MAX_BYTES, OUT_OF_STACK, emit};
 use crate::refusal::Refusal;
+use crate::strings::{StringProgram, strings_of};
+use ps_check::check;
 use ps_parse::parse;
 use ps_scan::scan;
 use ps_text::Source;
+use ps_tree::program::Checked;
 use risc_image::{FrameRow, Parts, TrapRow, write};
 use std::alloc::Global;
 use std::marker::Model;
@@ -83,12 +86,10 @@ fn image_of(alloc: Global, program: &StringProgram) -> Result<Vec<u8>, Refusal>
     Ok(bytes)
 }
 
-/// Builds the program of a text: the image does on every input and under every budget what the program means.
-///
-/// Refused are a text that isn't accepted, a program that isn't compiled yet, and one whose code would be too large.
-pub fn build(alloc: Global, text: &[u8]) -> Result<Built, Refusal>
-    ensures compiles { IfOk result (Compiles text.now) }
-    ensures refused { IfErr result (IsRefused text.now) }
+// The checked program of a text.
+fn program_of(alloc: Global, text: &[u8]) -> Result<Checked, Refusal>
+    ensures ok { IfOk result (λ checked. IsProgramOf text.now (program_in checked)) }
+    ensures err { IfErr result (IsRefused text.now) }
 {
     let source = Source::new(text)?;
     let tokens = scan(alloc, &source)?;
@@ -96,7 +97,31 @@ pub fn build(alloc: Global, text: &[u8]) -> Result<Built, Refusal>
         Ok(tree) => tree,
         Err(refusal) => return Err(Refusal::from(refusal)),
     };
-    let program = check(alloc, &source, &tree)?;
-    let bytes = image_of(alloc, &program)?;
+    match check(alloc, &source, &tree) {
+        Ok(checked) => Ok(checked),
+        Err(refusal) => Err(Refusal::from(refusal)),
+    }
+}
+
+// The bytes of the image of a text.
+fn image_built(alloc: Global, text: &[u8]) -> Result<Vec<u8>, Refusal>
+    ensures ok { IfOk result (λ bytes. Compiles text.now bytes.items) }
+    ensures err { IfErr result (IsRefused text.now) }
+{
+    let checked = program_of(alloc, text)?;
+    let program = strings_of(alloc, &checked)?;
+    image_of(alloc, &program)
+}
+
+/// Builds the program of a text: the image does on every input and under every budget what the program means.
+///
+/// Refused are a text that isn't accepted, with a refusal of 1, 2 or 10 to 45, a program that isn't compiled yet, and
+/// one whose code would be too large.
+pub fn build(alloc: Global, text: &[u8]) -> Result<Built, Refusal>
+    ensures compiles { IfOk result (Compiles text.now) }
+    ensures refused { IfErr result (IsRefused text.now) }
+    ensures accepts { IfErr result (λ refusal. IsFaulty refusal → IsNotAccepted text.now) }
+{
+    let bytes = image_built(alloc, text)?;
     Ok(Built { bytes })
 }

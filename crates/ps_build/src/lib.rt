@@ -2,17 +2,15 @@
 #![tactic(auto)]
 
 mod built;
-mod check;
 mod emit;
-mod meaning;
 mod outcome;
 mod refusal;
 mod run;
+mod strings;
 #[cfg(test)]
 mod tests;
 
 pub use built::{Built, build};
-pub use meaning::budget_only_stops;
 pub use outcome::{FaultKind, Outcome};
 pub use refusal::Refusal;
 pub use risc_load::Budget;

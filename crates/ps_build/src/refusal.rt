@@ -1,10 +1,11 @@
 //! Why a text, an image or a budget is refused.
 
 ghost use Rattle.std.specs.Prelude.{◌≡◌};
-ghost use Rattle.ps_build.specs.Refusals.{number_of, name_of, line_of, of_text, of_scan, of_parse, of_image, of_load};
+ghost use Rattle.ps_build.specs.Refusals.{number_of, name_of, line_of, of_text, of_scan, of_parse, of_rule, of_check, of_image, of_load};
 ghost use Rattle.ps_build.specs.declared.refusal.Refusal.TheVariants.{OutOfMemory};
 
 use ps_parse::ParseRefusal;
+use ps_regions::refusal::{CheckRefusal, Rule};
 use ps_scan::ScanRefusal;
 use ps_text::TextRefusal;
 use risc_image::ImageRefusal;
@@ -318,6 +319,42 @@ impl From<ParseRefusal> for Refusal {
             ParseRefusal::TooDeep { line } => Refusal::TooDeep { line },
             ParseRefusal::NotInProfile { line } => Refusal::NotInProfile { line },
             ParseRefusal::OutOfMemory => Refusal::OutOfMemory,
+        }
+    }
+}
+
+// The refusal of a rule that is broken at a line.
+fn of_rule(rule: Rule, line: u32) -> Refusal
+    ensures { result ≡ of_rule rule line }
+{
+    match rule {
+        Rule::NotInProfile => Refusal::NotInProfile { line },
+        Rule::Unknown => Refusal::Unknown { line },
+        Rule::Twice => Refusal::Twice { line },
+        Rule::UsedBefore => Refusal::UsedBefore { line },
+        Rule::WrongKind => Refusal::WrongKind { line },
+        Rule::WrongType => Refusal::WrongType { line },
+        Rule::NotAssignable => Refusal::NotAssignable { line },
+        Rule::BadSubrange => Refusal::BadSubrange { line },
+        Rule::SetBase => Refusal::SetBase { line },
+        Rule::CaseTwice => Refusal::CaseTwice { line },
+        Rule::ControlVariable => Refusal::ControlVariable { line },
+        Rule::PackedVariable => Refusal::PackedVariable { line },
+        Rule::NotCongruous => Refusal::NotCongruous { line },
+        Rule::ForwardOpen => Refusal::ForwardOpen { line },
+        Rule::NoResultAssigned => Refusal::NoResultAssigned { line },
+        Rule::NoInputOutput => Refusal::NoInputOutput { line },
+        Rule::Limit => Refusal::Limit { line },
+    }
+}
+
+impl From<CheckRefusal> for Refusal {
+    ghost from_gives = { λ e r. r ≡ of_check e };
+
+    fn from(refusal: CheckRefusal) -> Refusal {
+        match refusal {
+            CheckRefusal::OutOfMemory => Refusal::OutOfMemory,
+            CheckRefusal::Broken { rule, line } => of_rule(rule, line),
         }
     }
 }

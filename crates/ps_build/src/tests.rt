@@ -19,8 +19,16 @@ const ENDLESS: [u8; 28] = [
 
 #[test]
 fn strings_are_written(rt: HostRuntime) -> Result<(), Fail> {
-    let rows: [(&[u8], &[u8]); 4] = [
+    let rows: [(&[u8], &[u8]); 6] = [
         (HELLO, b"hello\n"),
+        (
+            b"program p(output); const c = 'abc'; var x: integer; begin write(c) end.",
+            b"abc",
+        ),
+        (
+            b"program p(output); var write: integer; begin writeln('a') end.",
+            b"a\n",
+        ),
         (b"program p; begin end.", b""),
         (
             b"program p(OUTPUT); BEGIN Write('it''s'); WRITELN end.",
@@ -53,28 +61,49 @@ fn hello_goes_to_a_writer(rt: HostRuntime) -> Result<(), Fail> {
 
 #[test]
 fn texts_are_refused(rt: HostRuntime) -> Result<(), Fail> {
-    let rows: [(&[u8], Refusal); 9] = [
+    let rows: [(&[u8], Refusal); 12] = [
         (b"", Refusal::NotAProgram { line: 1, token: 0 }),
-        (b"program p; begin write('a') end.", Refusal::NotYet),
-        (b"program p(output); begin write end.", Refusal::NotYet),
+        (
+            b"program p; begin write('a') end.",
+            Refusal::NoInputOutput { line: 1 },
+        ),
+        (
+            b"program p(output);\nbegin write end.",
+            Refusal::NotCongruous { line: 2 },
+        ),
+        (
+            b"program p(output,\noutput); begin write('a') end.",
+            Refusal::Twice { line: 2 },
+        ),
+        (
+            b"program p(data); begin end.",
+            Refusal::NotInProfile { line: 1 },
+        ),
+        (
+            b"program p(output);\nvar x: integer;\nbegin x := 'a' end.",
+            Refusal::NotAssignable { line: 3 },
+        ),
+        (
+            b"program p(output);\nbegin write('a\n') end.",
+            Refusal::OpenString { line: 2 },
+        ),
         (
             b"program p(output); begin write('a':2) end.",
             Refusal::NotYet,
         ),
         (
-            b"program p(output, output); begin write('a') end.",
-            Refusal::NotYet,
-        ),
-        (b"program p(data); begin end.", Refusal::NotYet),
-        (
             b"program p(output); begin begin write('a') end end.",
             Refusal::NotYet,
         ),
-        (b"program p;\nvar x: integer; begin end.", Refusal::NotYet),
         (
-            b"program p(output);\nbegin write('a\n') end.",
-            Refusal::OpenString { line: 2 },
+            b"program p; var x: integer; begin x := 1 end.",
+            Refusal::NotYet,
         ),
+        (
+            b"program p; procedure q; begin end; begin end.",
+            Refusal::NotYet,
+        ),
+        (b"program p; type l = ^integer; begin end.", Refusal::NotYet),
     ];
     for (text, want) in rows {
         assert_eq!(rt; build(rt.alloc(), text).err(), Some(want));

@@ -7,7 +7,7 @@ use Rattle.ps_regions.specs.Views.{scope_of, meaning_of, section_of}
 use Rattle.ps_declare.specs.declared.frame.Frame as RustFrame
 use Rattle.ps_declare.specs.declared.frame.Declared as RustDeclared
 use Rattle.ps_declare.specs.declared.frame.Hidden as RustHidden
-use Rattle.ps_declare.specs.declared.frame.Hidden.{Nothing, Record'}
+use Rattle.ps_declare.specs.declared.frame.Hidden.{Nothing, Variables, Record'}
 use Rattle.ps_declare.specs.declared.headings.Signature as RustSignature
 use Rattle.ps_declare.specs.Denoters.{Frame, Declared, Hidden}
 use Rattle.ps_declare.specs.Headings.{Signature}
@@ -20,7 +20,8 @@ declared_of d = record { known = map meaning_of d.known.items; domains = map typ
 
 unfoldable pub hidden_of : RustHidden.Hidden → Hidden
 hidden_of Nothing = []
-hidden_of (Record' names p outer) = names.now ∷ hidden_of outer
+hidden_of (Variables points) = []
+hidden_of (Record' names defined p outer) = names.now ∷ hidden_of outer
 
 abbrev pub field_of : Field → List ℕ × DataType
 field_of f = (f.name.items, type_of f.ty)

@@ -12,8 +12,11 @@ ghost use Rattle.ps_declare.specs.Views.{frame_of, declared_of};
 
 use crate::denoters::{constant_in, denoter, type_in};
 use crate::frame::{Declared, Frame, Hidden};
+use crate::points::add_declaration;
 use ps_regions::constants::ConstantValue;
 use ps_regions::meaning::Meaning;
+use ps_regions::names::Names;
+use ps_regions::reading::Reading;
 use ps_regions::refusal::{Fault, Rule};
 use ps_syntax::{ConstantDefinition, TypeDefinition, Variables};
 use ps_text::Span;
@@ -53,6 +56,22 @@ fn define_constant(
     Ok(())
 }
 
+/// What is told of a type definition: a limit that its type passes at the name that it gives the type.
+fn told_at_name(fault: Fault, definition: &TypeDefinition) -> Fault
+    ensures { IsFault result → IsFault fault }
+{
+    match fault {
+        Fault::Broken {
+            rule: Rule::Limit,
+            at,
+        } if at == definition.ty.first_token() => Fault::Broken {
+            rule: Rule::Limit,
+            at: definition.name.from,
+        },
+        _ => fault,
+    }
+}
+
 /// A type definition.
 #[tactic(auto, unfolding(crate::specs::Declarations::define_type, crate::specs::Views::hidden_of, ps_regions::specs::Views::meaning_of))]
 fn define_type(
@@ -64,43 +83,104 @@ fn define_type(
     ensures ok { OnOk result (define_type (frame_of frame.now) (declared_of declared.old) definition.now ≡ Some (declared_of declared.new)) }
     ensures err { IfErr result (λ fault. IsFault fault → define_type (frame_of frame.now) (declared_of declared.old) definition.now ≡ None) }
 {
-    let ty = denoter(&definition.ty, frame, alloc, &Hidden::Nothing, declared)?;
+    let ty = match denoter(&definition.ty, frame, alloc, &Hidden::Nothing, declared) {
+        Ok(ty) => ty,
+        Err(fault) => return Err(told_at_name(fault, definition)),
+    };
     declared.known.push(Meaning::Type(ty))?;
     Ok(())
 }
 
-/// A domain type that was waited for, at the end of its part.
+fn stands_behind(declaration: &Variables, at: u32) -> bool {
+    match declaration.names.as_slice() {
+        [] => false,
+        [first, ..] => at < first.from,
+    }
+}
+
+/// Whether one of these declarations defines a name behind a place where it is used.
+fn is_declared_behind(
+    reading: &Reading,
+    alloc: Global,
+    variables: &[Variables],
+    name: Span,
+) -> Result<bool, Fault> {
+    let mut names = Names::new(alloc);
+    for declaration in variables {
+        if stands_behind(declaration, name.from) {
+            add_declaration(reading, alloc, &mut names, declaration)?;
+        }
+    }
+    let spelling = reading.spelling(alloc, name)?;
+    Ok(names.contains(spelling.as_slice()))
+}
+
+/// What is told of a domain type that is none: in a variable part the name's point may stand behind the use.
+fn told_of_domain(
+    fault: Fault,
+    reading: &Reading,
+    alloc: Global,
+    variables: &[Variables],
+    name: Span,
+) -> Fault
+    ensures { IsFault result → IsFault fault }
+{
+    match fault {
+        Fault::Broken {
+            rule: Rule::WrongKind,
+            at,
+        } => match is_declared_behind(reading, alloc, variables, name) {
+            Ok(true) => Fault::Broken {
+                rule: Rule::UsedBefore,
+                at,
+            },
+            Ok(false) => fault,
+            Err(_) => Fault::OutOfMemory,
+        },
+        _ => fault,
+    }
+}
+
+/// A domain type that was waited for, at the end of its part, which has these variables.
 #[tactic(auto, unfolding(crate::specs::Declarations::settle_one, crate::specs::Views::hidden_of))]
 fn settle_one(
     frame: &Frame,
     alloc: Global,
     declared: &mut Declared,
+    variables: &[Variables],
     name: Span,
 ) -> Result<(), Fault>
     ensures ok { OnOk result (settle_one (frame_of frame.now) (declared_of declared.old) name ≡ Some (declared_of declared.new)) }
     ensures err { IfErr result (λ fault. IsFault fault → settle_one (frame_of frame.now) (declared_of declared.old) name ≡ None) }
     ensures pending { OnOk result (declared.new.pending.items ≡ declared.old.pending.items) }
 {
-    let ty = type_in(
-        frame,
-        alloc,
-        &Hidden::Nothing,
-        declared.known.as_slice(),
-        name,
-    )?;
+    let known = declared.known.as_slice();
+    let ty = match type_in(frame, alloc, &Hidden::Nothing, known, name) {
+        Ok(ty) => ty,
+        Err(fault) => {
+            let reading = frame.reading;
+            return Err(told_of_domain(fault, reading, alloc, variables, name));
+        }
+    };
     declared.domains.push(ty)?;
     Ok(())
 }
 
-/// The end of a part: each domain type that is waited for is the type that its name denotes there.
+/// The end of a part, which has these variables: each domain type that is waited for is the type that its name denotes
+/// there.
 #[tactic(auto, unfolding(crate::specs::Declarations::settle))]
-fn settle(frame: &Frame, alloc: Global, declared: &mut Declared) -> Result<(), Fault>
+fn settle(
+    frame: &Frame,
+    alloc: Global,
+    declared: &mut Declared,
+    variables: &[Variables],
+) -> Result<(), Fault>
     ensures ok { OnOk result (settle (frame_of frame.now) (declared_of declared.old) ≡ Some (declared_of declared.new)) }
     ensures err { IfErr result (λ fault. IsFault fault → settle (frame_of frame.now) (declared_of declared.old) ≡ None) }
 {
     for i in 0..declared.pending.len() {
         let name = declared.pending[i];
-        settle_one(frame, alloc, declared, name)?;
+        settle_one(frame, alloc, declared, variables, name)?;
     }
     declared.pending.clear();
     Ok(())
@@ -164,7 +244,8 @@ fn declare_variables(
     ensures ok { OnOk result (declare_variables (frame_of frame.now) first (declared_of declared.old) declaration.now ≡ Some (declared_of declared.new)) }
     ensures err { IfErr result (λ fault. IsFault fault → declare_variables (frame_of frame.now) first (declared_of declared.old) declaration.now ≡ None) }
 {
-    let ty = denoter(&declaration.ty, frame, alloc, &Hidden::Nothing, declared)?;
+    let hidden = Hidden::Variables(declaration.names.as_slice());
+    let ty = denoter(&declaration.ty, frame, alloc, &hidden, declared)?;
     declare_names(first, &ty, declared, declaration.names.as_slice())
 }
 
@@ -233,7 +314,7 @@ pub fn declarations(
 {
     define_constants(frame, alloc, declared, constants)?;
     define_types(frame, alloc, declared, types)?;
-    settle(frame, alloc, declared)?;
+    settle(frame, alloc, declared, &[])?;
     declare_all(frame, alloc, first, declared, variables)?;
-    settle(frame, alloc, declared)
+    settle(frame, alloc, declared, variables)
 }

@@ -41,8 +41,30 @@ fn hides(hidden: &Hidden, name: &[u8]) -> bool
     ensures { result ≡ list_any (λ names. has names name.now) (hidden_of hidden.now) }
 {
     match hidden {
-        Hidden::Nothing => false,
-        Hidden::Record { names, outer } => names.contains(name) || hides(outer, name),
+        Hidden::Nothing | Hidden::Variables(_) => false,
+        Hidden::Record { names, outer, .. } => names.contains(name) || hides(outer, name),
+    }
+}
+
+/// The rule that the use of a field's name breaks: the field of the closest record that has it stands behind the place, or
+/// before it, but is of another kind.
+fn rule_on_hidden(hidden: &Hidden, name: &[u8]) -> Rule {
+    match hidden {
+        Hidden::Nothing | Hidden::Variables(_) => Rule::WrongKind,
+        Hidden::Record {
+            names,
+            defined,
+            outer,
+        } => match names.find(name) {
+            None => rule_on_hidden(outer, name),
+            Some(index) => {
+                if index < *defined {
+                    Rule::WrongKind
+                } else {
+                    Rule::UsedBefore
+                }
+            }
+        },
     }
 }
 
@@ -53,15 +75,52 @@ fn pass_hidden(reading: &Reading, alloc: Global, hidden: &Hidden, name: Span) ->
     ensures err { IfErr result (λ fault. IsFault fault → not (list_any (λ names. has names (spelled reading.now.source.now name)) (hidden_of hidden.now)) ≡ false) }
 {
     match hidden {
-        Hidden::Nothing => Ok(()),
+        Hidden::Nothing | Hidden::Variables(_) => Ok(()),
         Hidden::Record { .. } => {
             let spelling = reading.spelling(alloc, name)?;
             if hides(hidden, spelling.as_slice()) {
-                Err(broken(Rule::WrongKind, name.from))
+                let rule = rule_on_hidden(hidden, spelling.as_slice());
+                Err(broken(rule, name.from))
             } else {
                 Ok(())
             }
         }
+    }
+}
+
+/// Whether a name is that of a variable within whose declaration the place stands.
+fn is_own_variable(
+    hidden: &Hidden,
+    reading: &Reading,
+    alloc: Global,
+    name: Span,
+) -> Result<bool, Fault> {
+    match hidden {
+        Hidden::Nothing => Ok(false),
+        Hidden::Variables(points) => {
+            let mut names = Names::new(alloc);
+            add_points(reading, alloc, &mut names, points)?;
+            let spelling = reading.spelling(alloc, name)?;
+            Ok(names.contains(spelling.as_slice()))
+        }
+        Hidden::Record { outer, .. } => is_own_variable(outer, reading, alloc, name),
+    }
+}
+
+/// What is told of a name that can't be used: a variable's name stands before the type in its declaration.
+fn told_of_use(fault: Fault, hidden: &Hidden, reading: &Reading, alloc: Global, name: Span) -> Fault
+    ensures { IsFault result → IsFault fault }
+{
+    match fault {
+        Fault::Broken {
+            rule: Rule::UsedBefore,
+            at,
+        } => match is_own_variable(hidden, reading, alloc, name) {
+            Ok(true) => broken(Rule::WrongKind, at),
+            Ok(false) => fault,
+            Err(_) => Fault::OutOfMemory,
+        },
+        _ => fault,
     }
 }
 
@@ -80,9 +139,8 @@ fn type_at(found: &Found, at: u32) -> Result<Ty, Fault>
             | Meaning::Parameter { .. }
             | Meaning::RoutineParameter { .. }
             | Meaning::Routine(_)
-            | Meaning::File(_)
             | Meaning::Required(_) => Err(broken(Rule::WrongKind, at)),
-            Meaning::LeftOut => Err(broken(Rule::NotInProfile, at)),
+            Meaning::File(_) | Meaning::LeftOut => Err(broken(Rule::NotInProfile, at)),
         },
         Found::Field { .. } => Err(broken(Rule::WrongKind, at)),
     }
@@ -116,7 +174,10 @@ pub fn type_in(
         known,
         outer: frame.outer,
     };
-    type_named(frame.reading, alloc, &scope, name)
+    match type_named(frame.reading, alloc, &scope, name) {
+        Ok(ty) => Ok(ty),
+        Err(fault) => Err(told_of_use(fault, hidden, frame.reading, alloc, name)),
+    }
 }
 
 /// No field of a record within whose denoter the place stands has the name that the constant is.
@@ -154,7 +215,13 @@ pub fn constant_in(
         known,
         outer: frame.outer,
     };
-    constant(frame.reading, alloc, &scope, written)
+    match constant(frame.reading, alloc, &scope, written) {
+        Ok(value) => Ok(value),
+        Err(fault) => match written {
+            Constant::Number(..) | Constant::Text(_) => Err(fault),
+            Constant::Name(_, name) => Err(told_of_use(fault, hidden, frame.reading, alloc, name)),
+        },
+    }
 }
 
 /// The ordinal type that a type is.
@@ -432,9 +499,9 @@ fn array_of(
     Ok(ty)
 }
 
-/// The base of a set type has ordinals within 0..255.
+/// The base of a set type, whose word `set` is at `word`, has ordinals within 0..255.
 #[tactic(auto, unfolding(ps_tree::specs::View::type_of))]
-fn set_of(at: u32, packed: bool, base: Ordinal) -> Result<Ty, Fault>
+fn set_of(at: u32, packed: bool, base: Ordinal, word: u32) -> Result<Ty, Fault>
     ensures ok { IfOk result (λ ty. set_of at packed base ≡ Some (type_of ty)) }
     ensures err { IfErr result (λ fault. IsFault fault → set_of at packed base ≡ None) }
 {
@@ -449,7 +516,7 @@ fn set_of(at: u32, packed: bool, base: Ordinal) -> Result<Ty, Fault>
             base,
         })
     } else {
-        Err(broken(Rule::SetBase, at))
+        Err(broken(Rule::SetBase, word))
     }
 }
 
@@ -467,7 +534,7 @@ fn set_type(
     ensures err { IfErr result (λ fault. IsFault fault → set_type (frame_of frame.now) packed (hidden_of hidden.now) (declared_of declared.old) at base.now ≡ None) }
 {
     let base = ordinal(frame, alloc, hidden, declared, base)?;
-    set_of(begins(packed, at), is_packed(packed), base)
+    set_of(begins(packed, at), is_packed(packed), base, at)
 }
 
 /// The type of a denoter.
@@ -647,7 +714,8 @@ fn all_fields(
 {
     let mut done = Vec::new(alloc);
     for section in sections {
-        add_fields(section, frame, alloc, hidden, declared, &mut done)?;
+        let inside = hidden.behind(section.names.len().saturating_add(done.len()));
+        add_fields(section, frame, alloc, &inside, declared, &mut done)?;
     }
     Ok(done)
 }
@@ -678,6 +746,7 @@ fn record_type(
     let names = record_names(frame, alloc, sections)?;
     let inner = Hidden::Record {
         names: &names,
+        defined: 0,
         outer: &*hidden,
     };
     let fields = all_fields(sections, frame, alloc, &inner, declared)?;

@@ -27,12 +27,38 @@ pub struct Declared {
     pub variables: Vec<Ty>,
 }
 
-/// The records within whose denoters a place stands, from the inside out, by the names of their fields.
+/// What a place of a block's declarations stands in, from the inside out.
 #[derive(Clone, Copy)]
 pub enum Hidden<'a> {
     Nothing,
+    /// The declaration of these variables, whose names stand before the place.
+    Variables(&'a [Span]),
+    /// A record or a parameter list, by the names of its fields or parameters, of which the first `defined` stand before
+    /// the place.
     Record {
         names: &'a Names,
+        defined: usize,
         outer: &'a Hidden<'a>,
     },
+}
+
+impl<'a> Hidden<'a> {
+    ghost use Rattle.std.specs.Prelude.{◌≡◌};
+    ghost use Rattle.ps_declare.specs.Views.{hidden_of};
+
+    /// The same records, at a place behind the first `defined` names of the innermost one.
+    #[tactic(auto, unfolding(crate::specs::Views::hidden_of))]
+    pub fn behind(self, defined: usize) -> Hidden<'a>
+        ensures { hidden_of result ≡ hidden_of self.entry }
+    {
+        match self {
+            Hidden::Nothing => Hidden::Nothing,
+            Hidden::Variables(points) => Hidden::Variables(points),
+            Hidden::Record { names, outer, .. } => Hidden::Record {
+                names,
+                defined,
+                outer,
+            },
+        }
+    }
 }

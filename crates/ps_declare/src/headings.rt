@@ -76,7 +76,7 @@ fn result_type(
     if is_result(&ty) {
         Ok(ty)
     } else {
-        Err(broken(Rule::WrongKind, name.from))
+        Err(broken(Rule::WrongType, name.from))
     }
 }
 
@@ -130,6 +130,7 @@ fn sections(
     let _count = few(names.len(), at)?;
     let inner = Hidden::Record {
         names: &names,
+        defined: 0,
         outer: &*hidden,
     };
     all_sections(list, frame, alloc, &inner, known)
@@ -148,10 +149,21 @@ fn all_sections(
     ensures err { IfErr result (λ fault. IsFault fault → steps (add_section (frame_of frame.now) (map meaning_of known.now) (hidden_of hidden.now)) [] (map (section (frame_of frame.now) (map meaning_of known.now)) list.now) ≡ None) }
 {
     let mut done = Vec::new(alloc);
+    let mut defined = 0;
     for written in list {
-        add_section(written, frame, alloc, hidden, known, &mut done)?;
+        defined = name_count(written).saturating_add(defined);
+        let inside = hidden.behind(defined);
+        add_section(written, frame, alloc, &inside, known, &mut done)?;
     }
     Ok(done)
+}
+
+/// How many parameters' names a section has.
+fn name_count(written: &SectionDenoter) -> usize {
+    match written {
+        SectionDenoter::Value(names, _) | SectionDenoter::Variable(names, _) => names.len(),
+        SectionDenoter::Routine(_) => 1,
+    }
 }
 
 /// One more section.

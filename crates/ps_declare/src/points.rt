@@ -241,7 +241,7 @@ fn add_definitions(
 
 /// The points of a declaration of variables.
 #[tactic(auto, using(crate::proofs::Walks::added_none, crate::proofs::Walks::added_both, crate::proofs::Walks::added_first, crate::proofs::Walks::added_second), unfolding(crate::specs::Points::variables_points))]
-fn add_declaration(
+pub fn add_declaration(
     reading: &Reading,
     alloc: Global,
     names: &mut Names,

@@ -15,6 +15,7 @@ use ps_syntax::{
 };
 use ps_text::Span;
 
+#[inline]
 fn relation_of(kind: Kind) -> Option<Relation>
     ensures { result ≡ read.relation_of kind }
 {
@@ -40,6 +41,7 @@ fn sign_of(kind: Kind) -> Option<Sign>
     }
 }
 
+#[inline]
 fn adding_of(kind: Kind) -> Option<Adding>
     ensures { result ≡ read.adding_of kind }
 {
@@ -51,6 +53,7 @@ fn adding_of(kind: Kind) -> Option<Adding>
     }
 }
 
+#[inline]
 fn multiplying_of(kind: Kind) -> Option<Multiplying>
     ensures { result ≡ read.multiplying_of kind }
 {
@@ -61,6 +64,13 @@ fn multiplying_of(kind: Kind) -> Option<Multiplying>
         Kind::And => Some(Multiplying::And),
         _ => None,
     }
+}
+
+/// Whether a token goes on with an expression after a factor.
+fn is_operator(kind: Kind) -> bool
+    ensures { result ≡ read.is_operator kind }
+{
+    multiplying_of(kind).is_some() || adding_of(kind).is_some() || relation_of(kind).is_some()
 }
 
 impl<'a> Parser<'a> {
@@ -131,6 +141,15 @@ impl<'a> Parser<'a> {
         Some((operator, token.span))
     }
 
+    fn sees_operator(&self) -> bool
+        ensures { result ≡ read.sees_operator self.now.rest.now }
+    {
+        match self.rest {
+            [token, ..] => is_operator(token.kind),
+            [] => false,
+        }
+    }
+
     #[cycle(expression)]
     #[tactic(auto, unfolding(crate::specs::ReadExpressions::member, crate::specs::Steps::eat))]
     fn member(&mut self, depth: u32) -> Result<Member, Fault>
@@ -144,19 +163,44 @@ impl<'a> Parser<'a> {
         }
     }
 
+    /// A factor alone is answered here, where no part is held while another is read: so a level of
+    /// parentheses costs little.
     #[cycle(expression)]
-    #[tactic(auto, unfolding(crate::specs::ReadExpressions::read_expr, crate::specs::ReadExpressions::compared))]
+    #[tactic(auto, unfolding(crate::specs::ReadExpressions::read_expr, crate::specs::ReadExpressions::compared, crate::specs::ReadExpressions::simple, crate::specs::ReadExpressions::term))]
     pub fn expr(&mut self, depth: u32) -> Result<Expr, Fault>
         ensures { Reads (read.read_expr depth self.old.rest.now) result self.new.rest.now }
     {
         if depth == 0 {
             return Err(self.too_deep(self.begins_expression()));
         }
-        let left = self.simple(depth - 1)?;
+        let sign = self.sign();
+        let first = self.factor(depth - 1)?;
+        if self.sees_operator() {
+            return self.expr_from(depth - 1, sign, first);
+        }
+        let first = Term {
+            first,
+            more: Items::new(self.alloc),
+        };
+        let more = Items::new(self.alloc);
+        Ok(Expr::Simple(Simple { sign, first, more }))
+    }
+
+    /// An expression of which the sign and the first factor were read.
+    #[cycle(expression)]
+    fn expr_from(
+        &mut self,
+        depth: u32,
+        sign: Option<(Sign, Span)>,
+        first: Factor,
+    ) -> Result<Expr, Fault>
+        ensures { Reads (read.expr_after (read.read_factor depth) sign first self.old.rest.now) result self.new.rest.now }
+    {
+        let left = self.simple_from(depth, sign, first)?;
         match self.relation() {
             None => Ok(Expr::Simple(left)),
             Some((relation, at)) => {
-                let right = self.simple(depth - 1)?;
+                let right = self.simple(depth)?;
                 Ok(Expr::Compare(left, relation, at, Boxed::new(self.alloc, right)?))
             }
         }
@@ -171,12 +215,26 @@ impl<'a> Parser<'a> {
     }
 
     #[cycle(expression)]
-    #[tactic(auto, unfolding(crate::specs::ReadExpressions::simple))]
+    #[tactic(auto, unfolding(crate::specs::ReadExpressions::simple, crate::specs::ReadExpressions::term))]
     fn simple(&mut self, depth: u32) -> Result<Simple, Fault>
         ensures { Reads (read.simple (read.term (read.read_factor depth)) self.old.rest.now) result self.new.rest.now }
     {
         let sign = self.sign();
-        let first = self.term(depth)?;
+        let first = self.factor(depth)?;
+        self.simple_from(depth, sign, first)
+    }
+
+    /// A simple expression of which the sign and the first factor were read.
+    #[cycle(expression)]
+    fn simple_from(
+        &mut self,
+        depth: u32,
+        sign: Option<(Sign, Span)>,
+        first: Factor,
+    ) -> Result<Simple, Fault>
+        ensures { Reads (read.simple_after (read.read_factor depth) sign first self.old.rest.now) result self.new.rest.now }
+    {
+        let first = self.term_from(depth, first)?;
         let more = self.terms(depth)?;
         Ok(Simple { sign, first, more })
     }
@@ -202,6 +260,14 @@ impl<'a> Parser<'a> {
         ensures { Reads (read.term (read.read_factor depth) self.old.rest.now) result self.new.rest.now }
     {
         let first = self.factor(depth)?;
+        self.term_from(depth, first)
+    }
+
+    /// A term of which the first factor was read.
+    #[cycle(expression)]
+    fn term_from(&mut self, depth: u32, first: Factor) -> Result<Term, Fault>
+        ensures { Reads (read.term_from (read.read_factor depth) first self.old.rest.now) result self.new.rest.now }
+    {
         let more = self.factors(depth)?;
         Ok(Term { first, more })
     }

@@ -95,7 +95,8 @@ impl<'a> Parser<'a> {
 
     /// Goes past the next token.
     pub fn skip(&mut self)
-        ensures { self.new.rest.now ≡ spec.rest self.old.rest.now }
+        ensures after { self.new.rest.now ≡ spec.rest self.old.rest.now }
+        ensures kept { self.new.left_out ≡ self.old.left_out }
     {
         if let [_, rest @ ..] = self.rest {
             self.rest = rest;
@@ -116,6 +117,7 @@ impl<'a> Parser<'a> {
     pub fn eat(&mut self, kind: Kind) -> bool
         ensures found { result ≡ spec.sees kind self.old.rest.now }
         ensures after { self.new.rest.now ≡ spec.after kind self.old.rest.now }
+        ensures kept { self.new.left_out ≡ self.old.left_out }
     {
         match self.rest {
             [token, rest @ ..] if is(token.kind, kind) => {
@@ -129,7 +131,8 @@ impl<'a> Parser<'a> {
     /// Takes the next token if it is of this kind, and answers where it stands.
     #[tactic(auto, unfolding(crate::specs::Steps::accept))]
     pub fn accept(&mut self, kind: Kind) -> Option<Span>
-        ensures { spec.accept kind self.old.rest.now ≡ Some (result, self.new.rest.now) }
+        ensures read { spec.accept kind self.old.rest.now ≡ Some (result, self.new.rest.now) }
+        ensures kept { self.new.left_out ≡ self.old.left_out }
     {
         let token = self.peek()?;
         if !is(token.kind, kind) {
@@ -141,7 +144,8 @@ impl<'a> Parser<'a> {
 
     #[tactic(auto, unfolding(crate::specs::Steps::expect))]
     pub fn expect(&mut self, kind: Kind) -> Result<Span, Fault>
-        ensures { Reads (spec.expect kind self.old.rest.now) result self.new.rest.now }
+        ensures read { Reads (spec.expect kind self.old.rest.now) result self.new.rest.now }
+        ensures kept { self.new.left_out ≡ self.old.left_out }
     {
         match self.rest {
             [token, rest @ ..] if is(token.kind, kind) => {

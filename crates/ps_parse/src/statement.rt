@@ -8,7 +8,7 @@ ghost use Rattle.ps_parse.specs.ReadStatements as read;
 
 use crate::error::Fault;
 use crate::parser::Parser;
-use ps_scan::Kind;
+use ps_scan::{Kind, Token};
 use ps_syntax::{Boxed, Constant, Direction, Element, Expr, Items, Parameter, Statement, Variable};
 use ps_text::Span;
 
@@ -180,6 +180,15 @@ impl<'a> Parser<'a> {
                 self.skip();
                 self.after_name(depth, token.span)
             }
+            _ => self.unnamed_statement(depth, token),
+        }
+    }
+
+    #[cycle(statement)]
+    fn unnamed_statement(&mut self, depth: u32, token: Token) -> Result<Statement, Fault>
+        ensures { Reads (read.unnamed_by (expression.read_expr depth) (read.read_statement depth) token.kind token.span self.old.rest.now) result self.new.rest.now }
+    {
+        match token.kind {
             Kind::Begin => {
                 self.skip();
                 self.compound(depth)

@@ -1,6 +1,7 @@
 -- Environments and worlds.
-use Rattle.std.proofs.Common.{◌≡◌, ◌≢◌, ℕ, zero, suc, pos, ◌-◌, ◌<◌, ◌≤◌, Bool, true, false, List, [], ◌∷◌, ◌++◌, length, get_or, set, map, nat_eq, if◌then◌else◌, Vec, Global, refl, sym, ap, ◌∙◌, arith}
+use Rattle.std.proofs.Common.{◌+◌, ◌≡◌, ◌≢◌, ℕ, zero, suc, pos, ◌-◌, ◌<◌, ◌≤◌, Bool, true, false, List, [], ◌∷◌, ◌++◌, length, get_or, set, take, map, nat_eq, if◌then◌else◌, Vec, Global, refl, sym, ap, ◌∙◌, arith}
 use mathlib.Core.Path.{fun_ext}
+use Rattle.std.proofs.lemmas.List.{take_more}
 use Rattle.std.proofs.lemmas.Bool.{eqb-true, eqb-false}
 use Rattle.std.specs.declared.rc.Rc.{Rc}
 use Rattle.ps_meaning.specs.Values as v
@@ -212,3 +213,11 @@ pub opened_past : (spots : List Spot) (k : ℕ) → length spots ≤ k → get_o
 opened_past [] k le = refl
 opened_past (v ∷ rest) zero le = absurd (omega arith)
 opened_past (v ∷ rest) (suc k) le = opened_past rest k (omega arith)
+
+spots_append : (spots : List Spot) (s : Spot) → map spot_of (spots ++ s ∷ []) ≡ map spot_of spots ++ spot_of s ∷ []
+spots_append [] s = refl
+spots_append (x ∷ rest) s = ap (λ l. spot_of x ∷ l) (spots_append rest s)
+
+pub spots_next : (spots copies : List Spot) (i : ℕ) (copy item : Spot) → map spot_of copies ≡ map spot_of (take i spots) → spot_of copy ≡ spot_of item → item ≡ get_or spots i item → i < length spots → map spot_of (copies ++ copy ∷ []) ≡ map spot_of (take (i + 1) spots)
+spots_next spots copies i copy item before same at lt =
+    spots_append copies copy ∙ ap (λ l. l ++ spot_of copy ∷ []) before ∙ ap (λ s. map spot_of (take i spots) ++ s ∷ []) (same ∙ ap spot_of at) ∙ sym (spots_append (take i spots) (get_or spots i item)) ∙ ap (map spot_of) (sym (take_more spots i item lt))

@@ -1,2 +1,4 @@
 pub mod View
 pub mod Worlds
+pub mod Procedures
+pub mod Blocks

@@ -1,11 +1,17 @@
 -- What the runner's environments, contexts and worlds stand for in the definitions.
-use Rattle.std.specs.Prelude.{◌≡◌, ℕ, zero, suc, List, [], ◌∷◌, map, Vec, Result, Ok, Err}
+use Rattle.std.specs.Prelude.{◌≡◌, ◌+◌, nat_le, ℕ, ℤ, pos, int_lt, unsigned_abs, if◌then◌else◌, Option, Some, zero, suc, List, [], ◌∷◌, map, Vec, Result, Ok, Err}
 use Rattle.std.specs.Global.{Global}
 use Rattle.ps_tree.specs.Checked.{program_in}
+use Rattle.ps_tree.specs.declared.types.Ordinal.{Ordinal}
+use Rattle.ps_tree.specs.Sizes.{value_count}
+use Rattle.ps_tree.specs.Tree as Tree
 use Rattle.ps_tree.specs.Tree.{Program}
+use Rattle.ps_tree.specs.declared.tree.Direction.{Direction}
+use Rattle.ps_tree.specs.declared.tree.Range.TheVariants.{Within as WithinBounds}
 use Rattle.ps_meaning.specs.Values as v
 use Rattle.ps_meaning.specs.Text as t
 use Rattle.ps_meaning.specs.Worlds as m
+use Rattle.ps_meaning.specs.Statements as st
 use Rattle.ps_meaning.specs.Statements.{Costs, Next}
 use Rattle.ps_meaning.specs.Expressions as e
 use Rattle.ps_meaning.specs.Expressions.{Caller}
@@ -124,3 +130,72 @@ actuals_in actuals = map actual_of actuals.items
 
 abbrev pub done_of : Unit {0} → m.Done
 done_of _ = m.done
+
+-- statements with so much fuel
+module _ (job : Job) (n : ℕ) where
+  abbrev pub acting : Tree.Statement → m.Context → m.Act m.Done
+  acting = st.act (program_of job) (costs_in job) (caller job n) (next job n)
+
+  abbrev pub acting_all : Tree.Statements → m.Context → m.Act m.Done
+  acting_all = st.acts (program_of job) (costs_in job) (caller job n) (next job n)
+
+  abbrev pub selecting : Tree.Elements → ℤ → (line : ℕ) → m.Context → m.Act m.Done
+  selecting = st.selected (program_of job) (costs_in job) (caller job n) (next job n)
+
+  abbrev pub reading : Tree.ReadVariable → m.Context → m.Act m.Done
+  reading = st.read (program_of job) (costs_in job) (caller job n) (next job n)
+
+  abbrev pub reading_all : List Tree.ReadVariable → m.Context → m.Act m.Done
+  reading_all = st.reads (program_of job) (costs_in job) (caller job n) (next job n)
+
+  abbrev pub width_in : Tree.Width → m.Context → m.Act (Option ℕ)
+  width_in = st.width_value (program_of job) (costs_in job) (caller job n) (next job n)
+
+  abbrev pub writing : Tree.WriteParameter → m.Context → m.Act m.Done
+  writing = st.write (program_of job) (costs_in job) (caller job n) (next job n)
+
+  abbrev pub writing_all : List Tree.WriteParameter → m.Context → m.Act m.Done
+  writing_all = st.writes (program_of job) (costs_in job) (caller job n) (next job n)
+
+  abbrev pub opening_all : List Tree.Place → m.Context → m.Act (List v.Spot)
+  opening_all = st.opening (program_of job) (costs_in job) (caller job n) (next job n)
+
+  abbrev pub making : (pointer line : ℕ) → m.Context → m.Act v.Value
+  making = st.new_object (program_of job) (costs_in job) (caller job n) (next job n)
+
+  -- a body, and then the further turns
+  unfoldable pub turning : (variable : ℕ) → Direction → (last : ℤ) → Tree.Statement → m.Context → m.Act m.Done
+  turning variable direction last s c = λ w. m.and_then (acting s c w) (λ _. next job n (st.Further variable direction last s) c)
+
+-- a for statement whose bounds were evaluated
+abbrev pub counting : Job → ℕ → (variable : ℕ) (low high : ℤ) → v.Value → (from_line : ℕ) → Direction → v.Value → (to_line : ℕ) → Tree.Statement → m.Context → m.Act m.Done
+counting job n variable low high x from_line direction y to_line s c = if st.is_past direction (v.number_of x) (v.number_of y) then m.give m.done else (λ w. m.and_then (e.fitting (WithinBounds low high) x from_line c w) (λ _ u. m.and_then (e.fitting (WithinBounds low high) y to_line c u) (λ _ z. m.and_then (m.put (st.own_spot variable c) x z) (λ _. turning job n variable direction (v.number_of y) s c))))
+
+-- an integer that is read, in a range
+abbrev pub integer_in : (low high : ℤ) (line : ℕ) → m.Context → m.Act v.Value
+integer_in low high line c = λ w. m.and_then (st.scan w) (λ found u. m.and_then (st.integer_found found line c u) (λ x. e.fitting (WithinBounds low high) x line c))
+
+abbrev pub opened_in : Context → List v.Spot
+opened_in c = map spot_of c.opened.items
+
+abbrev pub width_of : Option ℕ → Option ℕ
+width_of n = n
+
+-- the fuel is used up
+abbrev pub more_at : m.Context → m.Act m.Done
+more_at c = m.stop m.More c
+
+-- a width that was given
+abbrev pub width_checked : ℤ → (line : ℕ) → m.Context → m.Act (Option ℕ)
+width_checked x line c = if int_lt x (pos 1) then m.fault 11 line c else m.give (Some (unsigned_abs x))
+
+-- pack and unpack, when their operands were accessed
+abbrev pub packing : v.Spot → Ordinal → ℕ → v.Spot → Ordinal → (line : ℕ) → m.Context → m.Act m.Done
+packing a from k z to line c = λ w. m.and_then (m.contents a w) (λ x. if nat_le (k + value_count to) (value_count from) then m.put z (v.StructureValue (v.first_values (value_count to) (v.values_from (v.components_of x) k))) else m.fault 5 line c)
+
+abbrev pub unpacking : v.Spot → Ordinal → v.Spot → Ordinal → ℕ → (line : ℕ) → m.Context → m.Act m.Done
+unpacking z from a to k line c = λ w. m.and_then (m.contents z w) (λ x u. m.and_then (m.contents a u) (λ y. if nat_le (k + value_count from) (value_count to) then m.put a (v.StructureValue (v.with_values (v.components_of y) k (v.components_of x))) else m.fault 5 line c))
+
+-- the context with the lines of these calls open
+abbrev pub with_calls : List ℕ → m.Context → m.Context
+with_calls calls c = record { env = c.env; opened = c.opened; active = c.active; calls = calls }

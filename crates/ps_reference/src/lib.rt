@@ -2,8 +2,13 @@
 // that it computes.
 #![tactic(auto)]
 
+pub mod block;
+pub mod cost;
 pub mod expressions;
 pub mod operators;
+pub mod required;
+#[cfg(test)]
+mod required_tests;
 pub mod statements;
 pub mod stop;
 #[cfg(test)]

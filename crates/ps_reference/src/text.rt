@@ -1,7 +1,7 @@
 // Text: what reads look at and take, and what writes add.
 
-ghost use Rattle.std.specs.Prelude.{◌≡◌, ◌+◌, ◌-◌, ◌≤◌, ◌<◌, ◌++◌, ◌∷◌, [], ◌^◌, min, ℕ, pos, neg_ℤ, length, drop, take_while, if◌then◌else◌, IfOk};
-ghost use Rattle.ps_meaning.specs.Text.{next_character, looked_at, look_marks, taken, as_character, is_blank, after_blanks, is_digit, has_sign, after_sign, number_written, digits, scan_integer, has_line_end, after_line_end, after_line, right_aligned, fitted, integer_text, boolean_text};
+ghost use Rattle.std.specs.Prelude.{replicate, ◌≡◌, ◌+◌, ◌-◌, ◌≤◌, ◌<◌, ◌++◌, ◌∷◌, [], ◌^◌, min, ℕ, pos, neg_ℤ, length, drop, take_while, if◌then◌else◌, IfOk};
+ghost use Rattle.ps_meaning.specs.Text.{next_character, looked_at, look_marks, taken, as_character, is_blank, after_blanks, is_digit, has_sign, after_sign, number_written, digits, scan_integer, has_line_end, after_line_end, after_line, line_marks, mark, right_aligned, fitted, integer_text, boolean_text};
 ghost use Rattle.ps_reference.specs.Worlds.{input_of};
 ghost use Rattle.ps_reference.specs.View.{IsNumber, IsReading};
 
@@ -296,5 +296,20 @@ impl<'a> Input<'a> {
         ensures { result ≡ (length self.now.left.now - rest) + (if self.now.looked then 0 else 1) }
     {
         self.left.len().saturating_sub(rest) + if self.looked { 0 } else { 1 }
+    }
+
+    /// How many first looks it takes to look at the rest of a line and its end, or at the end.
+    pub fn looks_to_line(&self) -> usize
+        ensures { replicate result mark ≡ line_marks (input_of self.now) }
+    {
+        if has_line_end(self.left) {
+            let taken = self
+                .left
+                .len()
+                .saturating_sub(after_line_end(self.left).len());
+            taken.saturating_sub(if self.looked { 1 } else { 0 })
+        } else {
+            self.looks_to(0)
+        }
     }
 }

@@ -1,10 +1,11 @@
 // What a program acts in: environments, contexts, and the world of stored values, input and output.
 
-ghost use Rattle.std.specs.Prelude.{◌≡◌, ◌+◌, ◌<◌, ◌≤◌, ◌∷◌, IfOk, OnOk, MatchOption, length};
+ghost use Rattle.std.specs.Prelude.{◌≡◌, ◌+◌, ◌<◌, ◌≤◌, ◌∷◌, map, IfOk, OnOk, MatchOption, length};
 ghost use Rattle.ps_meaning.specs.Values as v;
+ghost use Rattle.ps_meaning.specs.Statements.{with_opened};
 ghost use Rattle.ps_meaning.specs.Worlds.{above, frame_of, spot_in, routine_in, env_in, contents_in, with_contents, value_at_root, with_new, says, unset, no_spot, Outside};
 ghost use Rattle.ps_reference.specs.View.{value_of, root_of, spot_of};
-ghost use Rattle.ps_reference.specs.Worlds.{env_of, entries_of, entry_spot, entry_routine, entry_env, numbers_of, world_of};
+ghost use Rattle.ps_reference.specs.Worlds.{context_of, env_of, entries_of, entry_spot, entry_routine, entry_env, numbers_of, world_of};
 
 use crate::value::{Root, Spot, Value, part, with_part};
 use ps_tree::program::Checked;
@@ -14,6 +15,7 @@ use std::rc::Rc;
 
 /// What a program is run with: the frame bytes of each routine, the object bytes of each pointer type, and the bytes
 /// of stack and heap.
+#[derive(Drop)]
 pub struct Job<'a> {
     pub alloc: Global,
     pub program: &'a Checked,
@@ -258,5 +260,43 @@ impl Numbers {
             left = rest;
         }
         Ok(numbers)
+    }
+}
+
+/// The same spots.
+#[tactic(auto, using(crate::proofs::Worlds::spots_next))]
+fn copy_spots(alloc: Global, spots: &[Spot]) -> Result<Vec<Spot>, AllocError>
+    ensures { IfOk result (λ v. map spot_of v.items ≡ map spot_of spots.now) }
+{
+    let mut copies = Vec::new(alloc);
+    for spot in spots {
+        copies.push(spot.copy(alloc)?)?;
+    }
+    Ok(copies)
+}
+
+impl<'a> Context<'a> {
+    /// The same context.
+    pub fn copy(&self) -> Result<Context<'a>, AllocError>
+        ensures context { IfOk result (λ k. context_of k ≡ context_of self.now) }
+        ensures job { IfOk result (λ k. k.job.now ≡ self.now.job.now) }
+    {
+        Ok(Context {
+            job: self.job,
+            env: self.env.clone()?,
+            opened: copy_spots(self.job.alloc, self.opened.as_slice())?,
+            active: self.active.clone()?,
+            calls: self.calls.clone()?,
+        })
+    }
+
+    /// A record more is opened.
+    #[tactic(auto)]
+    pub fn open(&mut self, spot: Spot) -> Result<(), AllocError>
+        ensures context { OnOk result (context_of self.new ≡ with_opened (spot_of spot ∷ map spot_of self.old.opened.items) (context_of self.old)) }
+        ensures job { self.new.job.now ≡ self.old.job.now }
+    {
+        self.opened.insert(0, spot)?;
+        Ok(())
     }
 }

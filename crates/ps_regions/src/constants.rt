@@ -84,9 +84,8 @@ fn constant_at(found: &Found, at: u32) -> Result<ConstantValue, Fault>
             | Meaning::Parameter { .. }
             | Meaning::RoutineParameter { .. }
             | Meaning::Routine(_)
-            | Meaning::File(_)
             | Meaning::Required(_) => Err(fault),
-            Meaning::LeftOut => Err(Fault::Broken {
+            Meaning::File(_) | Meaning::LeftOut => Err(Fault::Broken {
                 rule: Rule::NotInProfile,
                 at,
             }),

@@ -1,6 +1,6 @@
 //! The height of a tree.
 
-ghost use Rattle.std.specs.Prelude.{◌≡◌, map, min};
+ghost use Rattle.std.specs.Prelude.{◌≡◌, map, max, min};
 ghost use Rattle.ps_syntax.specs.Height.{greatest, height_of, height_of_expr, height_of_factor, height_of_member, height_of_selector, height_of_simple, height_of_term, height_of_added, height_of_multiplied, height_of_variable, height_of_parameter, height_of_statement, height_of_element, height_of_type, height_of_structure, height_of_fields, height_of_heading, height_of_formals, height_of_section, height_of_types, height_of_variables, height_of_routine, height_of_block};
 
 use crate::expression::{
@@ -11,6 +11,7 @@ use crate::program::{
     Variables,
 };
 use crate::statement::{Element, Parameter, Statement};
+use sqlite_items::Boxed;
 
 /// The height of a program's tree, or `u32::MAX` where it is higher: the greatest number of blocks,
 /// formal lists, types, index and base ordinals, statements, expressions and factors after `not` that
@@ -174,6 +175,13 @@ fn variables_height(variables: &[Variable]) -> u32
     most
 }
 
+/// The height of an expression, or that of what stands beside it where that is higher.
+fn beside(expr: &Boxed<Expr>, other: u32) -> u32
+    ensures { result ≡ max (min (height_of_expr expr.now) u32.MAX) other }
+{
+    expr_height(expr.get()).max(other)
+}
+
 #[cycle(statement_height)]
 fn statement_height(statement: &Statement) -> u32
     ensures { result ≡ min (height_of_statement statement.now) u32.MAX }
@@ -185,19 +193,13 @@ fn statement_height(statement: &Statement) -> u32
         )),
         Statement::Call(_, parameters) => parameters_height(parameters.as_slice()),
         Statement::Compound(statements) => statements_height(statements.as_slice()),
-        Statement::If(condition, chosen) => expr_height(condition.get()).max(statement_height(
-            chosen.get(),
-        )),
+        Statement::If(condition, chosen) => beside(condition, statement_height(chosen.get())),
         Statement::IfElse(condition, chosen, other) => {
             let either = statement_height(chosen.get()).max(statement_height(other.get()));
             expr_height(condition.get()).max(either)
         }
-        Statement::Case(_, index, elements) => expr_height(index.get()).max(elements_height(
-            elements.as_slice(),
-        )),
-        Statement::While(condition, body) => expr_height(condition.get()).max(statement_height(
-            body.get(),
-        )),
+        Statement::Case(_, index, elements) => beside(index, elements_height(elements.as_slice())),
+        Statement::While(condition, body) => beside(condition, statement_height(body.get())),
         Statement::Repeat(statements, condition) => statements_height(statements.as_slice()).max(
             expr_height(condition.get()),
         ),

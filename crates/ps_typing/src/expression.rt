@@ -14,10 +14,12 @@ ghost use Rattle.ps_typing.specs.Calls.{actual, actuals, parameters, called, req
 ghost use Rattle.ps_typing.specs.Expressions.{gathered, constructed, both, first_term, standing, set_value, operand, factor_operand, member_at, select, add_term, multiply_factor, simple_operand, term_operand, variable_operand};
 ghost use Rattle.ps_typing.specs.View.{context_at, regions_at, value_of, variable_of};
 
-use crate::function::{is_input, look, of_constant, ordinal_of, required_value, text_at};
+use crate::function::{
+    is_input, look, of_constant, ordinal_of, refused, refused_alone, required_value, text_at,
+};
 use crate::operators::{Operands, added, compared, multiplied, negated, with_sign, wrong_type};
 use crate::parameter::{by_routine, by_value, by_variable, parameters};
-use crate::place::{component, element, target, variable_found, wrong_kind};
+use crate::place::{component, element, left_out, target, variable_found, wrong_kind};
 use crate::site::Site;
 use crate::value::{TypedPlace, TypedValue, loaded};
 use ps_regions::constants::{ConstantValue, INTEGER, number_at};
@@ -234,13 +236,11 @@ fn look_at_input(site: Site<'_>, required: Required, name: Span) -> Result<Typed
     ensures err { IfErr result (λ fault. IsFault fault → required_call (context_at site.entry) (regions_at site.entry) required (line_in (context_at site.entry).text name.from) [] ≡ None) }
 {
     let line = site.reading.line(name.from);
+    let wrong = refused_alone(required, name.from);
     if !site.reading.has_input {
-        return Err(Fault::Broken {
-            rule: Rule::NoInputOutput,
-            at: name.from,
-        });
+        return Err(wrong);
     }
-    look(required, line, name.from)
+    look(required, line, wrong)
 }
 
 /// The value of a function that a name denotes, without actual parameters.
@@ -273,10 +273,7 @@ fn call_alone(site: Site<'_>, found: Found<'_>, name: Span) -> Result<TypedValue
             | Meaning::Type(_)
             | Meaning::Variable { .. }
             | Meaning::Parameter { .. } => Err(wrong_kind(name.from)),
-            Meaning::File(_) | Meaning::LeftOut => Err(Fault::Broken {
-                rule: Rule::NotInProfile,
-                at: name.from,
-            }),
+            Meaning::File(_) | Meaning::LeftOut => Err(left_out(name.from)),
         },
     }
 }
@@ -648,10 +645,7 @@ fn call_value(
             | Meaning::Type(_)
             | Meaning::Variable { .. }
             | Meaning::Parameter { .. } => Err(wrong_kind(name.from)),
-            Meaning::File(_) | Meaning::LeftOut => Err(Fault::Broken {
-                rule: Rule::NotInProfile,
-                at: name.from,
-            }),
+            Meaning::File(_) | Meaning::LeftOut => Err(left_out(name.from)),
         },
     }
 }
@@ -671,22 +665,24 @@ fn required_call(
     match operands {
         [] => look_at_input(site, required, name),
         [only] => {
-            if is_the_input(site, only)? {
-                let line = site.reading.line(name.from);
-                return look(required, line, name.from);
-            }
             let at = Operands {
                 first: name.from,
                 second: only.first_token(),
             };
             let line = site.reading.line(name.from);
+            if is_the_input(site, only)? {
+                return look(required, line, refused(required, Rule::NotInProfile, at));
+            }
             let operand = expr_value(only, site)?;
             required_value(site.alloc, required, line, operand, at)
         }
-        [_, _, ..] => Err(Fault::Broken {
-            rule: Rule::NotCongruous,
-            at: name.from,
-        }),
+        [_, _, ..] => {
+            let at = Operands {
+                first: name.from,
+                second: name.from,
+            };
+            Err(refused(required, Rule::NotCongruous, at))
+        }
     }
 }
 

@@ -61,8 +61,16 @@ pub fn of_constant(constant: ConstantValue, at: u32) -> Result<TypedValue, Fault
 }
 
 /// An expression of an ordinal type, which begins at `at`.
-#[tactic(auto, unfolding(crate::specs::Values::ordinal_of, crate::specs::View::value_of, ps_tree::specs::View::type_of))]
 pub fn ordinal_of(value: TypedValue, at: u32) -> Result<(Expr, Ordinal), Fault>
+    ensures ok { IfOk result (λ v. ordinal_of (value_of value) ≡ Some (expr_of v.0, v.1)) }
+    ensures err { IfErr result (λ fault. IsFault fault → ordinal_of (value_of value) ≡ None) }
+{
+    ordinal_or(value, wrong_type(at))
+}
+
+/// An expression of an ordinal type, or else what is wrong.
+#[tactic(auto, unfolding(crate::specs::Values::ordinal_of, crate::specs::View::value_of, ps_tree::specs::View::type_of))]
+fn ordinal_or(value: TypedValue, wrong: Fault) -> Result<(Expr, Ordinal), Fault>
     ensures ok { IfOk result (λ v. ordinal_of (value_of value) ≡ Some (expr_of v.0, v.1)) }
     ensures err { IfErr result (λ fault. IsFault fault → ordinal_of (value_of value) ≡ None) }
 {
@@ -75,10 +83,65 @@ pub fn ordinal_of(value: TypedValue, at: u32) -> Result<(Expr, Ordinal), Fault>
             | Ty::EmptySet
             | Ty::Text { .. }
             | Ty::Array { .. }
-            | Ty::Record { .. } => Err(wrong_type(at)),
+            | Ty::Record { .. } => Err(wrong),
         },
-        TypedValue::Set(..) | TypedValue::Structure(..) => Err(wrong_type(at)),
+        TypedValue::Set(..) | TypedValue::Structure(..) => Err(wrong),
     }
+}
+
+/// Whether a required routine is a procedure (6.6.5).
+fn is_procedure(required: Required) -> bool {
+    match required {
+        Required::Read
+        | Required::Readln
+        | Required::Write
+        | Required::Writeln
+        | Required::New
+        | Required::Pack
+        | Required::Unpack => true,
+        Required::Abs
+        | Required::Sqr
+        | Required::Odd
+        | Required::Chr
+        | Required::Ord
+        | Required::Succ
+        | Required::Pred
+        | Required::Eof
+        | Required::Eoln => false,
+    }
+}
+
+/// Why a required routine, whose name is at `at.first`, is no function of what begins at `at.second`: a procedure is of
+/// another kind, and else that breaks the rule.
+pub fn refused(required: Required, rule: Rule, at: Operands) -> Fault
+    ensures { IsFault result }
+{
+    if is_procedure(required) {
+        wrong_kind(at.first)
+    } else {
+        Fault::Broken {
+            rule,
+            at: at.second,
+        }
+    }
+}
+
+/// Why a required routine may not stand alone; its name is at `at`. Only eof and eoln may, where there is an input.
+pub fn refused_alone(required: Required, at: u32) -> Fault
+    ensures { IsFault result }
+{
+    let rule = match required {
+        Required::Eof | Required::Eoln => Rule::NoInputOutput,
+        _ => Rule::NotCongruous,
+    };
+    refused(
+        required,
+        rule,
+        Operands {
+            first: at,
+            second: at,
+        },
+    )
 }
 
 /// Whether the operand of a required function has to be an integer.
@@ -144,12 +207,13 @@ pub fn required_value(
     ensures ok { IfOk result (λ v. required_value required line.number (value_of operand) ≡ Some (value_of v)) }
     ensures err { IfErr result (λ fault. IsFault fault → required_value required line.number (value_of operand) ≡ None) }
 {
-    let (operand, ordinal) = ordinal_of(operand, at.second)?;
+    let wrong = refused(required, Rule::WrongType, at);
+    let (operand, ordinal) = ordinal_or(operand, wrong)?;
     let Some((function, ty)) = function_of(required, ordinal) else {
-        return Err(wrong_type(at.second));
+        return Err(wrong);
     };
     if needs_integer(required) && !same_host(ordinal.host, Host::Integer) {
-        return Err(wrong_type(at.second));
+        return Err(wrong);
     }
     let operand = Box::new(alloc, operand)?;
     let value = Expr::Apply {
@@ -160,9 +224,9 @@ pub fn required_value(
     Ok(TypedValue::Simple(value, Ty::Simple(ty)))
 }
 
-/// What eof or eoln tells of the input; the name is at `at`.
+/// What eof or eoln tells of the input. `wrong` is why another required routine tells nothing.
 #[tactic(auto, unfolding(crate::specs::Calls::look, crate::specs::View::value_of, ps_tree::specs::View::type_of, ps_tree::specs::View::expr_of))]
-pub fn look(required: Required, line: Line, at: u32) -> Result<TypedValue, Fault>
+pub fn look(required: Required, line: Line, wrong: Fault) -> Result<TypedValue, Fault>
     ensures ok { IfOk result (λ v. look required line.number ≡ Some (value_of v)) }
     ensures err { IfErr result (λ fault. IsFault fault → look required line.number ≡ None) }
 {
@@ -175,19 +239,14 @@ pub fn look(required: Required, line: Line, at: u32) -> Result<TypedValue, Fault
         | Required::Chr
         | Required::Ord
         | Required::Succ
-        | Required::Pred => {
-            return Err(Fault::Broken {
-                rule: Rule::NotCongruous,
-                at,
-            });
-        }
-        Required::Read
+        | Required::Pred
+        | Required::Read
         | Required::Readln
         | Required::Write
         | Required::Writeln
         | Required::New
         | Required::Pack
-        | Required::Unpack => return Err(wrong_kind(at)),
+        | Required::Unpack => return Err(wrong),
     };
     Ok(TypedValue::Simple(value, Ty::Simple(BOOLEAN)))
 }

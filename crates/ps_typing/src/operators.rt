@@ -288,6 +288,18 @@ fn of_sets(relation: Relation) -> Option<SetRelation>
     }
 }
 
+/// Whether a value of the type may by itself be the first operand of the relation.
+fn may_be_first(relation: Relation, ty: &Ty) -> bool {
+    match ty {
+        Ty::Simple(_) => true,
+        Ty::Pointer { .. } | Ty::Nil => of_pointers(relation).is_some(),
+        Ty::Set { .. } | Ty::EmptySet => of_sets(relation).is_some(),
+        Ty::Text { .. } | Ty::Array { .. } | Ty::Record { .. } => {
+            ordered(relation).is_some() && ty.string_length().is_some()
+        }
+    }
+}
+
 #[tactic(auto, unfolding(crate::specs::View::value_of, ps_tree::specs::View::type_of))]
 fn truth(value: Expr) -> TypedValue
     ensures { value_of result ≡ truth (expr_of value) }
@@ -379,10 +391,10 @@ fn set_comparison(
     ensures err { IfErr result (λ fault. IsFault fault → compared relation (SetValue (set_of left.0) (type_of left.1)) (SetValue (set_of right.0) (type_of right.1)) ≡ None) }
 {
     if !compatible(&left.1, &right.1) {
-        return Err(at.wrong(true));
+        return Err(at.wrong(may_be_first(relation, &left.1)));
     }
     match of_sets(relation) {
-        None => Err(at.wrong(relation == Relation::In)),
+        None => Err(at.wrong(false)),
         Some(relation) => Ok(truth(Expr::CompareSets {
             relation,
             left: Box::new(alloc, left.0)?,
@@ -404,7 +416,7 @@ fn string_comparison(
     ensures err { IfErr result (λ fault. IsFault fault → compared relation (StructureValue (structure_of left.0) (type_of left.1)) (StructureValue (structure_of right.0) (type_of right.1)) ≡ None) }
 {
     if !are_equally_long(&left.1, &right.1) {
-        return Err(at.wrong(left.1.string_length().is_some()));
+        return Err(at.wrong(may_be_first(relation, &left.1)));
     }
     match ordered(relation) {
         None => Err(at.wrong(false)),
@@ -443,7 +455,7 @@ fn membership(
         | Relation::Less
         | Relation::Greater
         | Relation::LessEqual
-        | Relation::GreaterEqual => Err(at.wrong(true)),
+        | Relation::GreaterEqual => Err(at.wrong(may_be_first(relation, &left.1))),
     }
 }
 
@@ -463,20 +475,24 @@ pub fn compared(
         TypedValue::Simple(a, s) => match right {
             TypedValue::Simple(b, t) => {
                 if !compatible(&s, &t) {
-                    return Err(at.wrong(relation != Relation::In));
+                    return Err(at.wrong(may_be_first(relation, &s)));
                 }
                 simple_comparison(alloc, relation, a, b, &s, at)
             }
             TypedValue::Set(b, t) => membership(alloc, relation, (a, s), (b, t), at),
-            TypedValue::Structure(..) => Err(at.wrong(true)),
+            TypedValue::Structure(..) => Err(at.wrong(may_be_first(relation, &s))),
         },
         TypedValue::Set(a, s) => match right {
             TypedValue::Set(b, t) => set_comparison(alloc, relation, (a, s), (b, t), at),
-            TypedValue::Simple(..) | TypedValue::Structure(..) => Err(at.wrong(true)),
+            TypedValue::Simple(..) | TypedValue::Structure(..) => Err(at.wrong(may_be_first(
+                relation, &s,
+            ))),
         },
         TypedValue::Structure(a, s) => match right {
             TypedValue::Structure(b, t) => string_comparison(alloc, relation, (a, s), (b, t), at),
-            TypedValue::Simple(..) | TypedValue::Set(..) => Err(at.wrong(true)),
+            TypedValue::Simple(..) | TypedValue::Set(..) => Err(at.wrong(may_be_first(
+                relation, &s,
+            ))),
         },
     }
 }

@@ -9,7 +9,7 @@ ghost use Rattle.ps_typing.specs.Calls.{are_one_type, congruous, are_alike, time
 ghost use Rattle.ps_typing.specs.View.{value_of, variable_of};
 
 use crate::operators::wrong_type;
-use crate::place::wrong_kind;
+use crate::place::{left_out, wrong_kind};
 use crate::value::{TypedPlace, TypedValue, range_of};
 use ps_regions::meaning::{Meaning, Section};
 use ps_regions::refusal::{Fault, Rule};
@@ -200,9 +200,8 @@ pub fn by_routine(
             | Meaning::Type(_)
             | Meaning::Variable { .. }
             | Meaning::Parameter { .. }
-            | Meaning::File(_)
-            | Meaning::Required(_)
-            | Meaning::LeftOut => Err(wrong_kind(at)),
+            | Meaning::Required(_) => Err(wrong_kind(at)),
+            Meaning::File(_) | Meaning::LeftOut => Err(left_out(at)),
         },
     }
 }

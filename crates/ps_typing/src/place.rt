@@ -28,6 +28,17 @@ pub fn wrong_kind(at: u32) -> Fault
     }
 }
 
+/// A name that the profile leaves out, there or everywhere: the files stand as first parameters of some required routines
+/// alone.
+pub fn left_out(at: u32) -> Fault
+    ensures { IsFault result }
+{
+    Fault::Broken {
+        rule: Rule::NotInProfile,
+        at,
+    }
+}
+
 /// The variable that a name denotes; the name is at `at`.
 #[tactic(auto, unfolding(crate::specs::Places::variable_at, ps_regions::specs::Views::meaning_of, ps_tree::specs::View::place_of))]
 pub fn variable_found(found: Found<'_>, at: u32) -> Result<TypedPlace, Fault>
@@ -60,9 +71,8 @@ pub fn variable_found(found: Found<'_>, at: u32) -> Result<TypedPlace, Fault>
             | Meaning::Type(_)
             | Meaning::RoutineParameter { .. }
             | Meaning::Routine(_)
-            | Meaning::File(_)
-            | Meaning::Required(_)
-            | Meaning::LeftOut => Err(wrong_kind(at)),
+            | Meaning::Required(_) => Err(wrong_kind(at)),
+            Meaning::File(_) | Meaning::LeftOut => Err(left_out(at)),
         },
     }
 }

@@ -1,0 +1,18 @@
+// From a text to its checked program.
+
+use ps_build::Refusal;
+use ps_check::check;
+use ps_parse::parse;
+use ps_scan::scan;
+use ps_text::Source;
+use ps_tree::program::Checked;
+use std::alloc::Global;
+
+/// The checked program of a text, or why the text is refused.
+pub fn checked(alloc: Global, text: &[u8]) -> Result<Checked, Refusal> {
+    let source = Source::new(text)?;
+    let tokens = scan(alloc, &source)?;
+    let program = parse(alloc, &source, &tokens)?;
+    let checked = check(alloc, &source, &program)?;
+    Ok(checked)
+}

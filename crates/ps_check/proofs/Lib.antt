@@ -1,0 +1,7 @@
+pub mod Lists
+pub mod Required
+pub mod Collected
+pub mod Equations
+pub mod FormalLemmas
+pub mod NameLemmas
+pub mod PathLemmas

@@ -1,0 +1,10 @@
+use Rattle.std.proofs.Common.{map}
+use Rattle.ps_regions.proofs.Lists.{Stepped}
+use Rattle.ps_regions.specs.Views.{context_of}
+use Rattle.ps_declare.specs.Views.{frame_of}
+use Rattle.ps_check.specs.Blocks.{one_routine, routine}
+use Rattle.ps_check.specs.Views.{routines_of}
+use Rattle.ps_check.proofs.blocks.+block.Given as goal
+
+abbrev pub invariant-read_routines-loop-written : goal.invariant-read_routines-loop-written
+invariant-read_routines-loop-written l = Stepped (one_routine (frame_of l.frame) l.chain) (routines_of l.fn.known.items l.fn.gathered) (map (routine (context_of l.frame.reading.now)) l.list) l.written-index (routines_of l.known.items l.gathered)

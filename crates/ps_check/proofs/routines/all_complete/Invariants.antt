@@ -1,0 +1,8 @@
+use Rattle.ps_regions.specs.Views.{meaning_of}
+use Rattle.ps_check.specs.Blocks.{is_complete}
+use Rattle.ps_check.specs.Views.{gathered_of}
+use Rattle.ps_check.proofs.Lists.{AllBefore}
+use Rattle.ps_check.proofs.routines.all_complete.Given as goal
+
+abbrev pub invariant-loop-meaning : goal.invariant-loop-meaning
+invariant-loop-meaning l = AllBefore (is_complete (gathered_of l.gathered)) meaning_of l.known l.meaning-index

@@ -1,0 +1,50 @@
+-- The blocks of a program by their paths in the whole tree, and the regions in which each is read (6.2.2).
+use Rattle.std.specs.Prelude.{◌≡◌, ℕ, List, [], ◌∷◌, Option, Some, None, slice_get}
+use Rattle.ps_syntax.specs.declared.program.Block.{Block, out-Block}
+use Rattle.ps_syntax.specs.declared.program.Routine.{Routine, out-Routine}
+use Rattle.ps_syntax.specs.declared.program.Routine.TheOpen.{Routine-F}
+use Rattle.ps_syntax.specs.declared.program.Program as syntax
+use Rattle.ps_tree.specs.Tree as Tree
+use Rattle.ps_regions.specs.Option.{◌>>=◌, steps}
+use Rattle.ps_regions.specs.Regions.{Region, BlockRegion, Meaning, Context}
+use Rattle.ps_check.specs.Blocks.{Start, Gathered, Done, block, layer}
+use Rattle.ps_check.specs.Programs.{Files, no_files, list_file, program, program_context, required}
+use Rattle.ps_check.specs.Names.{AreNames}
+
+abbrev pub layer_block : Routine-F Routine Block → Option Block
+layer_block (Routine-F.Whole h b) = Some b
+layer_block (Routine-F.Forward h) = None
+layer_block (Routine-F.Completion name b) = Some b
+
+-- the block of a routine
+unfoldable pub routine_block : Routine → Option Block
+routine_block r = layer_block (out-Routine r)
+
+-- The block at a path, which tells the routines from the inside out: of k before a path v, that of routine k of the block at v.
+unfoldable pub block_at : Block → List ℕ → Option Block
+block_at b [] = Some b
+block_at b (k ∷ v) = block_at b v >>= (λ a. slice_get (out-Block a).routines k >>= routine_block)
+
+-- The regions that enclose the block at a path, from the inside out: those of the blocks round it, each with all its defining points in the tree,
+-- those after the place too, and the region of the required names round the program. What is known of a region's names are the meanings of the first ones.
+pub data IsEnclosed (c : Context) (root : Block) : List ℕ → List Region → Type 0 where
+  outermost : IsEnclosed c root [] (required ∷ [])
+  within : (k number : ℕ) (v : List ℕ) (a : Block) (first names : List (List ℕ)) (known : List Meaning) (Γ : List Region) → block_at root v ≡ Some a → AreNames c.text (layer c a) first names → IsEnclosed c root v Γ → IsEnclosed c root (k ∷ v) (BlockRegion number names known ∷ Γ)
+
+-- a block of the tree is read in the regions that enclose it
+pub record IsRead (c : Context) (root : Block) (v : List ℕ) (b : Block) : Type 0 where
+  pub regions : List Region
+  pub start : Start
+  pub gathered : Gathered
+  pub done : Done
+  pub reading : block c b regions start gathered ≡ Some done
+  pub enclosed : IsEnclosed c root v regions
+
+-- each block of a program that has a checked tree
+pub record BlocksAreRead (text : List ℕ) (p : syntax.Program) : Type 0 where
+  pub files : Files
+  pub listed : steps (list_file text) no_files p.parameters ≡ Some files
+  pub each : (v : List ℕ) (b : Block) → block_at p.block v ≡ Some b → IsRead (program_context text files) p.block v b
+
+abbrev pub BlocksAreEnclosed : Type 0
+BlocksAreEnclosed = (text : List ℕ) (p : syntax.Program) (made : Tree.Program) → program text p ≡ Some made → BlocksAreRead text p

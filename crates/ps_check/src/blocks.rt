@@ -1,0 +1,289 @@
+//! Blocks and the routines in them.
+
+ghost use Rattle.std.specs.Prelude.{◌≡◌, ◌∷◌, length, Some, None, IfOk, IfErr, OnOk, map};
+ghost use Rattle.ps_tree.specs.View.{type_of, statements_of};
+ghost use Rattle.ps_regions.specs.Option.{steps};
+ghost use Rattle.ps_regions.specs.Refusal.{IsFault};
+ghost use Rattle.ps_regions.specs.Regions.{BlockRegion};
+ghost use Rattle.ps_regions.specs.Views.{meaning_of, context_of, scope_of};
+ghost use Rattle.ps_declare.specs.Views.{frame_of};
+ghost use Rattle.ps_statements.specs.Statements.{statements};
+ghost use Rattle.ps_check.specs.Blocks.{with_domains, one_routine, read_block, block_names, declared, block_body, block, routine, layer};
+ghost use Rattle.ps_check.specs.Views.{gathered_of, start_of, done_of, routines_of};
+
+use crate::chain::Chain;
+use crate::changes::{threatened, within};
+use crate::routines::{
+    add_routines, all_complete, broken, finish, heading_at, index_of, introduce, routine_name,
+    start,
+};
+use crate::state::{Done, Gathered, Start};
+use crate::told::{open_heading, threatening_name};
+use ps_declare::declarations::declarations;
+use ps_declare::frame::{Declared, Frame};
+use ps_declare::points::add_block;
+use ps_regions::meaning::Meaning;
+use ps_regions::names::Names;
+use ps_regions::reading::Reading;
+use ps_regions::refusal::{Fault, Rule};
+use ps_regions::scope::Scope;
+use ps_statements::statement::statements;
+use ps_syntax::{Block, Routine, Statement};
+use ps_tree::tree::Statement as StatementTree;
+use ps_tree::types::Ty;
+use ps_typing::site::Site;
+use std::alloc::Global;
+use std::mem;
+
+/// The statements of a block, whose names have these meanings.
+#[tactic(auto, unfolding(ps_regions::specs::Views::scope_of))]
+fn read_statements(
+    list: &[Statement],
+    frame: &Frame,
+    alloc: Global,
+    known: &[Meaning],
+    domains: &[Ty],
+) -> Result<Vec<StatementTree>, Fault>
+    ensures ok { IfOk result (λ body. statements (with_domains (context_of frame.now.reading.now) (map type_of domains.now)) (BlockRegion frame.now.routine frame.now.names.now (map meaning_of known.now) ∷ scope_of frame.now.outer.now) list.now ≡ Some (statements_of body.items)) }
+    ensures err { IfErr result (λ fault. IsFault fault → statements (with_domains (context_of frame.now.reading.now) (map type_of domains.now)) (BlockRegion frame.now.routine frame.now.names.now (map meaning_of known.now) ∷ scope_of frame.now.outer.now) list.now ≡ None) }
+{
+    let reading = Reading {
+        source: frame.reading.source,
+        lines: frame.reading.lines,
+        domains,
+        has_input: frame.reading.has_input,
+        has_output: frame.reading.has_output,
+    };
+    let scope = Scope::Block {
+        routine: frame.routine,
+        names: frame.names,
+        known,
+        outer: &*frame.outer,
+    };
+    let site = Site {
+        alloc,
+        reading: &reading,
+        scope: &scope,
+    };
+    statements(list, site)
+}
+
+/// The names of a block's region, behind those that are there.
+#[tactic(auto, unfolding(crate::specs::Blocks::block_names))]
+fn add_block_names(
+    written: &Block,
+    reading: &Reading,
+    alloc: Global,
+    names: &mut Names,
+) -> Result<(), Fault>
+    ensures ok { OnOk result (block_names reading.now.source.now (layer (context_of reading.now) written.now) names.old ≡ Some names.new) }
+    ensures err { IfErr result (λ fault. IsFault fault → block_names reading.now.source.now (layer (context_of reading.now) written.now) names.old ≡ None) }
+{
+    add_block(
+        reading,
+        alloc,
+        names,
+        written.constants.as_slice(),
+        written.types.as_slice(),
+        written.variables.as_slice(),
+    )?;
+    add_routines(reading, alloc, names, written.routines.as_slice())
+}
+
+/// The declarations of a block: the meanings of its names so far, and the types of its variables.
+#[tactic(auto, unfolding(crate::specs::Blocks::declared))]
+fn declare(
+    written: &Block,
+    frame: &Frame,
+    alloc: Global,
+    known: Vec<Meaning>,
+    first: u32,
+    gathered: &mut Gathered,
+) -> Result<(Vec<Meaning>, Vec<Ty>), Fault>
+    ensures ok { IfOk result (λ d. declared (frame_of frame.now) (layer (context_of frame.now.reading.now) written.now) first (map meaning_of known.items) (gathered_of gathered.old) ≡ Some (routines_of d.0.items gathered.new, map type_of d.1.items)) }
+    ensures err { IfErr result (λ fault. IsFault fault → declared (frame_of frame.now) (layer (context_of frame.now.reading.now) written.now) first (map meaning_of known.items) (gathered_of gathered.old) ≡ None) }
+{
+    let mut declared = Declared {
+        known,
+        domains: mem::replace(&mut gathered.domains, Vec::new(alloc)),
+        pending: Vec::new(alloc),
+        variables: Vec::new(alloc),
+    };
+    declarations(
+        frame,
+        alloc,
+        first,
+        &mut declared,
+        written.constants.as_slice(),
+        written.types.as_slice(),
+        written.variables.as_slice(),
+    )?;
+    gathered.domains = declared.domains;
+    Ok((declared.known, declared.variables))
+}
+
+/// The statements of a block. The routines within it come behind the first ones.
+#[tactic(auto, unfolding(crate::specs::Blocks::block_body))]
+fn read_body(
+    written: &Block,
+    frame: &Frame,
+    alloc: Global,
+    chain: &Chain,
+    known: &[Meaning],
+    gathered: &Gathered,
+    before: usize,
+) -> Result<Vec<StatementTree>, Fault>
+    ensures ok { IfOk result (λ body. block_body (context_of frame.now.reading.now) (frame_of frame.now) (layer (context_of frame.now.reading.now) written.now) (length chain.now) before (routines_of known.now gathered.now) ≡ Some (statements_of body.items)) }
+    ensures err { IfErr result (λ fault. IsFault fault → block_body (context_of frame.now.reading.now) (frame_of frame.now) (layer (context_of frame.now.reading.now) written.now) (length chain.now) before (routines_of known.now gathered.now) ≡ None) }
+{
+    let at = written.begin.from;
+    if !all_complete(gathered, known) {
+        let open = open_heading(written.routines.as_slice(), frame, alloc, known, gathered)?;
+        return Err(broken(Rule::ForwardOpen, open.unwrap_or(at)));
+    }
+    let body = read_statements(
+        written.statements.as_slice(),
+        frame,
+        alloc,
+        known,
+        &gathered.domains,
+    )?;
+    let inner = within(&gathered.routines, before);
+    match threatened(alloc, inner, chain.depth(), &body)? {
+        None => Ok(body),
+        Some(entry) => {
+            let name = threatening_name(written, frame, alloc, known, inner, chain.depth(), entry)?;
+            Err(broken(Rule::ControlVariable, name.unwrap_or(at)))
+        }
+    }
+}
+
+/// A block, and the routines within it.
+#[cycle(block)]
+#[tactic(auto, using(crate::proofs::Equations::block_is), unfolding(crate::specs::Blocks::block_step))]
+pub fn block(
+    written: &Block,
+    reading: &Reading,
+    outer: &Scope,
+    alloc: Global,
+    chain: &Chain,
+    start: Start,
+    gathered: &mut Gathered,
+) -> Result<Done, Fault>
+    ensures ok { IfOk result (λ done. block (context_of reading.now) written.now (scope_of outer.now) (start_of chain.now start) (gathered_of gathered.old) ≡ Some (done_of done gathered.new)) }
+    ensures err { IfErr result (λ fault. IsFault fault → block (context_of reading.now) written.now (scope_of outer.now) (start_of chain.now start) (gathered_of gathered.old) ≡ None) }
+{
+    let Start {
+        mut names,
+        known,
+        first,
+    } = start;
+    add_block_names(written, reading, alloc, &mut names)?;
+    let frame = Frame {
+        reading: &*reading,
+        routine: chain.own_number(),
+        names: &names,
+        outer: &*outer,
+    };
+    let before = gathered.routines.len();
+    let (mut known, variables) = declare(written, &frame, alloc, known, first, gathered)?;
+    read_routines(
+        written.routines.as_slice(),
+        &frame,
+        alloc,
+        chain,
+        &mut known,
+        gathered,
+    )?;
+    let body = read_body(written, &frame, alloc, chain, &known, gathered, before)?;
+    Ok(Done {
+        variables,
+        body,
+        line: reading.line(written.begin.from),
+    })
+}
+
+/// The routines of a block, in their order.
+#[cycle(block)]
+#[tactic(auto, using(ps_regions::proofs::Lists::stepped_next_map, ps_regions::proofs::Lists::stepped_fault_map, ps_regions::proofs::Lists::stepped_end_map))]
+fn read_routines(
+    list: &[Routine],
+    frame: &Frame,
+    alloc: Global,
+    chain: &Chain,
+    known: &mut Vec<Meaning>,
+    gathered: &mut Gathered,
+) -> Result<(), Fault>
+    ensures ok { OnOk result (steps (one_routine (frame_of frame.now) chain.now) (routines_of known.old.items gathered.old) (map (routine (context_of frame.now.reading.now)) list.now) ≡ Some (routines_of known.new.items gathered.new)) }
+    ensures err { IfErr result (λ fault. IsFault fault → steps (one_routine (frame_of frame.now) chain.now) (routines_of known.old.items gathered.old) (map (routine (context_of frame.now.reading.now)) list.now) ≡ None) }
+{
+    for written in list {
+        read_routine(written, frame, alloc, chain, known, gathered)?;
+    }
+    Ok(())
+}
+
+/// A routine.
+#[cycle(block)]
+#[tactic(auto, using(crate::proofs::Equations::routine_Whole, crate::proofs::Equations::routine_Forward, crate::proofs::Equations::routine_Completion), unfolding(crate::specs::Blocks::one_routine, crate::specs::Blocks::read_block))]
+fn read_routine(
+    written: &Routine,
+    frame: &Frame,
+    alloc: Global,
+    chain: &Chain,
+    known: &mut Vec<Meaning>,
+    gathered: &mut Gathered,
+) -> Result<(), Fault>
+    ensures ok { OnOk result (one_routine (frame_of frame.now) chain.now (routines_of known.old.items gathered.old) (routine (context_of frame.now.reading.now) written.now) ≡ Some (routines_of known.new.items gathered.new)) }
+    ensures err { IfErr result (λ fault. IsFault fault → one_routine (frame_of frame.now) chain.now (routines_of known.old.items gathered.old) (routine (context_of frame.now.reading.now) written.now) ≡ None) }
+{
+    let index = index_of(written, frame, alloc)?;
+    introduce(written, index, frame, alloc, known, gathered)?;
+    let at = routine_name(written).from;
+    match written {
+        Routine::Forward(_) => Ok(()),
+        Routine::Whole(_, block) => {
+            read_block(block, frame, alloc, chain, known, index, at, gathered)
+        }
+        Routine::Completion(_, block) => {
+            read_block(block, frame, alloc, chain, known, index, at, gathered)
+        }
+    }
+}
+
+/// The block of the heading with this index. `at` is where a fault of the whole routine is told.
+#[cycle(block)]
+#[tactic(auto, unfolding(crate::specs::Blocks::read_block, ps_regions::specs::Views::scope_of))]
+fn read_block(
+    written: &Block,
+    frame: &Frame,
+    alloc: Global,
+    chain: &Chain,
+    known: &[Meaning],
+    index: usize,
+    at: u32,
+    gathered: &mut Gathered,
+) -> Result<(), Fault>
+    ensures ok { OnOk result (read_block (frame_of frame.now) chain.now index (routines_of known.now gathered.old) (Some (block (context_of frame.now.reading.now) written.now)) ≡ Some (routines_of known.now gathered.new)) }
+    ensures err { IfErr result (λ fault. IsFault fault → read_block (frame_of frame.now) chain.now index (routines_of known.now gathered.old) (Some (block (context_of frame.now.reading.now) written.now)) ≡ None) }
+{
+    let heading = heading_at(known, index, at)?;
+    let (inner, start) = start(heading, chain, alloc, at)?;
+    let outer = Scope::Block {
+        routine: frame.routine,
+        names: frame.names,
+        known,
+        outer: &*frame.outer,
+    };
+    let before = gathered.routines.len();
+    let done = block(
+        written,
+        frame.reading,
+        &outer,
+        alloc,
+        &inner,
+        start,
+        gathered,
+    )?;
+    finish(heading, inner, before, done, gathered, alloc, at)
+}

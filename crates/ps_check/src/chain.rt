@@ -1,0 +1,86 @@
+//! How deep routines are nested: at most 15 within the program block.
+
+ghost use Rattle.std.specs.Prelude.{◌≤◌, length};
+
+use ps_tree::tree::Routine;
+use std::alloc::{AllocError, Global};
+use std::marker::Model;
+
+/// The numbers of a block's routine and of those round it, the innermost first. A contract sees the list of them.
+#[derive(Drop)]
+pub struct Chain {
+    numbers: Vec<u32>,
+}
+
+impl Model for Chain {
+    ghost use Rattle.std.specs.Prelude.{ℕ, List, ◌≤◌, length};
+
+    ghost Value = { List ℕ };
+
+    ghost view = { λ c. c.numbers.items };
+
+    ghost invariant = { λ c. length c.numbers.items ≤ 16 };
+}
+
+impl Chain {
+    ghost use Rattle.std.specs.Prelude.{◌≡◌, ◌≤◌, ◌∷◌, [], IfOk, length, nat_lt, option_map};
+    ghost use Rattle.ps_regions.specs.Option.{provided};
+    ghost use Rattle.ps_check.specs.Blocks.{own_number};
+    ghost use Rattle.ps_check.specs.Programs.{program_chain};
+
+    /// That of the program block.
+    pub fn program(alloc: Global) -> Result<Chain, AllocError>
+        ensures { IfOk result (λ chain. chain ≡ program_chain) }
+    {
+        let mut numbers = Vec::new(alloc);
+        numbers.push(0)?;
+        Ok(Chain { numbers })
+    }
+
+    /// That of a routine of the block, where it isn't too deep.
+    pub fn inner(&self, alloc: Global, number: u32) -> Result<Option<Chain>, AllocError>
+        ensures { IfOk result (λ inner. inner ≡ provided (nat_lt (length self.now) 16) (number ∷ self.now)) }
+    {
+        if self.numbers.len() >= 16 {
+            return Ok(None);
+        }
+        let mut numbers = Vec::new(alloc);
+        numbers.push(number)?;
+        numbers.extend_from_slice(&self.numbers)?;
+        Ok(Some(Chain { numbers }))
+    }
+
+    /// The number of the block's routine.
+    #[tactic(auto, unfolding(crate::specs::Blocks::own_number))]
+    pub fn own_number(&self) -> u32
+        ensures { result ≡ own_number self.now }
+    {
+        match self.numbers.first() {
+            None => 0,
+            Some(number) => *number,
+        }
+    }
+
+    /// How many numbers there are.
+    pub fn depth(&self) -> usize
+        ensures { result ≡ length self.now }
+    {
+        self.numbers.len()
+    }
+
+    /// The numbers.
+    pub fn into_numbers(self) -> Vec<u32>
+        ensures numbers { result.items ≡ self }
+        ensures shallow { length result.items ≤ 16 }
+    {
+        let Chain { numbers } = self;
+        numbers
+    }
+}
+
+/// A routine whose block was read.
+#[derive(Drop)]
+pub struct Finished {
+    pub routine: Routine,
+    ghost shallow: { length routine.chain.items ≤ 16 },
+}

@@ -1,0 +1,129 @@
+//! The check of a program.
+
+ghost use Rattle.std.specs.Prelude.{◌≡◌, [], Some, None, IfOk, IfErr, codes};
+ghost use Rattle.ps_tree.specs.Checked.{program_in};
+ghost use Rattle.ps_regions.specs.Refusal.{IsFault, IsRefusal};
+ghost use Rattle.ps_regions.specs.Spelling.{has};
+ghost use Rattle.ps_check.specs.Programs.{nothing_gathered, program_with, program};
+ghost use Rattle.ps_check.specs.Views.{files_of, gathered_of};
+
+use crate::blocks::block;
+use crate::chain::Chain;
+use crate::program::{Files, list_files, program_of, required};
+use crate::state::{Gathered, Start};
+use ps_regions::reading::Reading;
+use ps_regions::refusal::{CheckRefusal, Fault};
+use ps_regions::scope::Scope;
+use ps_syntax::Program;
+use ps_text::{LineTable, Source};
+use ps_tree::program::Checked;
+use std::alloc::{AllocError, Global};
+
+/// The checked tree of a program whose heading lists these files.
+#[tactic(auto, unfolding(crate::specs::Programs::program_with, ps_regions::specs::Views::scope_of))]
+fn check_block(
+    alloc: Global,
+    reading: &Reading,
+    files: Files,
+    written: &Program,
+) -> Result<Checked, Fault>
+    requires input { reading.now.has_input ≡ has files.names (codes "input") }
+    requires output { reading.now.has_output ≡ has files.names (codes "output") }
+    requires domains { reading.now.domains.now ≡ [] }
+    ensures ok { IfOk result (λ checked. program_with reading.now.source.now written.now (files_of files) ≡ Some (program_in checked)) }
+    ensures err { IfErr result (λ fault. IsFault fault → program_with reading.now.source.now written.now (files_of files) ≡ None) }
+{
+    let around = required(alloc)?;
+    let outer = Scope::Block {
+        routine: 0,
+        names: &around.names,
+        known: &around.known,
+        outer: &Scope::Outside,
+    };
+    let mut gathered = nothing_gathered(alloc)?;
+    let start = Start {
+        names: files.names,
+        known: files.known,
+        first: 0,
+    };
+    let chain = Chain::program(alloc)?;
+    let done = block(
+        &written.block,
+        reading,
+        &outer,
+        alloc,
+        &chain,
+        start,
+        &mut gathered,
+    )?;
+    let checked = program_of(alloc, done, gathered, written.name.from)?;
+    Ok(checked)
+}
+
+/// The program before anything of it is read: routine 0 is that of the program block.
+fn nothing_gathered(alloc: Global) -> Result<Gathered, AllocError>
+    ensures { IfOk result (λ g. gathered_of g ≡ nothing_gathered) }
+{
+    let mut routines = Vec::new(alloc);
+    routines.push(None)?;
+    Ok(Gathered {
+        domains: Vec::new(alloc),
+        routines,
+    })
+}
+
+/// The checked tree of a program, by a reading of the text in which its heading lists no file.
+#[tactic(auto, unfolding(crate::specs::Programs::program))]
+fn check_text(alloc: Global, heading: &Reading, written: &Program) -> Result<Checked, Fault>
+    ensures ok { IfOk result (λ checked. program heading.now.source.now written.now ≡ Some (program_in checked)) }
+    ensures err { IfErr result (λ fault. IsFault fault → program heading.now.source.now written.now ≡ None) }
+{
+    let files = list_files(heading, alloc, written.parameters.as_slice())?;
+    let reading = Reading {
+        source: heading.source,
+        lines: heading.lines,
+        domains: &[],
+        has_input: files.names.contains(b"input"),
+        has_output: files.names.contains(b"output"),
+    };
+    let checked = check_block(alloc, &reading, files, written)?;
+    Ok(checked)
+}
+
+/// What is told of a fault.
+fn refusal(reading: &Reading, fault: Fault) -> CheckRefusal
+    ensures { IsRefusal result → IsFault fault }
+{
+    match fault {
+        Fault::OutOfMemory => CheckRefusal::OutOfMemory,
+        Fault::Broken { rule, at } => CheckRefusal::Broken {
+            rule,
+            line: u32::from(reading.line(at).number),
+        },
+    }
+}
+
+/// The checked tree of a program: the one that the definition gives.
+///
+/// It is refused where the definition gives none: `Broken` tells a rule that the program breaks, and the line of the
+/// token that breaks it. `OutOfMemory` is answered only where a growth was refused.
+pub fn check(alloc: Global, source: &Source, written: &Program) -> Result<Checked, CheckRefusal>
+    ensures ok { IfOk result (λ checked. program source.now written.now ≡ Some (program_in checked)) }
+    ensures err { IfErr result (λ refusal. IsRefusal refusal → program source.now written.now ≡ None) }
+{
+    let lines = match LineTable::new(alloc, source) {
+        Err(_) => return Err(CheckRefusal::OutOfMemory),
+        Ok(lines) => lines,
+    };
+    let heading = Reading {
+        source: &*source,
+        lines: &lines,
+        domains: &[],
+        has_input: false,
+        has_output: false,
+    };
+    match check_text(alloc, &heading, written) {
+        Ok(checked) => Ok(checked),
+        Err(fault) => Err(refusal(&heading, fault)),
+    }
+}

@@ -1,0 +1,192 @@
+//! The formal parameters of a heading: as the checked tree has them, and as entries of their routine.
+
+ghost use Rattle.std.specs.Prelude.{◌≡◌, ◌++◌, Some, None, IfOk, IfErr, OnOk, map, option_map, replicate};
+ghost use Rattle.ps_tree.specs.Tree.{ValueFormal, VariableFormal};
+ghost use Rattle.ps_tree.specs.View.{type_of, formal_of, formals_of};
+ghost use Rattle.ps_regions.specs.Regions as regions;
+ghost use Rattle.ps_regions.specs.Regions.{ParameterMeaning, one_more};
+ghost use Rattle.ps_regions.specs.Refusal.{IsFault};
+ghost use Rattle.ps_regions.specs.Views.{section_of, sections_of};
+ghost use Rattle.ps_check.specs.Blocks.{add_entry, add_parameters, add_section, add_sections, first_entry};
+ghost use Rattle.ps_check.specs.Formals.{section_formals};
+ghost use Rattle.ps_check.specs.Views.{entries_of};
+
+use ps_regions::meaning::{Meaning, Section};
+use ps_regions::refusal::{Fault, Rule};
+use ps_regions::scope::one_more;
+use ps_tree::tree::Formal;
+use ps_tree::types::Ty;
+use std::alloc::{AllocError, Global};
+use std::rc::Rc;
+
+/// A copy of a function's result type.
+pub fn copy_result(ty: &Option<Ty>) -> Result<Option<Ty>, AllocError>
+    ensures { IfOk result (λ copy. option_map type_of copy ≡ option_map type_of ty.now) }
+{
+    match ty {
+        None => Ok(None),
+        Some(ty) => Ok(Some(ty.copy()?)),
+    }
+}
+
+/// More value parameters of a type.
+#[tactic(auto, using(crate::proofs::FormalLemmas::pushed_start, crate::proofs::FormalLemmas::pushed_next, crate::proofs::FormalLemmas::pushed_end), unfolding(ps_tree::specs::View::formal_of))]
+fn add_values(count: u32, ty: &Ty, formals: &mut Vec<Formal>) -> Result<(), AllocError>
+    ensures { OnOk result (map formal_of formals.new.items ≡ map formal_of formals.old.items ++ replicate count (ValueFormal (type_of ty.now))) }
+{
+    for _ in 0..count {
+        formals.push(Formal::Value(ty.copy()?))?;
+    }
+    Ok(())
+}
+
+/// More variable parameters of a type.
+#[tactic(auto, using(crate::proofs::FormalLemmas::pushed_start, crate::proofs::FormalLemmas::pushed_next, crate::proofs::FormalLemmas::pushed_end), unfolding(ps_tree::specs::View::formal_of))]
+fn add_variables(count: u32, ty: &Ty, formals: &mut Vec<Formal>) -> Result<(), AllocError>
+    ensures { OnOk result (map formal_of formals.new.items ≡ map formal_of formals.old.items ++ replicate count (VariableFormal (type_of ty.now))) }
+{
+    for _ in 0..count {
+        formals.push(Formal::Variable(ty.copy()?))?;
+    }
+    Ok(())
+}
+
+/// The formal parameters of one more section.
+#[cycle(formals)]
+#[tactic(auto, using(crate::proofs::FormalLemmas::routine_pushed), unfolding(crate::specs::Formals::section_formals, ps_regions::specs::Views::section_of))]
+fn add_formals(
+    section: &Section,
+    alloc: Global,
+    formals: &mut Vec<Formal>,
+) -> Result<(), AllocError>
+    ensures { OnOk result (map formal_of formals.new.items ≡ map formal_of formals.old.items ++ section_formals (section_of section.now)) }
+{
+    match section {
+        Section::Value { count, ty } => add_values(*count, ty, formals),
+        Section::Variable { count, ty } => add_variables(*count, ty, formals),
+        Section::Routine { sections, result } => {
+            let inner = formals_of(sections.as_slice(), alloc)?;
+            formals.push(Formal::Routine {
+                formals: inner,
+                result: copy_result(result)?,
+            })?;
+            Ok(())
+        }
+    }
+}
+
+/// The formal parameters of sections, one for each name.
+#[cycle(formals)]
+#[tactic(auto, using(crate::proofs::FormalLemmas::listed_next, crate::proofs::FormalLemmas::listed_end))]
+pub fn formals_of(sections: &[Section], alloc: Global) -> Result<Vec<Formal>, AllocError>
+    ensures { IfOk result (λ formals. formals_of formals.items ≡ regions.formals_of (sections_of sections.now)) }
+{
+    let mut formals = Vec::new(alloc);
+    for section in sections {
+        add_formals(section, alloc, &mut formals)?;
+    }
+    Ok(formals)
+}
+
+/// The number of the entry behind this one, where there may be one.
+fn entry_behind(entry: u32, at: u32) -> Result<u32, Fault>
+    ensures ok { IfOk result (λ next. one_more entry ≡ Some next) }
+    ensures err { IfErr result (λ fault. IsFault fault → one_more entry ≡ None) }
+{
+    match one_more(entry) {
+        None => Err(Fault::Broken {
+            rule: Rule::Limit,
+            at,
+        }),
+        Some(next) => Ok(next),
+    }
+}
+
+/// One more value or variable parameter.
+#[tactic(auto, unfolding(ps_regions::specs::Views::meaning_of))]
+fn add_parameter(ty: &Ty, entry: u32, known: &mut Vec<Meaning>, at: u32) -> Result<u32, Fault>
+    ensures ok { IfOk result (λ next. add_entry (λ i. ParameterMeaning i (type_of ty.now)) (entries_of entry known.old.items) ≡ Some (entries_of next known.new.items)) }
+    ensures err { IfErr result (λ fault. IsFault fault → add_entry (λ i. ParameterMeaning i (type_of ty.now)) (entries_of entry known.old.items) ≡ None) }
+{
+    let next = entry_behind(entry, at)?;
+    known.push(Meaning::Parameter {
+        entry,
+        ty: ty.copy()?,
+    })?;
+    Ok(next)
+}
+
+/// Parameters of one type.
+#[tactic(auto, using(crate::proofs::FormalLemmas::repeated_next, crate::proofs::FormalLemmas::repeated_fault, crate::proofs::FormalLemmas::repeated_end))]
+fn add_parameters(
+    ty: &Ty,
+    count: u32,
+    entry: u32,
+    known: &mut Vec<Meaning>,
+    at: u32,
+) -> Result<u32, Fault>
+    ensures ok { IfOk result (λ next. add_parameters (type_of ty.now) count (entries_of entry known.old.items) ≡ Some (entries_of next known.new.items)) }
+    ensures err { IfErr result (λ fault. IsFault fault → add_parameters (type_of ty.now) count (entries_of entry known.old.items) ≡ None) }
+{
+    let mut next = entry;
+    for _ in 0..count {
+        next = add_parameter(ty, next, known, at)?;
+    }
+    Ok(next)
+}
+
+/// The entries of one more section.
+#[tactic(auto, using(crate::proofs::FormalLemmas::routine_entered), unfolding(crate::specs::Blocks::add_section, ps_regions::specs::Views::section_of, ps_regions::specs::Views::meaning_of))]
+fn add_section(
+    section: &Section,
+    entry: u32,
+    known: &mut Vec<Meaning>,
+    at: u32,
+) -> Result<u32, Fault>
+    ensures ok { IfOk result (λ next. add_section (entries_of entry known.old.items) (section_of section.now) ≡ Some (entries_of next known.new.items)) }
+    ensures err { IfErr result (λ fault. IsFault fault → add_section (entries_of entry known.old.items) (section_of section.now) ≡ None) }
+{
+    match section {
+        Section::Value { count, ty } | Section::Variable { count, ty } => {
+            add_parameters(ty, *count, entry, known, at)
+        }
+        Section::Routine { sections, result } => {
+            let next = entry_behind(entry, at)?;
+            known.push(Meaning::RoutineParameter {
+                entry,
+                sections: Rc::clone(sections)?,
+                result: copy_result(result)?,
+            })?;
+            Ok(next)
+        }
+    }
+}
+
+/// The meanings of the formal parameters, whose entries begin with this one, and the entry behind them. `at` is where
+/// a fault is told.
+#[tactic(auto, using(crate::proofs::FormalLemmas::entered_next, crate::proofs::FormalLemmas::entered_fault, crate::proofs::FormalLemmas::entered_end))]
+pub fn add_sections(
+    sections: &[Section],
+    entry: u32,
+    known: &mut Vec<Meaning>,
+    at: u32,
+) -> Result<u32, Fault>
+    ensures ok { IfOk result (λ next. add_sections (entries_of entry known.old.items) (sections_of sections.now) ≡ Some (entries_of next known.new.items)) }
+    ensures err { IfErr result (λ fault. IsFault fault → add_sections (entries_of entry known.old.items) (sections_of sections.now) ≡ None) }
+{
+    let mut next = entry;
+    for section in sections {
+        next = add_section(section, next, known, at)?;
+    }
+    Ok(next)
+}
+
+/// A function's result is entry 0.
+pub fn first_entry(result_type: &Option<Ty>) -> u32
+    ensures { result ≡ first_entry (option_map type_of result_type.now) }
+{
+    match result_type {
+        None => 0,
+        Some(_) => 1,
+    }
+}

@@ -1,0 +1,169 @@
+//! New headings.
+
+ghost use Rattle.std.specs.Prelude.{◌≡◌, ◌++◌, Some, None, IfOk, IfErr, OnOk, length, map, nat_lt};
+ghost use Rattle.ps_regions.specs.Option.{provided};
+ghost use Rattle.ps_regions.specs.Refusal.{IsFault};
+ghost use Rattle.ps_regions.specs.Regions.{RoutineMeaning};
+ghost use Rattle.ps_regions.specs.Spelling.{spelled};
+ghost use Rattle.ps_regions.specs.Views.{meaning_of};
+ghost use Rattle.ps_declare.specs.Points.{all};
+ghost use Rattle.ps_declare.specs.Headings.{section_list, section_points};
+ghost use Rattle.ps_declare.specs.Views.{frame_of, signature_of};
+ghost use Rattle.ps_check.specs.Blocks.{heading_name, heading_list, is_bare, new_heading};
+ghost use Rattle.ps_check.specs.Views.{routines_of};
+
+use crate::state::Gathered;
+use ps_declare::frame::{Frame, Hidden};
+use ps_declare::headings::{Signature, heading};
+use ps_regions::meaning::{Heading, Meaning};
+use ps_regions::reading::Reading;
+use ps_regions::refusal::{Fault, Rule};
+use ps_syntax::{Heading as HeadingDenoter, Section};
+use ps_text::Span;
+use std::alloc::{AllocError, Global};
+use std::rc::Rc;
+
+/// The name of a heading's routine.
+#[tactic(auto, using(crate::proofs::Equations::name_Procedure, crate::proofs::Equations::name_Function))]
+pub fn heading_name(written: &HeadingDenoter) -> Span
+    ensures { result ≡ heading_name written.now }
+{
+    match written {
+        HeadingDenoter::Procedure(name, _) | HeadingDenoter::Function(name, ..) => *name,
+    }
+}
+
+/// The sections of a heading.
+#[tactic(auto, using(crate::proofs::Equations::list_Procedure, crate::proofs::Equations::list_Function))]
+fn heading_list(written: &HeadingDenoter) -> &[Section]
+    ensures { result.now ≡ heading_list written.now }
+{
+    match written {
+        HeadingDenoter::Procedure(_, list) | HeadingDenoter::Function(_, list, _) => {
+            list.as_slice()
+        }
+    }
+}
+
+/// Whether it is a procedure's heading with the name alone.
+#[tactic(auto, using(crate::proofs::Equations::bare_Procedure, crate::proofs::Equations::bare_Function))]
+pub fn is_bare(written: &HeadingDenoter) -> bool
+    ensures { result ≡ is_bare written.now }
+{
+    match written {
+        HeadingDenoter::Procedure(_, list) => list.is_empty(),
+        HeadingDenoter::Function(..) => false,
+    }
+}
+
+/// The spellings of more names.
+fn add_spellings(
+    reading: &Reading,
+    alloc: Global,
+    names: &mut Vec<Vec<u8>>,
+    points: &[Span],
+) -> Result<(), AllocError>
+    ensures { OnOk result (map (λ name. name.items) names.new.items ≡ map (λ name. name.items) names.old.items ++ map (spelled reading.now.source.now) points.now) }
+{
+    for point in points {
+        names.push(reading.name(alloc, *point)?)?;
+    }
+    Ok(())
+}
+
+/// The spellings of the names of a section's parameters.
+#[tactic(auto, using(ps_declare::proofs::HeadingLemmas::points_Value, ps_declare::proofs::HeadingLemmas::points_Variable, ps_declare::proofs::HeadingLemmas::points_Procedure, ps_declare::proofs::HeadingLemmas::points_Function))]
+fn add_names(
+    written: &Section,
+    frame: &Frame,
+    alloc: Global,
+    known: &[Meaning],
+    names: &mut Vec<Vec<u8>>,
+) -> Result<(), AllocError>
+    ensures { OnOk result (map (λ name. name.items) names.new.items ≡ map (λ name. name.items) names.old.items ++ map (spelled frame.now.reading.now.source.now) (section_points (frame_of frame.now) (map meaning_of known.now) written.now)) }
+{
+    let _known = known;
+    match written {
+        Section::Value(points, _) | Section::Variable(points, _) => {
+            add_spellings(frame.reading, alloc, names, points.as_slice())
+        }
+        Section::Routine(heading) => match heading {
+            HeadingDenoter::Procedure(name, _) | HeadingDenoter::Function(name, ..) => {
+                add_spellings(frame.reading, alloc, names, &[*name])
+            }
+        },
+    }
+}
+
+/// The spellings of the names of a heading's parameters.
+#[tactic(auto, using(crate::proofs::Lists::gained_next, crate::proofs::Lists::gained_end))]
+fn parameter_names(
+    list: &[Section],
+    frame: &Frame,
+    alloc: Global,
+    known: &[Meaning],
+) -> Result<Vec<Vec<u8>>, AllocError>
+    ensures { IfOk result (λ names. map (λ name. name.items) names.items ≡ map (spelled frame.now.reading.now.source.now) (all (map (section_points (frame_of frame.now) (map meaning_of known.now)) list.now))) }
+{
+    let mut names = Vec::new(alloc);
+    for written in list {
+        add_names(written, frame, alloc, known, &mut names)?;
+    }
+    Ok(names)
+}
+
+/// The number of the next routine, of at most 1,048,576.
+fn next_number(gathered: &Gathered, at: u32) -> Result<u32, Fault>
+    ensures ok { IfOk result (λ number. provided (nat_lt (length gathered.now.routines.items) 1048576) (length gathered.now.routines.items) ≡ Some number) }
+    ensures err { IfErr result (λ fault. IsFault fault → provided (nat_lt (length gathered.now.routines.items) 1048576) (length gathered.now.routines.items) ≡ None) }
+{
+    if gathered.routines.len() < 1_048_576 {
+        Ok(gathered.routines.len() as u32)
+    } else {
+        Err(Fault::Broken {
+            rule: Rule::Limit,
+            at,
+        })
+    }
+}
+
+/// The meaning of a routine's name.
+#[tactic(auto, using(ps_declare::proofs::HeadingLemmas::list_of_sections), unfolding(ps_regions::specs::Views::meaning_of))]
+fn routine_meaning(
+    alloc: Global,
+    number: u32,
+    signature: Signature,
+    names: Vec<Vec<u8>>,
+    is_forward: bool,
+) -> Result<Meaning, AllocError>
+    ensures { IfOk result (λ meaning. meaning_of meaning ≡ RoutineMeaning (record { number = number; sections = section_list (signature_of signature).0; result = (signature_of signature).1; names = map (λ name. name.items) names.items; is_forward = is_forward })) }
+{
+    Ok(Meaning::Routine(Heading {
+        number,
+        sections: Rc::new(alloc, signature.sections)?,
+        result: signature.result,
+        names,
+        is_forward,
+    }))
+}
+
+/// A new heading, with the next number.
+#[tactic(auto, unfolding(crate::specs::Blocks::new_heading, ps_declare::specs::Views::hidden_of))]
+pub fn new_heading(
+    written: &HeadingDenoter,
+    is_forward: bool,
+    frame: &Frame,
+    alloc: Global,
+    known: &mut Vec<Meaning>,
+    gathered: &mut Gathered,
+) -> Result<(), Fault>
+    ensures ok { OnOk result (new_heading (frame_of frame.now) is_forward (routines_of known.old.items gathered.old) written.now ≡ Some (routines_of known.new.items gathered.new)) }
+    ensures err { IfErr result (λ fault. IsFault fault → new_heading (frame_of frame.now) is_forward (routines_of known.old.items gathered.old) written.now ≡ None) }
+{
+    let number = next_number(gathered, heading_name(written).from)?;
+    let signature = heading(written, frame, alloc, &Hidden::Nothing, known.as_slice())?;
+    let names = parameter_names(heading_list(written), frame, alloc, known.as_slice())?;
+    known.push(routine_meaning(alloc, number, signature, names, is_forward)?)?;
+    gathered.routines.push(None)?;
+    Ok(())
+}

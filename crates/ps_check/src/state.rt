@@ -1,0 +1,33 @@
+//! What is read so far.
+
+use crate::chain::Finished;
+use ps_regions::meaning::Meaning;
+use ps_regions::names::Names;
+use ps_tree::line::Line;
+use ps_tree::tree::Statement;
+use ps_tree::types::Ty;
+
+/// The whole program so far: the domain types of its pointer types by their numbers, and its routines by theirs, which
+/// follow the order of their first headings. A routine whose block hasn't come, or is being read, has none yet.
+#[derive(Drop)]
+pub struct Gathered {
+    pub domains: Vec<Ty>,
+    pub routines: Vec<Option<Finished>>,
+}
+
+/// What a block begins with: the names that its region has before its own (formal parameters, or the files of a program
+/// heading) with their meanings, and the entry of its first variable.
+#[derive(Drop)]
+pub struct Start {
+    pub names: Names,
+    pub known: Vec<Meaning>,
+    pub first: u32,
+}
+
+/// What a block gives: the types of its variables, its statements, and the line of its `begin`.
+#[derive(Drop)]
+pub struct Done {
+    pub variables: Vec<Ty>,
+    pub body: Vec<Statement>,
+    pub line: Line,
+}

@@ -1,0 +1,6 @@
+use Rattle.ps_reference.proofs.Costs.{passed_at}
+use Rattle.ps_reference.proofs.cost.left_after.Goals as goal
+
+pub returns-then-left-cost : goal.returns-then-left-cost
+returns-then-left-cost c =
+    passed_at c.args.costs.now c.args.numbers.now c.loop-number.number-index c.loop-number.left c.cost_of-cost.result c.args.budget c.loop-number.invariant c.cost_of-cost.ensures c.if-left-cost.true c.loop-number-test.true

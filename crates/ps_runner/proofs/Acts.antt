@@ -1,0 +1,273 @@
+-- Statements, loops and lists of them.
+use Rattle.std.proofs.Common.{◌≡◌, ℕ, ℤ, zero, suc, ◌+◌, ◌<◌, ◌≤◌, Bool, true, false, if◌then◌else◌, ◌-◌, ◌≢◌, arith, List, ◌∷◌, length, get_or, drop, map, Result, refl, sym, ap, subst, ◌∙◌}
+use mathlib.Core.Path.{fun_ext}
+use Rattle.std.proofs.lemmas.List.{drop_all}
+use Rattle.ps_tree.specs.Tree as t
+use Rattle.ps_tree.specs.declared.tree.Direction.{Direction}
+use Rattle.ps_tree.specs.declared.tree.Statement.{Statement}
+use Rattle.ps_tree.specs.declared.tree.CaseElement.{CaseElement, out-CaseElement}
+use Rattle.ps_tree.specs.declared.tree.Place.{Place}
+use Rattle.ps_tree.specs.declared.tree.ReadVariable.{ReadVariable}
+use Rattle.ps_tree.specs.declared.tree.WriteParameter.{WriteParameter}
+use Rattle.ps_tree.specs.View.{place_of, statement_of, statements_of, elements_of, read_of, write_of}
+use Rattle.ps_meaning.specs.Values as v
+use Rattle.ps_meaning.specs.Operators.{is_true, is_equal, is_among}
+use Rattle.ps_meaning.specs.Worlds as m
+use Rattle.ps_meaning.specs.Worlds.{◌>>◌}
+use Rattle.ps_meaning.specs.Expressions as e
+use Rattle.ps_meaning.specs.Statements as s
+use Rattle.ps_reference.specs.declared.stop.Stop.{Stop}
+use Rattle.ps_reference.specs.declared.world.Job.{Job}
+use Rattle.ps_reference.specs.declared.world.World.{World}
+use Rattle.ps_reference.specs.Worlds as r
+use Rattle.ps_reference.specs.Worlds.{Stopped, caller, next, acting, acting_all, selecting, turning, reading, reading_all, writing, writing_all, opening_all}
+use Rattle.ps_runner.specs.Runs.{truth_in, advancing}
+use Rattle.ps_runner.proofs.Answers.{stopped_then}
+use Rattle.ps_runner.proofs.Trees.{drop_next, statements_at, statements_past, elements_at, elements_past}
+
+-- an answer that is known, followed by an act
+pub then_gives : {A B : Type 0} (a : m.Answer A) (f : A → m.Act B) (x : A) (w : m.World) → a ≡ m.Gives x w → m.and_then a f ≡ f x w
+then_gives a f x w gives = ap (λ y. m.and_then y f) gives
+
+pub stopped_same : {A : Type 0} (a b : m.Answer A) (stop : Stop) (u : World) → a ≡ b → Stopped a stop u → Stopped b stop u
+stopped_same a b stop u is h = subst (λ x. Stopped x stop u) is h
+
+-- statements from a place on
+pub acts_next : (job : Job) (n : ℕ) (c : m.Context) (statements : List Statement) (i : ℕ) (x : Statement) (w u : m.World) → acting job n (statement_of x) c w ≡ m.Gives m.done u → x ≡ get_or statements i x → i < length statements → acting_all job n (statements_of (drop (i + 1) statements)) c u ≡ acting_all job n (statements_of (drop i statements)) c w
+acts_next job n c statements i x w u gives at lt =
+    sym (ap (λ l. acting_all job n l c w) (statements_at statements i x lt at) ∙ ap (λ a. m.and_then a (λ _. acting_all job n (statements_of (drop (i + 1) statements)) c)) gives)
+
+pub acts_stop : (job : Job) (n : ℕ) (c : m.Context) (statements : List Statement) (i : ℕ) (x : Statement) (stop : Stop) (w : m.World) (u : World) (all : m.Answer m.Done) → acting_all job n (statements_of (drop i statements)) c w ≡ all → Stopped (acting job n (statement_of x) c w) stop u → x ≡ get_or statements i x → i < length statements → Stopped all stop u
+acts_stop job n c statements i x stop w u all is h at lt =
+    stopped_same _ all stop u (sym (ap (λ l. acting_all job n l c w) (statements_at statements i x lt at)) ∙ is) (stopped_then (acting job n (statement_of x) c w) (λ _. acting_all job n (statements_of (drop (i + 1) statements)) c) stop u h)
+
+pub acts_end : (job : Job) (n : ℕ) (c : m.Context) (statements : List Statement) (i : ℕ) (w : m.World) → length statements ≤ i → acting_all job n (statements_of (drop i statements)) c w ≡ m.Gives m.done w
+acts_end job n c statements i w le = ap (λ l. acting_all job n l c w) (statements_past statements i le)
+
+-- variables that are read, from a place on
+pub reads_next : (job : Job) (n : ℕ) (c : m.Context) (xs : List ReadVariable) (i : ℕ) (x : ReadVariable) (w u : m.World) (all : m.Answer m.Done) → reading_all job n (map read_of (drop i xs)) c w ≡ all → reading job n (read_of x) c w ≡ m.Gives m.done u → x ≡ get_or xs i x → i < length xs → reading_all job n (map read_of (drop (i + 1) xs)) c u ≡ all
+reads_next job n c xs i x w u all is gives at lt =
+    sym (ap (λ l. reading_all job n (map read_of l) c w) (drop_next xs i x lt at) ∙ ap (λ a. m.and_then a (λ _. reading_all job n (map read_of (drop (i + 1) xs)) c)) gives) ∙ is
+
+pub reads_stop : (job : Job) (n : ℕ) (c : m.Context) (xs : List ReadVariable) (i : ℕ) (x : ReadVariable) (stop : Stop) (w : m.World) (u : World) (all : m.Answer m.Done) → reading_all job n (map read_of (drop i xs)) c w ≡ all → Stopped (reading job n (read_of x) c w) stop u → x ≡ get_or xs i x → i < length xs → Stopped all stop u
+reads_stop job n c xs i x stop w u all is h at lt =
+    stopped_same _ all stop u (sym (ap (λ l. reading_all job n (map read_of l) c w) (drop_next xs i x lt at)) ∙ is) (stopped_then (reading job n (read_of x) c w) (λ _. reading_all job n (map read_of (drop (i + 1) xs)) c) stop u h)
+
+pub reads_end : (job : Job) (n : ℕ) (c : m.Context) (xs : List ReadVariable) (i : ℕ) (w : m.World) (all : m.Answer m.Done) → reading_all job n (map read_of (drop i xs)) c w ≡ all → length xs ≤ i → all ≡ m.Gives m.done w
+reads_end job n c xs i w all is le = sym is ∙ ap (λ l. reading_all job n (map read_of l) c w) (drop_all i xs le)
+
+-- parameters that are written, from a place on
+pub writes_next : (job : Job) (n : ℕ) (c : m.Context) (xs : List WriteParameter) (i : ℕ) (x : WriteParameter) (w u : m.World) (all : m.Answer m.Done) → writing_all job n (map write_of (drop i xs)) c w ≡ all → writing job n (write_of x) c w ≡ m.Gives m.done u → x ≡ get_or xs i x → i < length xs → writing_all job n (map write_of (drop (i + 1) xs)) c u ≡ all
+writes_next job n c xs i x w u all is gives at lt =
+    sym (ap (λ l. writing_all job n (map write_of l) c w) (drop_next xs i x lt at) ∙ ap (λ a. m.and_then a (λ _. writing_all job n (map write_of (drop (i + 1) xs)) c)) gives) ∙ is
+
+pub writes_stop : (job : Job) (n : ℕ) (c : m.Context) (xs : List WriteParameter) (i : ℕ) (x : WriteParameter) (stop : Stop) (w : m.World) (u : World) (all : m.Answer m.Done) → writing_all job n (map write_of (drop i xs)) c w ≡ all → Stopped (writing job n (write_of x) c w) stop u → x ≡ get_or xs i x → i < length xs → Stopped all stop u
+writes_stop job n c xs i x stop w u all is h at lt =
+    stopped_same _ all stop u (sym (ap (λ l. writing_all job n (map write_of l) c w) (drop_next xs i x lt at)) ∙ is) (stopped_then (writing job n (write_of x) c w) (λ _. writing_all job n (map write_of (drop (i + 1) xs)) c) stop u h)
+
+pub writes_end : (job : Job) (n : ℕ) (c : m.Context) (xs : List WriteParameter) (i : ℕ) (w : m.World) (all : m.Answer m.Done) → writing_all job n (map write_of (drop i xs)) c w ≡ all → length xs ≤ i → all ≡ m.Gives m.done w
+writes_end job n c xs i w all is le = sym is ∙ ap (λ l. writing_all job n (map write_of l) c w) (drop_all i xs le)
+
+-- records that are opened, from a place on
+pub opening_next : (job : Job) (n : ℕ) (c d : m.Context) (xs : List Place) (i : ℕ) (x : Place) (spot : v.Spot) (w u : m.World) (all : m.Answer (List v.Spot)) → opening_all job n (map place_of (drop i xs)) c w ≡ all → e.access (caller job n) (place_of x) c w ≡ m.Gives spot u → d ≡ s.with_opened (spot ∷ c.opened) c → x ≡ get_or xs i x → i < length xs → opening_all job n (map place_of (drop (i + 1) xs)) d u ≡ all
+opening_next job n c d xs i x spot w u all is gives within at lt =
+    ap (λ k. opening_all job n (map place_of (drop (i + 1) xs)) k u) within ∙ sym (ap (λ l. opening_all job n (map place_of l) c w) (drop_next xs i x lt at) ∙ ap (λ a. m.and_then a (λ y. opening_all job n (map place_of (drop (i + 1) xs)) (s.with_opened (y ∷ c.opened) c))) gives) ∙ is
+
+pub opening_stop : (job : Job) (n : ℕ) (c : m.Context) (xs : List Place) (i : ℕ) (x : Place) (stop : Stop) (w : m.World) (u : World) (all : m.Answer (List v.Spot)) → opening_all job n (map place_of (drop i xs)) c w ≡ all → Stopped (e.access (caller job n) (place_of x) c w) stop u → x ≡ get_or xs i x → i < length xs → Stopped all stop u
+opening_stop job n c xs i x stop w u all is h at lt =
+    stopped_same _ all stop u (sym (ap (λ l. opening_all job n (map place_of l) c w) (drop_next xs i x lt at)) ∙ is) (stopped_then (e.access (caller job n) (place_of x) c w) (λ y. opening_all job n (map place_of (drop (i + 1) xs)) (s.with_opened (y ∷ c.opened) c)) stop u h)
+
+pub opening_end : (job : Job) (n : ℕ) (c : m.Context) (xs : List Place) (i : ℕ) (w : m.World) (all : m.Answer (List v.Spot)) → opening_all job n (map place_of (drop i xs)) c w ≡ all → length xs ≤ i → all ≡ m.Gives c.opened w
+opening_end job n c xs i w all is le = sym is ∙ ap (λ l. opening_all job n (map place_of l) c w) (drop_all i xs le)
+
+-- the elements of a case statement, from a place on
+pub selects : (job : Job) (n : ℕ) (c : m.Context) (xs : List CaseElement) (i : ℕ) (x : CaseElement) (k : ℤ) (line : ℕ) (w : m.World) (all : m.Answer m.Done) → selecting job n (elements_of (drop i xs)) k line c w ≡ all → is_among k (out-CaseElement x).constants.items ≡ true → x ≡ get_or xs i x → i < length xs → acting job n (statement_of (out-CaseElement x).body) c w ≡ all
+selects job n c xs i x k line w all is among at lt =
+    sym (ap (λ l. selecting job n l k line c w) (elements_at xs i x lt at) ∙ ap (λ b. (if b then acting job n (statement_of (out-CaseElement x).body) c else selecting job n (elements_of (drop (i + 1) xs)) k line c) w) among) ∙ is
+
+pub selects_next : (job : Job) (n : ℕ) (c : m.Context) (xs : List CaseElement) (i : ℕ) (x : CaseElement) (k : ℤ) (line : ℕ) (w : m.World) (all : m.Answer m.Done) → selecting job n (elements_of (drop i xs)) k line c w ≡ all → is_among k (out-CaseElement x).constants.items ≡ false → x ≡ get_or xs i x → i < length xs → selecting job n (elements_of (drop (i + 1) xs)) k line c w ≡ all
+selects_next job n c xs i x k line w all is among at lt =
+    sym (ap (λ l. selecting job n l k line c w) (elements_at xs i x lt at) ∙ ap (λ b. (if b then acting job n (statement_of (out-CaseElement x).body) c else selecting job n (elements_of (drop (i + 1) xs)) k line c) w) among) ∙ is
+
+pub selects_none : (job : Job) (n : ℕ) (c : m.Context) (xs : List CaseElement) (i : ℕ) (k : ℤ) (line : ℕ) (w : m.World) (all : m.Answer m.Done) → selecting job n (elements_of (drop i xs)) k line c w ≡ all → length xs ≤ i → all ≡ m.Ends w.transcript (m.Error 7 line) c.calls
+selects_none job n c xs i k line w all is le = sym is ∙ ap (λ l. selecting job n l k line c w) (elements_past xs i le)
+
+-- with no fuel left, and with one more
+next_none : (job : Job) (n : ℕ) (task : s.Task) (c : m.Context) (w : m.World) → n ≡ 0 → next job n task c w ≡ r.more_at c w
+unfolding next
+next_none job n task c w none = ap (λ k. next job k task c w) none
+
+one_less : (k : ℕ) → suc k - 1 ≡ k
+one_less k = omega arith
+
+block_next : (job : Job) (n : ℕ) (body : t.Statements) (c : m.Context) (w : m.World) → next job (suc n) (s.Block body) c w ≡ acting_all job n body c w
+unfolding next caller
+block_next job n body c w = refl
+
+again_next : (job : Job) (n : ℕ) (statement : t.Statement) (c : m.Context) (w : m.World) → next job (suc n) (s.Again statement) c w ≡ acting job n statement c w
+unfolding next caller
+again_next job n statement c w = refl
+
+further_next : (job : Job) (n variable : ℕ) (direction : Direction) (last : ℤ) (statement : t.Statement) (c : m.Context) (w : m.World) → next job (suc n) (s.Further variable direction last statement) c w ≡ s.turn (r.program_of job) (r.costs_in job) (caller job n) (next job n) variable direction last statement c w
+unfolding next caller
+further_next job n variable direction last statement c w = refl
+
+-- blocks
+pub block_over : (job : Job) (n : ℕ) (body : t.Statements) (c : m.Context) (w : m.World) → n ≡ 0 → r.more_at c w ≡ next job n (s.Block body) c w
+block_over job n body c w none = sym (next_none job n (s.Block body) c w none)
+
+pub block_done : (job : Job) (n : ℕ) (body : t.Statements) (c : m.Context) (w : m.World) → n ≢ 0 → acting_all job (n - 1) body c w ≡ next job n (s.Block body) c w
+block_done job zero body c w more = absurd (more refl)
+block_done job (suc n) body c w more = ap (λ k. acting_all job k body c w) (one_less n) ∙ sym (block_next job n body c w)
+
+-- conditions
+truth_split : (a : m.Answer v.Value) (f g : m.Act m.Done) → m.and_then a (λ x. if is_true (v.number_of x) then f else g) ≡ m.and_then (m.and_then a (λ x. m.give (is_true (v.number_of x)))) (λ k. if k then f else g)
+truth_split (m.Gives x w) f g = refl
+truth_split (m.Ends out ending calls) f g = refl
+
+-- while statements
+while_again : Job → ℕ → t.Expr → t.Statement → m.Context → Bool → m.Act m.Done
+while_again job n a b c k = if k then (acting job n b c >> next job n (s.Again (t.While a b)) c) else m.give m.done
+
+while_is : (job : Job) (n : ℕ) (a : t.Expr) (b : t.Statement) (c : m.Context) (w : m.World) → acting job n (t.While a b) c w ≡ m.and_then (truth_in job n a c w) (while_again job n a b c)
+unfolding while_again
+while_is job n a b c w = truth_split (e.value (caller job n) a c w) (acting job n b c >> next job n (s.Again (t.While a b)) c) (m.give m.done)
+
+pub while_stop : (job : Job) (n : ℕ) (a : t.Expr) (b : t.Statement) (c : m.Context) (stop : Stop) (w : m.World) (u : World) (all : m.Answer m.Done) → acting job n (t.While a b) c w ≡ all → Stopped (truth_in job n a c w) stop u → Stopped all stop u
+while_stop job n a b c stop w u all is h =
+    stopped_same _ all stop u (sym (while_is job n a b c w) ∙ is) (stopped_then (truth_in job n a c w) (while_again job n a b c) stop u h)
+
+while_begun : (job : Job) (n : ℕ) (a : t.Expr) (b : t.Statement) (c : m.Context) (k : Bool) (w u : m.World) (all : m.Answer m.Done) → acting job n (t.While a b) c w ≡ all → truth_in job n a c w ≡ m.Gives k u → while_again job n a b c k u ≡ all
+while_begun job n a b c k w u all is gives = sym (while_is job n a b c w ∙ then_gives _ _ _ _ gives) ∙ is
+
+pub while_done : (job : Job) (n : ℕ) (a : t.Expr) (b : t.Statement) (c : m.Context) (k : Bool) (w u : m.World) (all : m.Answer m.Done) → acting job n (t.While a b) c w ≡ all → truth_in job n a c w ≡ m.Gives k u → k ≡ false → all ≡ m.Gives m.done u
+unfolding while_again
+while_done job n a b c k w u all is gives fails = sym (while_begun job n a b c k w u all is gives) ∙ ap (λ x. while_again job n a b c x u) fails
+
+while_turn : (job : Job) (n : ℕ) (a : t.Expr) (b : t.Statement) (c : m.Context) (k : Bool) (w u : m.World) (all : m.Answer m.Done) → acting job n (t.While a b) c w ≡ all → truth_in job n a c w ≡ m.Gives k u → k ≡ true → m.and_then (acting job n b c u) (λ _. next job n (s.Again (t.While a b)) c) ≡ all
+unfolding while_again
+while_turn job n a b c k w u all is gives holds = sym (ap (λ x. while_again job n a b c x u) holds) ∙ while_begun job n a b c k w u all is gives
+
+pub while_body : (job : Job) (n : ℕ) (a : t.Expr) (b : t.Statement) (c : m.Context) (k : Bool) (stop : Stop) (w u : m.World) (z : World) (all : m.Answer m.Done) → acting job n (t.While a b) c w ≡ all → truth_in job n a c w ≡ m.Gives k u → k ≡ true → Stopped (acting job n b c u) stop z → Stopped all stop z
+while_body job n a b c k stop w u z all is gives holds h =
+    stopped_same _ all stop z (while_turn job n a b c k w u all is gives holds) (stopped_then (acting job n b c u) (λ _. next job n (s.Again (t.While a b)) c) stop z h)
+
+while_further : (job : Job) (n : ℕ) (a : t.Expr) (b : t.Statement) (c : m.Context) (k : Bool) (w u z : m.World) (all : m.Answer m.Done) → acting job n (t.While a b) c w ≡ all → truth_in job n a c w ≡ m.Gives k u → k ≡ true → acting job n b c u ≡ m.Gives m.done z → next job n (s.Again (t.While a b)) c z ≡ all
+while_further job n a b c k w u z all is gives holds did = sym (then_gives (acting job n b c u) (λ _. next job n (s.Again (t.While a b)) c) m.done z did) ∙ while_turn job n a b c k w u all is gives holds
+
+pub while_over : (job : Job) (n : ℕ) (a : t.Expr) (b : t.Statement) (c : m.Context) (k : Bool) (w u z : m.World) (all : m.Answer m.Done) → acting job n (t.While a b) c w ≡ all → truth_in job n a c w ≡ m.Gives k u → k ≡ true → acting job n b c u ≡ m.Gives m.done z → n ≡ 0 → r.more_at c z ≡ all
+while_over job n a b c k w u z all is gives holds did none = sym (next_none job n (s.Again (t.While a b)) c z none) ∙ while_further job n a b c k w u z all is gives holds did
+
+pub while_next : (job : Job) (n : ℕ) (a : t.Expr) (b : t.Statement) (c : m.Context) (k : Bool) (w u z : m.World) (all : m.Answer m.Done) → acting job n (t.While a b) c w ≡ all → truth_in job n a c w ≡ m.Gives k u → k ≡ true → acting job n b c u ≡ m.Gives m.done z → n ≢ 0 → acting job (n - 1) (t.While a b) c z ≡ all
+while_next job zero a b c k w u z all is gives holds did more = absurd (more refl)
+while_next job (suc n) a b c k w u z all is gives holds did more = ap (λ j. acting job j (t.While a b) c z) (one_less n) ∙ sym (again_next job n (t.While a b) c z) ∙ while_further job (suc n) a b c k w u z all is gives holds did
+
+-- repeat statements
+repeat_again : Job → ℕ → t.Statements → t.Expr → m.Context → Bool → m.Act m.Done
+repeat_again job n b a c k = if k then m.give m.done else next job n (s.Again (t.Repeat b a)) c
+
+repeat_is : (job : Job) (n : ℕ) (b : t.Statements) (a : t.Expr) (c : m.Context) (w : m.World) → acting job n (t.Repeat b a) c w ≡ m.and_then (acting_all job n b c w) (λ _ u. m.and_then (truth_in job n a c u) (repeat_again job n b a c))
+unfolding repeat_again
+repeat_is job n b a c w =
+    let F : m.Done → m.Act m.Done = λ _ u. m.and_then (e.value (caller job n) a c u) (λ x. if is_true (v.number_of x) then m.give m.done else next job n (s.Again (t.Repeat b a)) c) in
+    let G : m.Done → m.Act m.Done = λ _ u. m.and_then (truth_in job n a c u) (λ k. if k then m.give m.done else next job n (s.Again (t.Repeat b a)) c) in
+    ap (m.and_then (acting_all job n b c w)) (fun_ext {f = F} {g = G} (λ _. fun_ext (λ u. truth_split (e.value (caller job n) a c u) (m.give m.done) (next job n (s.Again (t.Repeat b a)) c))))
+
+pub repeat_stop : (job : Job) (n : ℕ) (b : t.Statements) (a : t.Expr) (c : m.Context) (stop : Stop) (w : m.World) (u : World) (all : m.Answer m.Done) → acting job n (t.Repeat b a) c w ≡ all → Stopped (acting_all job n b c w) stop u → Stopped all stop u
+repeat_stop job n b a c stop w u all is h =
+    stopped_same _ all stop u (sym (repeat_is job n b a c w) ∙ is) (stopped_then (acting_all job n b c w) (λ _ z. m.and_then (truth_in job n a c z) (repeat_again job n b a c)) stop u h)
+
+repeat_begun : (job : Job) (n : ℕ) (b : t.Statements) (a : t.Expr) (c : m.Context) (w u : m.World) (all : m.Answer m.Done) → acting job n (t.Repeat b a) c w ≡ all → acting_all job n b c w ≡ m.Gives m.done u → m.and_then (truth_in job n a c u) (repeat_again job n b a c) ≡ all
+repeat_begun job n b a c w u all is did = sym (repeat_is job n b a c w ∙ then_gives (acting_all job n b c w) (λ _ z. m.and_then (truth_in job n a c z) (repeat_again job n b a c)) m.done u did) ∙ is
+
+pub repeat_until_stop : (job : Job) (n : ℕ) (b : t.Statements) (a : t.Expr) (c : m.Context) (stop : Stop) (w u : m.World) (z : World) (all : m.Answer m.Done) → acting job n (t.Repeat b a) c w ≡ all → acting_all job n b c w ≡ m.Gives m.done u → Stopped (truth_in job n a c u) stop z → Stopped all stop z
+repeat_until_stop job n b a c stop w u z all is did h =
+    stopped_same _ all stop z (repeat_begun job n b a c w u all is did) (stopped_then (truth_in job n a c u) (repeat_again job n b a c) stop z h)
+
+repeat_known : (job : Job) (n : ℕ) (b : t.Statements) (a : t.Expr) (c : m.Context) (k : Bool) (w u z : m.World) (all : m.Answer m.Done) → acting job n (t.Repeat b a) c w ≡ all → acting_all job n b c w ≡ m.Gives m.done u → truth_in job n a c u ≡ m.Gives k z → repeat_again job n b a c k z ≡ all
+repeat_known job n b a c k w u z all is did gives = sym (then_gives (truth_in job n a c u) (repeat_again job n b a c) k z gives) ∙ repeat_begun job n b a c w u all is did
+
+pub repeat_done : (job : Job) (n : ℕ) (b : t.Statements) (a : t.Expr) (c : m.Context) (k : Bool) (w u z : m.World) (all : m.Answer m.Done) → acting job n (t.Repeat b a) c w ≡ all → acting_all job n b c w ≡ m.Gives m.done u → truth_in job n a c u ≡ m.Gives k z → k ≡ true → all ≡ m.Gives m.done z
+unfolding repeat_again
+repeat_done job n b a c k w u z all is did gives holds = sym (repeat_known job n b a c k w u z all is did gives) ∙ ap (λ x. repeat_again job n b a c x z) holds
+
+repeat_further : (job : Job) (n : ℕ) (b : t.Statements) (a : t.Expr) (c : m.Context) (k : Bool) (w u z : m.World) (all : m.Answer m.Done) → acting job n (t.Repeat b a) c w ≡ all → acting_all job n b c w ≡ m.Gives m.done u → truth_in job n a c u ≡ m.Gives k z → k ≡ false → next job n (s.Again (t.Repeat b a)) c z ≡ all
+unfolding repeat_again
+repeat_further job n b a c k w u z all is did gives fails = sym (ap (λ x. repeat_again job n b a c x z) fails) ∙ repeat_known job n b a c k w u z all is did gives
+
+pub repeat_over : (job : Job) (n : ℕ) (b : t.Statements) (a : t.Expr) (c : m.Context) (k : Bool) (w u z : m.World) (all : m.Answer m.Done) → acting job n (t.Repeat b a) c w ≡ all → acting_all job n b c w ≡ m.Gives m.done u → truth_in job n a c u ≡ m.Gives k z → k ≡ false → n ≡ 0 → r.more_at c z ≡ all
+repeat_over job n b a c k w u z all is did gives fails none = sym (next_none job n (s.Again (t.Repeat b a)) c z none) ∙ repeat_further job n b a c k w u z all is did gives fails
+
+pub repeat_next : (job : Job) (n : ℕ) (b : t.Statements) (a : t.Expr) (c : m.Context) (k : Bool) (w u z : m.World) (all : m.Answer m.Done) → acting job n (t.Repeat b a) c w ≡ all → acting_all job n b c w ≡ m.Gives m.done u → truth_in job n a c u ≡ m.Gives k z → k ≡ false → n ≢ 0 → acting job (n - 1) (t.Repeat b a) c z ≡ all
+repeat_next job zero b a c k w u z all is did gives fails more = absurd (more refl)
+repeat_next job (suc n) b a c k w u z all is did gives fails more = ap (λ j. acting job j (t.Repeat b a) c z) (one_less n) ∙ sym (again_next job n (t.Repeat b a) c z) ∙ repeat_further job (suc n) b a c k w u z all is did gives fails
+
+-- for statements: a body, and the further turns
+turn_again : Job → ℕ → (variable : ℕ) → Direction → (last : ℤ) → t.Statement → m.Context → Bool → m.Act m.Done
+turn_again job n variable direction last b c k = if k then turning job n variable direction last b c else m.give m.done
+
+turn_is : (job : Job) (n variable : ℕ) (direction : Direction) (last : ℤ) (b : t.Statement) (c : m.Context) (w : m.World) → s.turn (r.program_of job) (r.costs_in job) (caller job n) (next job n) variable direction last b c w ≡ m.and_then (advancing (s.own_spot variable c) direction last w) (turn_again job n variable direction last b c)
+unfolding turn_again turning
+turn_is job n variable direction last b c w =
+    elim (is_equal (v.number_of (m.contents_in w (s.own_spot variable c))) last) as (λ k. (if k then m.give m.done else (λ u. m.and_then (m.put (s.own_spot variable c) (v.OrdinalValue (s.succeeding direction (v.number_of (m.contents_in w (s.own_spot variable c))))) u) (λ _ z. m.and_then (acting job n b c z) (λ _. next job n (s.Further variable direction last b) c)))) w ≡ m.and_then (if k then m.Gives false w else m.Gives true (m.with_contents w (s.own_spot variable c) (v.OrdinalValue (s.succeeding direction (v.number_of (m.contents_in w (s.own_spot variable c))))))) (λ x. if x then (λ u. m.and_then (acting job n b c u) (λ _. next job n (s.Further variable direction last b) c)) else m.give m.done)) [ true ↦ refl | false ↦ refl ]
+
+pub turns_stop : (job : Job) (n variable : ℕ) (direction : Direction) (last : ℤ) (b : t.Statement) (c : m.Context) (stop : Stop) (w : m.World) (u : World) (all : m.Answer m.Done) → turning job n variable direction last b c w ≡ all → Stopped (acting job n b c w) stop u → Stopped all stop u
+unfolding turning
+turns_stop job n variable direction last b c stop w u all is h =
+    stopped_same _ all stop u is (stopped_then (acting job n b c w) (λ _. next job n (s.Further variable direction last b) c) stop u h)
+
+turns_further : (job : Job) (n variable : ℕ) (direction : Direction) (last : ℤ) (b : t.Statement) (c : m.Context) (w u : m.World) (all : m.Answer m.Done) → turning job n variable direction last b c w ≡ all → acting job n b c w ≡ m.Gives m.done u → next job n (s.Further variable direction last b) c u ≡ all
+unfolding turning
+turns_further job n variable direction last b c w u all is did = sym (then_gives (acting job n b c w) (λ _. next job n (s.Further variable direction last b) c) m.done u did) ∙ is
+
+pub turns_over : (job : Job) (n variable : ℕ) (direction : Direction) (last : ℤ) (b : t.Statement) (c : m.Context) (w u : m.World) (all : m.Answer m.Done) → turning job n variable direction last b c w ≡ all → acting job n b c w ≡ m.Gives m.done u → n ≡ 0 → r.more_at c u ≡ all
+turns_over job n variable direction last b c w u all is did none = sym (next_none job n (s.Further variable direction last b) c u none) ∙ turns_further job n variable direction last b c w u all is did
+
+turns_begun : (job : Job) (n variable : ℕ) (direction : Direction) (last : ℤ) (b : t.Statement) (c : m.Context) (spot : v.Spot) (w u : m.World) (all : m.Answer m.Done) → turning job n variable direction last b c w ≡ all → acting job n b c w ≡ m.Gives m.done u → n ≢ 0 → spot ≡ s.own_spot variable c → m.and_then (advancing spot direction last u) (turn_again job (n - 1) variable direction last b c) ≡ all
+turns_begun job zero variable direction last b c spot w u all is did more at = absurd (more refl)
+turns_begun job (suc n) variable direction last b c spot w u all is did more at =
+    ap (λ j. m.and_then (advancing spot direction last u) (turn_again job j variable direction last b c)) (one_less n) ∙ ap (λ y. m.and_then (advancing y direction last u) (turn_again job n variable direction last b c)) at ∙ sym (further_next job n variable direction last b c u ∙ turn_is job n variable direction last b c u) ∙ turns_further job (suc n) variable direction last b c w u all is did
+
+pub turns_advance_stop : (job : Job) (n variable : ℕ) (direction : Direction) (last : ℤ) (b : t.Statement) (c : m.Context) (spot : v.Spot) (stop : Stop) (w u : m.World) (z : World) (all : m.Answer m.Done) → turning job n variable direction last b c w ≡ all → acting job n b c w ≡ m.Gives m.done u → n ≢ 0 → spot ≡ s.own_spot variable c → Stopped (advancing spot direction last u) stop z → Stopped all stop z
+turns_advance_stop job n variable direction last b c spot stop w u z all is did more at h =
+    stopped_same _ all stop z (turns_begun job n variable direction last b c spot w u all is did more at) (stopped_then (advancing spot direction last u) (turn_again job (n - 1) variable direction last b c) stop z h)
+
+turns_known : (job : Job) (n variable : ℕ) (direction : Direction) (last : ℤ) (b : t.Statement) (c : m.Context) (spot : v.Spot) (k : Bool) (w u z : m.World) (all : m.Answer m.Done) → turning job n variable direction last b c w ≡ all → acting job n b c w ≡ m.Gives m.done u → n ≢ 0 → spot ≡ s.own_spot variable c → advancing spot direction last u ≡ m.Gives k z → turn_again job (n - 1) variable direction last b c k z ≡ all
+turns_known job n variable direction last b c spot k w u z all is did more at gives = sym (then_gives (advancing spot direction last u) (turn_again job (n - 1) variable direction last b c) k z gives) ∙ turns_begun job n variable direction last b c spot w u all is did more at
+
+pub turns_done : (job : Job) (n variable : ℕ) (direction : Direction) (last : ℤ) (b : t.Statement) (c : m.Context) (spot : v.Spot) (k : Bool) (w u z : m.World) (all : m.Answer m.Done) → turning job n variable direction last b c w ≡ all → acting job n b c w ≡ m.Gives m.done u → n ≢ 0 → spot ≡ s.own_spot variable c → advancing spot direction last u ≡ m.Gives k z → k ≡ false → all ≡ m.Gives m.done z
+unfolding turn_again
+turns_done job n variable direction last b c spot k w u z all is did more at gives fails = sym (turns_known job n variable direction last b c spot k w u z all is did more at gives) ∙ ap (λ x. turn_again job (n - 1) variable direction last b c x z) fails
+
+pub turns_next : (job : Job) (n variable : ℕ) (direction : Direction) (last : ℤ) (b : t.Statement) (c : m.Context) (spot : v.Spot) (k : Bool) (w u z : m.World) (all : m.Answer m.Done) → turning job n variable direction last b c w ≡ all → acting job n b c w ≡ m.Gives m.done u → n ≢ 0 → spot ≡ s.own_spot variable c → advancing spot direction last u ≡ m.Gives k z → k ≡ true → turning job (n - 1) variable direction last b c z ≡ all
+unfolding turn_again
+turns_next job n variable direction last b c spot k w u z all is did more at gives holds = sym (ap (λ x. turn_again job (n - 1) variable direction last b c x z) holds) ∙ turns_known job n variable direction last b c spot k w u z all is did more at gives
+
+-- a for statement whose bounds were evaluated
+for_is : (job : Job) (n variable : ℕ) (low high : ℤ) (a : t.Expr) (from_line : ℕ) (direction : Direction) (b : t.Expr) (to_line : ℕ) (body : t.Statement) (c : m.Context) (w : m.World) → acting job n (t.For variable low high a from_line direction b to_line body) c w ≡ m.and_then (e.value (caller job n) a c w) (λ x u. m.and_then (e.value (caller job n) b c u) (λ y. r.counting job n variable low high x from_line direction y to_line body c))
+unfolding turning
+for_is job n variable low high a from_line direction b to_line body c w = refl
+
+pub for_counts : (job : Job) (n variable : ℕ) (low high : ℤ) (a : t.Expr) (from_line : ℕ) (direction : Direction) (b : t.Expr) (to_line : ℕ) (body : t.Statement) (c : m.Context) (x y : v.Value) (w u z : m.World) → e.value (caller job n) a c w ≡ m.Gives x u → e.value (caller job n) b c u ≡ m.Gives y z → r.counting job n variable low high x from_line direction y to_line body c z ≡ acting job n (t.For variable low high a from_line direction b to_line body) c w
+for_counts job n variable low high a from_line direction b to_line body c x y w u z first second =
+    sym (for_is job n variable low high a from_line direction b to_line body c w ∙ then_gives (e.value (caller job n) a c w) (λ i j. m.and_then (e.value (caller job n) b c j) (λ k. r.counting job n variable low high i from_line direction k to_line body c)) x u first ∙ then_gives (e.value (caller job n) b c u) (λ k. r.counting job n variable low high x from_line direction k to_line body c) y z second)
+
+pub for_stop : (job : Job) (n variable : ℕ) (low high : ℤ) (a : t.Expr) (from_line : ℕ) (direction : Direction) (b : t.Expr) (to_line : ℕ) (body : t.Statement) (c : m.Context) (stop : Stop) (w : m.World) (u : World) → Stopped (e.value (caller job n) a c w) stop u → Stopped (acting job n (t.For variable low high a from_line direction b to_line body) c w) stop u
+for_stop job n variable low high a from_line direction b to_line body c stop w u h =
+    stopped_same _ _ stop u (sym (for_is job n variable low high a from_line direction b to_line body c w)) (stopped_then (e.value (caller job n) a c w) (λ i j. m.and_then (e.value (caller job n) b c j) (λ k. r.counting job n variable low high i from_line direction k to_line body c)) stop u h)
+
+pub for_stop_second : (job : Job) (n variable : ℕ) (low high : ℤ) (a : t.Expr) (from_line : ℕ) (direction : Direction) (b : t.Expr) (to_line : ℕ) (body : t.Statement) (c : m.Context) (x : v.Value) (stop : Stop) (w u : m.World) (z : World) → e.value (caller job n) a c w ≡ m.Gives x u → Stopped (e.value (caller job n) b c u) stop z → Stopped (acting job n (t.For variable low high a from_line direction b to_line body) c w) stop z
+for_stop_second job n variable low high a from_line direction b to_line body c x stop w u z first h =
+    stopped_same _ _ stop z (sym (for_is job n variable low high a from_line direction b to_line body c w ∙ then_gives (e.value (caller job n) a c w) (λ i j. m.and_then (e.value (caller job n) b c j) (λ k. r.counting job n variable low high i from_line direction k to_line body c)) x u first)) (stopped_then (e.value (caller job n) b c u) (λ k. r.counting job n variable low high x from_line direction k to_line body c) stop z h)
+
+pub answers_same : {A R : Type 0} (view : R → A) (a b : m.Answer A) (result : Result R Stop) (u : World) → a ≡ b → r.Answers view a result u → r.Answers view b result u
+answers_same view a b result u is h = subst (λ x. r.Answers view x result u) is h
+
+-- new
+pub new_stop : (job : Job) (n : ℕ) (p : t.Place) (pointer line : ℕ) (c : m.Context) (spot : v.Spot) (stop : Stop) (w u : m.World) (z : World) → e.access (caller job n) p c w ≡ m.Gives spot u → Stopped (r.making job n pointer line c u) stop z → Stopped (acting job n (t.New p pointer line) c w) stop z
+new_stop job n p pointer line c spot stop w u z gives h =
+    stopped_same _ _ stop z (sym (then_gives (e.access (caller job n) p c w) (λ i j. m.and_then (r.making job n pointer line c j) (m.put i)) spot u gives)) (stopped_then (r.making job n pointer line c u) (m.put spot) stop z h)
+
+pub new_done : (job : Job) (n : ℕ) (p : t.Place) (pointer line : ℕ) (c : m.Context) (spot : v.Spot) (x : v.Value) (w u z k : m.World) → e.access (caller job n) p c w ≡ m.Gives spot u → r.making job n pointer line c u ≡ m.Gives x z → k ≡ m.with_contents z spot x → acting job n (t.New p pointer line) c w ≡ m.Gives m.done k
+new_done job n p pointer line c spot x w u z k gives made is =
+    then_gives (e.access (caller job n) p c w) (λ i j. m.and_then (r.making job n pointer line c j) (m.put i)) spot u gives ∙ then_gives (r.making job n pointer line c u) (m.put spot) x z made ∙ ap (m.Gives m.done) (sym is)

@@ -1,0 +1,93 @@
+-- Acts after one another.
+use Rattle.std.proofs.Common.{◌≡◌, ℕ, ◌+◌, ◌<◌, ◌≤◌, Bool, ◌||◌, List, [], ◌∷◌, ◌++◌, length, get_or, drop, refl, sym, ap, subst, ◌∙◌, append_assoc, append-nil, true, false}
+use mathlib.Core.Path.{fun_ext}
+use Rattle.ps_tree.specs.declared.tree.SetOperator.TheVariants.{Union}
+use Rattle.ps_tree.specs.declared.tree.Member.{Member}
+use Rattle.ps_tree.specs.declared.tree.Argument.{Argument}
+use Rattle.ps_tree.specs.Tree as t
+use Rattle.ps_tree.specs.View.{member_of, members_of, argument_of, arguments_of}
+use Rattle.ps_meaning.specs.Operators.{combine_sets}
+use Rattle.ps_meaning.specs.Worlds as m
+use Rattle.ps_meaning.specs.Expressions as e
+use Rattle.ps_reference.specs.declared.stop.Stop.{Stop}
+use Rattle.ps_reference.specs.declared.stop.Stop.TheVariants.{Ended, Refused}
+use Rattle.ps_reference.specs.declared.world.World.{World}
+use Rattle.ps_reference.specs.View.{listed}
+use Rattle.ps_reference.specs.Worlds.{Stopped}
+use Rattle.ps_runner.proofs.Trees.{members_at, members_past, arguments_at, arguments_past}
+
+pub stopped_then : {A B : Type 0} (a : m.Answer A) (f : A → m.Act B) (stop : Stop) (w : World) → Stopped a stop w → Stopped (m.and_then a f) stop w
+stopped_then a f (Ended ending calls) w h = ap (λ x. m.and_then x f) h
+stopped_then a f (Refused refusal) w h = tt
+
+-- the members of a set constructor from a place on, after those that were taken
+unfoldable pub members_left : e.Caller → m.Context → List Member → ℕ → List Bool → m.World → m.Answer (ℕ → Bool)
+members_left call c members i tests w = m.and_then (e.members_value call (members_of (drop i members)) c w) (λ s. m.give (combine_sets Union (listed tests) s))
+
+members_none : (a : m.Answer (ℕ → Bool)) → m.and_then a (λ s. m.give (combine_sets Union (listed []) s)) ≡ a
+members_none (m.Gives s w) = refl
+members_none (m.Ends out ending calls) = refl
+
+pub members_start : (call : e.Caller) (c : m.Context) (members : List Member) (w : m.World) → members_left call c members 0 [] w ≡ e.members_value call (members_of members) c w
+unfolding members_left
+members_start call c members w = members_none (e.members_value call (members_of members) c w)
+
+or_assoc : (a b c : Bool) → (a || (b || c)) ≡ ((a || b) || c)
+or_assoc true b c = refl
+or_assoc false b c = refl
+
+members_more : (s t : ℕ → Bool) (a : m.Answer (ℕ → Bool)) → m.and_then (m.and_then a (λ y. m.give (combine_sets Union t y))) (λ y. m.give (combine_sets Union s y)) ≡ m.and_then a (λ y. m.give (combine_sets Union (combine_sets Union s t) y))
+members_more s t (m.Gives y w) = ap (λ z. m.Gives z w) (fun_ext (λ k. or_assoc (s k) (t k) (y k)))
+members_more s t (m.Ends out ending calls) = refl
+
+pub members_next : (call : e.Caller) (c : m.Context) (members : List Member) (i : ℕ) (tests more both : List Bool) (x : Member) (w v : m.World) → i < length members → x ≡ get_or members i x → e.member_value call (member_of x) c w ≡ m.Gives (listed more) v → listed both ≡ combine_sets Union (listed tests) (listed more) → members_left call c members (i + 1) both v ≡ members_left call c members i tests w
+unfolding members_left
+members_next call c members i tests more both x w v lt at gives is =
+    let rest = members_of (drop (i + 1) members) in
+    sym (ap (λ t. m.and_then (e.members_value call t c w) (λ s. m.give (combine_sets Union (listed tests) s))) (members_at members i x lt at) ∙ ap (λ a. m.and_then (m.and_then a (λ y u. m.and_then (e.members_value call rest c u) (λ z. m.give (combine_sets Union y z)))) (λ s. m.give (combine_sets Union (listed tests) s))) gives ∙ members_more (listed tests) (listed more) (e.members_value call rest c v) ∙ ap (λ s. m.and_then (e.members_value call rest c v) (λ y. m.give (combine_sets Union s y))) (sym is))
+
+pub members_stop : (call : e.Caller) (c : m.Context) (members : List Member) (i : ℕ) (tests : List Bool) (x : Member) (stop : Stop) (w : m.World) (v : World) (all : m.Answer (ℕ → Bool)) → members_left call c members i tests w ≡ all → Stopped (e.member_value call (member_of x) c w) stop v → x ≡ get_or members i x → i < length members → Stopped all stop v
+unfolding members_left
+members_stop call c members i tests x stop w v all is h at lt =
+    subst (λ a. Stopped a stop v) (sym (ap (λ t. m.and_then (e.members_value call t c w) (λ s. m.give (combine_sets Union (listed tests) s))) (members_at members i x lt at)) ∙ is) (stopped_then (e.members_value call (t.member_before (member_of x) (members_of (drop (i + 1) members))) c w) (λ s. m.give (combine_sets Union (listed tests) s)) stop v (stopped_then (e.member_value call (member_of x) c w) (λ y u. m.and_then (e.members_value call (members_of (drop (i + 1) members)) c u) (λ z. m.give (combine_sets Union y z))) stop v h))
+
+or_false : (b : Bool) → (b || false) ≡ b
+or_false true = refl
+or_false false = refl
+
+pub members_end : (call : e.Caller) (c : m.Context) (members : List Member) (i : ℕ) (tests : List Bool) (w : m.World) → length members ≤ i → members_left call c members i tests w ≡ m.Gives (listed tests) w
+unfolding members_left
+members_end call c members i tests w le =
+    ap (λ t. m.and_then (e.members_value call t c w) (λ s. m.give (combine_sets Union (listed tests) s))) (members_past members i le) ∙ ap (λ s. m.Gives s w) (fun_ext (λ k. or_false (listed tests k)))
+
+-- the actual parameters from a place on, after those that were taken
+unfoldable pub actuals_left : e.Caller → m.Context → List Argument → ℕ → List e.Actual → m.World → m.Answer (List e.Actual)
+actuals_left call c arguments i taken w = m.and_then (e.actuals_of call (arguments_of (drop i arguments)) c w) (λ xs. m.give (taken ++ xs))
+
+actuals_none : (a : m.Answer (List e.Actual)) → m.and_then a (λ xs. m.give ([] ++ xs)) ≡ a
+actuals_none (m.Gives xs w) = refl
+actuals_none (m.Ends out ending calls) = refl
+
+pub actuals_start : (call : e.Caller) (c : m.Context) (arguments : List Argument) (w : m.World) → actuals_left call c arguments 0 [] w ≡ e.actuals_of call (arguments_of arguments) c w
+unfolding actuals_left
+actuals_start call c arguments w = actuals_none (e.actuals_of call (arguments_of arguments) c w)
+
+actuals_more : (taken : List e.Actual) (x : e.Actual) (a : m.Answer (List e.Actual)) → m.and_then (m.and_then a (λ xs. m.give (x ∷ xs))) (λ xs. m.give (taken ++ xs)) ≡ m.and_then a (λ xs. m.give ((taken ++ x ∷ []) ++ xs))
+actuals_more taken x (m.Gives xs w) = ap (λ l. m.Gives l w) (sym (append_assoc taken (x ∷ []) xs))
+actuals_more taken x (m.Ends out ending calls) = refl
+
+pub actuals_next : (call : e.Caller) (c : m.Context) (arguments : List Argument) (i : ℕ) (taken both : List e.Actual) (x : Argument) (actual : e.Actual) (w v : m.World) → i < length arguments → x ≡ get_or arguments i x → e.actual_of call (argument_of x) c w ≡ m.Gives actual v → both ≡ taken ++ actual ∷ [] → actuals_left call c arguments (i + 1) both v ≡ actuals_left call c arguments i taken w
+unfolding actuals_left
+actuals_next call c arguments i taken both x actual w v lt at gives is =
+    let rest = arguments_of (drop (i + 1) arguments) in
+    sym (ap (λ t. m.and_then (e.actuals_of call t c w) (λ xs. m.give (taken ++ xs))) (arguments_at arguments i x lt at) ∙ ap (λ a. m.and_then (m.and_then a (λ y u. m.and_then (e.actuals_of call rest c u) (λ ys. m.give (y ∷ ys)))) (λ xs. m.give (taken ++ xs))) gives ∙ actuals_more taken actual (e.actuals_of call rest c v) ∙ ap (λ l. m.and_then (e.actuals_of call rest c v) (λ xs. m.give (l ++ xs))) (sym is))
+
+pub actuals_stop : (call : e.Caller) (c : m.Context) (arguments : List Argument) (i : ℕ) (taken : List e.Actual) (x : Argument) (stop : Stop) (w : m.World) (v : World) (all : m.Answer (List e.Actual)) → actuals_left call c arguments i taken w ≡ all → Stopped (e.actual_of call (argument_of x) c w) stop v → x ≡ get_or arguments i x → i < length arguments → Stopped all stop v
+unfolding actuals_left
+actuals_stop call c arguments i taken x stop w v all is h at lt =
+    subst (λ a. Stopped a stop v) (sym (ap (λ t. m.and_then (e.actuals_of call t c w) (λ xs. m.give (taken ++ xs))) (arguments_at arguments i x lt at)) ∙ is) (stopped_then (e.actuals_of call (t.argument_before (argument_of x) (arguments_of (drop (i + 1) arguments))) c w) (λ xs. m.give (taken ++ xs)) stop v (stopped_then (e.actual_of call (argument_of x) c w) (λ y u. m.and_then (e.actuals_of call (arguments_of (drop (i + 1) arguments)) c u) (λ ys. m.give (y ∷ ys))) stop v h))
+
+pub actuals_end : (call : e.Caller) (c : m.Context) (arguments : List Argument) (i : ℕ) (taken : List e.Actual) (w : m.World) → length arguments ≤ i → actuals_left call c arguments i taken w ≡ m.Gives taken w
+unfolding actuals_left
+actuals_end call c arguments i taken w le =
+    ap (λ t. m.and_then (e.actuals_of call t c w) (λ xs. m.give (taken ++ xs))) (arguments_past arguments i le) ∙ ap (λ l. m.Gives l w) (append-nil taken)

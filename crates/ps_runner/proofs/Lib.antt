@@ -1,0 +1,4 @@
+pub mod Trees
+pub mod Answers
+pub mod Acts
+pub mod Runs

@@ -1,0 +1,56 @@
+-- A run's first world, what it tells, and transcripts without marks.
+use Rattle.std.proofs.Common.{◌≡◌, ◌≢◌, ℕ, ◌<◌, ◌+◌, Bool, true, false, not, ◌==◌, List, [], ◌∷◌, ◌++◌, length, get_or, take, map, cond, append-nil, Vec, Global, refl, sym, ap, subst, ◌∙◌}
+use mathlib.Core.Path.{fun_ext}
+use Rattle.std.proofs.lemmas.List.Elements.{filter_more}
+use Rattle.std.proofs.lemmas.Bool.{eqb-true}
+use Rattle.ps_meaning.specs.Values as v
+use Rattle.ps_meaning.specs.Worlds as m
+use Rattle.ps_meaning.specs.Text as t
+use Rattle.ps_meaning.specs.Run as d
+use Rattle.ps_reference.specs.declared.stop.Ending.{Ending}
+use Rattle.ps_reference.specs.declared.stop.Ending.TheVariants.{Normal}
+use Rattle.ps_reference.specs.declared.stop.Stop.{Stop}
+use Rattle.ps_reference.specs.declared.stop.Stop.TheVariants.{Ended}
+use Rattle.ps_reference.specs.declared.value.Value.{Value}
+use Rattle.ps_reference.specs.declared.world.Job.{Job}
+use Rattle.ps_reference.specs.declared.world.World.{World}
+use Rattle.ps_reference.specs.View.{value_of}
+use Rattle.ps_reference.specs.Worlds.{Stopped, stored, caller, world_of, ending_of, program_of, costs_in}
+use Rattle.ps_runner.specs.Runs.{Tells}
+
+no_store : stored [] ≡ (λ (name : ℕ). m.unset)
+unfolding stored
+no_store = fun_ext {f = stored []} {g = λ (name : ℕ). m.unset} (λ name. refl)
+
+world_with : List Value → List Value → List ℕ → List ℕ → List ℕ → m.World
+world_with store objects made input transcript = record { next = 0; store = stored store; objects = map value_of objects; made = made; input = t.whole_input input; transcript = transcript }
+
+pub first_world_is : (store objects : List Value) (made input transcript : List ℕ) → store ≡ [] → objects ≡ [] → made ≡ [] → transcript ≡ [] → (let w : m.World = record { next = 0; store = stored store; objects = map value_of objects; made = made; input = record { left = input; looked = false; in_line = false }; transcript = transcript } in w) ≡ d.first_world input
+unfolding world_with
+first_world_is store objects made input transcript e f g h =
+    ap (λ x. world_with x objects made input transcript) e ∙ ap (λ x. world_with [] x made input transcript) f ∙ ap (λ x. world_with [] [] x input transcript) g ∙ ap (λ x. world_with [] [] [] input x) h ∙ ap (λ (s : ℕ → v.Value). record { next = 0; store = s; objects = []; made = []; input = t.whole_input input; transcript = [] }) no_store
+
+pub answer_is : (job : Job) (n : ℕ) (input : List ℕ) → caller job n 0 m.Outside [] d.first_context (d.first_world input) ≡ d.answer (program_of job) (costs_in job) input n
+unfolding caller
+answer_is job n input = refl
+
+pub tells_done : (w : World) (calls : Vec ℕ Global) (a : m.Answer m.Done) → a ≡ m.Gives m.done (world_of w) → calls.items ≡ [] → Tells (record { transcript = w.transcript; ending = Normal; calls = calls }) a
+tells_done w calls a is none = subst (λ x. Tells (record { transcript = w.transcript; ending = Normal; calls = calls }) x) (sym is) (refl, (refl, none))
+
+pub tells_stopped : (w : World) (ending : Ending) (calls : Vec ℕ Global) (stop : Stop) (a : m.Answer m.Done) → Stopped a stop w → stop ≡ Ended ending calls → Tells (record { transcript = w.transcript; ending = ending; calls = calls }) a
+tells_stopped w ending calls stop a h is =
+    let ends : a ≡ m.Ends w.transcript.items (ending_of ending) calls.items = subst (λ s. Stopped a s w) is h in
+    subst (λ x. Tells (record { transcript = w.transcript; ending = ending; calls = calls }) x) (sym ends) (refl, (refl, refl))
+
+-- a mark, or a byte, more
+pub shown_mark : (xs : List ℕ) (i x : ℕ) → i < length xs → x ≡ get_or xs i 0 → x ≡ 256 → d.output_of (take (i + 1) xs) ≡ d.output_of (take i xs)
+shown_mark xs i x lt at is =
+    filter_more (λ b. not (b == t.mark)) xs i 0 lt ∙ ap (λ y. d.output_of (take i xs) ++ cond (not (y == 256)) (y ∷ []) []) (sym at ∙ is) ∙ append-nil (d.output_of (take i xs))
+
+other_than : (x : ℕ) (b : Bool) → (x == 256) ≡ b → x ≢ 256 → (x == 256) ≡ false
+other_than x true e other = absurd (other (eqb-true x 256 e))
+other_than x false e other = e
+
+pub shown_byte : (xs : List ℕ) (i x : ℕ) → i < length xs → x ≡ get_or xs i 0 → x ≢ 256 → d.output_of (take (i + 1) xs) ≡ d.output_of (take i xs) ++ x ∷ []
+shown_byte xs i x lt at other =
+    filter_more (λ b. not (b == t.mark)) xs i 0 lt ∙ ap (λ y. d.output_of (take i xs) ++ cond (not (y == 256)) (y ∷ []) []) (sym at) ∙ ap (λ b. d.output_of (take i xs) ++ cond (not b) (x ∷ []) []) (other_than x (x == 256) refl other)

@@ -1,0 +1,214 @@
+// The run of a program.
+
+ghost use Rattle.std.specs.Prelude.{◌≡◌, [], ℕ, List, IfOk, IfErr};
+ghost use Rattle.ps_tree.specs.Checked.{program_in};
+ghost use Rattle.ps_meaning.specs.Worlds.{Outside};
+ghost use Rattle.ps_meaning.specs.Run as m;
+ghost use Rattle.ps_reference.specs.Worlds.{Answers, caller, context_of, env_of, numbers_of, world_of, done_of, program_of, costs_in};
+ghost use Rattle.ps_runner.specs.Runs.{shown, Tells, trail_of};
+
+use crate::calls::do_block;
+use ps_reference::stop::{Ending, Refusal, Stop};
+use ps_reference::world::{Context, Env, Input, Job, Numbers, World};
+use ps_tree::program::Checked;
+use std::alloc::{AllocError, Global};
+use std::rc::Rc;
+
+/// How deep calls, statements and expressions may lie in one another on a host's stack of 8 MB: one of them takes at
+/// most about 4 KB there. A call of a Pascal function takes some four of them.
+pub const DEPTH: u32 = 2_000;
+
+/// How a run went: its transcript, where 256 marks a first look at a byte of the input or at its end; how it ended; and the
+/// lines of the calls that were open at its end, the innermost first.
+#[derive(Drop)]
+pub struct Ran {
+    pub transcript: Vec<u16>,
+    pub ending: Ending,
+    pub calls: Vec<u32>,
+}
+
+/// The world before a run.
+#[tactic(auto, using(crate::proofs::Runs::first_world_is))]
+fn first_world(alloc: Global, input: &[u8]) -> World<'_>
+    ensures { world_of result ≡ m.first_world input.now }
+{
+    World {
+        next: 0,
+        store: Vec::new(alloc),
+        objects: Vec::new(alloc),
+        made: Vec::new(alloc),
+        input: Input {
+            left: input,
+            looked: false,
+            in_line: false,
+        },
+        transcript: Vec::new(alloc),
+    }
+}
+
+/// No calls, and no routines.
+#[tactic(auto, unfolding(ps_reference::specs::Worlds::numbers_of))]
+fn no_numbers(alloc: Global) -> Result<Rc<Numbers>, AllocError>
+    ensures { IfOk result (λ k. numbers_of k.value ≡ []) }
+{
+    Ok(Rc::new(alloc, Numbers::End)?)
+}
+
+/// The environment of the program block.
+#[tactic(auto, unfolding(ps_reference::specs::Worlds::env_of))]
+fn outside(alloc: Global) -> Result<Rc<Env>, AllocError>
+    ensures { IfOk result (λ k. env_of k.value ≡ Outside) }
+{
+    Ok(Rc::new(alloc, Env::Outside)?)
+}
+
+/// The context before a run.
+fn first_context<'a>(job: &'a Job<'a>) -> Result<Context<'a>, AllocError>
+    ensures context { IfOk result (λ k. context_of k ≡ m.first_context) }
+    ensures job { IfOk result (λ k. k.job.now ≡ job.now) }
+{
+    Ok(Context {
+        job,
+        env: outside(job.alloc)?,
+        opened: Vec::new(job.alloc),
+        active: no_numbers(job.alloc)?,
+        calls: no_numbers(job.alloc)?,
+    })
+}
+
+/// Does the program block.
+fn run_job(world: &mut World, job: &Job, fuel: u64, depth: u32) -> Result<(), Stop>
+    ensures { Answers done_of (caller job.now fuel 0 Outside [] m.first_context (world_of world.old)) result world.new }
+{
+    let c = first_context(job)?;
+    let parent = outside(job.alloc)?;
+    let calls = no_numbers(job.alloc)?;
+    let (body, inner) = world.enter_with(0, parent, &[], calls, &c)?;
+    do_block(world, body, &inner, fuel, depth)
+}
+
+/// How a run on an input went.
+fn run_on(job: &Job, input: &[u8], fuel: u64, depth: u32) -> Result<Ran, Refusal>
+    ensures { IfOk result (λ k. Tells k (m.answer (program_of job.now) (costs_in job.now) input.now fuel)) }
+{
+    let mut world = first_world(job.alloc, input);
+    match run_job(&mut world, job, fuel, depth) {
+        Ok(()) => Ok(Ran {
+            transcript: world.transcript,
+            ending: Ending::Normal,
+            calls: Vec::new(job.alloc),
+        }),
+        Err(Stop::Ended { ending, calls }) => Ok(Ran {
+            transcript: world.transcript,
+            ending,
+            calls,
+        }),
+        Err(Stop::Refused(refusal)) => Err(refusal),
+    }
+}
+
+/// What a run costs, and what it may: the frame bytes of each routine and the object bytes of each pointer type, by
+/// their numbers, and the bytes of stack and heap.
+#[derive(Clone, Copy)]
+pub struct Budget<'a> {
+    pub frames: &'a [u32],
+    pub objects: &'a [u32],
+    pub stack: u64,
+    pub heap: u64,
+}
+
+/// The run of a program on an input with so much fuel, within costs and a budget. It is refused where memory is, or
+/// where calls, statements and expressions lie deeper in one another than so many: `DEPTH` of them go onto a stack of
+/// 8 MB, and more onto a larger one.
+pub fn reference_to_depth(
+    alloc: Global,
+    program: &Checked,
+    budget: &Budget,
+    input: &[u8],
+    fuel: u64,
+    depth: u32,
+) -> Result<Ran, Refusal>
+    ensures told { IfOk result (λ k. Tells k (m.answer (program_in program.now) (m.costs_of budget.now.frames.now budget.now.objects.now budget.now.stack budget.now.heap) input.now fuel)) }
+    ensures run { IfOk result (λ k. shown k ≡ m.run_within (program_in program.now) budget.now.frames.now budget.now.objects.now budget.now.stack budget.now.heap input.now fuel) }
+{
+    let job = Job {
+        alloc,
+        program,
+        frames: budget.frames,
+        objects: budget.objects,
+        stack: budget.stack,
+        heap: budget.heap,
+    };
+    run_on(&job, input, fuel, depth)
+}
+
+/// The run of a program on an input with so much fuel, within costs and a budget. It is refused where memory is, or
+/// where calls, statements and expressions lie deeper in one another than `DEPTH`.
+pub fn reference_within(
+    alloc: Global,
+    program: &Checked,
+    budget: &Budget,
+    input: &[u8],
+    fuel: u64,
+) -> Result<Ran, Refusal>
+    ensures told { IfOk result (λ k. Tells k (m.answer (program_in program.now) (m.costs_of budget.now.frames.now budget.now.objects.now budget.now.stack budget.now.heap) input.now fuel)) }
+    ensures run { IfOk result (λ k. shown k ≡ m.run_within (program_in program.now) budget.now.frames.now budget.now.objects.now budget.now.stack budget.now.heap input.now fuel) }
+{
+    reference_to_depth(alloc, program, budget, input, fuel, DEPTH)
+}
+
+/// The run of a program on an input with so much fuel, without costs.
+pub fn reference(alloc: Global, program: &Checked, input: &[u8], fuel: u64) -> Result<Ran, Refusal>
+    ensures told { IfOk result (λ k. Tells k (m.answer (program_in program.now) (m.costs_of [] [] 0 0) input.now fuel)) }
+    ensures run { IfOk result (λ k. shown k ≡ m.run (program_in program.now) input.now fuel) }
+{
+    let free = Budget {
+        frames: &[],
+        objects: &[],
+        stack: 0,
+        heap: 0,
+    };
+    reference_within(alloc, program, &free, input, fuel)
+}
+
+/// The lines of the calls that are open at an error, of which the first 16 are told.
+fn first_lines(ran: Ran) -> Vec<u32>
+    ensures { result.items ≡ trail_of ran }
+{
+    let Ran { ending, calls, .. } = ran;
+    let mut lines = calls;
+    match ending {
+        Ending::Error { .. } => lines.truncate(16),
+        Ending::Normal | Ending::Stack { .. } | Ending::Heap { .. } | Ending::More => lines.clear(),
+    }
+    lines
+}
+
+/// The lines of the calls that are open at an error, the innermost first, the first 16 of them; none where no error is
+/// met.
+pub fn trail(alloc: Global, program: &Checked, input: &[u8], fuel: u64) -> Result<Vec<u32>, Refusal>
+    ensures { IfOk result (λ v. v.items ≡ m.trail (program_in program.now) input.now fuel) }
+{
+    let ran = reference(alloc, program, input, fuel)?;
+    Ok(first_lines(ran))
+}
+
+/// The bytes that a transcript shows, without its marks. It is refused where an item is neither.
+#[tactic(auto, using(crate::proofs::Runs::shown_mark, crate::proofs::Runs::shown_byte))]
+pub fn output(alloc: Global, transcript: &[u16]) -> Result<Vec<u8>, Refusal>
+    ensures { IfOk result (λ v. v.items ≡ m.output_of transcript.now) }
+{
+    let mut bytes = Vec::new(alloc);
+    for item in transcript {
+        if *item == 256 {
+            continue;
+        }
+        let Ok(byte) = u8::try_from(*item) else {
+            return Err(Refusal::Untyped);
+        };
+        if bytes.push(byte).is_err() {
+            return Err(Refusal::OutOfMemory);
+        }
+    }
+    Ok(bytes)
+}

@@ -1,0 +1,4 @@
+pub mod Equations
+pub mod LabelLemmas
+pub mod Opening
+pub mod Judgement

@@ -1,0 +1,5 @@
+pub mod Assignments
+pub mod Structured
+pub mod Procedures
+pub mod Statements
+pub mod View

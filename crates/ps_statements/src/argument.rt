@@ -1,0 +1,131 @@
+// Actual parameters of procedures (6.6.3). Widths stand in write and writeln alone.
+
+ghost use Rattle.std.specs.Prelude.{◌≡◌, map, IfOk, IfErr, Some, None};
+ghost use Rattle.ps_tree.specs.View.{argument_of};
+ghost use Rattle.ps_regions.specs.Refusal.{IsFault};
+ghost use Rattle.ps_regions.specs.Views.{section_of, sections_of};
+ghost use Rattle.ps_typing.specs.Calls.{actual};
+ghost use Rattle.ps_typing.specs.Expressions.{operand};
+ghost use Rattle.ps_typing.specs.View.{context_at, regions_at, value_of, variable_of};
+ghost use Rattle.ps_statements.specs.Procedures.{first_of_parameter, actual_parameter, actual_parameters, parameter_value, parameter_variable};
+
+use ps_regions::meaning::Section;
+use ps_regions::refusal::{Fault, Rule};
+use ps_syntax::{Expr, Parameter};
+use ps_tree::tree::Argument;
+use ps_typing::expression::{expr_value, name_alone, referent};
+use ps_typing::operators::wrong_type;
+use ps_typing::parameter::{by_routine, by_value, by_variable, parameters};
+use ps_typing::place::wrong_kind;
+use ps_typing::site::Site;
+use ps_typing::value::{TypedPlace, TypedValue};
+
+/// A wrong number of parameters; the routine's name is at `at`.
+pub(crate) fn wrong_number(at: u32) -> Fault
+    ensures { IsFault result }
+{
+    Fault::Broken {
+        rule: Rule::NotCongruous,
+        at,
+    }
+}
+
+/// Where a parameter begins.
+#[tactic(auto, unfolding(crate::specs::Procedures::first_of_parameter))]
+pub(crate) fn first_token(parameter: &Parameter) -> u32
+    ensures { result ≡ first_of_parameter parameter.now }
+{
+    match parameter {
+        Parameter::Plain(x) | Parameter::Width(x, _) => x.first_token(),
+    }
+}
+
+/// The value of a parameter.
+#[tactic(auto, unfolding(crate::specs::Procedures::parameter_value))]
+pub(crate) fn parameter_value(parameter: &Parameter, site: Site<'_>) -> Result<TypedValue, Fault>
+    ensures ok { IfOk result (λ v. parameter_value (context_at site.entry) (regions_at site.entry) parameter.now ≡ Some (value_of v)) }
+    ensures err { IfErr result (λ fault. IsFault fault → parameter_value (context_at site.entry) (regions_at site.entry) parameter.now ≡ None) }
+{
+    match parameter {
+        Parameter::Plain(x) => expr_value(x, site),
+        Parameter::Width(_, width) => Err(wrong_type(width.get().first_token())),
+    }
+}
+
+/// The variable that a parameter is.
+#[tactic(auto, unfolding(crate::specs::Procedures::parameter_variable))]
+pub(crate) fn parameter_variable(parameter: &Parameter, site: Site<'_>) -> Result<TypedPlace, Fault>
+    ensures ok { IfOk result (λ v. parameter_variable (context_at site.entry) (regions_at site.entry) parameter.now ≡ Some (variable_of v)) }
+    ensures err { IfErr result (λ fault. IsFault fault → parameter_variable (context_at site.entry) (regions_at site.entry) parameter.now ≡ None) }
+{
+    match parameter {
+        Parameter::Plain(x) => referent(x, site),
+        Parameter::Width(_, width) => Err(wrong_type(width.get().first_token())),
+    }
+}
+
+/// The actual parameter for a formal one.
+#[tactic(auto, using(ps_typing::proofs::Equations::operand_first, ps_typing::proofs::CallLemmas::actual_routine, ps_regions::proofs::ViewLemmas::section_of_Routine), unfolding(ps_typing::specs::Calls::actual, ps_regions::specs::Views::section_of))]
+fn argument(x: &Expr, site: Site<'_>, section: &Section) -> Result<Argument, Fault>
+    ensures ok { IfOk result (λ a. actual (context_at site.entry) (regions_at site.entry) (section_of section.now) (operand (context_at site.entry) (regions_at site.entry) x.now) ≡ Some (argument_of a)) }
+    ensures err { IfErr result (λ fault. IsFault fault → actual (context_at site.entry) (regions_at site.entry) (section_of section.now) (operand (context_at site.entry) (regions_at site.entry) x.now) ≡ None) }
+{
+    let at = x.first_token();
+    match section {
+        Section::Value { ty, .. } => {
+            let value = expr_value(x, site)?;
+            by_value(ty, value, site.reading.line(at), at)
+        }
+        Section::Variable { ty, .. } => {
+            let variable = referent(x, site)?;
+            by_variable(ty, variable, at)
+        }
+        Section::Routine {
+            sections,
+            result: outcome,
+        } => match name_alone(x) {
+            None => Err(wrong_kind(at)),
+            Some(name) => {
+                let found = site.denoted(name)?;
+                by_routine(sections, outcome, found, at)
+            }
+        },
+    }
+}
+
+#[tactic(auto, unfolding(crate::specs::Procedures::actual_parameter))]
+fn actual_parameter(
+    parameter: &Parameter,
+    site: Site<'_>,
+    section: &Section,
+) -> Result<Argument, Fault>
+    ensures ok { IfOk result (λ a. actual_parameter (context_at site.entry) (regions_at site.entry) (section_of section.now) parameter.now ≡ Some (argument_of a)) }
+    ensures err { IfErr result (λ fault. IsFault fault → actual_parameter (context_at site.entry) (regions_at site.entry) (section_of section.now) parameter.now ≡ None) }
+{
+    match parameter {
+        Parameter::Plain(x) => argument(x, site, section),
+        Parameter::Width(_, width) => Err(wrong_type(width.get().first_token())),
+    }
+}
+
+/// The actual parameters of a procedure, whose name is at `at`.
+pub(crate) fn actual_parameters(
+    list: &[Parameter],
+    site: Site<'_>,
+    sections: &[Section],
+    at: u32,
+) -> Result<Vec<Argument>, Fault>
+    ensures ok { IfOk result (λ arguments. actual_parameters (context_at site.entry) (regions_at site.entry) (sections_of sections.now) list.now ≡ Some (map argument_of arguments.items)) }
+    ensures err { IfErr result (λ fault. IsFault fault → actual_parameters (context_at site.entry) (regions_at site.entry) (sections_of sections.now) list.now ≡ None) }
+{
+    let formals = parameters(site.alloc, sections)?;
+    if formals.len() != list.len() {
+        return Err(wrong_number(at));
+    }
+    let mut arguments = Vec::new(site.alloc);
+    for i in 0..list.len() {
+        let argument = actual_parameter(&list[i], site, formals[i])?;
+        arguments.push(argument)?;
+    }
+    Ok(arguments)
+}

@@ -1,0 +1,208 @@
+// Assignment statements (6.8.2.2).
+
+ghost use Rattle.std.specs.Prelude.{◌≡◌, IfOk, IfErr, Some, None};
+ghost use Rattle.ps_tree.specs.View.{place_of, type_of, set_of, statement_of};
+ghost use Rattle.ps_regions.specs.Refusal.{IsFault};
+ghost use Rattle.ps_regions.specs.Views.{scope_of, heading_of, point_of};
+ghost use Rattle.ps_typing.specs.View.{context_at, regions_at, value_of, variable_of};
+ghost use Rattle.ps_statements.specs.Assignments.{result_of, result_in, target_at, target, set_assigned, assigned, assignment};
+
+use ps_regions::meaning::{Heading, Meaning};
+use ps_regions::refusal::{Fault, Rule};
+use ps_regions::scope::{Found, Scope};
+use ps_syntax::{Expr, Variable};
+use ps_text::Span;
+use ps_tree::line::Line;
+use ps_tree::tree::{Place, SetExpr, Statement};
+use ps_tree::types::{Ty, assignable};
+use ps_typing::expression::{expr_value, variable_place};
+use ps_typing::place::{variable_found, wrong_kind};
+use ps_typing::site::Site;
+use ps_typing::value::{TypedPlace, TypedValue, range_of};
+
+/// The result of a function as a variable of the block that is `levels` blocks out. Its name is at `at`.
+#[tactic(auto, unfolding(ps_tree::specs::View::place_of))]
+fn result_of(heading: &Heading, levels: u32, at: u32) -> Result<TypedPlace, Fault>
+    ensures ok { IfOk result (λ v. result_of (heading_of heading.now) levels ≡ Some (variable_of v)) }
+    ensures err { IfErr result (λ fault. IsFault fault → result_of (heading_of heading.now) levels ≡ None) }
+{
+    match &heading.result {
+        None => Err(wrong_kind(at)),
+        Some(ty) => Ok(TypedPlace {
+            place: Place::Entry {
+                up: levels,
+                index: 0,
+            },
+            ty: ty.copy()?,
+            in_packed: false,
+        }),
+    }
+}
+
+/// The result of a function whose own block is `further` blocks out of these regions (6.6.2).
+#[tactic(auto, unfolding(crate::specs::Assignments::result_in, ps_regions::specs::Views::scope_of))]
+fn result_in(
+    scope: &Scope<'_>,
+    further: u32,
+    heading: &Heading,
+    levels: u32,
+    at: u32,
+) -> Result<TypedPlace, Fault>
+    ensures ok { IfOk result (λ v. result_in (scope_of scope.now) further (heading_of heading.now) levels ≡ Some (variable_of v)) }
+    ensures err { IfErr result (λ fault. IsFault fault → result_in (scope_of scope.now) further (heading_of heading.now) levels ≡ None) }
+{
+    match scope {
+        Scope::Outside => Err(wrong_kind(at)),
+        Scope::Block { routine, outer, .. } => {
+            if further != 0 {
+                return result_in(outer, further - 1, heading, levels, at);
+            }
+            if *routine != heading.number {
+                return Err(wrong_kind(at));
+            }
+            result_of(heading, levels, at)
+        }
+        Scope::Record { outer, .. } | Scope::Fields { outer, .. } => {
+            result_in(outer, further, heading, levels, at)
+        }
+    }
+}
+
+/// What a name alone stands for on the left of `:=`. A function is declared in the block around its own.
+#[tactic(auto, unfolding(crate::specs::Assignments::target_at, ps_typing::specs::Places::variable_at, ps_regions::specs::Views::meaning_of))]
+fn target_found(site: Site<'_>, found: Found<'_>, at: u32) -> Result<TypedPlace, Fault>
+    ensures ok { IfOk result (λ v. target_at (regions_at site.entry) (point_of found.entry) ≡ Some (variable_of v)) }
+    ensures err { IfErr result (λ fault. IsFault fault → target_at (regions_at site.entry) (point_of found.entry) ≡ None) }
+{
+    match found {
+        Found::Field { .. } => variable_found(found, at),
+        Found::Name { up, meaning } => match meaning {
+            Meaning::Routine(heading) => {
+                if up == 0 {
+                    return Err(wrong_kind(at));
+                }
+                result_in(site.scope, up - 1, heading, up - 1, at)
+            }
+            Meaning::Constant { .. }
+            | Meaning::Text(_)
+            | Meaning::Type(_)
+            | Meaning::Variable { .. }
+            | Meaning::Parameter { .. }
+            | Meaning::RoutineParameter { .. }
+            | Meaning::Required(_) => variable_found(found, at),
+            Meaning::File(_) | Meaning::LeftOut => Err(Fault::Broken {
+                rule: Rule::NotInProfile,
+                at,
+            }),
+        },
+    }
+}
+
+#[tactic(auto, using(ps_typing::proofs::Judgement::name_alone, ps_typing::proofs::Judgement::name_selected))]
+fn target(x: &Variable, site: Site<'_>) -> Result<TypedPlace, Fault>
+    ensures ok { IfOk result (λ v. target (context_at site.entry) (regions_at site.entry) x.now ≡ Some (variable_of v)) }
+    ensures err { IfErr result (λ fault. IsFault fault → target (context_at site.entry) (regions_at site.entry) x.now ≡ None) }
+{
+    if x.selectors.is_empty() {
+        let found = site.denoted(x.name)?;
+        target_found(site, found, x.name.from)
+    } else {
+        variable_place(x, site)
+    }
+}
+
+fn not_assignable(at: u32) -> Fault
+    ensures { IsFault result }
+{
+    Fault::Broken {
+        rule: Rule::NotAssignable,
+        at,
+    }
+}
+
+/// An assignment of a set; the `:=` is at `at`.
+#[tactic(auto, unfolding(crate::specs::Assignments::set_assigned, ps_tree::specs::View::type_of, ps_tree::specs::View::statement_of))]
+fn set_assigned(
+    variable: TypedPlace,
+    value: SetExpr,
+    from: Ty,
+    line: Line,
+    at: u32,
+) -> Result<Statement, Fault>
+    ensures ok { IfOk result (λ s. set_assigned (place_of variable.place) (type_of variable.ty) (set_of value) (type_of from) line.number ≡ Some (statement_of s)) }
+    ensures err { IfErr result (λ fault. IsFault fault → set_assigned (place_of variable.place) (type_of variable.ty) (set_of value) (type_of from) line.number ≡ None) }
+{
+    let TypedPlace { place, ty, .. } = variable;
+    match ty {
+        Ty::Set { base, .. } => {
+            if !assignable(&from, &ty) {
+                return Err(not_assignable(at));
+            }
+            Ok(Statement::AssignSet {
+                target: place,
+                low: base.low,
+                high: base.high,
+                value,
+                line,
+            })
+        }
+        Ty::Simple(_)
+        | Ty::Pointer { .. }
+        | Ty::Nil
+        | Ty::EmptySet
+        | Ty::Text { .. }
+        | Ty::Array { .. }
+        | Ty::Record { .. } => Err(not_assignable(at)),
+    }
+}
+
+/// An assignment; the `:=` is at `at`.
+#[tactic(auto, unfolding(crate::specs::Assignments::assigned, ps_typing::specs::View::value_of, ps_tree::specs::View::statement_of))]
+fn assigned(
+    variable: TypedPlace,
+    value: TypedValue,
+    line: Line,
+    at: u32,
+) -> Result<Statement, Fault>
+    ensures ok { IfOk result (λ s. assigned (variable_of variable) (value_of value) line.number ≡ Some (statement_of s)) }
+    ensures err { IfErr result (λ fault. IsFault fault → assigned (variable_of variable) (value_of value) line.number ≡ None) }
+{
+    match value {
+        TypedValue::Simple(value, from) => {
+            if !assignable(&from, &variable.ty) {
+                return Err(not_assignable(at));
+            }
+            Ok(Statement::Assign {
+                range: range_of(&variable.ty),
+                target: variable.place,
+                value,
+                line,
+            })
+        }
+        TypedValue::Set(value, from) => set_assigned(variable, value, from, line, at),
+        TypedValue::Structure(value, from) => {
+            if !assignable(&from, &variable.ty) {
+                return Err(not_assignable(at));
+            }
+            Ok(Statement::AssignStructure {
+                target: variable.place,
+                value,
+            })
+        }
+    }
+}
+
+/// An assignment statement, with its `:=`.
+pub(crate) fn assignment(
+    x: &Variable,
+    site: Site<'_>,
+    at: Span,
+    y: &Expr,
+) -> Result<Statement, Fault>
+    ensures ok { IfOk result (λ s. assignment (context_at site.entry) (regions_at site.entry) x.now at y.now ≡ Some (statement_of s)) }
+    ensures err { IfErr result (λ fault. IsFault fault → assignment (context_at site.entry) (regions_at site.entry) x.now at y.now ≡ None) }
+{
+    let variable = target(x, site)?;
+    let value = expr_value(y, site)?;
+    assigned(variable, value, site.reading.line(at.from), at.from)
+}

@@ -1,0 +1,183 @@
+// What stands before `do` in a `for` statement (6.8.3.9).
+
+ghost use Rattle.std.specs.Prelude.{◌≡◌, IfOk, IfErr, Some, None};
+ghost use Rattle.ps_tree.specs.View.{type_of, expr_of, statement_of};
+ghost use Rattle.ps_regions.specs.Refusal.{IsFault};
+ghost use Rattle.ps_regions.specs.Views.{point_of};
+ghost use Rattle.ps_typing.specs.View.{context_at, regions_at, value_of};
+ghost use Rattle.ps_statements.specs.Structured.{control_at, bound, bound_at, direction_of, repeated};
+ghost use Rattle.ps_statements.specs.Statements.{for_head};
+ghost use Rattle.ps_statements.specs.View.{head_of};
+
+use crate::threat::{Control, in_statement};
+use ps_changes::threat::is_threat;
+use ps_regions::meaning::Meaning;
+use ps_regions::refusal::{Fault, Rule};
+use ps_regions::scope::Found;
+use ps_syntax::{Direction as Way, Expr as Syntax, Statement as SyntaxStatement};
+use ps_text::Span;
+use ps_tree::line::Line;
+use ps_tree::tree::{Direction, Expr, Statement};
+use ps_tree::types::{Ordinal, Ty, compatible};
+use ps_typing::expression::expr_value;
+use ps_typing::operators::wrong_type;
+use ps_typing::place::wrong_kind;
+use ps_typing::site::Site;
+use ps_typing::value::TypedValue;
+
+/// The control variable by its entry, with its type, and the bounds with the lines of their first tokens.
+#[derive(Drop)]
+pub struct Head {
+    pub variable: u32,
+    pub ordinal: Ordinal,
+    pub first: Expr,
+    pub first_line: Line,
+    pub direction: Direction,
+    pub last: Expr,
+    pub last_line: Line,
+}
+
+/// The refusal of a control variable; the name is at `at`.
+fn wrong_control(at: u32) -> Fault
+    ensures { IsFault result }
+{
+    Fault::Broken {
+        rule: Rule::ControlVariable,
+        at,
+    }
+}
+
+/// The control variable that a name denotes; the name is at `at`.
+#[tactic(auto, unfolding(crate::specs::Structured::control_at, ps_regions::specs::Views::meaning_of, ps_tree::specs::View::type_of))]
+fn control_found(found: Found<'_>, at: u32) -> Result<(u32, Ordinal), Fault>
+    ensures ok { IfOk result (λ control. control_at (point_of found.entry) ≡ Some control) }
+    ensures err { IfErr result (λ fault. IsFault fault → control_at (point_of found.entry) ≡ None) }
+{
+    match found {
+        Found::Field { .. } => Err(wrong_control(at)),
+        Found::Name { up, meaning } => match meaning {
+            Meaning::Variable { entry, ty } => match ty {
+                Ty::Simple(ordinal) => {
+                    if up != 0 {
+                        return Err(wrong_control(at));
+                    }
+                    Ok((*entry, *ordinal))
+                }
+                Ty::Pointer { .. }
+                | Ty::Nil
+                | Ty::Set { .. }
+                | Ty::EmptySet
+                | Ty::Text { .. }
+                | Ty::Array { .. }
+                | Ty::Record { .. } => Err(wrong_type(at)),
+            },
+            Meaning::Parameter { .. } => Err(wrong_control(at)),
+            Meaning::Constant { .. }
+            | Meaning::Text(_)
+            | Meaning::Type(_)
+            | Meaning::RoutineParameter { .. }
+            | Meaning::Routine(_)
+            | Meaning::Required(_) => Err(wrong_kind(at)),
+            Meaning::File(_) | Meaning::LeftOut => Err(Fault::Broken {
+                rule: Rule::NotInProfile,
+                at,
+            }),
+        },
+    }
+}
+
+/// A bound of the type of the control variable, which begins at `at`.
+#[tactic(auto, unfolding(crate::specs::Structured::bound, ps_typing::specs::View::value_of, ps_tree::specs::View::type_of))]
+fn bound(value: TypedValue, ordinal: Ordinal, at: u32) -> Result<Expr, Fault>
+    ensures ok { IfOk result (λ e. bound ordinal (value_of value) ≡ Some (expr_of e)) }
+    ensures err { IfErr result (λ fault. IsFault fault → bound ordinal (value_of value) ≡ None) }
+{
+    match value {
+        TypedValue::Simple(value, ty) => {
+            if !compatible(&ty, &Ty::Simple(ordinal)) {
+                return Err(wrong_type(at));
+            }
+            Ok(value)
+        }
+        TypedValue::Set(..) | TypedValue::Structure(..) => Err(wrong_type(at)),
+    }
+}
+
+fn bound_at(x: &Syntax, site: Site<'_>, ordinal: Ordinal) -> Result<Expr, Fault>
+    ensures ok { IfOk result (λ e. bound_at (context_at site.entry) (regions_at site.entry) ordinal x.now ≡ Some (expr_of e)) }
+    ensures err { IfErr result (λ fault. IsFault fault → bound_at (context_at site.entry) (regions_at site.entry) ordinal x.now ≡ None) }
+{
+    let value = expr_value(x, site)?;
+    bound(value, ordinal, x.first_token())
+}
+
+fn direction_of(way: Way) -> Direction
+    ensures { result ≡ direction_of way }
+{
+    match way {
+        Way::Up => Direction::To,
+        Way::Down => Direction::Downto,
+    }
+}
+
+/// The head of a `for` statement: the name of the control variable, and the bounds.
+pub(crate) fn for_head(
+    site: Site<'_>,
+    name: Span,
+    x: &Syntax,
+    way: Way,
+    y: &Syntax,
+) -> Result<Head, Fault>
+    ensures ok { IfOk result (λ h. for_head (context_at site.entry) (regions_at site.entry) name x.now way y.now ≡ Some (head_of h)) }
+    ensures err { IfErr result (λ fault. IsFault fault → for_head (context_at site.entry) (regions_at site.entry) name x.now way y.now ≡ None) }
+{
+    let found = site.denoted(name)?;
+    let (variable, ordinal) = control_found(found, name.from)?;
+    let first = bound_at(x, site, ordinal)?;
+    let last = bound_at(y, site, ordinal)?;
+    Ok(Head {
+        variable,
+        ordinal,
+        first,
+        first_line: site.reading.line(x.first_token()),
+        direction: direction_of(way),
+        last,
+        last_line: site.reading.line(y.first_token()),
+    })
+}
+
+/// The `for` statement that repeats a statement, of which `x` is the text; the name of the control variable stands at
+/// the `for`. The statement doesn't threaten it.
+#[tactic(auto, unfolding(crate::specs::Structured::repeated, ps_tree::specs::View::statement_of))]
+pub(crate) fn repeated(
+    site: Site<'_>,
+    head: Head,
+    body: Box<Statement>,
+    x: &SyntaxStatement,
+    name: Span,
+) -> Result<Statement, Fault>
+    ensures ok { IfOk result (λ s. repeated (head_of head) (statement_of body.value) ≡ Some (statement_of s)) }
+    ensures err { IfErr result (λ fault. IsFault fault → repeated (head_of head) (statement_of body.value) ≡ None) }
+{
+    if is_threat(&body, 0, head.variable) {
+        let control = Control {
+            reading: site.reading,
+            name,
+            up: 0,
+            entry: head.variable,
+        };
+        let at = in_statement(x, &body, control).unwrap_or(name.from);
+        return Err(wrong_control(at));
+    }
+    Ok(Statement::For {
+        variable: head.variable,
+        low: head.ordinal.low,
+        high: head.ordinal.high,
+        from: head.first,
+        from_line: head.first_line,
+        direction: head.direction,
+        to: head.last,
+        to_line: head.last_line,
+        body,
+    })
+}

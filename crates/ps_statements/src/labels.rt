@@ -1,0 +1,133 @@
+// Case constants (6.8.3.5).
+
+ghost use Rattle.std.specs.Prelude.{◌≡◌, map, is_none, IfOk, IfErr, Some, None, MatchOption};
+ghost use Rattle.ps_tree.specs.View.{expr_of, statement_of};
+ghost use Rattle.ps_regions.specs.Option.{traverse, steps};
+ghost use Rattle.ps_regions.specs.Refusal.{IsFault};
+ghost use Rattle.ps_regions.specs.Views.{constant_of};
+ghost use Rattle.ps_typing.specs.View.{context_at, regions_at};
+ghost use Rattle.ps_statements.specs.Structured.{case_constant, case_label, fresh, are_distinct};
+ghost use Rattle.ps_statements.specs.Statements.{case_behind};
+ghost use Rattle.ps_statements.specs.View.{element_of};
+
+use indexmap::IndexSet;
+use ps_regions::constants::{ConstantValue, constant};
+use ps_regions::refusal::{Fault, Rule};
+use ps_syntax::{Constant, Element};
+use ps_text::Span;
+use ps_tree::tree::{CaseElement, Expr, Statement};
+use ps_tree::types::{Ordinal, same_host};
+use ps_typing::operators::wrong_type;
+use ps_typing::site::Site;
+use std::alloc::{AllocError, Global};
+
+/// The value of a case constant, which begins at `at`; the index is of an ordinal type.
+#[tactic(auto, unfolding(crate::specs::Structured::case_constant, ps_regions::specs::Views::constant_of))]
+fn case_constant(value: ConstantValue, index: Ordinal, at: u32) -> Result<i32, Fault>
+    ensures ok { IfOk result (λ n. case_constant index (constant_of value) ≡ Some n) }
+    ensures err { IfErr result (λ fault. IsFault fault → case_constant index (constant_of value) ≡ None) }
+{
+    match value {
+        ConstantValue::Ordinal(ordinal, number) => {
+            if !same_host(index.host, ordinal.host) {
+                return Err(wrong_type(at));
+            }
+            Ok(number)
+        }
+        ConstantValue::Text(_) => Err(wrong_type(at)),
+    }
+}
+
+fn case_label(site: Site<'_>, index: Ordinal, label: Constant) -> Result<i32, Fault>
+    ensures ok { IfOk result (λ n. case_label (context_at site.entry) (regions_at site.entry) index label ≡ Some n) }
+    ensures err { IfErr result (λ fault. IsFault fault → case_label (context_at site.entry) (regions_at site.entry) index label ≡ None) }
+{
+    let value = constant(site.reading, site.alloc, site.scope, label)?;
+    case_constant(value, index, label.first_token())
+}
+
+/// The values of a case element's constants; the index is of an ordinal type.
+pub(crate) fn case_labels(
+    site: Site<'_>,
+    index: Ordinal,
+    labels: &[Constant],
+) -> Result<Vec<i32>, Fault>
+    ensures ok { IfOk result (λ list. traverse (case_label (context_at site.entry) (regions_at site.entry) index) labels.now ≡ Some list.items) }
+    ensures err { IfErr result (λ fault. IsFault fault → traverse (case_label (context_at site.entry) (regions_at site.entry) index) labels.now ≡ None) }
+{
+    let mut list = Vec::new(site.alloc);
+    for label in labels {
+        list.push(case_label(site, index, *label)?)?;
+    }
+    Ok(list)
+}
+
+/// Adds case constants to those seen, up to the first that is among them, whose place is told.
+fn add_labels(seen: &mut IndexSet<i32>, labels: &[i32]) -> Result<Option<usize>, AllocError>
+    ensures { IfOk result (λ repeated. MatchOption repeated (steps fresh seen.old.keys labels.now ≡ Some seen.new.keys) (λ _. steps fresh seen.old.keys labels.now ≡ None)) }
+{
+    for i in 0..labels.len() {
+        let (_, is_new) = seen.insert_full(labels[i])?;
+        if !is_new {
+            return Ok(Some(i));
+        }
+    }
+    Ok(None)
+}
+
+/// The first case constant that stands for a second time: its element and its place there.
+fn repeated_label(
+    alloc: Global,
+    elements: &[CaseElement],
+) -> Result<Option<(usize, usize)>, AllocError>
+    ensures { IfOk result (λ repeated. is_none repeated ≡ are_distinct (map element_of elements.now)) }
+{
+    let mut seen = IndexSet::new(alloc);
+    for i in 0..elements.len() {
+        match add_labels(&mut seen, &elements[i].constants)? {
+            None => {}
+            Some(place) => return Ok(Some((i, place))),
+        }
+    }
+    Ok(None)
+}
+
+/// The refusal of a case constant that stands for a second time; the `case` is at `at`.
+fn case_twice(elements: &[Element], place: (usize, usize), at: u32) -> Fault
+    ensures { IsFault result }
+{
+    let label = match elements.get(place.0) {
+        None => None,
+        Some(element) => element.constants.get(place.1),
+    };
+    Fault::Broken {
+        rule: Rule::CaseTwice,
+        at: match label {
+            None => at,
+            Some(label) => label.first_token(),
+        },
+    }
+}
+
+/// A `case` statement of an index and typed elements, of which `list` is the text; its `case` is at `at`. No constant
+/// stands for a second time.
+#[tactic(auto, using(crate::proofs::Equations::elements_listed, ps_tree::proofs::StatementLemmas::statement_of_Case))]
+pub(crate) fn case_behind(
+    site: Site<'_>,
+    list: &[Element],
+    at: Span,
+    index: Expr,
+    elements: Vec<CaseElement>,
+) -> Result<Statement, Fault>
+    ensures ok { IfOk result (λ s. case_behind (context_at site.entry) (expr_of index) (map element_of elements.items) at ≡ Some (statement_of s)) }
+    ensures err { IfErr result (λ fault. IsFault fault → case_behind (context_at site.entry) (expr_of index) (map element_of elements.items) at ≡ None) }
+{
+    match repeated_label(site.alloc, &elements)? {
+        None => Ok(Statement::Case {
+            index,
+            elements,
+            line: site.reading.line(at.from),
+        }),
+        Some(place) => Err(case_twice(list, place, at.from)),
+    }
+}

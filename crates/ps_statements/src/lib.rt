@@ -1,0 +1,15 @@
+//! The typing of statements (ISO 7185, 6.8 and 6.9).
+#![tactic(auto)]
+
+mod argument;
+mod assignment;
+mod counting;
+mod file;
+mod heap;
+mod labels;
+mod procedure;
+pub mod statement;
+#[cfg(test)]
+mod tests;
+mod text;
+pub mod threat;
