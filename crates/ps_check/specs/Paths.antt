@@ -26,7 +26,8 @@ block_at b [] = Some b
 block_at b (k ∷ v) = block_at b v >>= (λ a. slice_get (out-Block a).routines k >>= routine_block)
 
 -- The regions that enclose the block at a path, from the inside out: those of the blocks round it, each with all its defining points in the tree,
--- those after the place too, and the region of the required names round the program. What is known of a region's names are the meanings of the first ones.
+-- those after the place too, and the region of the required names round the program. Left open are the numbers of the blocks' routines, the meanings of
+-- the names, and which names stand before a block's own.
 pub data IsEnclosed (c : Context) (root : Block) : List ℕ → List Region → Type 0 where
   outermost : IsEnclosed c root [] (required ∷ [])
   within : (k number : ℕ) (v : List ℕ) (a : Block) (first names : List (List ℕ)) (known : List Meaning) (Γ : List Region) → block_at root v ≡ Some a → AreNames c.text (layer c a) first names → IsEnclosed c root v Γ → IsEnclosed c root (k ∷ v) (BlockRegion number names known ∷ Γ)
