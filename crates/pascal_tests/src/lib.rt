@@ -1,6 +1,8 @@
-//! Tests of the calls of the command, with values from the descriptions in docs/.
+//! Tests of the public calls of ps_build and of the command, with values from the descriptions in docs/.
 #![tactic(auto)]
 
+#[cfg(test)]
+mod builds;
 #[cfg(test)]
 mod devices;
 #[cfg(test)]

@@ -7,8 +7,6 @@ mod outcome;
 mod refusal;
 mod run;
 mod strings;
-#[cfg(test)]
-mod tests;
 
 pub use built::{Built, build};
 pub use outcome::{FaultKind, Outcome};

@@ -1,10 +1,11 @@
 -- What statements change, on small trees.
-use Rattle.std.proofs.Common.{◌≡◌, ℕ, pos, [], ◌∷◌, true, false, refl}
+use Rattle.std.proofs.Common.{◌≡◌, ℕ, Bool, pos, [], ◌∷◌, true, false, refl}
 use Rattle.ps_tree.specs.declared.tree.Range.TheVariants.{Any}
 use Rattle.ps_tree.specs.declared.tree.Direction.TheVariants.{To}
 use Rattle.ps_tree.specs.Types.{PointerType}
 use Rattle.ps_tree.specs.Tree.{Place, Entry, Element, Expr, Number, Load, In, Call, Constructor, One, no_member, member_before, ByValue, ByVariable, no_argument, argument_before, ReadInteger, GivenWidth, WriteInteger, Statement, Empty, Assign, CallProcedure, If, IfElse, Case, While, Repeat, For, With, Read, Readln, Write, no_statement, statement_before, no_element, element_before}
-use Rattle.ps_changes.specs.Changes.{place_threatens, expr_threatens, set_threatens, members_threaten, member_threatens, argument_threatens, arguments_threaten, read_threatens, reads_threaten, width_threatens, parameter_threatens, parameters_threaten, places_threaten, statement_threatens, statements_threaten, elements_threaten, statement_controls, statements_control, statement_assigns, statements_assign}
+use Rattle.ps_changes.specs.declared.place.Entries.TheVariants as entries
+use Rattle.ps_changes.specs.Changes.{watched_of, place_threatens, expr_threatens, set_threatens, members_threaten, member_threatens, argument_threatens, arguments_threaten, read_threatens, reads_threaten, width_threatens, parameter_threatens, parameters_threaten, places_threaten, statement_threatens, statements_threaten, elements_threaten, statement_controls, statements_control, statement_assigns, statements_assign}
 
 -- f(v), with v the variable at `index` of the routine `up` levels out, passed as a variable parameter, and its value passed
 abbrev pub changing : ℕ → ℕ → Expr
@@ -24,70 +25,74 @@ loop v s = For v (pos 0) (pos 9) (Number (pos 1)) 1 To (Number (pos 9)) 1 s
 abbrev pub component : Expr → Place
 component e = Element (Entry 0 7) (PointerType 0) e 1
 
+-- one entry is asked for
+abbrev pub only : ℕ → ℕ → Bool
+only index = watched_of (entries.One index)
+
 -- an assignment to the entry itself, and not to one of another level or to one whose index it is
-assignment : statement_threatens 0 3 (set_entry 0 3 (Number (pos 1))) ≡ true
+assignment : statement_threatens 0 (only 3) (set_entry 0 3 (Number (pos 1))) ≡ true
 unfolding statement_threatens
 assignment = refl
 
-other_level : statement_threatens 0 3 (set_entry 1 3 (Number (pos 1))) ≡ false
+other_level : statement_threatens 0 (only 3) (set_entry 1 3 (Number (pos 1))) ≡ false
 unfolding statement_threatens place_threatens expr_threatens
 other_level = refl
 
-level_out : statement_threatens 1 3 (set_entry 1 3 (Number (pos 1))) ≡ true
+level_out : statement_threatens 1 (only 3) (set_entry 1 3 (Number (pos 1))) ≡ true
 unfolding statement_threatens
 level_out = refl
 
-as_an_index : statement_threatens 0 3 (Assign (component (Load (Entry 0 3))) Any (Load (Entry 0 3)) 1) ≡ false
+as_an_index : statement_threatens 0 (only 3) (Assign (component (Load (Entry 0 3))) Any (Load (Entry 0 3)) 1) ≡ false
 unfolding statement_threatens place_threatens expr_threatens
 as_an_index = refl
 
 -- a variable parameter, wherever the call stands
-in_an_index : statement_threatens 0 3 (Assign (component (changing 0 3)) Any (Number (pos 1)) 1) ≡ true
+in_an_index : statement_threatens 0 (only 3) (Assign (component (changing 0 3)) Any (Number (pos 1)) 1) ≡ true
 unfolding statement_threatens place_threatens expr_threatens arguments_threaten argument_threatens
 in_an_index = refl
 
-by_value : statement_threatens 0 3 (set_entry 0 4 (using_value 0 3)) ≡ false
+by_value : statement_threatens 0 (only 3) (set_entry 0 4 (using_value 0 3)) ≡ false
 unfolding statement_threatens place_threatens expr_threatens arguments_threaten argument_threatens
 by_value = refl
 
-in_a_call : statement_threatens 0 3 (CallProcedure 1 1 (argument_before (ByValue (changing 0 3) Any 1) no_argument) 1) ≡ true
+in_a_call : statement_threatens 0 (only 3) (CallProcedure 1 1 (argument_before (ByValue (changing 0 3) Any 1) no_argument) 1) ≡ true
 unfolding statement_threatens place_threatens expr_threatens arguments_threaten argument_threatens
 in_a_call = refl
 
-in_a_condition : statement_threatens 0 3 (While (In (Number (pos 1)) (Constructor (member_before (One (changing 0 3) 1) no_member))) Empty) ≡ true
+in_a_condition : statement_threatens 0 (only 3) (While (In (Number (pos 1)) (Constructor (member_before (One (changing 0 3) 1) no_member))) Empty) ≡ true
 unfolding statement_threatens place_threatens expr_threatens set_threatens members_threaten member_threatens arguments_threaten argument_threatens
 in_a_condition = refl
 
-in_a_bound : statement_threatens 0 3 (For 4 (pos 0) (pos 9) (Number (pos 1)) 1 To (changing 0 3) 1 Empty) ≡ true
+in_a_bound : statement_threatens 0 (only 3) (For 4 (pos 0) (pos 9) (Number (pos 1)) 1 To (changing 0 3) 1 Empty) ≡ true
 unfolding statement_threatens place_threatens expr_threatens arguments_threaten argument_threatens
 in_a_bound = refl
 
-in_a_width : statement_threatens 0 3 (Write (WriteInteger (Number (pos 1)) (GivenWidth (changing 0 3) 1) ∷ [])) ≡ true
+in_a_width : statement_threatens 0 (only 3) (Write (WriteInteger (Number (pos 1)) (GivenWidth (changing 0 3) 1) ∷ [])) ≡ true
 unfolding statement_threatens place_threatens expr_threatens parameters_threaten parameter_threatens width_threatens arguments_threaten argument_threatens
 in_a_width = refl
 
-in_a_with : statement_threatens 0 3 (With (component (changing 0 3) ∷ []) Empty) ≡ true
+in_a_with : statement_threatens 0 (only 3) (With (component (changing 0 3) ∷ []) Empty) ≡ true
 unfolding statement_threatens place_threatens expr_threatens places_threaten arguments_threaten argument_threatens
 in_a_with = refl
 
-in_a_case : statement_threatens 0 3 (Case (changing 0 3) no_element 1) ≡ true
+in_a_case : statement_threatens 0 (only 3) (Case (changing 0 3) no_element 1) ≡ true
 unfolding statement_threatens place_threatens expr_threatens arguments_threaten argument_threatens
 in_a_case = refl
 
 -- read, a `for` statement of the routine itself, and statements within statements
-reading : statement_threatens 0 3 (Readln (ReadInteger (Entry 0 4) (pos 0) (pos 9) 1 ∷ ReadInteger (Entry 0 3) (pos 0) (pos 9) 1 ∷ []) 1) ≡ true
+reading : statement_threatens 0 (only 3) (Readln (ReadInteger (Entry 0 4) (pos 0) (pos 9) 1 ∷ ReadInteger (Entry 0 3) (pos 0) (pos 9) 1 ∷ []) 1) ≡ true
 unfolding statement_threatens place_threatens reads_threaten read_threatens
 reading = refl
 
-controlling : statement_threatens 0 3 (loop 3 Empty) ≡ true
+controlling : statement_threatens 0 (only 3) (loop 3 Empty) ≡ true
 unfolding statement_threatens
 controlling = refl
 
-controlling_its_own : statement_threatens 1 3 (loop 3 Empty) ≡ false
+controlling_its_own : statement_threatens 1 (only 3) (loop 3 Empty) ≡ false
 unfolding statement_threatens expr_threatens
 controlling_its_own = refl
 
-deep : statements_threaten 0 3 (statement_before Empty (statement_before (Repeat (statement_before (If (Number (pos 1)) (Case (Number (pos 1)) (element_before [] (set_entry 0 3 (Number (pos 1))) no_element) 1)) no_statement) (Number (pos 1))) no_statement)) ≡ true
+deep : statements_threaten 0 (only 3) (statement_before Empty (statement_before (Repeat (statement_before (If (Number (pos 1)) (Case (Number (pos 1)) (element_before [] (set_entry 0 3 (Number (pos 1))) no_element) 1)) no_statement) (Number (pos 1))) no_statement)) ≡ true
 unfolding statements_threaten statement_threatens elements_threaten place_threatens expr_threatens
 deep = refl
 

@@ -1,3 +1,4 @@
+pub mod Marking
 pub mod Walks
 pub mod Lists
 pub mod Examples

@@ -14,82 +14,82 @@ use Rattle.ps_tree.proofs.TreeLemmas.{expr_of_Call, expr_of_CallFormal}
 use Rattle.ps_tree.proofs.StatementLemmas.{statement_of_Repeat, statement_of_Case}
 use Rattle.ps_changes.specs.Changes.{place_threatens, expr_threatens, member_threatens, members_threaten, argument_threatens, arguments_threaten, places_threaten, read_threatens, reads_threaten, parameter_threatens, parameters_threaten, statement_threatens, statements_threaten, elements_threaten, statement_controls, statements_control, elements_control, statement_assigns, statements_assign, elements_assign}
 
-abbrev pub arguments_answer : ℕ → ℕ → List Argument → Bool
-arguments_answer up index items = arguments_threaten up index (arguments_of items)
+abbrev pub arguments_answer : ℕ → (ℕ → Bool) → List Argument → Bool
+arguments_answer up watched items = arguments_threaten up watched (arguments_of items)
 
-pub arguments_none : (up index : ℕ) → arguments_answer up index [] ≡ false
+pub arguments_none : (up : ℕ) (watched : ℕ → Bool) → arguments_answer up watched [] ≡ false
 unfolding arguments_threaten arguments_of
-arguments_none up index = refl
+arguments_none up watched = refl
 
-pub arguments_more : (up index : ℕ) (x : Argument) (xs : List Argument) → arguments_answer up index (x ∷ xs) ≡ argument_threatens up index (argument_of x) || arguments_answer up index xs
+pub arguments_more : (up : ℕ) (watched : ℕ → Bool) (x : Argument) (xs : List Argument) → arguments_answer up watched (x ∷ xs) ≡ argument_threatens up watched (argument_of x) || arguments_answer up watched xs
 unfolding arguments_threaten arguments_of
-arguments_more up index x xs = refl
+arguments_more up watched x xs = refl
 
-abbrev pub members_answer : ℕ → ℕ → List Member → Bool
-members_answer up index items = members_threaten up index (members_of items)
+abbrev pub members_answer : ℕ → (ℕ → Bool) → List Member → Bool
+members_answer up watched items = members_threaten up watched (members_of items)
 
-pub members_none : (up index : ℕ) → members_answer up index [] ≡ false
+pub members_none : (up : ℕ) (watched : ℕ → Bool) → members_answer up watched [] ≡ false
 unfolding members_threaten members_of
-members_none up index = refl
+members_none up watched = refl
 
-pub members_more : (up index : ℕ) (x : Member) (xs : List Member) → members_answer up index (x ∷ xs) ≡ member_threatens up index (member_of x) || members_answer up index xs
+pub members_more : (up : ℕ) (watched : ℕ → Bool) (x : Member) (xs : List Member) → members_answer up watched (x ∷ xs) ≡ member_threatens up watched (member_of x) || members_answer up watched xs
 unfolding members_threaten members_of
-members_more up index x xs = refl
+members_more up watched x xs = refl
 
-abbrev pub places_answer : ℕ → ℕ → List Place → Bool
-places_answer up index items = places_threaten up index (map place_of items)
+abbrev pub places_answer : ℕ → (ℕ → Bool) → List Place → Bool
+places_answer up watched items = places_threaten up watched (map place_of items)
 
-pub places_none : (up index : ℕ) → places_answer up index [] ≡ false
+pub places_none : (up : ℕ) (watched : ℕ → Bool) → places_answer up watched [] ≡ false
 unfolding places_threaten
-places_none up index = refl
+places_none up watched = refl
 
-pub places_more : (up index : ℕ) (x : Place) (xs : List Place) → places_answer up index (x ∷ xs) ≡ place_threatens up index (place_of x) || places_answer up index xs
+pub places_more : (up : ℕ) (watched : ℕ → Bool) (x : Place) (xs : List Place) → places_answer up watched (x ∷ xs) ≡ place_threatens up watched (place_of x) || places_answer up watched xs
 unfolding places_threaten
-places_more up index x xs = refl
+places_more up watched x xs = refl
 
-abbrev pub reads_answer : ℕ → ℕ → List ReadVariable → Bool
-reads_answer up index items = reads_threaten up index (map read_of items)
+abbrev pub reads_answer : ℕ → (ℕ → Bool) → List ReadVariable → Bool
+reads_answer up watched items = reads_threaten up watched (map read_of items)
 
-pub reads_none : (up index : ℕ) → reads_answer up index [] ≡ false
+pub reads_none : (up : ℕ) (watched : ℕ → Bool) → reads_answer up watched [] ≡ false
 unfolding reads_threaten
-reads_none up index = refl
+reads_none up watched = refl
 
-pub reads_more : (up index : ℕ) (x : ReadVariable) (xs : List ReadVariable) → reads_answer up index (x ∷ xs) ≡ read_threatens up index (read_of x) || reads_answer up index xs
+pub reads_more : (up : ℕ) (watched : ℕ → Bool) (x : ReadVariable) (xs : List ReadVariable) → reads_answer up watched (x ∷ xs) ≡ read_threatens up watched (read_of x) || reads_answer up watched xs
 unfolding reads_threaten
-reads_more up index x xs = refl
+reads_more up watched x xs = refl
 
-abbrev pub parameters_answer : ℕ → ℕ → List WriteParameter → Bool
-parameters_answer up index items = parameters_threaten up index (map write_of items)
+abbrev pub parameters_answer : ℕ → (ℕ → Bool) → List WriteParameter → Bool
+parameters_answer up watched items = parameters_threaten up watched (map write_of items)
 
-pub parameters_none : (up index : ℕ) → parameters_answer up index [] ≡ false
+pub parameters_none : (up : ℕ) (watched : ℕ → Bool) → parameters_answer up watched [] ≡ false
 unfolding parameters_threaten
-parameters_none up index = refl
+parameters_none up watched = refl
 
-pub parameters_more : (up index : ℕ) (x : WriteParameter) (xs : List WriteParameter) → parameters_answer up index (x ∷ xs) ≡ parameter_threatens up index (write_of x) || parameters_answer up index xs
+pub parameters_more : (up : ℕ) (watched : ℕ → Bool) (x : WriteParameter) (xs : List WriteParameter) → parameters_answer up watched (x ∷ xs) ≡ parameter_threatens up watched (write_of x) || parameters_answer up watched xs
 unfolding parameters_threaten
-parameters_more up index x xs = refl
+parameters_more up watched x xs = refl
 
-abbrev pub statements_answer : ℕ → ℕ → List Statement → Bool
-statements_answer up index items = statements_threaten up index (statements_of items)
+abbrev pub statements_answer : ℕ → (ℕ → Bool) → List Statement → Bool
+statements_answer up watched items = statements_threaten up watched (statements_of items)
 
-pub statements_none : (up index : ℕ) → statements_answer up index [] ≡ false
+pub statements_none : (up : ℕ) (watched : ℕ → Bool) → statements_answer up watched [] ≡ false
 unfolding statements_threaten statements_of
-statements_none up index = refl
+statements_none up watched = refl
 
-pub statements_more : (up index : ℕ) (x : Statement) (xs : List Statement) → statements_answer up index (x ∷ xs) ≡ statement_threatens up index (statement_of x) || statements_answer up index xs
+pub statements_more : (up : ℕ) (watched : ℕ → Bool) (x : Statement) (xs : List Statement) → statements_answer up watched (x ∷ xs) ≡ statement_threatens up watched (statement_of x) || statements_answer up watched xs
 unfolding statements_threaten statements_of
-statements_more up index x xs = refl
+statements_more up watched x xs = refl
 
-abbrev pub elements_answer : ℕ → ℕ → List CaseElement → Bool
-elements_answer up index items = elements_threaten up index (elements_of items)
+abbrev pub elements_answer : ℕ → (ℕ → Bool) → List CaseElement → Bool
+elements_answer up watched items = elements_threaten up watched (elements_of items)
 
-pub elements_none : (up index : ℕ) → elements_answer up index [] ≡ false
+pub elements_none : (up : ℕ) (watched : ℕ → Bool) → elements_answer up watched [] ≡ false
 unfolding elements_threaten elements_of
-elements_none up index = refl
+elements_none up watched = refl
 
-pub elements_more : (up index : ℕ) (x : CaseElement) (xs : List CaseElement) → elements_answer up index (x ∷ xs) ≡ statement_threatens up index (statement_of (out-CaseElement x).body) || elements_answer up index xs
+pub elements_more : (up : ℕ) (watched : ℕ → Bool) (x : CaseElement) (xs : List CaseElement) → elements_answer up watched (x ∷ xs) ≡ statement_threatens up watched (statement_of (out-CaseElement x).body) || elements_answer up watched xs
 unfolding elements_threaten elements_of
-elements_more up index x xs = refl
+elements_more up watched x xs = refl
 
 abbrev pub assigning_answer : ℕ → ℕ → List Statement → Bool
 assigning_answer up index items = statements_assign up index (statements_of items)
@@ -135,21 +135,21 @@ pub element_controls_more : (x : CaseElement) (xs : List CaseElement) → elemen
 unfolding elements_control elements_of
 element_controls_more x xs = refl
 
-pub call_threatens : (up index : ℕ) (e : Expr) (routine levels : ℕ) (v : Vec Argument Global) (line : Line) (items : List Argument) → e ≡ Call routine levels v line → items ≡ v.items → arguments_threaten up index (arguments_of items) ≡ expr_threatens up index (expr_of e)
+pub call_threatens : (up : ℕ) (watched : ℕ → Bool) (e : Expr) (routine levels : ℕ) (v : Vec Argument Global) (line : Line) (items : List Argument) → e ≡ Call routine levels v line → items ≡ v.items → arguments_threaten up watched (arguments_of items) ≡ expr_threatens up watched (expr_of e)
 unfolding expr_threatens
-call_threatens up index e routine levels v line items f g = ap (arguments_answer up index) g ∙ sym (ap (expr_threatens up index) (ap expr_of f ∙ expr_of_Call routine levels v line))
+call_threatens up watched e routine levels v line items f g = ap (arguments_answer up watched) g ∙ sym (ap (expr_threatens up watched) (ap expr_of f ∙ expr_of_Call routine levels v line))
 
-pub call_formal_threatens : (up index : ℕ) (e : Expr) (levels number : ℕ) (v : Vec Argument Global) (line : Line) (items : List Argument) → e ≡ CallFormal levels number v line → items ≡ v.items → arguments_threaten up index (arguments_of items) ≡ expr_threatens up index (expr_of e)
+pub call_formal_threatens : (up : ℕ) (watched : ℕ → Bool) (e : Expr) (levels number : ℕ) (v : Vec Argument Global) (line : Line) (items : List Argument) → e ≡ CallFormal levels number v line → items ≡ v.items → arguments_threaten up watched (arguments_of items) ≡ expr_threatens up watched (expr_of e)
 unfolding expr_threatens
-call_formal_threatens up index e levels number v line items f g = ap (arguments_answer up index) g ∙ sym (ap (expr_threatens up index) (ap expr_of f ∙ expr_of_CallFormal levels number v line))
+call_formal_threatens up watched e levels number v line items f g = ap (arguments_answer up watched) g ∙ sym (ap (expr_threatens up watched) (ap expr_of f ∙ expr_of_CallFormal levels number v line))
 
 -- where the index of a case statement threatens nothing
-pub case_threatens : (up index : ℕ) (s : Statement) (e : Expr) (v : Vec CaseElement Global) (line : Line) (items : List CaseElement) (b : Bool) → s ≡ Case e v line → items ≡ v.items → b ≡ expr_threatens up index (expr_of e) → b ≡ false → elements_threaten up index (elements_of items) ≡ statement_threatens up index (statement_of s)
+pub case_threatens : (up : ℕ) (watched : ℕ → Bool) (s : Statement) (e : Expr) (v : Vec CaseElement Global) (line : Line) (items : List CaseElement) (b : Bool) → s ≡ Case e v line → items ≡ v.items → b ≡ expr_threatens up watched (expr_of e) → b ≡ false → elements_threaten up watched (elements_of items) ≡ statement_threatens up watched (statement_of s)
 unfolding statement_threatens
-case_threatens up index s e v line items b f g h k =
-    ap (elements_answer up index) g
-    ∙ ap (λ x. x || elements_answer up index v.items) (sym k ∙ h)
-    ∙ sym (ap (statement_threatens up index) (ap statement_of f ∙ statement_of_Case e v line))
+case_threatens up watched s e v line items b f g h k =
+    ap (elements_answer up watched) g
+    ∙ ap (λ x. x || elements_answer up watched v.items) (sym k ∙ h)
+    ∙ sym (ap (statement_threatens up watched) (ap statement_of f ∙ statement_of_Case e v line))
 
 pub case_assigns : (up index : ℕ) (s : Statement) (e : Expr) (v : Vec CaseElement Global) (line : Line) (items : List CaseElement) → s ≡ Case e v line → items ≡ v.items → elements_assign up index (elements_of items) ≡ statement_assigns up index (statement_of s)
 unfolding statement_assigns

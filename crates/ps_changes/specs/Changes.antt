@@ -1,9 +1,25 @@
--- What statements of the checked tree change: an entry that they threaten (ISO 7185, 6.8.3.9), the control variables of their `for` statements, and an entry that they assign to (6.6.2).
--- The entry is told as the statements see it: `index` in the routine `up` levels out of the one whose statements they are.
-use Rattle.std.specs.Prelude.{ℕ, Bool, false, ◌&&◌, ◌||◌, ◌==◌, List, [], ◌∷◌, ◌++◌}
+-- What statements of the checked tree change: entries that they threaten (ISO 7185, 6.8.3.9), the control variables of their `for` statements, and an entry that they assign to (6.6.2).
+-- An entry is told as the statements see it: `index` in the routine `up` levels out of the one whose statements they are.
+use Rattle.std.specs.Prelude.{ℕ, Bool, false, ◌&&◌, ◌||◌, ◌==◌, List, [], ◌∷◌, ◌++◌, get_or}
+use Rattle.std.specs.List.{list_any}
+use Rattle.ps_changes.specs.declared.place.Entries.{Entries}
+use Rattle.ps_changes.specs.declared.place.Entries.TheVariants as entries
 use Rattle.ps_tree.specs.Tree.{Place, Entry, Opened, Element, Field, Target, Expr, Number, Nil, Load, Plus, Minus, Not, Arithmetic, Logic, Compare, ComparePointers, CompareSets, CompareStrings, In, Apply, Eof, Eoln, Call, CallFormal, SetExpr, LoadSet, Constructor, Combine, Member, One, Several, Members, no_member, member_before, Structure, Literal, Contents, Argument, ByValue, BySet, ByCopy, ByVariable, ByRoutine, ByFormal, Arguments, no_argument, argument_before, ReadVariable, ReadChar, ReadInteger, Width, DefaultWidth, GivenWidth, WriteParameter, WriteInteger, WriteChar, WriteBoolean, WriteText, Statement, Empty, Assign, AssignSet, AssignStructure, CallProcedure, CallFormalProcedure, Compound, If, IfElse, Case, While, Repeat, For, With, New, Pack, Unpack, Read, Readln, Write, Writeln, Statements, no_statement, statement_before, Elements, no_element, element_before}
 
--- The entry as a whole. A control variable and a function's result are of simple or pointer types, so they have no components.
+-- the entries that are asked for, by their indices
+abbrev pub watched_of : Entries → ℕ → Bool
+watched_of (entries.One only) index = only == index
+watched_of (entries.Marked marks) index = get_or marks.now index false
+
+-- one of a list of entries
+abbrev pub among : List ℕ → ℕ → Bool
+among entries index = list_any (λ entry. entry == index) entries
+
+-- One of these entries as a whole. A control variable and a function's result are of simple or pointer types, so they have no components.
+abbrev pub is_watched : ℕ → (ℕ → Bool) → Place → Bool
+is_watched up watched (Entry u i) = up == u && watched i
+is_watched up watched _ = false
+
 abbrev pub is_entry : ℕ → ℕ → Place → Bool
 is_entry up index (Entry u i) = up == u && index == i
 is_entry up index _ = false
@@ -11,7 +27,7 @@ is_entry up index _ = false
 -- 6.8.3.9: a statement threatens a variable where it assigns to it, passes it as an actual variable parameter, has it in read or readln,
 -- or is a `for` statement whose control variable it is; or where a statement in it does. So a `for` statement threatens its own control
 -- variable, and the rule asks it of the statement that the `for` statement repeats, and of the routines of the block.
-module _ (up index : ℕ) where
+module _ (up : ℕ) (watched : ℕ → Bool) where
   -- a function call in the part passes the entry as a variable parameter
   unfoldable mutual
     pub place_threatens : Place → Bool
@@ -62,7 +78,7 @@ module _ (up index : ℕ) where
     argument_threatens (ByValue e range line) = expr_threatens e
     argument_threatens (BySet e low high line) = set_threatens e
     argument_threatens (ByCopy e type) = structure_threatens e
-    argument_threatens (ByVariable p) = is_entry up index p || place_threatens p
+    argument_threatens (ByVariable p) = is_watched up watched p || place_threatens p
     argument_threatens (ByRoutine routine u) = false
     argument_threatens (ByFormal u i) = false
 
@@ -72,7 +88,7 @@ module _ (up index : ℕ) where
 
   -- a place that is written to, or passed as a variable parameter
   abbrev pub write_threatens : Place → Bool
-  write_threatens p = is_entry up index p || place_threatens p
+  write_threatens p = is_watched up watched p || place_threatens p
 
   unfoldable pub places_threaten : List Place → Bool
   places_threaten [] = false
@@ -115,7 +131,7 @@ module _ (up index : ℕ) where
     statement_threatens (While e s) = expr_threatens e || statement_threatens s
     statement_threatens (Repeat body e) = statements_threaten body || expr_threatens e
     -- a control variable is an entry of the routine itself, so of `up` 0
-    statement_threatens (For variable low high a from_line direction b to_line s) = is_entry up index (Entry 0 variable) || (expr_threatens a || (expr_threatens b || statement_threatens s))
+    statement_threatens (For variable low high a from_line direction b to_line s) = is_watched up watched (Entry 0 variable) || (expr_threatens a || (expr_threatens b || statement_threatens s))
     statement_threatens (With places s) = places_threaten places || statement_threatens s
     -- new, pack and unpack write to pointers and arrays, which no control variable is
     statement_threatens (New p pointer line) = write_threatens p

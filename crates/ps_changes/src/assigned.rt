@@ -4,7 +4,7 @@ ghost use Rattle.std.specs.Prelude.{◌≡◌};
 ghost use Rattle.ps_tree.specs.View.{statement_of, statements_of, elements_of};
 ghost use Rattle.ps_changes.specs.Changes.{statement_assigns, statements_assign, elements_assign};
 
-use crate::place::denotes;
+use crate::place::is_entry;
 use ps_tree::tree::{CaseElement, Statement};
 
 #[cycle(assignments)]
@@ -15,7 +15,7 @@ fn is_assigning(statement: &Statement, up: u32, index: u32) -> bool
     match statement {
         Statement::Assign { target, .. }
         | Statement::AssignSet { target, .. }
-        | Statement::AssignStructure { target, .. } => denotes(target, up, index),
+        | Statement::AssignStructure { target, .. } => is_entry(target, up, index),
         Statement::Compound(body) => assigns(body, up, index),
         Statement::Repeat { body, .. } => assigns(body, up, index),
         Statement::If { body, .. }

@@ -1,12 +1,15 @@
 -- Loops that look for an item that passes a test.
-use Rattle.std.proofs.Common.{◌≡◌, ℕ, suc, ◌+◌, ◌<◌, ◌≤◌, Bool, true, false, ◌&&◌, ◌||◌, List, [], ◌∷◌, ◌++◌, append_assoc, length, drop, get_or, map, refl, sym, ap, ◌∙◌, arith}
+use Rattle.std.proofs.Common.{◌≡◌, ℕ, suc, ◌+◌, ◌<◌, ◌≤◌, Bool, true, false, ◌&&◌, ◌||◌, List, [], ◌∷◌, ◌++◌, append_assoc, length, drop, get_or, map, Option, Bor, refl, sym, ap, ◌∙◌, arith}
 use Rattle.std.proofs.Math.Seq.{drop-cons}
 use Rattle.std.proofs.lemmas.List.{drop_all, append-nil, map-append, drop-map}
-use Rattle.std.specs.Prelude.{IsPermutation}
-use Rattle.std.proofs.lemmas.List.Sorted.{list_any-IsPermutation}
 use Rattle.std.specs.List.{list_any, list_all}
 use Rattle.ps_text.specs.declared.Span.{Span}
 use Rattle.ps_declare.specs.Points.{Points, all}
+use Rattle.std.proofs.Math.Path.{fun_ext}
+use Rattle.ps_tree.specs.Tree.{Routine}
+use Rattle.ps_changes.specs.Changes.{among, watched_of}
+use Rattle.ps_changes.specs.declared.place.Entries.TheVariants.{Marked}
+use Rattle.ps_check.specs.Changes.{routine_threatens}
 
 module _ {A B : Type 0} (p : B → Bool) (f : A → B) (xs : List A) where
   -- no item before index i passes
@@ -59,27 +62,6 @@ module _ {A B : Type 0} (p : B → Bool) (f : A → B) (xs : List A) where
   pub all_end : (i : ℕ) → length xs ≤ i → AllBefore i → list_all p (map f xs) ≡ true
   all_end i le n = n.rest ∙ ap (λ l. list_all p (map f l)) (drop_all i xs le)
 
--- the same for numbers
-module _ (p : ℕ → Bool) (xs : List ℕ) where
-  -- no number before index i passes
-  pub record NothingBefore (i : ℕ) : Type 0 where
-    pub rest : list_any p xs ≡ list_any p (drop i xs)
-
-  pub nothing_start : NothingBefore 0
-  nothing_start = record { rest = refl }
-
-  nothing_here : (i : ℕ) (b : Bool) → i < length xs → NothingBefore i → p (get_or xs i 0) ≡ b → list_any p xs ≡ (b || list_any p (drop (suc i) xs))
-  nothing_here i b lt n e = n.rest ∙ ap (λ l. list_any p l) (drop-cons xs i 0 lt) ∙ ap (λ b. b || list_any p (drop (suc i) xs)) e
-
-  pub nothing_next : (i : ℕ) → i < length xs → NothingBefore i → p (get_or xs i 0) ≡ false → NothingBefore (i + 1)
-  nothing_next i lt n e = record { rest = nothing_here i false lt n e ∙ (let s : suc i ≡ i + 1 = omega arith in ap (λ k. list_any p (drop k xs)) s) }
-
-  pub something_found : (i : ℕ) → i < length xs → NothingBefore i → p (get_or xs i 0) ≡ true → list_any p xs ≡ true
-  something_found i lt n e = nothing_here i true lt n e
-
-  pub nothing_end : (i : ℕ) → length xs ≤ i → NothingBefore i → list_any p xs ≡ false
-  nothing_end i le n = n.rest ∙ ap (λ l. list_any p l) (drop_all i xs le)
-
 -- the images of the parts of the items from index i on are still to come
 module _ {A C : Type 0} (f : Span → C) (parts : A → Points) (xs : List A) where
   pub record Gained (i : ℕ) (done : List C) : Type 0 where
@@ -106,6 +88,6 @@ module _ {A C : Type 0} (f : Span → C) (parts : A → Points) (xs : List A) wh
 pub dropped : {A B : Type 0} (f : A → B) (n : ℕ) (xs ys : List A) → ys ≡ drop n xs → map f ys ≡ drop n (map f xs)
 dropped f n xs ys e = ap (map f) e ∙ sym (drop-map f n xs)
 
--- sorted numbers pass a test where they pass it in another order
-pub any_sorted : (p : ℕ → Bool) (xs ys : List ℕ) (b : Bool) → IsPermutation xs ys → list_any p ys ≡ b → list_any p xs ≡ b
-any_sorted p xs ys b s e = list_any-IsPermutation p xs ys s ∙ e
+-- the routines threaten one of the entries where they threaten one of those that are marked
+pub marked_alike : (depth : ℕ) (within : List (Option Routine)) (entries : List ℕ) (marks : Bor (List Bool)) (b : Bool) → ((k : ℕ) → get_or marks.now k false ≡ among entries k) → b ≡ list_any (routine_threatens depth (watched_of (Marked marks))) within → b ≡ list_any (routine_threatens depth (among entries)) within
+marked_alike depth within entries marks b same e = e ∙ ap (λ watched. list_any (routine_threatens depth watched) within) (fun_ext same)

@@ -3,19 +3,16 @@ use Rattle.std.specs.Prelude.{ℕ, ◌-◌, Bool, true, false, ◌||◌, not, Li
 use Rattle.std.specs.List.{list_any}
 use Rattle.ps_tree.specs.Types.{DataType}
 use Rattle.ps_tree.specs.Tree as Tree
-use Rattle.ps_changes.specs.Changes.{statements_threaten, statements_control, statements_assign}
+use Rattle.ps_changes.specs.Changes.{among, statements_threaten, statements_control, statements_assign}
 
 -- A routine within a block is `length chain - depth` levels further in, where the chain of the block's routine has `depth` numbers.
-unfoldable pub routine_threatens : (depth variable : ℕ) → Option Tree.Routine → Bool
-routine_threatens depth variable None = false
-routine_threatens depth variable (Some r) = statements_threaten (length r.chain - depth) variable r.body
-
-abbrev pub is_threatened : (depth : ℕ) → List (Option Tree.Routine) → (variable : ℕ) → Bool
-is_threatened depth within variable = list_any (routine_threatens depth variable) within
+unfoldable pub routine_threatens : (depth : ℕ) → (watched : ℕ → Bool) → Option Tree.Routine → Bool
+routine_threatens depth watched None = false
+routine_threatens depth watched (Some r) = statements_threaten (length r.chain - depth) watched r.body
 
 -- 6.8.3.9: no routine within the block threatens a control variable of the block's `for` statements
 unfoldable pub is_safe : (depth : ℕ) → List (Option Tree.Routine) → Tree.Statements → Bool
-is_safe depth within body = not (list_any (is_threatened depth within) (statements_control body))
+is_safe depth within body = not (list_any (routine_threatens depth (among (statements_control body))) within)
 
 unfoldable pub routine_assigns : (depth : ℕ) → Option Tree.Routine → Bool
 routine_assigns depth None = false

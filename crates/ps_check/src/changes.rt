@@ -1,14 +1,17 @@
 //! What a block asks of the statements within it.
 
-ghost use Rattle.std.specs.Prelude.{◌≡◌, true, false, Some, IsTrue, IfOk, IfNone, IfSome, drop, map, option_map};
+ghost use Rattle.std.specs.Prelude.{◌≡◌, true, false, IfOk, IfNone, IfSome, drop, map, option_map};
 ghost use Rattle.std.specs.List.{list_any};
 ghost use Rattle.ps_tree.specs.View.{type_of, statements_of};
-ghost use Rattle.ps_check.specs.Changes.{routine_threatens, is_threatened, is_safe, routine_assigns, assigns};
+ghost use Rattle.ps_changes.specs.Changes.{watched_of};
+ghost use Rattle.ps_check.specs.Changes.{routine_threatens, is_safe, routine_assigns, assigns};
 ghost use Rattle.ps_check.specs.Views.{finished_of};
 
 use crate::chain::Finished;
 use ps_changes::assigned;
 use ps_changes::control::control_variables;
+use ps_changes::marks::marks;
+use ps_changes::place::Entries;
 use ps_changes::threat::threatens;
 use ps_tree::tree::{Routine, Statement};
 use ps_tree::types::Ty;
@@ -27,61 +30,52 @@ pub fn within(routines: &[Option<Finished>], before: usize) -> &[Option<Finished
     }
 }
 
-/// Whether a routine within a block threatens an entry of the block's routine, whose chain has `depth` numbers.
+/// Whether a routine within a block threatens one of these entries of the block's routine, whose chain has `depth`
+/// numbers.
 #[tactic(auto, unfolding(crate::specs::Changes::routine_threatens))]
-fn routine_threatens(finished: &Option<Finished>, depth: usize, variable: u32) -> bool
-    ensures { result ≡ routine_threatens depth variable (finished_of finished.now) }
+fn routine_threatens(finished: &Option<Finished>, depth: usize, watched: Entries<'_>) -> bool
+    ensures { result ≡ routine_threatens depth (watched_of watched.entry) (finished_of finished.now) }
 {
     match finished {
         None => false,
         Some(finished) => {
             let up = finished.routine.chain.len().saturating_sub(depth);
-            threatens(&finished.routine.body, up as u32, variable)
+            threatens(&finished.routine.body, up as u32, watched)
         }
     }
 }
 
 #[tactic(auto, using(crate::proofs::Lists::none_next, crate::proofs::Lists::one_found, crate::proofs::Lists::none_end))]
-fn is_threatened(within: &[Option<Finished>], depth: usize, variable: u32) -> bool
-    ensures { result ≡ is_threatened depth (map finished_of within.now) variable }
+fn is_threatened(within: &[Option<Finished>], depth: usize, watched: Entries<'_>) -> bool
+    ensures { result ≡ list_any (routine_threatens depth (watched_of watched.entry)) (map finished_of within.now) }
 {
     for finished in within {
-        if routine_threatens(finished, depth, variable) {
+        if routine_threatens(finished, depth, watched) {
             return true;
         }
     }
     false
 }
 
-/// Whether the variable is the one before it.
-fn is_repeated(previous: Option<u32>, variable: u32) -> bool
-    ensures { IsTrue result → previous ≡ Some variable }
-{
-    match previous {
-        None => false,
-        Some(last) => last == variable,
-    }
-}
-
-/// The first of these entries that a routine within a block threatens. One that stands several times in a row is tested
-/// once.
-#[tactic(auto, using(crate::proofs::Lists::nothing_next, crate::proofs::Lists::something_found, crate::proofs::Lists::nothing_end))]
-fn first_threatened(variables: &[u32], within: &[Option<Finished>], depth: usize) -> Option<u32>
-    ensures safe { IfNone result (list_any (is_threatened depth (map finished_of within.now)) variables.now ≡ false) }
-    ensures threatened { IfSome result (λ variable. list_any (is_threatened depth (map finished_of within.now)) variables.now ≡ true) }
-{
-    let mut previous = None;
-    for variable in variables {
-        if !is_repeated(previous, *variable) && is_threatened(within, depth, *variable) {
-            return Some(*variable);
+/// The least entry of those that are marked which a routine within a block threatens, where there is one. Each step
+/// halves the entries that it can be, so the routines are walked few times.
+fn least_threatened(marks: &[bool], within: &[Option<Finished>], depth: usize) -> u32 {
+    let mut safe = 0;
+    let mut threatened = marks.len();
+    while 1 < threatened.saturating_sub(safe) {
+        let middle = safe + (threatened - safe) / 2;
+        let (first, _) = marks.split_at(middle);
+        if is_threatened(within, depth, Entries::Marked(first)) {
+            threatened = middle;
+        } else {
+            safe = middle;
         }
-        previous = Some(*variable);
     }
-    None
+    u32::try_from(safe).unwrap_or(u32::MAX)
 }
 
 /// A control variable of a block's `for` statements that a routine within the block threatens, by its entry.
-#[tactic(auto, using(crate::proofs::Lists::any_sorted), unfolding(crate::specs::Changes::is_safe))]
+#[tactic(auto, using(crate::proofs::Lists::marked_alike), unfolding(crate::specs::Changes::is_safe))]
 pub fn threatened(
     alloc: Global,
     within: &[Option<Finished>],
@@ -91,9 +85,13 @@ pub fn threatened(
     ensures safe { IfOk result (λ found. IfNone found (is_safe depth (map finished_of within.now) (statements_of body.now) ≡ true)) }
     ensures threatened { IfOk result (λ found. IfSome found (λ variable. is_safe depth (map finished_of within.now) (statements_of body.now) ≡ false)) }
 {
-    let mut variables = control_variables(alloc, body)?;
-    variables.sort()?;
-    Ok(first_threatened(&variables, within, depth))
+    let variables = control_variables(alloc, body)?;
+    let marks = marks(alloc, &variables)?;
+    if is_threatened(within, depth, Entries::Marked(&marks)) {
+        Ok(Some(least_threatened(&marks, within, depth)))
+    } else {
+        Ok(None)
+    }
 }
 
 /// Whether a routine within a function's block assigns to the function's result.

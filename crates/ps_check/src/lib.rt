@@ -11,8 +11,6 @@ pub mod laws;
 mod program;
 mod routines;
 mod state;
-#[cfg(test)]
-mod tests;
 mod told;
 
 pub use checking::check;

@@ -20,11 +20,11 @@ use crate::headings::{heading_name, is_bare, new_heading};
 use crate::state::{Done, Gathered, Start};
 use ps_declare::frame::Frame;
 use ps_regions::meaning::{Heading, Meaning};
-use ps_regions::names::Names;
 use ps_regions::reading::Reading;
 use ps_regions::refusal::{Fault, Rule};
 use ps_syntax::Routine;
 use ps_text::Span;
+use ps_tree::names::Names;
 use ps_tree::tree::Routine as RoutineTree;
 use std::alloc::{AllocError, Global};
 

@@ -2,8 +2,8 @@
 
 use crate::chain::Finished;
 use ps_regions::meaning::Meaning;
-use ps_regions::names::Names;
 use ps_tree::line::Line;
+use ps_tree::names::Names;
 use ps_tree::tree::Statement;
 use ps_tree::types::Ty;
 

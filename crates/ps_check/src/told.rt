@@ -4,6 +4,7 @@ use crate::chain::Finished;
 use crate::headings::heading_name;
 use crate::routines::is_complete;
 use crate::state::Gathered;
+use ps_changes::place::Entries;
 use ps_changes::threat::threatens;
 use ps_declare::frame::Frame;
 use ps_regions::meaning::Meaning;
@@ -125,7 +126,7 @@ pub fn threatening_name(
                 up: routine.chain.len().saturating_sub(depth) as u32,
                 entry,
             };
-            if threatens(&routine.body, control.up, entry) {
+            if threatens(&routine.body, control.up, Entries::One(entry)) {
                 return Ok(in_routines(written.routines.as_slice(), routine, control));
             }
         }

@@ -1,26 +1,15 @@
 -- Loops over the parts of a type denoter.
 use Rattle.std.proofs.Common.{◌≡◌, ℕ, pos, suc, ◌+◌, ◌<◌, ◌≤◌, Bool, List, [], ◌∷◌, ◌++◌, length, drop, get_or, map, Option, Some, None, Global, refl, sym, ap, ◌∙◌, arith, append_assoc}
-use Rattle.std.specs.declared.rc.Rc.{Rc}
 use Rattle.std.proofs.Math.Seq.{drop-cons}
 use Rattle.std.proofs.lemmas.List.{drop_all, append-nil}
 use Rattle.ps_text.specs.declared.Span.{Span}
 use Rattle.ps_syntax.specs.declared.program.Fields.{Fields}
 use Rattle.ps_tree.specs.declared.types.Ordinal.{Ordinal}
-use Rattle.ps_tree.specs.declared.types.Ty.{Record}
-use Rattle.ps_tree.specs.declared.types.Field.{Field}
-use Rattle.ps_tree.specs.declared.types.Fields.{out-Fields}
-use Rattle.ps_tree.specs.declared.types.Fields as Tree
-use Rattle.ps_tree.specs.Types.{DataType, ArrayType, RecordType, field_before}
-use Rattle.ps_tree.specs.View.{type_of}
-use Rattle.ps_tree.proofs.ViewLemmas.{type_of_Record}
+use Rattle.ps_tree.specs.Types.{DataType, ArrayType}
 use Rattle.ps_regions.specs.Option.{◌>>=◌}
-use Rattle.ps_regions.specs.Spelling.{spelled}
 use Rattle.ps_regions.specs.Regions.{Meaning, ConstantMeaning}
-use Rattle.ps_regions.specs.Views as regions
-use Rattle.ps_regions.proofs.Searches.{fields_of_out}
 use Rattle.ps_declare.specs.Points.{Points, all, add_points}
-use Rattle.ps_declare.specs.Denoters.{Frame, FieldsReading, Indices, FieldTypes, constants_from, array_of, small, fields_of_type, field_list, fields, section_names, record_names}
-use Rattle.ps_declare.specs.Views.{field_of}
+use Rattle.ps_declare.specs.Denoters.{Frame, FieldsReading, Indices, FieldTypes, constants_from, array_of, small, fields_of_type, fields, section_names, record_names}
 use Rattle.ps_declare.proofs.Walks.{Walked, walked_fault, walked_end}
 
 -- the constants that are still to come
@@ -48,25 +37,25 @@ module _ (o : Ordinal) (start : List Meaning) (names : Points) (i : ℕ) (done :
   values_end le v = sym (append-nil done) ∙ ap (λ l. done ++ constants_from o i l) (sym (drop_all i names le)) ∙ v.rest
 
 -- the fields of one type that are still to come
-pub record OfType (text : List ℕ) (type : DataType) (start : FieldTypes) (names : Points) (i : ℕ) (done : FieldTypes) : Type 0 where
-  pub rest : done ++ fields_of_type text type (drop i names) ≡ start ++ fields_of_type text type names
+pub record OfType (type : DataType) (start : FieldTypes) (names : Points) (i : ℕ) (done : FieldTypes) : Type 0 where
+  pub rest : done ++ fields_of_type type (drop i names) ≡ start ++ fields_of_type type names
 
-pub of_type_start : (text : List ℕ) (type : DataType) (start : FieldTypes) (names : Points) → OfType text type start names 0 start
-of_type_start text type start names = record { rest = refl }
+pub of_type_start : (type : DataType) (start : FieldTypes) (names : Points) → OfType type start names 0 start
+of_type_start type start names = record { rest = refl }
 
-module _ (text : List ℕ) (type : DataType) (start : FieldTypes) (names : Points) (i : ℕ) (done : FieldTypes) (d : Span) where
-  pub of_type_next : (new : FieldTypes) → i < length names → OfType text type start names i done → new ≡ done ++ (spelled text (get_or names i d), type) ∷ [] → OfType text type start names (i + 1) new
-  of_type_next new lt v n = record {
+module _ (type : DataType) (start : FieldTypes) (names : Points) (i : ℕ) (done : FieldTypes) where
+  pub of_type_next : (new : FieldTypes) (d : Span) → i < length names → OfType type start names i done → new ≡ done ++ type ∷ [] → OfType type start names (i + 1) new
+  of_type_next new d lt v n = record {
     rest =
-        ap (λ l. l ++ fields_of_type text type (drop (i + 1) names)) n
-        ∙ append_assoc done ((spelled text (get_or names i d), type) ∷ []) (fields_of_type text type (drop (i + 1) names))
-        ∙ (let e : i + 1 ≡ suc i = omega arith in ap (λ k. done ++ (spelled text (get_or names i d), type) ∷ fields_of_type text type (drop k names)) e)
-        ∙ ap (λ l. done ++ fields_of_type text type l) (sym (drop-cons names i d lt))
+        ap (λ l. l ++ fields_of_type type (drop (i + 1) names)) n
+        ∙ append_assoc done (type ∷ []) (fields_of_type type (drop (i + 1) names))
+        ∙ (let e : i + 1 ≡ suc i = omega arith in ap (λ k. done ++ type ∷ fields_of_type type (drop k names)) e)
+        ∙ ap (λ l. done ++ fields_of_type type l) (sym (drop-cons names i d lt))
         ∙ v.rest;
   }
 
-pub of_type_end : (text : List ℕ) (type : DataType) (start : FieldTypes) (names : Points) (i : ℕ) (done : FieldTypes) → length names ≤ i → OfType text type start names i done → done ≡ start ++ fields_of_type text type names
-of_type_end text type start names i done le v = sym (append-nil done) ∙ ap (λ l. done ++ fields_of_type text type l) (sym (drop_all i names le)) ∙ v.rest
+  pub of_type_end : length names ≤ i → OfType type start names i done → done ≡ start ++ fields_of_type type names
+  of_type_end le v = sym (append-nil done) ∙ ap (λ l. done ++ fields_of_type type l) (sym (drop_all i names le)) ∙ v.rest
 
 -- arrays in one another, from the innermost out
 then_arrays : (packed : Bool) (i : ℕ × Ordinal) (xs : Indices) (type : DataType) → array_of packed (xs ++ i ∷ []) type ≡ (small (ArrayType i.0 packed i.1 type) >>= array_of packed xs)
@@ -114,12 +103,3 @@ module _ (f : Frame) (xs : List Fields) (i : ℕ) (t : List (List ℕ)) where
   pub names_end : length xs ≤ i → Walked f.text (section_names f) [] xs i t → record_names f (map (fields f) xs) ≡ Some t
   unfolding record_names
   names_end le w = ap (add_points f.text []) (names_of_sections f xs) ∙ walked_end f.text (section_names f) [] xs i t le w
-
--- the fields of a type as the tree has them
-list_of_fields : (fs : List Field) → regions.field_list fs ≡ field_list (map field_of fs)
-unfolding regions.field_list
-list_of_fields [] = refl
-list_of_fields (f ∷ fs) = ap (field_before f.name.items (type_of f.ty)) (list_of_fields fs)
-
-pub type_of_record : (at : ℕ) (packed : Bool) (r : Rc Tree.Fields Global) → type_of (Record at packed r) ≡ RecordType at packed (field_list (map field_of (out-Fields r.value).fields.items))
-type_of_record at packed r = type_of_Record at packed r ∙ ap (RecordType at packed) (fields_of_out r.value ∙ list_of_fields (out-Fields r.value).fields.items)

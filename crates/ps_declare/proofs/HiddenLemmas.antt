@@ -8,7 +8,7 @@ use Rattle.ps_regions.specs.Option.{◌>>=◌}
 use Rattle.ps_regions.specs.Spelling.{spelled, has, place}
 use Rattle.ps_regions.specs.Regions.{Region, FieldNames, Point, find_past, in_fields}
 use Rattle.ps_regions.specs.Constants.{ConstantValue, constant, constant_at, signed_constant}
-use Rattle.ps_regions.proofs.Searches.{has_place}
+use Rattle.ps_tree.proofs.NameLemmas.{has_place}
 use Rattle.ps_declare.specs.Denoters.{Hidden, is_free, type_named, type_at}
 
 abbrev hidden_by : List ℕ → Hidden → Bool

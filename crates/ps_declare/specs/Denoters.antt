@@ -16,7 +16,7 @@ use Rattle.ps_tree.specs.declared.types.Host.TheVariants.{Enumeration}
 use Rattle.ps_tree.specs.declared.types.Ordinal.{Ordinal}
 use Rattle.ps_tree.specs.declared.types.Packing.{Packing}
 use Rattle.ps_tree.specs.declared.types.Packing.TheVariants.{Packed, Unpacked}
-use Rattle.ps_tree.specs.Types.{DataType, OrdinalType, PointerType, SetType, ArrayType, RecordType, FieldList, no_field, field_before, is_same_host}
+use Rattle.ps_tree.specs.Types.{DataType, OrdinalType, PointerType, SetType, ArrayType, RecordType, field_list, listed, is_same_host}
 use Rattle.ps_tree.specs.Counts.{is_small}
 use Rattle.ps_regions.specs.Option.{◌>>=◌, provided, steps}
 use Rattle.ps_regions.specs.Spelling.{spelled, has}
@@ -145,17 +145,13 @@ unfoldable pub array_of : Bool → Indices → DataType → Option DataType
 array_of packed [] component = Some component
 array_of packed (i ∷ rest) component = array_of packed rest component >>= (λ type. small (ArrayType i.0 packed i.1 type))
 
--- 6.4.3.3: the fields so far
+-- 6.4.3.3: the types of the fields so far
 abbrev pub FieldTypes : Type 0
-FieldTypes = List (List ℕ × DataType)
+FieldTypes = List DataType
 
-abbrev pub field_list : FieldTypes → FieldList
-field_list [] = no_field
-field_list (f ∷ fs) = field_before f.0 f.1 (field_list fs)
-
--- fields of one type
-abbrev pub fields_of_type : List ℕ → DataType → Points → FieldTypes
-fields_of_type text type names = map (λ at. (spelled text at, type)) names
+-- of fields of one type, one for each name
+abbrev pub fields_of_type : DataType → Points → FieldTypes
+fields_of_type type names = map (λ at. type) names
 
 -- 6.4.3.4: the ordinals of a set's base lie in 0..255
 abbrev pub set_of : ℕ → Bool → Ordinal → Option DataType
@@ -180,7 +176,7 @@ module _ (f : Frame) where
 
   -- one more section of fields
   abbrev pub add_fields : Hidden → FieldTypes × Declared → FieldsReading → Option (FieldTypes × Declared)
-  add_fields hidden s x = x.1 hidden s.1 >>= (λ r. Some (s.0 ++ fields_of_type f.text r.0 x.0, r.1))
+  add_fields hidden s x = x.1 hidden s.1 >>= (λ r. Some (s.0 ++ fields_of_type r.0 x.0, r.1))
 
   -- a name is a field's once in a record
   unfoldable pub record_names : List FieldsReading → Option (List (List ℕ))
@@ -196,9 +192,9 @@ module _ (f : Frame) where
   unfoldable pub record_type : Option ℕ → Hidden → Declared → ℕ → List FieldsReading → Option (DataType × Declared)
   record_type packed hidden d at fields = do
     names ← record_names fields
-    fs ← steps (add_fields (names ∷ hidden)) ([], d) fields
-    type ← small (RecordType (begins packed at) (is_packed packed) (field_list fs.0))
-    Some (type, fs.1)
+    types ← steps (add_fields (names ∷ hidden)) ([], d) fields
+    type ← small (RecordType (begins packed at) (is_packed packed) (field_list names (listed types.0)))
+    Some (type, types.1)
 
   unfoldable pub set_type : Option ℕ → Hidden → Declared → ℕ → syntax.Ordinal → Option (DataType × Declared)
   set_type packed hidden d at base = do

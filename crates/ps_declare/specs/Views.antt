@@ -1,7 +1,5 @@
 -- What the values of the program stand for in the definitions.
-use Rattle.std.specs.Prelude.{ℕ, List, [], ◌∷◌, map, option_map}
-use Rattle.ps_tree.specs.declared.types.Field.{Field}
-use Rattle.ps_tree.specs.Types.{DataType}
+use Rattle.std.specs.Prelude.{List, [], ◌∷◌, map, option_map}
 use Rattle.ps_tree.specs.View.{type_of}
 use Rattle.ps_regions.specs.Views.{scope_of, meaning_of, section_of}
 use Rattle.ps_declare.specs.declared.frame.Frame as RustFrame
@@ -22,9 +20,6 @@ unfoldable pub hidden_of : RustHidden.Hidden → Hidden
 hidden_of Nothing = []
 hidden_of (Variables points) = []
 hidden_of (Record' names defined p outer) = names.now ∷ hidden_of outer
-
-abbrev pub field_of : Field → List ℕ × DataType
-field_of f = (f.name.items, type_of f.ty)
 
 abbrev pub signature_of : RustSignature.Signature → Signature
 signature_of s = (map section_of s.sections.items, option_map type_of s.result)

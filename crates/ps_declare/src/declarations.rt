@@ -15,11 +15,11 @@ use crate::frame::{Declared, Frame, Hidden};
 use crate::points::add_declaration;
 use ps_regions::constants::ConstantValue;
 use ps_regions::meaning::Meaning;
-use ps_regions::names::Names;
 use ps_regions::reading::Reading;
 use ps_regions::refusal::{Fault, Rule};
 use ps_syntax::{ConstantDefinition, TypeDefinition, Variables};
 use ps_text::Span;
+use ps_tree::names::Names;
 use ps_tree::types::Ty;
 use std::alloc::Global;
 

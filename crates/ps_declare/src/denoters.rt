@@ -2,8 +2,8 @@
 
 ghost use Rattle.std.specs.Prelude.{[], ◌≡◌, ◌<◌, ◌^◌, ◌++◌, ◌∷◌, ℕ, List, None, Some, map, length, option_map, IfErr, IfOk, OnOk, not, true, false};
 ghost use Rattle.std.specs.List.{list_any};
-ghost use Rattle.ps_tree.specs.Types.{ArrayType, RecordType};
-ghost use Rattle.ps_tree.specs.View.{type_of};
+ghost use Rattle.ps_tree.specs.Types.{ArrayType, RecordType, field_list};
+ghost use Rattle.ps_tree.specs.View.{type_of, types_of};
 ghost use Rattle.ps_tree.specs.Counts.{is_small};
 ghost use Rattle.ps_regions.specs.Option.{steps};
 ghost use Rattle.ps_regions.specs.Spelling.{has, spelled};
@@ -12,20 +12,20 @@ ghost use Rattle.ps_regions.specs.Constants.{constant};
 ghost use Rattle.ps_regions.specs.Refusal.{IsFault};
 ghost use Rattle.ps_regions.specs.Views.{scope_of, point_of, meaning_of, constant_of};
 ghost use Rattle.ps_declare.specs.Points.{all, add_points};
-ghost use Rattle.ps_declare.specs.Denoters.{regions, is_free, type_at, type_named, ordinal_at, constants_from, enumeration, subrange, ordinal, index_begins, pointer, small, begins, is_packed, index_type, array_of, field_list, fields_of_type, set_of, fields_step, add_fields, record_names, array_type, record_type, set_type, simple_type, denoter, structure, fields, section_names};
-ghost use Rattle.ps_declare.specs.Views.{frame_of, declared_of, hidden_of, field_of};
+ghost use Rattle.ps_declare.specs.Denoters.{regions, is_free, type_at, type_named, ordinal_at, constants_from, enumeration, subrange, ordinal, index_begins, pointer, small, begins, is_packed, index_type, array_of, fields_of_type, set_of, fields_step, add_fields, record_names, array_type, record_type, set_type, simple_type, denoter, structure, fields, section_names};
+ghost use Rattle.ps_declare.specs.Views.{frame_of, declared_of, hidden_of};
 
 use crate::frame::{Declared, Frame, Hidden};
 use crate::points::add_points;
 use ps_regions::constants::{ConstantValue, constant};
 use ps_regions::meaning::Meaning;
-use ps_regions::names::Names;
 use ps_regions::reading::Reading;
 use ps_regions::refusal::{Fault, Rule};
 use ps_regions::scope::{Found, Scope};
 use ps_syntax::{Constant, Fields, Ordinal as OrdinalDenoter, Structure, TypeDenoter};
 use ps_text::Span;
-use ps_tree::types::{Field, Fields as FieldTypes, Host, Ordinal, Packing, Ty, same_host};
+use ps_tree::names::Names;
+use ps_tree::types::{Component, Fields as RecordFields, Host, Ordinal, Packing, Ty, same_host};
 use std::alloc::Global;
 use std::rc::Rc;
 
@@ -458,7 +458,7 @@ fn index_types(
 }
 
 /// An array of components of one type.
-#[tactic(auto, using(ps_tree::proofs::ViewLemmas::type_of_Array))]
+#[tactic(auto, unfolding(ps_tree::specs::View::type_of))]
 fn one_array(
     alloc: Global,
     packed: bool,
@@ -469,7 +469,7 @@ fn one_array(
     ensures ok { IfOk result (λ ty. small (ArrayType at packed index (type_of component)) ≡ Some (type_of ty)) }
     ensures err { IfErr result (λ fault. IsFault fault → small (ArrayType at packed index (type_of component)) ≡ None) }
 {
-    let component = Rc::new(alloc, component)?;
+    let component = Rc::new(alloc, Component::new(component))?;
     small(
         Ty::Array {
             at,
@@ -650,35 +650,22 @@ fn section_names(
 
 /// Fields of one type.
 #[tactic(auto, using(crate::proofs::DenoterLemmas::of_type_next, crate::proofs::DenoterLemmas::of_type_end))]
-fn fields_of_type(
-    reading: &Reading,
-    alloc: Global,
-    done: &mut Vec<Field>,
-    ty: &Ty,
-    names: &[Span],
-) -> Result<(), Fault>
-    ensures ok { OnOk result (map field_of done.new.items ≡ map field_of done.old.items ++ fields_of_type reading.now.source.now (type_of ty.now) names.now) }
+fn fields_of_type(done: &mut Vec<Ty>, ty: &Ty, names: &[Span]) -> Result<(), Fault>
+    ensures ok { OnOk result (map type_of done.new.items ≡ map type_of done.old.items ++ fields_of_type (type_of ty.now) names.now) }
     ensures err { IfErr result (λ fault. IsFault fault → ⊥) }
 {
-    for name in names {
-        field_of_type(reading, alloc, done, ty, *name)?;
+    for _name in names {
+        field_of_type(done, ty)?;
     }
     Ok(())
 }
 
-fn field_of_type(
-    reading: &Reading,
-    alloc: Global,
-    done: &mut Vec<Field>,
-    ty: &Ty,
-    name: Span,
-) -> Result<(), Fault>
-    ensures ok { OnOk result (map field_of done.new.items ≡ map field_of done.old.items ++ (spelled reading.now.source.now name, type_of ty.now) ∷ []) }
+fn field_of_type(done: &mut Vec<Ty>, ty: &Ty) -> Result<(), Fault>
+    ensures ok { OnOk result (map type_of done.new.items ≡ map type_of done.old.items ++ type_of ty.now ∷ []) }
     ensures err { IfErr result (λ fault. IsFault fault → ⊥) }
 {
-    let name = reading.name(alloc, name)?;
     let ty = ty.copy()?;
-    done.push(Field { name, ty })?;
+    done.push(ty)?;
     Ok(())
 }
 
@@ -690,13 +677,13 @@ fn add_fields(
     alloc: Global,
     hidden: &Hidden,
     declared: &mut Declared,
-    done: &mut Vec<Field>,
+    done: &mut Vec<Ty>,
 ) -> Result<(), Fault>
-    ensures ok { OnOk result (add_fields (frame_of frame.now) (hidden_of hidden.now) (map field_of done.old.items, declared_of declared.old) (fields (frame_of frame.now) section.now) ≡ Some (map field_of done.new.items, declared_of declared.new)) }
-    ensures err { IfErr result (λ fault. IsFault fault → add_fields (frame_of frame.now) (hidden_of hidden.now) (map field_of done.old.items, declared_of declared.old) (fields (frame_of frame.now) section.now) ≡ None) }
+    ensures ok { OnOk result (add_fields (frame_of frame.now) (hidden_of hidden.now) (map type_of done.old.items, declared_of declared.old) (fields (frame_of frame.now) section.now) ≡ Some (map type_of done.new.items, declared_of declared.new)) }
+    ensures err { IfErr result (λ fault. IsFault fault → add_fields (frame_of frame.now) (hidden_of hidden.now) (map type_of done.old.items, declared_of declared.old) (fields (frame_of frame.now) section.now) ≡ None) }
 {
     let ty = denoter(&section.ty, frame, alloc, hidden, declared)?;
-    fields_of_type(frame.reading, alloc, done, &ty, section.names.as_slice())
+    fields_of_type(done, &ty, section.names.as_slice())
 }
 
 /// The fields of a record, within whose denoter their names hide others.
@@ -708,8 +695,8 @@ fn all_fields(
     alloc: Global,
     hidden: &Hidden,
     declared: &mut Declared,
-) -> Result<Vec<Field>, Fault>
-    ensures ok { IfOk result (λ done. steps (add_fields (frame_of frame.now) (hidden_of hidden.now)) ([], declared_of declared.old) (map (fields (frame_of frame.now)) sections.now) ≡ Some (map field_of done.items, declared_of declared.new)) }
+) -> Result<Vec<Ty>, Fault>
+    ensures ok { IfOk result (λ done. steps (add_fields (frame_of frame.now) (hidden_of hidden.now)) ([], declared_of declared.old) (map (fields (frame_of frame.now)) sections.now) ≡ Some (map type_of done.items, declared_of declared.new)) }
     ensures err { IfErr result (λ fault. IsFault fault → steps (add_fields (frame_of frame.now) (hidden_of hidden.now)) ([], declared_of declared.old) (map (fields (frame_of frame.now)) sections.now) ≡ None) }
 {
     let mut done = Vec::new(alloc);
@@ -720,12 +707,19 @@ fn all_fields(
     Ok(done)
 }
 
-/// A record type of these fields.
-fn one_record(alloc: Global, packed: bool, at: u32, fields: Vec<Field>) -> Result<Ty, Fault>
-    ensures ok { IfOk result (λ ty. small (RecordType at packed (field_list (map field_of fields.items))) ≡ Some (type_of ty)) }
-    ensures err { IfErr result (λ fault. IsFault fault → small (RecordType at packed (field_list (map field_of fields.items))) ≡ None) }
+/// A record type whose fields have these names and types.
+#[tactic(auto, unfolding(ps_tree::specs::View::type_of))]
+fn one_record(
+    alloc: Global,
+    packed: bool,
+    at: u32,
+    names: Names,
+    types: Vec<Ty>,
+) -> Result<Ty, Fault>
+    ensures ok { IfOk result (λ ty. small (RecordType at packed (field_list names (types_of types.items))) ≡ Some (type_of ty)) }
+    ensures err { IfErr result (λ fault. IsFault fault → small (RecordType at packed (field_list names (types_of types.items))) ≡ None) }
 {
-    let fields = Rc::new(alloc, FieldTypes { fields })?;
+    let fields = Rc::new(alloc, RecordFields::new(names, types))?;
     small(Ty::Record { at, packed, fields }, at)
 }
 
@@ -749,6 +743,6 @@ fn record_type(
         defined: 0,
         outer: &*hidden,
     };
-    let fields = all_fields(sections, frame, alloc, &inner, declared)?;
-    one_record(alloc, is_packed(packed), begins(packed, at), fields)
+    let types = all_fields(sections, frame, alloc, &inner, declared)?;
+    one_record(alloc, is_packed(packed), begins(packed, at), names, types)
 }

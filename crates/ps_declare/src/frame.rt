@@ -1,10 +1,10 @@
 //! Where declarations stand, and what they give.
 
 use ps_regions::meaning::Meaning;
-use ps_regions::names::Names;
 use ps_regions::reading::Reading;
 use ps_regions::scope::Scope;
 use ps_text::Span;
+use ps_tree::names::Names;
 use ps_tree::types::Ty;
 
 /// Where the declarations of a block stand: the number of the block's routine, all names of the block's region, and the

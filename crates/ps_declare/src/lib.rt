@@ -6,5 +6,3 @@ pub mod denoters;
 pub mod frame;
 pub mod headings;
 pub mod points;
-#[cfg(test)]
-mod tests;

@@ -4,13 +4,13 @@ ghost use Rattle.std.specs.Prelude.{◌≡◌, None, Some, IfErr, OnOk, map, ◌
 ghost use Rattle.ps_regions.specs.Refusal.{IsFault};
 ghost use Rattle.ps_declare.specs.Points.{all, ordinal_points, type_points, structure_points, fields_points, constant_points, definition_points, variables_points, block_points, add_point, add_points};
 
-use ps_regions::names::Names;
 use ps_regions::reading::Reading;
 use ps_regions::refusal::{Fault, Rule};
 use ps_syntax::{
     ConstantDefinition, Fields, Ordinal, Structure, TypeDefinition, TypeDenoter, Variables,
 };
 use ps_text::Span;
+use ps_tree::names::Names;
 use std::alloc::Global;
 
 /// One more name, which is new.

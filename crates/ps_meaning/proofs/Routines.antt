@@ -9,7 +9,7 @@ use Rattle.ps_tree.specs.declared.tree.Relation.TheVariants.{Equal, AtMost}
 use Rattle.ps_tree.specs.declared.tree.PointerRelation.TheVariants.{Other as OtherPointer}
 use Rattle.ps_tree.specs.declared.tree.Range.TheVariants.{Any, Within}
 use Rattle.ps_tree.specs.declared.tree.Direction.TheVariants.{To}
-use Rattle.ps_tree.specs.Types.{DataType, OrdinalType, PointerType, SetType, ArrayType, RecordType, no_field, field_before}
+use Rattle.ps_tree.specs.Types.{DataType, OrdinalType, PointerType, SetType, ArrayType, RecordType, field_list, listed}
 use Rattle.ps_tree.specs.Tree.{Place, Entry, Opened, Element, Field, Target, Expr, Number, Nil, Load, Arithmetic, Logic, Compare, ComparePointers, CompareStrings, In, Call, CallFormal, LoadSet, Constructor, Combine, Member, One, Several, Members, no_member, member_before, Literal, Contents, Argument, ByValue, ByCopy, ByVariable, ByRoutine, ByFormal, DefaultWidth, GivenWidth, ReadChar, WriteInteger, WriteBoolean, WriteText, Statement, Assign, AssignSet, AssignStructure, CallProcedure, Compound, If, IfElse, While, For, With, New, Pack, Unpack, Read, Write, Writeln, Routine, Program}
 use Rattle.ps_meaning.specs.Operators.{all_below}
 use Rattle.ps_meaning.specs.Text.{digits}
@@ -71,7 +71,7 @@ man_or_boy_7 = refl
 
 -- with q^ do begin q := nil; k := 1 end, where h holds the object: the record is accessed once
 abbrev node_type : DataType
-node_type = RecordType 30 false (field_before (codes "k") integer_type (field_before (codes "next") (PointerType 0) no_field))
+node_type = RecordType 30 false (field_list (codes "k" ∷ codes "next" ∷ []) (listed (integer_type ∷ PointerType 0 ∷ [])))
 
 abbrev with_nodes : List DataType → List Statement → Program
 with_nodes variables body = record { routines = block variables body ∷ []; domains = node_type ∷ [] }
@@ -221,10 +221,10 @@ not_yet_open = refl
 
 -- with r, s do: the second record is a field of the first, and fields are found from the inside out
 abbrev inner_type : DataType
-inner_type = RecordType 60 false (field_before (codes "k") integer_type no_field)
+inner_type = RecordType 60 false (field_list (codes "k" ∷ []) (listed (integer_type ∷ [])))
 
 abbrev outer_type : DataType
-outer_type = RecordType 61 false (field_before (codes "k") integer_type (field_before (codes "s") inner_type no_field))
+outer_type = RecordType 61 false (field_list (codes "k" ∷ codes "s" ∷ []) (listed (integer_type ∷ inner_type ∷ [])))
 
 nested_records : run (alone (outer_type ∷ []) (With (own 0 ∷ Opened 0 outer_type 1 ∷ []) (Compound (statements (Assign (Opened 0 inner_type 0) any_integer (n 7) 1 ∷ Assign (Opened 1 outer_type 0) any_integer (n 5) 1 ∷ []))) ∷ write_narrow (Load (Field (own 0) outer_type 0)) ∷ write_narrow (Load (Field (Field (own 0) outer_type 1) inner_type 0)) ∷ [])) [] 1 ≡ (codes "57", (1, 0, 0))
 unfolding digits

@@ -2,7 +2,7 @@
 use Rattle.std.specs.Prelude.{ℕ, zero, suc, ℤ, pos, Bool, false, ◌&&◌, is_none, if◌then◌else◌, List, [], ◌∷◌, ◌++◌}
 use Rattle.ps_tree.specs.declared.types.Host.TheVariants.{Integer}
 use Rattle.ps_tree.specs.declared.types.Ordinal.{Ordinal}
-use Rattle.ps_tree.specs.Types.{DataType, OrdinalType, PointerType, NilType, SetType, EmptySetType, TextType, ArrayType, RecordType, FieldList, no_field, field_before, is_same_host}
+use Rattle.ps_tree.specs.Types.{DataType, OrdinalType, PointerType, NilType, SetType, EmptySetType, TextType, ArrayType, RecordType, FieldList, field_list, DataTypes, no_type, type_before, is_same_host}
 use Rattle.ps_tree.specs.Sizes.{value_count}
 
 -- A whole number for a value of an ordinal type; for a pointer nil or the object that it points to; for a set the
@@ -57,8 +57,11 @@ abbrev mutual
   first (RecordType at packed fields) = StructureValue (first_fields fields)
 
   pub first_fields : FieldList → Values
-  first_fields no_field = no_value
-  first_fields (field_before name type rest) = value_before (first type) (first_fields rest)
+  first_fields (field_list names types) = first_of_each types
+
+  pub first_of_each : DataTypes → Values
+  first_of_each no_type = no_value
+  first_of_each (type_before type rest) = value_before (first type) (first_of_each rest)
 
 -- the value of a string
 abbrev pub text_values : List ℕ → Values

@@ -103,7 +103,8 @@ impl<'a> Parser<'a> {
 
     #[tactic(auto, unfolding(crate::specs::ReadExpressions::eat_operator))]
     fn relation(&mut self) -> Option<(Relation, Span)>
-        ensures { read.eat_operator read.relation_of self.old.rest.now ≡ Some (result, self.new.rest.now) }
+        ensures read { read.eat_operator read.relation_of self.old.rest.now ≡ Some (result, self.new.rest.now) }
+        ensures kept { self.new.left_out ≡ self.old.left_out }
     {
         let token = self.peek()?;
         let relation = relation_of(token.kind)?;
@@ -113,7 +114,8 @@ impl<'a> Parser<'a> {
 
     #[tactic(auto, unfolding(crate::specs::ReadExpressions::eat_operator))]
     pub fn sign(&mut self) -> Option<(Sign, Span)>
-        ensures { read.eat_operator read.sign_of self.old.rest.now ≡ Some (result, self.new.rest.now) }
+        ensures read { read.eat_operator read.sign_of self.old.rest.now ≡ Some (result, self.new.rest.now) }
+        ensures kept { self.new.left_out ≡ self.old.left_out }
     {
         let token = self.peek()?;
         let sign = sign_of(token.kind)?;
@@ -123,7 +125,8 @@ impl<'a> Parser<'a> {
 
     #[tactic(auto, unfolding(crate::specs::ReadExpressions::eat_operator))]
     fn adding(&mut self) -> Option<(Adding, Span)>
-        ensures { read.eat_operator read.adding_of self.old.rest.now ≡ Some (result, self.new.rest.now) }
+        ensures read { read.eat_operator read.adding_of self.old.rest.now ≡ Some (result, self.new.rest.now) }
+        ensures kept { self.new.left_out ≡ self.old.left_out }
     {
         let token = self.peek()?;
         let operator = adding_of(token.kind)?;
@@ -133,7 +136,8 @@ impl<'a> Parser<'a> {
 
     #[tactic(auto, unfolding(crate::specs::ReadExpressions::eat_operator))]
     fn multiplying(&mut self) -> Option<(Multiplying, Span)>
-        ensures { read.eat_operator read.multiplying_of self.old.rest.now ≡ Some (result, self.new.rest.now) }
+        ensures read { read.eat_operator read.multiplying_of self.old.rest.now ≡ Some (result, self.new.rest.now) }
+        ensures kept { self.new.left_out ≡ self.old.left_out }
     {
         let token = self.peek()?;
         let operator = multiplying_of(token.kind)?;
@@ -163,8 +167,7 @@ impl<'a> Parser<'a> {
         }
     }
 
-    /// A factor alone is answered here, where no part is held while another is read: so a level of
-    /// parentheses costs little.
+    /// A factor alone is answered here, where no part is held while another is read.
     #[cycle(expression)]
     #[tactic(auto, unfolding(crate::specs::ReadExpressions::read_expr, crate::specs::ReadExpressions::compared, crate::specs::ReadExpressions::simple, crate::specs::ReadExpressions::term))]
     pub fn expr(&mut self, depth: u32) -> Result<Expr, Fault>
@@ -206,11 +209,42 @@ impl<'a> Parser<'a> {
         }
     }
 
+    /// As `expr`, where the value goes to the heap. A factor alone goes there straight, so that a level of
+    /// parentheses hands only the factor up.
     #[cycle(expression)]
+    #[tactic(auto, unfolding(crate::specs::ReadExpressions::read_expr, crate::specs::ReadExpressions::compared, crate::specs::ReadExpressions::simple, crate::specs::ReadExpressions::term))]
     pub fn boxed_expr(&mut self, depth: u32) -> Result<Boxed<Expr>, Fault>
         ensures { Reads (read.read_expr depth self.old.rest.now) result self.new.rest.now }
     {
-        let value = self.expr(depth)?;
+        if depth == 0 {
+            return Err(self.too_deep(self.begins_expression()));
+        }
+        let sign = self.sign();
+        let first = self.factor(depth - 1)?;
+        if self.sees_operator() {
+            return self.boxed_from(depth - 1, sign, first);
+        }
+        let first = Term {
+            first,
+            more: Items::new(self.alloc),
+        };
+        let more = Items::new(self.alloc);
+        Ok(Boxed::new(self.alloc, Expr::Simple(Simple { sign, first, more }))?)
+    }
+
+    /// As `expr_from`, where the value goes to the heap. Inlined, it would make the frame of each level of
+    /// parentheses several times as large.
+    #[cycle(expression)]
+    #[inline(never)]
+    fn boxed_from(
+        &mut self,
+        depth: u32,
+        sign: Option<(Sign, Span)>,
+        first: Factor,
+    ) -> Result<Boxed<Expr>, Fault>
+        ensures { Reads (read.expr_after (read.read_factor depth) sign first self.old.rest.now) result self.new.rest.now }
+    {
+        let value = self.expr_from(depth, sign, first)?;
         Ok(Boxed::new(self.alloc, value)?)
     }
 

@@ -1,5 +1,5 @@
 -- Frames and contexts of called routines.
-use Rattle.std.proofs.Common.{◌≡◌, ℕ, zero, suc, ◌+◌, ◌-◌, ◌<◌, ◌≤◌, ◌≢◌, Bool, true, false, if◌then◌else◌, List, [], ◌∷◌, ◌++◌, length, get_or, drop, map, refl, sym, ap, ◌∙◌, add-one, arith}
+use Rattle.std.proofs.Common.{◌≡◌, ℕ, zero, suc, ◌+◌, ◌-◌, ◌<◌, ◌≤◌, ◌≢◌, Bool, true, false, if◌then◌else◌, Option, List, [], ◌∷◌, ◌++◌, length, get_or, drop, map, refl, sym, ap, ◌∙◌, add-one, arith}
 use Rattle.std.proofs.Math.Seq.{drop-cons}
 use Rattle.std.proofs.lemmas.List.{drop_all}
 use Rattle.ps_tree.specs.Types.{DataType}
@@ -62,6 +62,11 @@ routine_found [] domains r called lt at = absurd (omega arith)
 routine_found (x ∷ rest) domains zero called lt at = ap routine_of (sym at)
 routine_found (x ∷ rest) domains (suc r) called lt at = routine_found rest domains r called (omega arith) at
 
+pub routine_past : (routines : List Routine) (domains : List Ty) (r : ℕ) → length routines ≤ r → Tree.routine_at (program_of routines domains) r ≡ Tree.no_routine
+routine_past [] domains r le = refl
+routine_past (x ∷ rest) domains zero le = absurd (omega arith)
+routine_past (x ∷ rest) domains (suc r) le = routine_past rest domains r (omega arith)
+
 if_true_at : {A B : Type 0} (b : Bool) (f g : A → B) (w : A) → b ≡ true → (if b then f else g) w ≡ f w
 if_true_at b f g w is = ap (λ k. (if k then f else g) w) is
 
@@ -69,15 +74,19 @@ if_false_at : {A B : Type 0} (b : Bool) (f g : A → B) (w : A) → b ≡ false 
 if_false_at b f g w is = ap (λ k. (if k then f else g) w) is
 
 -- a call that is stopped, and one that enters its block
-pub stack_passed : (job : Job) (n number : ℕ) (parent : m.Env) (actuals : List x.Actual) (c : m.Context) (w : m.World) (routine : Tree.Routine) → Tree.routine_at (r.program_of job) number ≡ routine → s.passes_stack (costs_in job) (number ∷ c.active) ≡ true → caller job n number parent actuals c w ≡ m.Ends w.transcript (m.Stack routine.line) c.calls
+pub stack_passed : (job : Job) (n number : ℕ) (parent : m.Env) (actuals : List x.Actual) (c : m.Context) (w : m.World) (line : ℕ) → (Tree.routine_at (r.program_of job) number).line ≡ line → s.passes_stack (costs_in job) (number ∷ c.active) ≡ true → caller job n number parent actuals c w ≡ m.Ends w.transcript (m.Stack line) c.calls
 unfolding caller
-stack_passed job n number parent actuals c w routine is passes =
-    if_true_at _ _ _ w passes ∙ ap (λ (k : Tree.Routine). m.Ends w.transcript (m.Stack k.line) c.calls) is
+stack_passed job n number parent actuals c w line is passes =
+    if_true_at _ _ _ w passes ∙ ap (λ k. m.Ends w.transcript (m.Stack k) c.calls) is
 
-pub block_entered : (job : Job) (n number : ℕ) (parent : m.Env) (actuals : List x.Actual) (c : m.Context) (w : m.World) (routine : Tree.Routine) (bound : Bound) → Tree.routine_at (r.program_of job) number ≡ routine → s.passes_stack (costs_in job) (number ∷ c.active) ≡ false → bind routine.result actuals routine.variables w ≡ bound → caller job n number parent actuals c w ≡ next job n (s.Block routine.body) (record { env = m.Within bound.frame parent; opened = []; active = number ∷ c.active; calls = c.calls }) bound.world
-unfolding caller next
-block_entered job n number parent actuals c w routine bound is passes did =
-    if_false_at _ _ _ w passes ∙ ap (λ (k : Tree.Routine). execute (r.program_of job) (costs_in job) n (s.Block k.body) (record { env = m.Within (bind k.result actuals k.variables w).frame parent; opened = []; active = number ∷ c.active; calls = c.calls }) (bind k.result actuals k.variables w).world) is ∙ ap (λ (b : Bound). execute (r.program_of job) (costs_in job) n (s.Block routine.body) (record { env = m.Within b.frame parent; opened = []; active = number ∷ c.active; calls = c.calls }) b.world) did
+-- a block whose names are bound
+entered : Job → (n number : ℕ) → m.Env → m.Context → Tree.Statements → Bound → m.Answer m.Done
+entered job n number parent c body b = execute (r.program_of job) (costs_in job) n (s.Block body) (record { env = m.Within b.frame parent; opened = []; active = number ∷ c.active; calls = c.calls }) b.world
+
+pub block_entered : (job : Job) (n number : ℕ) (parent : m.Env) (actuals : List x.Actual) (c : m.Context) (w : m.World) (result : Option DataType) (variables : List DataType) (body : Tree.Statements) (bound : Bound) → (Tree.routine_at (r.program_of job) number).result ≡ result → (Tree.routine_at (r.program_of job) number).variables ≡ variables → (Tree.routine_at (r.program_of job) number).body ≡ body → s.passes_stack (costs_in job) (number ∷ c.active) ≡ false → bind result actuals variables w ≡ bound → caller job n number parent actuals c w ≡ next job n (s.Block body) (record { env = m.Within bound.frame parent; opened = []; active = number ∷ c.active; calls = c.calls }) bound.world
+unfolding caller next entered
+block_entered job n number parent actuals c w result variables body bound ends declares does passes did =
+    if_false_at _ _ _ w passes ∙ ap (λ k. entered job n number parent c k (bind (Tree.routine_at (r.program_of job) number).result actuals (Tree.routine_at (r.program_of job) number).variables w)) does ∙ ap (entered job n number parent c body) (ap (λ k. bind k actuals (Tree.routine_at (r.program_of job) number).variables w) ends ∙ ap (λ k. bind result actuals k w) declares ∙ did)
 
 -- the block of a call, with no fuel left and with some
 pub block_none : (job : Job) (n : ℕ) (body : Tree.Statements) (c : m.Context) (w : m.World) → n ≡ 0 → next job n (s.Block body) c w ≡ r.more_at c w

@@ -1,13 +1,13 @@
 -- What arrays and records stand for.
-use Rattle.std.proofs.Common.{◌≡◌, ℕ, zero, suc, ℤ, pos, unsigned_abs, ◌+◌, ◌<◌, ◌≤◌, Bool, List, [], ◌∷◌, ◌++◌, length, get_or, set, take, drop, ◌-◌, Vec, Global, refl, sym, ap, subst, ◌∙◌, add-one, arith}
-use Rattle.std.specs.declared.rc.Rc.{Rc}
+use Rattle.std.proofs.Common.{◌≡◌, ℕ, zero, suc, ℤ, pos, unsigned_abs, ◌+◌, ◌*◌, ◌<◌, ◌≤◌, Bool, List, [], ◌∷◌, ◌++◌, length, get_or, set, take, drop, ◌-◌, Vec, Global, refl, sym, ap, subst, ◌∙◌, add-one, arith}
 use Rattle.std.proofs.lemmas.List.{take_more, take_all}
-use Rattle.ps_tree.specs.Types.{FieldList, no_field, field_before, ArrayType, RecordType}
+use Rattle.std.specs.List.{All}
+use Rattle.std.proofs.lemmas.List.Elements.{All-head, All-tail}
+use Rattle.ps_tree.specs.Types.{DataType, FieldList, field_list, field_types, ArrayType, RecordType}
+use Rattle.ps_tree.specs.Sizes.{depth, depth_of_fields, greatest_depth}
 use Rattle.ps_tree.specs.declared.types.Ordinal.{Ordinal as OrdinalOf}
-use Rattle.ps_tree.specs.declared.types.Ty.{Ty, Array, Record}
-use Rattle.ps_tree.specs.declared.types.Field.{Field}
-use Rattle.ps_tree.specs.declared.types.Fields.{Fields, Fields', Row_of-Field, end_of-Field, more_of-Field, items-the_row-Field, items_shown-the_row-Field-0, out-Fields}
-use Rattle.ps_tree.specs.View.{type_of, fields_of, fields_of_row}
+use Rattle.ps_tree.specs.declared.types.Ty.{Ty}
+use Rattle.ps_tree.specs.View.{type_of, types_of}
 use Rattle.ps_meaning.specs.Statements as s
 use Rattle.ps_meaning.specs.Values as m
 use Rattle.ps_reference.specs.declared.value.Value.{Value, Ordinal, Structure, Row_of-Value, end_of-Value, more_of-Value, items-the_row-Value, items_hidden-the_row-Value-0}
@@ -48,42 +48,48 @@ copies_next made copy value n same before =
 pub listed_none : listed [] ≡ m.no_member_of
 listed_none = refl
 
-pub type_of_Array : (at : ℕ) (packed : Bool) (index : OrdinalOf) (component : Rc Ty Global) → type_of (Array at packed index component) ≡ ArrayType at packed index (type_of component.value)
-unfolding type_of
-type_of_Array at packed index component = refl
+-- what stands in a type is less deep
+array_depth : (at : ℕ) (packed : Bool) (index : OrdinalOf) (component : DataType) → depth (ArrayType at packed index component) ≡ suc (depth component)
+unfolding depth
+array_depth at packed index component = refl
 
-pub type_of_Record : (at : ℕ) (packed : Bool) (fields : Rc Fields Global) → type_of (Record at packed fields) ≡ RecordType at packed (fields_of fields.value)
-unfolding type_of
-type_of_Record at packed fields = refl
+record_depth : (at : ℕ) (packed : Bool) (fields : FieldList) → depth (RecordType at packed fields) ≡ suc (depth_of_fields fields)
+unfolding depth
+record_depth at packed fields = refl
 
--- the list of fields as the tree has it
-abbrev pub field_list : List Field → FieldList
-field_list [] = no_field
-field_list (f ∷ fs) = field_before f.name.items (type_of f.ty) (field_list fs)
+pub component_falls : (ty inner : Ty) (at : ℕ) (packed : Bool) (index : OrdinalOf) (component : DataType) → type_of ty ≡ ArrayType at packed index component → type_of inner ≡ component → 2 * depth (type_of inner) < 2 * depth (type_of ty)
+component_falls ty inner at packed index component is same = let e : depth (type_of ty) ≡ suc (depth component) = ap depth is ∙ array_depth at packed index component in let f : depth (type_of inner) ≡ depth component = ap depth same in omega (arith, e, f)
 
-fields_row_is : {n : _} (k : Row_of-Field n) → fields_of_row k ≡ field_list (items-the_row-Field n k)
-unfolding fields_of_row
-fields_row_is end_of-Field = refl
-fields_row_is (more_of-Field name ty rest) = ap (field_before name.items (type_of ty)) (fields_row_is rest)
+pub fields_fall : (ty : Ty) (at : ℕ) (packed : Bool) (fields inner : FieldList) → type_of ty ≡ RecordType at packed fields → inner ≡ fields → 2 * depth_of_fields inner + 1 < 2 * depth (type_of ty)
+fields_fall ty at packed fields inner is same = let e : depth (type_of ty) ≡ suc (depth_of_fields fields) = ap depth is ∙ record_depth at packed fields in let f : depth_of_fields inner ≡ depth_of_fields fields = ap depth_of_fields same in omega (arith, e, f)
 
-pub fields_of_out : (f : Fields) → fields_of f ≡ field_list (out-Fields f).fields.items
-unfolding fields_of out-Fields Rattle.ps_tree.specs.declared.types.Ty.TheBlock.shown-the_row-Field-0 denote.Hole.Carrier.out denote.Hole.Carrier.shown
-fields_of_out (Fields' shape row) = fields_row_is row ∙ ap field_list (sym (items_shown-the_row-Field-0 shape row))
+listed_deep : (types : List Ty) (i : ℕ) (item : Ty) → i < length types → item ≡ get_or types i item → depth (type_of item) ≤ greatest_depth (types_of types)
+unfolding depth
+listed_deep [] i item lt at = absurd (omega arith)
+listed_deep (t ∷ ts) zero item lt at = let e : depth (type_of item) ≡ depth (type_of t) = ap (λ u. depth (type_of u)) at in omega (arith, e)
+listed_deep (t ∷ ts) (suc i) item lt at = omega (arith, listed_deep ts i item (omega arith) at)
 
-first_append : (fs : List Field) (f : Field) → m.first_fields (field_list (fs ++ f ∷ [])) ≡ and_value (m.first_fields (field_list fs)) (m.first (type_of f.ty))
-first_append [] f = refl
-first_append (g ∷ gs) f = ap (m.value_before (m.first (type_of g.ty))) (first_append gs f)
+pub field_falls : (fields : FieldList) (types : List Ty) (i : ℕ) (item : Ty) → types_of types ≡ field_types fields → i < length types → item ≡ get_or types i item → 2 * depth (type_of item) < 2 * depth_of_fields fields + 1
+unfolding depth
+field_falls (field_list names these) types i item is lt at = let h : depth (type_of item) ≤ greatest_depth these = subst (λ ts. depth (type_of item) ≤ greatest_depth ts) is (listed_deep types i item lt at) in omega (arith, h)
 
--- the first values of the first fields
-abbrev pub FirstFields : Fields → ℕ → List Value → Type 0
-FirstFields fields i values = values_of values ≡ m.first_fields (field_list (take i (out-Fields fields).fields.items))
+first_append : (types : List Ty) (t : Ty) → m.first_of_each (types_of (types ++ t ∷ [])) ≡ and_value (m.first_of_each (types_of types)) (m.first (type_of t))
+first_append [] t = refl
+first_append (u ∷ us) t = ap (m.value_before (m.first (type_of u))) (first_append us t)
 
-pub fields_next : (fields : Fields) (items : List Field) (values : List Value) (i : ℕ) (value : Value) (item : Field) → items ≡ (out-Fields fields).fields.items → i < length items → item ≡ get_or items i item → value_of value ≡ m.first (type_of item.ty) → FirstFields fields i values → FirstFields fields (i + 1) (values ++ value ∷ [])
-fields_next fields items values i value item whole lt at same before =
-    subst (λ xs. values_of values ≡ m.first_fields (field_list (take i xs)) → values_of (values ++ value ∷ []) ≡ m.first_fields (field_list (take (i + 1) xs))) whole (λ h. values_append values value ∙ ap (λ vs. and_value vs (value_of value)) h ∙ ap (and_value (m.first_fields (field_list (take i items)))) (same ∙ ap (λ f. m.first (type_of f.ty)) at) ∙ sym (first_append (take i items) (get_or items i item)) ∙ ap (λ fs. m.first_fields (field_list fs)) (sym (take_more items i item lt))) before
+-- the first values of the first types
+abbrev pub FirstValues : List Ty → ℕ → List Value → Type 0
+FirstValues types i values = values_of values ≡ m.first_of_each (types_of (take i types))
 
-pub fields_all : (fields : Fields) (values : List Value) (i : ℕ) → length (out-Fields fields).fields.items ≤ i → FirstFields fields i values → values_of values ≡ m.first_fields (fields_of fields)
-fields_all fields values i le h = h ∙ ap (λ fs. m.first_fields (field_list fs)) (take_all i (out-Fields fields).fields.items le) ∙ ap m.first_fields (sym (fields_of_out fields))
+pub types_next : (types : List Ty) (values : List Value) (i : ℕ) (value : Value) (item : Ty) → i < length types → item ≡ get_or types i item → value_of value ≡ m.first (type_of item) → FirstValues types i values → FirstValues types (i + 1) (values ++ value ∷ [])
+types_next types values i value item lt at same before =
+    values_append values value ∙ ap (λ vs. and_value vs (value_of value)) before ∙ ap (and_value (m.first_of_each (types_of (take i types)))) (same ∙ ap (λ t. m.first (type_of t)) at) ∙ sym (first_append (take i types) (get_or types i item)) ∙ ap (λ ts. m.first_of_each (types_of ts)) (sym (take_more types i item lt))
+
+first_of_types : (fields : FieldList) → m.first_of_each (field_types fields) ≡ m.first_fields fields
+first_of_types (field_list names types) = refl
+
+pub types_all : (fields : FieldList) (types : List Ty) (values : List Value) (i : ℕ) → types_of types ≡ field_types fields → length types ≤ i → FirstValues types i values → values_of values ≡ m.first_fields fields
+types_all fields types values i is le h = h ∙ ap (λ ts. m.first_of_each (types_of ts)) (take_all i types le) ∙ ap m.first_of_each is ∙ first_of_types fields
 
 -- the codes of characters
 text_append : (bytes : List ℕ) (b : ℕ) → m.text_values (bytes ++ b ∷ []) ≡ and_value (m.text_values bytes) (m.OrdinalValue (pos b))
@@ -149,3 +155,10 @@ characters_append (y ∷ ys) x = ap (λ l. unsigned_abs (m.number_of (value_of y
 pub characters_next : (values : List Value) (i : ℕ) (text : List ℕ) (x : Value) (byte : ℕ) → text ≡ s.characters (values_of (take i values)) → x ≡ get_or values i x → byte ≡ unsigned_abs (m.number_of (value_of x)) → i < length values → text ++ byte ∷ [] ≡ s.characters (values_of (take (i + 1) values))
 characters_next values i text x byte before at b lt =
     ap (λ l. l ++ byte ∷ []) before ∙ ap (λ k. s.characters (values_of (take i values)) ++ k ∷ []) b ∙ sym (ap (λ l. s.characters (values_of l)) (take_more values i x lt) ∙ characters_append (take i values) (get_or values i x) ∙ ap (λ y. s.characters (values_of (take i values)) ++ unsigned_abs (m.number_of (value_of y)) ∷ []) (sym at))
+
+-- a string has a character that is too large
+pub a_large_character : (values : List Value) (i : ℕ) (x : Value) → i < length values → x ≡ get_or values i x → 255 < unsigned_abs (m.number_of (value_of x)) → All (λ b. b ≤ 255) (s.characters (values_of values)) → ⊥
+unfolding values_of
+a_large_character [] i x lt at large all = absurd (omega arith)
+a_large_character (v ∷ rest) zero x lt at large all = absurd (let le : unsigned_abs (m.number_of (value_of v)) ≤ 255 = All-head (λ b. b ≤ 255) _ _ all in let gt : 255 < unsigned_abs (m.number_of (value_of v)) = subst (λ y. 255 < unsigned_abs (m.number_of (value_of y))) at large in omega arith)
+a_large_character (v ∷ rest) (suc i) x lt at large all = a_large_character rest i x (omega arith) at large (All-tail (λ b. b ≤ 255) _ _ all)

@@ -1,9 +1,9 @@
 // The blocks of called routines, and their frames.
 
-ghost use Rattle.std.specs.Prelude.{◌≡◌, ℕ, ◌≤◌, ◌∷◌, List, map, option_map, length, IfOk, IfErr, OnOk, MatchOption};
+ghost use Rattle.std.specs.Prelude.{◌≡◌, ℕ, ◌∷◌, List, map, option_map, option_copied, IfOk, IfErr, OnOk};
 ghost use Rattle.ps_tree.specs.Types.{DataType};
 ghost use Rattle.ps_tree.specs.Tree.{routine_at};
-ghost use Rattle.ps_tree.specs.View.{type_of, routine_of, statements_of};
+ghost use Rattle.ps_tree.specs.View.{type_of, statements_of};
 ghost use Rattle.ps_meaning.specs.Worlds as w;
 ghost use Rattle.ps_meaning.specs.Expressions as m;
 ghost use Rattle.ps_meaning.specs.Statements.{Block};
@@ -14,13 +14,22 @@ ghost use Rattle.ps_reference.specs.Blocks.{with_entry, with_entries, bound_in};
 
 use crate::cost::passes_stack;
 use crate::expressions::Actual;
-use crate::stop::{Ending, Refusal, Stop};
+use crate::stop::{Ending, Stop};
 use crate::value::{Root, Spot, Value, first};
 use crate::world::{Context, Entry, Env, Job, Numbers, World};
-use ps_tree::tree::{Routine, Statement};
+use ps_tree::tree::Statement;
 use ps_tree::types::Ty;
 use std::alloc::{AllocError, Global};
 use std::rc::Rc;
+
+/// What a call needs of a routine: the type of its result, its variables, its statements, and the line of its `begin`.
+#[derive(Clone, Copy)]
+struct Called<'b> {
+    result: Option<&'b Ty>,
+    variables: &'b [Ty],
+    body: &'b [Statement],
+    line: u16,
+}
 
 impl<'a> World<'a> {
     /// The entry of a new variable with a value.
@@ -51,9 +60,9 @@ impl<'a> World<'a> {
     fn bind_result(
         &mut self,
         alloc: Global,
-        result_ty: &Option<Ty>,
+        result_ty: Option<&Ty>,
     ) -> Result<Vec<Entry>, AllocError>
-        ensures { IfOk result (λ frame. (actuals : List m.Actual) (variables : List DataType) → d.bind (option_map type_of result_ty.now) actuals variables (world_of self.old) ≡ with_entries frame.items (d.bind_actuals actuals variables (world_of self.new))) }
+        ensures { IfOk result (λ frame. (actuals : List m.Actual) (variables : List DataType) → d.bind (option_map type_of (option_copied result_ty.entry)) actuals variables (world_of self.old) ≡ with_entries frame.items (d.bind_actuals actuals variables (world_of self.new))) }
     {
         let mut frame = Vec::new(alloc);
         match result_ty {
@@ -103,24 +112,40 @@ impl<'a> World<'a> {
     fn bind(
         &mut self,
         alloc: Global,
-        called: &Routine,
+        called: &Called,
         actuals: &[Actual],
     ) -> Result<Vec<Entry>, AllocError>
-        ensures { IfOk result (λ frame. d.bind (routine_of called.now).result (map actual_of actuals.now) (routine_of called.now).variables (world_of self.old) ≡ bound_in frame.items (world_of self.new)) }
+        ensures { IfOk result (λ frame. d.bind (option_map type_of (option_copied called.now.result)) (map actual_of actuals.now) (map type_of called.now.variables.now) (world_of self.old) ≡ bound_in frame.items (world_of self.new)) }
     {
-        let mut frame = self.bind_result(alloc, &called.result)?;
+        let mut frame = self.bind_result(alloc, called.result)?;
         self.bind_actuals(alloc, actuals, &mut frame)?;
-        self.bind_variables(alloc, called.variables.as_slice(), &mut frame)?;
+        self.bind_variables(alloc, called.variables, &mut frame)?;
         Ok(frame)
     }
 }
 
-/// The routine with a number, if the program has it.
-#[tactic(auto, using(crate::proofs::Blocks::routine_found))]
-fn routine_numbered<'b>(job: &'b Job<'b>, number: u32) -> Option<&'b Routine>
-    ensures { MatchOption result (length job.now.program.now.routines ≤ number) (λ called. routine_at (program_of job.now) number ≡ routine_of called.now) }
+/// What a call needs of the routine with a number; the program has an empty routine for each number past its own.
+#[tactic(auto, using(crate::proofs::Blocks::routine_found, crate::proofs::Blocks::routine_past), unfolding(ps_tree::specs::View::statements_of))]
+fn routine_numbered<'b>(job: &'b Job<'b>, number: u32) -> Called<'b>
+    ensures result { (routine_at (program_of job.now) number).result ≡ option_map type_of (option_copied result.result) }
+    ensures variables { (routine_at (program_of job.now) number).variables ≡ map type_of result.variables.now }
+    ensures body { (routine_at (program_of job.now) number).body ≡ statements_of result.body.now }
+    ensures line { (routine_at (program_of job.now) number).line ≡ result.line }
 {
-    job.program.routines().get(number as usize)
+    match job.program.routines().get(number as usize) {
+        Some(routine) => Called {
+            result: routine.result.as_ref(),
+            variables: routine.variables.as_slice(),
+            body: routine.body.as_slice(),
+            line: routine.line.number,
+        },
+        None => Called {
+            result: None,
+            variables: &[],
+            body: &[],
+            line: 0,
+        },
+    }
 }
 
 /// An environment with a frame more.
@@ -149,19 +174,15 @@ impl<'a> World<'a> {
         ensures stopped { IfErr result (λ stop. (n : ℕ) → Stopped (caller c.now.job.now n routine (env_of parent.value) (map actual_of actuals.now) (with_calls (numbers_of calls.value) (context_of c.now)) (world_of self.old)) stop self.new) }
     {
         let job = c.job;
-        let Some(called) = routine_numbered(job, routine) else {
-            return Err(Stop::Refused(Refusal::Untyped));
-        };
+        let called = routine_numbered(job, routine);
         let active = Numbers::before(job.alloc, routine, &c.active)?;
         if passes_stack(job, &active) {
             return Err(Stop::Ended {
-                ending: Ending::Stack {
-                    line: called.line.number,
-                },
+                ending: Ending::Stack { line: called.line },
                 calls: calls.listed(job.alloc)?,
             });
         }
-        let frame = self.bind(job.alloc, called, actuals)?;
+        let frame = self.bind(job.alloc, &called, actuals)?;
         let env = env_within(job.alloc, frame, parent)?;
         let opened = Vec::new(job.alloc);
         let context = Context {
@@ -171,7 +192,7 @@ impl<'a> World<'a> {
             active,
             calls,
         };
-        Ok((called.body.as_slice(), context))
+        Ok((called.body, context))
     }
 
     /// Enters the block of a routine that was declared in an environment, at a call at a line with these actual

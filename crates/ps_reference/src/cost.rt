@@ -16,10 +16,15 @@ fn cost_of(costs: &[u32], number: u32) -> u64
     }
 }
 
-/// What the costs of these numbers leave of a budget; none where they pass it.
+/// What the costs of these numbers leave of a budget; none where they pass it. Where no costs are listed nothing is
+/// summed.
+#[tactic(auto, using(crate::proofs::Costs::free_of_cost))]
 fn left_after(costs: &[u32], numbers: &[u32], budget: u64) -> Option<u64>
     ensures { MatchOption result (budget < sum_by (λ n. get_or costs.now n 0) numbers.now) (λ left. left + sum_by (λ n. get_or costs.now n 0) numbers.now ≡ budget) }
 {
+    if costs.len() == 0 {
+        return Some(budget);
+    }
     let mut left = budget;
     for number in numbers {
         let cost = cost_of(costs, *number);
@@ -41,11 +46,14 @@ pub fn passes_heap(job: &Job, made: &[u32], pointer: u32) -> bool
     }
 }
 
-/// The frame bytes of the open routines pass the stack.
-#[tactic(auto, using(crate::proofs::Worlds::numbers_of_Number), unfolding(crate::specs::Worlds::numbers_of))]
+/// The frame bytes of the open routines pass the stack. Where no costs are listed nothing is summed.
+#[tactic(auto, using(crate::proofs::Worlds::numbers_of_Number, crate::proofs::Costs::free_of_cost), unfolding(crate::specs::Worlds::numbers_of))]
 pub fn passes_stack(job: &Job, active: &Numbers) -> bool
     ensures { result ≡ m.passes_stack (costs_in job.now) (numbers_of active.now) }
 {
+    if job.frames.len() == 0 {
+        return false;
+    }
     let mut left = job.stack;
     let mut open = active;
     while let Numbers::Number { first, rest } = open {

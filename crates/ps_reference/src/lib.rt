@@ -7,12 +7,8 @@ pub mod cost;
 pub mod expressions;
 pub mod operators;
 pub mod required;
-#[cfg(test)]
-mod required_tests;
 pub mod statements;
 pub mod stop;
-#[cfg(test)]
-mod tests;
 pub mod text;
 pub mod value;
 pub mod world;

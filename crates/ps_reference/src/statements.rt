@@ -1,6 +1,8 @@
 // Statements and the required procedures.
 
-ghost use Rattle.std.specs.Prelude.{◌++◌, replicate, ◌≡◌, ◌+◌, pos, map, List, Some, IfOk, IfSome, OnOk, unwrap_or, unsigned_abs};
+ghost use Rattle.std.specs.List.{All};
+ghost use Rattle.ps_meaning.specs.Operators.{is_between};
+ghost use Rattle.std.specs.Prelude.{false, MatchOption, ◌<◌, ◌≤◌, negsuc, ◌++◌, replicate, ◌≡◌, ◌+◌, pos, map, List, Some, IfOk, OnOk, unwrap_or, unsigned_abs};
 ghost use Rattle.ps_meaning.specs.Values.{number_of};
 ghost use Rattle.ps_meaning.specs.Statements as m;
 ghost use Rattle.ps_meaning.specs.Text.{mark, scan_integer, marks_to, after_integer, after_line, line_marks};
@@ -28,7 +30,7 @@ pub fn is_past(direction: Direction, x: i32, y: i32) -> bool
 
 /// The next value of a control variable; none past the integers.
 pub fn succeeding(direction: Direction, x: i32) -> Option<i32>
-    ensures { IfSome result (λ y. y ≡ m.succeeding direction x) }
+    ensures { MatchOption result (is_between (negsuc 2147483647) (m.succeeding direction x) (pos 2147483647) ≡ false) (λ y. y ≡ m.succeeding direction x) }
 {
     match direction {
         Direction::To => { if x < i32::MAX { Some(x + 1) } else { None } }
@@ -38,16 +40,16 @@ pub fn succeeding(direction: Direction, x: i32) -> Option<i32>
 
 /// The character with an ordinal; none above 255.
 pub fn character(value: &Value) -> Option<u8>
-    ensures { IfSome result (λ b. b ≡ unsigned_abs (number_of (value_of value.now))) }
+    ensures { MatchOption result (255 < unsigned_abs (number_of (value_of value.now))) (λ b. b ≡ unsigned_abs (number_of (value_of value.now))) }
 {
     let code = value.number().unsigned_abs();
     if code <= 255 { Some(code as u8) } else { None }
 }
 
 /// The characters of a string; none where one is above 255.
-#[tactic(auto, using(crate::proofs::Values::characters_next), unfolding(crate::specs::View::values_of))]
+#[tactic(auto, using(crate::proofs::Values::characters_next, crate::proofs::Values::a_large_character), unfolding(crate::specs::View::values_of))]
 pub fn characters(alloc: Global, values: &[Value]) -> Result<Option<Vec<u8>>, AllocError>
-    ensures { IfOk result (λ found. IfSome found (λ v. v.items ≡ m.characters (values_of values.now))) }
+    ensures { IfOk result (λ found. MatchOption found (All (λ b. b ≤ 255) (m.characters (values_of values.now)) → ⊥) (λ v. v.items ≡ m.characters (values_of values.now))) }
 {
     let mut text = Vec::new(alloc);
     for value in values {

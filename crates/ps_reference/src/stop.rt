@@ -21,7 +21,8 @@ pub enum Refusal {
     OutOfMemory,
     /// Calls, statements and expressions lie deeper in one another than the host's stack is taken to hold.
     TooDeep,
-    /// A character above 255, or a control variable past the integers: no program of the checker has them.
+    /// A character above 255, or a control variable past the integers, which no program of the checker has; or a
+    /// transcript with an item that is neither a byte nor a mark, which no run has.
     Untyped,
 }
 

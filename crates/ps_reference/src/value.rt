@@ -3,7 +3,7 @@
 ghost use Rattle.std.specs.Prelude.{◌≡◌, IfOk, MatchOption};
 ghost use Rattle.ps_meaning.specs.Values.{number_of, set_of, components_of, component, first, first_fields, first_ordinal, copies, nth, with_nth, part, with_part, entire, step, text_values};
 ghost use Rattle.ps_meaning.specs.Worlds.{unset};
-ghost use Rattle.ps_tree.specs.View.{type_of, fields_of};
+ghost use Rattle.ps_tree.specs.View.{type_of};
 ghost use Rattle.ps_reference.specs.View.{listed, value_of, values_of, root_of, spot_of};
 
 use ps_tree::types::{Fields, Host, Ordinal, Ty, same_host};
@@ -153,7 +153,7 @@ fn copies(alloc: Global, count: u64, value: &Value) -> Result<Vec<Value>, AllocE
 
 /// The first value of a type's variables.
 #[cycle(first)]
-#[tactic(auto, using(crate::proofs::Values::value_of_Structure, crate::proofs::Values::type_of_Array, crate::proofs::Values::type_of_Record, crate::proofs::Values::listed_none), unfolding(crate::specs::View::value_of, ps_tree::specs::View::type_of))]
+#[tactic(auto, using(crate::proofs::Values::value_of_Structure, crate::proofs::Values::listed_none), unfolding(crate::specs::View::value_of, ps_tree::specs::View::type_of))]
 pub fn first(alloc: Global, ty: &Ty) -> Result<Value, AllocError>
     ensures { IfOk result (λ v. value_of v ≡ first (type_of ty.now)) }
 {
@@ -170,7 +170,7 @@ pub fn first(alloc: Global, ty: &Ty) -> Result<Value, AllocError>
             component,
             ..
         } => {
-            let value = first(alloc, component)?;
+            let value = first(alloc, component.ty())?;
             let values = copies(alloc, index.value_count(), &value)?;
             Ok(Value::Structure(values))
         }
@@ -183,13 +183,13 @@ pub fn first(alloc: Global, ty: &Ty) -> Result<Value, AllocError>
 
 /// The first values of the fields of a record type.
 #[cycle(first)]
-#[tactic(auto, using(crate::proofs::Values::fields_next, crate::proofs::Values::fields_all), unfolding(crate::specs::View::values_of))]
+#[tactic(auto, using(crate::proofs::Values::types_next, crate::proofs::Values::types_all), unfolding(crate::specs::View::values_of))]
 fn first_fields(alloc: Global, fields: &Fields) -> Result<Vec<Value>, AllocError>
-    ensures { IfOk result (λ v. values_of v.items ≡ first_fields (fields_of fields.now)) }
+    ensures { IfOk result (λ v. values_of v.items ≡ first_fields fields.now) }
 {
     let mut values = Vec::new(alloc);
-    for field in &fields.fields {
-        values.push(first(alloc, &field.ty)?)?;
+    for ty in fields.types() {
+        values.push(first(alloc, ty)?)?;
     }
     Ok(values)
 }

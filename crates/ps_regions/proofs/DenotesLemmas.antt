@@ -1,10 +1,10 @@
 -- The search through the regions finds the denoted point.
 use Rattle.std.proofs.Common.{◌≡◌, ◌<◌, ◌≤◌, ◌+◌, ℕ, suc, Bool, true, false, List, [], ◌∷◌, ◌++◌, Option, Some, None, slice_get, option_map, nat_lt, refl, sym, ap, ◌∙◌, subst, arith, zero-add}
 use Rattle.std.proofs.lemmas.Bool.{ltb-true, lt-ltb}
-use Rattle.ps_tree.specs.Types.{DataType, FieldList}
+use Rattle.ps_tree.specs.Types.{DataType, FieldList, field_in}
 use Rattle.ps_regions.specs.Option.{◌>>=◌, provided}
 use Rattle.ps_regions.specs.Spelling.{place}
-use Rattle.ps_regions.specs.Regions.{Region, BlockRegion, RecordRegion, FieldNames, Point, BlockPoint, Meaning, one_more, field_in, find_past, find, in_block, in_record, in_fields}
+use Rattle.ps_regions.specs.Regions.{Region, BlockRegion, RecordRegion, FieldNames, Point, BlockPoint, Meaning, one_more, find_past, find, in_block, in_record, in_fields}
 use Rattle.ps_regions.specs.Denotes.{Defines, IsPointOf, NoneDefines, blocks, records, Denotes, FindsWhatIsDenoted}
 
 none_some : {A : Type 0} {x : A} → (let n : Option A = None in n) ≡ Some x → ⊥
@@ -104,11 +104,11 @@ module _ (up which : ℕ) (Γ : List Region) (s : List ℕ) (p : Point) (hu : up
       let a = at_place up p (slice_get known i) h in
       here up which (BlockRegion routine names known) Γ s p hu hw (i, a.0, e, a.1, a.2)
 
-  sound_record : (type : DataType) (fields : FieldList) (o : Option (ℕ × DataType)) → field_in 0 fields s ≡ o → (which + 1 ≤ 4294967295 → find_past up (which + 1) Γ s ≡ Some p → DenotesPast up (which + 1) Γ s p) → in_record which type o (one_more which >>= (λ n. find_past up n Γ s)) ≡ Some p → DenotesPast up which (RecordRegion type fields ∷ Γ) s p
+  sound_record : (type : DataType) (fields : FieldList) (o : Option (ℕ × DataType)) → field_in fields s ≡ o → (which + 1 ≤ 4294967295 → find_past up (which + 1) Γ s ≡ Some p → DenotesPast up (which + 1) Γ s p) → in_record which type o (one_more which >>= (λ n. find_past up n Γ s)) ≡ Some p → DenotesPast up which (RecordRegion type fields ∷ Γ) s p
   sound_record type fields None e ih h =
       let t = then_some (one_more which) (λ n. find_past up n Γ s) p h in
       let m = more_some which t.0 t.1 in
-      behind_record up which type fields Γ s p (absent_at (field_in 0 fields s) e) (ih (omega (arith, m.0)) (ap (λ n. find_past up n Γ s) (sym m.1) ∙ t.2))
+      behind_record up which type fields Γ s p (absent_at (field_in fields s) e) (ih (omega (arith, m.0)) (ap (λ n. find_past up n Γ s) (sym m.1) ∙ t.2))
   sound_record type fields (Some f) e ih h = here up which (RecordRegion type fields) Γ s p hu hw (f, e, cc)
 
   sound_fields : (names : _) (o : Option ℕ) → place names s ≡ o → (find_past up which Γ s ≡ Some p → DenotesPast up which Γ s p) → in_fields o (find_past up which Γ s) ≡ Some p → DenotesPast up which (FieldNames names ∷ Γ) s p
@@ -119,7 +119,7 @@ sound : (up which : ℕ) (Γ : List Region) (s : List ℕ) (p : Point) → up �
 unfolding find_past
 sound up which [] s p hu hw h = absurd (none_some h)
 sound up which (BlockRegion routine names known ∷ Γ) s p hu hw h = sound_block up which Γ s p hu hw routine names known (place names s) refl (λ lt q. sound (up + 1) which Γ s p lt hw q) h
-sound up which (RecordRegion type fields ∷ Γ) s p hu hw h = sound_record up which Γ s p hu hw type fields (field_in 0 fields s) refl (λ lt q. sound up (which + 1) Γ s p hu lt q) h
+sound up which (RecordRegion type fields ∷ Γ) s p hu hw h = sound_record up which Γ s p hu hw type fields (field_in fields s) refl (λ lt q. sound up (which + 1) Γ s p hu lt q) h
 sound up which (FieldNames names ∷ Γ) s p hu hw h = sound_fields up which Γ s p hu hw names (place names s) refl (λ q. sound up which Γ s p hu hw q) h
 
 -- the closest region's point is found
@@ -156,7 +156,7 @@ complete_from (BlockRegion routine names known ∷ inner) up which r outer s p n
 complete_from (RecordRegion type fields ∷ inner) up which r outer s p none h fb fr =
     let lt : which < 4294967295 = omega (arith, fr) in
     let e : which + suc (records inner) ≡ which + 1 + records inner = omega arith in
-    record_passes which type (one_more which >>= (λ n. find_past up n (inner ++ r ∷ outer) s)) (field_in 0 fields s) none.0
+    record_passes which type (one_more which >>= (λ n. find_past up n (inner ++ r ∷ outer) s)) (field_in fields s) none.0
     ∙ ap (λ o. o >>= (λ n. find_past up n (inner ++ r ∷ outer) s)) (some_more which lt)
     ∙ complete_from inner up (which + 1) r outer s p none.1 (subst (λ w. IsPointOf r (up + blocks inner) w s p) e h) fb (omega (arith, fr))
 complete_from (FieldNames names ∷ inner) up which r outer s p none h fb fr =

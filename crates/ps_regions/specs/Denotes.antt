@@ -1,20 +1,20 @@
 -- The scope rules in the words of the standard (6.2.2): which defining point a name denotes at a place that these regions enclose, from the inside out.
 use Rattle.std.specs.Prelude.{◌≡◌, ◌↔◌, ◌≤◌, ℕ, suc, List, [], ◌∷◌, ◌++◌, Some, slice_get}
-use Rattle.ps_tree.specs.Types.{DataType}
+use Rattle.ps_tree.specs.Types.{DataType, field_in}
 use Rattle.ps_regions.specs.Spelling.{place}
-use Rattle.ps_regions.specs.Regions.{Region, BlockRegion, RecordRegion, FieldNames, Point, BlockPoint, FieldPoint, Meaning, field_in, find}
+use Rattle.ps_regions.specs.Regions.{Region, BlockRegion, RecordRegion, FieldNames, Point, BlockPoint, FieldPoint, Meaning, find}
 
 -- the region has a defining point of this spelling, before the place or after it
 abbrev pub Defines : Region → List ℕ → Type 0
 Defines (BlockRegion routine names known) s = (i : ℕ) × (place names s ≡ Some i)
-Defines (RecordRegion type fields) s = (f : ℕ × DataType) × (field_in 0 fields s ≡ Some f)
+Defines (RecordRegion type fields) s = (f : ℕ × DataType) × (field_in fields s ≡ Some f)
 Defines (FieldNames names) s = (i : ℕ) × (place names s ≡ Some i)
 
 -- The point is the region's defining point of this spelling, and stands before the place, so that it has a meaning there.
 -- It is told with the blocks and the opened records further in.
 abbrev pub IsPointOf : Region → (up which : ℕ) → List ℕ → Point → Type 0
 IsPointOf (BlockRegion routine names known) up which s p = (i : ℕ) × (m : Meaning) × (place names s ≡ Some i) × (slice_get known i ≡ Some m) × (p ≡ BlockPoint up m)
-IsPointOf (RecordRegion type fields) up which s p = (f : ℕ × DataType) × (field_in 0 fields s ≡ Some f) × (p ≡ FieldPoint which type f.0 f.1)
+IsPointOf (RecordRegion type fields) up which s p = (f : ℕ × DataType) × (field_in fields s ≡ Some f) × (p ≡ FieldPoint which type f.0 f.1)
 IsPointOf (FieldNames names) up which s p = ⊥
 
 -- none of these regions has a defining point of this spelling

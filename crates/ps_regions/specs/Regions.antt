@@ -1,12 +1,12 @@
 -- The regions that enclose a place in a program (ISO 7185, 6.2.2), and what a name is found to denote there.
-use Rattle.std.specs.Prelude.{ℕ, zero, suc, ◌+◌, ℤ, Bool, List, [], ◌∷◌, Option, Some, None, option_map, slice_get, nat_lt, if◌then◌else◌}
+use Rattle.std.specs.Prelude.{ℕ, zero, suc, ◌+◌, ℤ, Bool, List, [], ◌∷◌, Option, Some, None, option_map, slice_get, nat_lt}
 use Rattle.ps_tree.specs.declared.types.Ordinal.{Ordinal}
-use Rattle.ps_tree.specs.Types.{DataType, FieldList, no_field, field_before}
+use Rattle.ps_tree.specs.Types.{DataType, FieldList, field_in}
 use Rattle.ps_tree.specs.Tree.{Formals, no_formal, formal_before, ValueFormal, VariableFormal, RoutineFormal}
 use Rattle.ps_regions.specs.declared.meaning.File.{File}
 use Rattle.ps_regions.specs.declared.meaning.Required.{Required}
 use Rattle.ps_regions.specs.Option.{◌>>=◌, provided}
-use Rattle.ps_regions.specs.Spelling.{same, place}
+use Rattle.ps_regions.specs.Spelling.{place}
 
 -- 6.6.3.1: the sections of a formal parameter list, each with how many names it has
 mutual
@@ -90,11 +90,6 @@ pub data Point : Type 0 where
 abbrev pub one_more : ℕ → Option ℕ
 one_more n = provided (nat_lt n 4294967295) (n + 1)
 
--- a field of this name, by its number and its type, where the first field has a number
-unfoldable pub field_in : ℕ → FieldList → List ℕ → Option (ℕ × DataType)
-field_in n no_field s = None
-field_in n (field_before name type rest) s = if same s name then Some (n, type) else one_more n >>= (λ m. field_in m rest s)
-
 -- the point at an index of the block, where it stands before the place, or else what is found outside the block
 abbrev pub in_block : ℕ → List Meaning → Option ℕ → Option Point → Option Point
 in_block up known None outside = outside
@@ -114,7 +109,7 @@ in_fields (Some i) outside = None
 unfoldable pub find_past : (up which : ℕ) → List Region → List ℕ → Option Point
 find_past up which [] s = None
 find_past up which (BlockRegion routine names known ∷ Γ) s = in_block up known (place names s) (one_more up >>= (λ n. find_past n which Γ s))
-find_past up which (RecordRegion type fields ∷ Γ) s = in_record which type (field_in 0 fields s) (one_more which >>= (λ n. find_past up n Γ s))
+find_past up which (RecordRegion type fields ∷ Γ) s = in_record which type (field_in fields s) (one_more which >>= (λ n. find_past up n Γ s))
 find_past up which (FieldNames names ∷ Γ) s = in_fields (place names s) (find_past up which Γ s)
 
 abbrev pub find : List Region → List ℕ → Option Point

@@ -1,8 +1,6 @@
 -- What the values of the program stand for in the definitions.
 use Rattle.std.specs.Prelude.{List, [], ◌∷◌, Option, Some, None, option_map, map}
-use Rattle.ps_tree.specs.Types.{FieldList, no_field, field_before}
-use Rattle.ps_tree.specs.View.{type_of, fields_of}
-use Rattle.ps_tree.specs.declared.types.Field.{Field}
+use Rattle.ps_tree.specs.View.{type_of}
 use Rattle.ps_regions.specs.declared.meaning.Section as Rust
 use Rattle.ps_regions.specs.declared.meaning.Section.{Value, Variable, Routine', Row_of-Section, end_of-Section, more_of-Section}
 use Rattle.ps_regions.specs.declared.meaning.Heading as RustHeading
@@ -28,11 +26,6 @@ unfoldable mutual
   pub sections_of_row : {m : _} → Row_of-Section m → Sections
   sections_of_row end_of-Section = no_section
   sections_of_row (more_of-Section s rest) = section_before (section_of s) (sections_of_row rest)
-
--- lists of fields
-unfoldable pub field_list : List Field → FieldList
-field_list [] = no_field
-field_list (f ∷ fs) = field_before f.name.items (type_of f.ty) (field_list fs)
 
 -- lists of sections
 unfoldable pub sections_of : List Rust.Section → Sections
@@ -63,7 +56,7 @@ meaning_of m.LeftOut = LeftOutMeaning
 unfoldable pub scope_of : Scope → List Region
 scope_of Outside = []
 scope_of (Block' routine names known p outer) = BlockRegion routine names.now (map meaning_of known.now) ∷ scope_of outer
-scope_of (Record' ty fields p outer) = RecordRegion (type_of ty.now) (fields_of fields.now) ∷ scope_of outer
+scope_of (Record' ty fields p outer) = RecordRegion (type_of ty.now) fields.now ∷ scope_of outer
 scope_of (Fields' names defined p outer) = FieldNames names.now ∷ scope_of outer
 
 abbrev pub point_of : Found → Point

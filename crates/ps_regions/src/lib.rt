@@ -3,9 +3,6 @@
 
 pub mod constants;
 pub mod meaning;
-pub mod names;
 pub mod reading;
 pub mod refusal;
 pub mod scope;
-#[cfg(test)]
-mod tests;

@@ -1,15 +1,13 @@
 //! The regions that enclose a place, and the search through them.
 
-ghost use Rattle.std.specs.Prelude.{◌≡◌, ℕ, option_map};
-ghost use Rattle.ps_tree.specs.View.{type_of, fields_of};
-ghost use Rattle.ps_regions.specs.Spelling.{same};
-ghost use Rattle.ps_regions.specs.Regions.{one_more, field_in, find_past, find};
-ghost use Rattle.ps_regions.specs.Views.{field_list, scope_of, found};
+ghost use Rattle.std.specs.Prelude.{◌≡◌, ℕ};
+ghost use Rattle.ps_regions.specs.Regions.{one_more, find_past, find};
+ghost use Rattle.ps_regions.specs.Views.{scope_of, found};
 ghost use Rattle.ps_regions.specs.Denotes.{FindsWhatIsDenoted};
 
 use crate::meaning::Meaning;
-use crate::names::Names;
-use ps_tree::types::{Field, Fields, Ty};
+use ps_tree::names::Names;
+use ps_tree::types::{Fields, Ty};
 
 /// The regions that enclose a place, from the inside out.
 #[derive(Clone, Copy)]
@@ -77,34 +75,6 @@ pub fn one_more(count: u32) -> Option<u32>
     }
 }
 
-fn is_named(field: &Field, name: &[u8]) -> bool
-    ensures { result ≡ same name.now field.now.name.items }
-{
-    name == field.name.as_slice()
-}
-
-/// The first field of this name from the one with number `from` on, which is the first of these.
-fn field_from<'a>(fields: &'a [Field], from: u32, name: &[u8]) -> Option<(u32, &'a Ty)>
-    ensures { option_map (λ f. (f.0, type_of f.1.now)) result ≡ field_in from (field_list fields.now) name.now }
-{
-    let mut number = from;
-    for field in fields {
-        if is_named(field, name) {
-            return Some((number, &field.ty));
-        }
-        number = one_more(number)?;
-    }
-    None
-}
-
-/// The first field of this name, by its number and its type.
-#[tactic(auto, using(crate::proofs::Searches::fields_of_out))]
-pub fn field_of<'a>(fields: &'a Fields, name: &[u8]) -> Option<(u32, &'a Ty)>
-    ensures { option_map (λ f. (f.0, type_of f.1.now)) result ≡ field_in 0 (fields_of fields.now) name.now }
-{
-    field_from(&fields.fields, 0, name)
-}
-
 /// The defining point that a name denotes, behind `up` blocks and `which` opened records.
 #[tactic(auto, unfolding(crate::specs::Regions::find_past, crate::specs::Views::scope_of))]
 fn find_past<'a>(scope: &'a Scope<'a>, up: u32, which: u32, name: &[u8]) -> Lookup<'a>
@@ -127,7 +97,7 @@ fn find_past<'a>(scope: &'a Scope<'a>, up: u32, which: u32, name: &[u8]) -> Look
                 Some(meaning) => Lookup::Found(Found::Name { up, meaning }),
             },
         },
-        Scope::Record { ty, fields, outer } => match field_of(fields, name) {
+        Scope::Record { ty, fields, outer } => match fields.find(name) {
             None => match one_more(which) {
                 None => Lookup::Missing,
                 Some(which) => find_past(outer, up, which, name),

@@ -1,7 +1,8 @@
 -- A run's first world, what it tells, and transcripts without marks.
-use Rattle.std.proofs.Common.{◌≡◌, ◌≢◌, ℕ, ◌<◌, ◌+◌, Bool, true, false, not, ◌==◌, List, [], ◌∷◌, ◌++◌, length, get_or, take, map, cond, append-nil, Vec, Global, refl, sym, ap, subst, ◌∙◌}
+use Rattle.std.proofs.Common.{◌≡◌, ◌≢◌, ℕ, zero, suc, ◌<◌, ◌≤◌, ◌+◌, Bool, true, false, not, ◌==◌, List, [], ◌∷◌, ◌++◌, length, get_or, take, map, cond, append-nil, Vec, Global, refl, sym, ap, subst, ◌∙◌, arith}
 use mathlib.Core.Path.{fun_ext}
-use Rattle.std.proofs.lemmas.List.Elements.{filter_more}
+use Rattle.std.specs.List.{All}
+use Rattle.std.proofs.lemmas.List.Elements.{filter_more, All-head, All-tail}
 use Rattle.std.proofs.lemmas.Bool.{eqb-true}
 use Rattle.ps_meaning.specs.Values as v
 use Rattle.ps_meaning.specs.Worlds as m
@@ -54,3 +55,9 @@ other_than x false e other = e
 pub shown_byte : (xs : List ℕ) (i x : ℕ) → i < length xs → x ≡ get_or xs i 0 → x ≢ 256 → d.output_of (take (i + 1) xs) ≡ d.output_of (take i xs) ++ x ∷ []
 shown_byte xs i x lt at other =
     filter_more (λ b. not (b == t.mark)) xs i 0 lt ∙ ap (λ y. d.output_of (take i xs) ++ cond (not (y == 256)) (y ∷ []) []) (sym at) ∙ ap (λ b. d.output_of (take i xs) ++ cond (not b) (x ∷ []) []) (other_than x (x == 256) refl other)
+
+-- an item that is neither a byte nor a mark
+pub neither_byte_nor_mark : (xs : List ℕ) (i x : ℕ) → i < length xs → x ≡ get_or xs i 0 → x ≢ 256 → 256 ≤ x → All (λ b. b ≤ 256) xs → ⊥
+neither_byte_nor_mark [] i x lt at other le all = absurd (omega arith)
+neither_byte_nor_mark (y ∷ rest) zero x lt at other le all = other (let low : y ≤ 256 = All-head (λ b. b ≤ 256) _ _ all in omega arith)
+neither_byte_nor_mark (y ∷ rest) (suc i) x lt at other le all = neither_byte_nor_mark rest i x (omega arith) at other le (All-tail (λ b. b ≤ 256) _ _ all)

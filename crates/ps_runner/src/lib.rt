@@ -5,6 +5,4 @@ mod calls;
 mod expressions;
 pub mod run;
 mod statements;
-#[cfg(test)]
-mod tests;
 mod texts;

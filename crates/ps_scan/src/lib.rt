@@ -4,8 +4,6 @@
 mod lexeme;
 mod refusal;
 mod scanner;
-#[cfg(test)]
-mod tests;
 mod token;
 mod values;
 mod words;

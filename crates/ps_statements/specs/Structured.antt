@@ -80,7 +80,7 @@ pub record Head : Type 0 where
 -- the statement that is repeated doesn't threaten the control variable
 unfoldable pub repeated : Head → Tree.Statement → Option Tree.Statement
 repeated h body =
-    provided (not (statement_threatens 0 h.variable body))
+    provided (not (statement_threatens 0 (λ entry. h.variable == entry) body))
     (Tree.For h.variable h.type.low h.type.high h.first h.first_line h.direction h.last h.last_line body)
 
 -- ---- with (6.8.3.10)

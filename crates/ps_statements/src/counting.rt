@@ -10,6 +10,7 @@ ghost use Rattle.ps_statements.specs.Statements.{for_head};
 ghost use Rattle.ps_statements.specs.View.{head_of};
 
 use crate::threat::{Control, in_statement};
+use ps_changes::place::Entries;
 use ps_changes::threat::is_threat;
 use ps_regions::meaning::Meaning;
 use ps_regions::refusal::{Fault, Rule};
@@ -159,7 +160,7 @@ pub(crate) fn repeated(
     ensures ok { IfOk result (λ s. repeated (head_of head) (statement_of body.value) ≡ Some (statement_of s)) }
     ensures err { IfErr result (λ fault. IsFault fault → repeated (head_of head) (statement_of body.value) ≡ None) }
 {
-    if is_threat(&body, 0, head.variable) {
+    if is_threat(&body, 0, Entries::One(head.variable)) {
         let control = Control {
             reading: site.reading,
             name,

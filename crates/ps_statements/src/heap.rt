@@ -71,7 +71,7 @@ struct Places {
 }
 
 /// Tells that an array that is not packed, a packed one and an index go together.
-#[tactic(auto, using(ps_tree::proofs::ViewLemmas::type_of_Array), unfolding(crate::specs::Procedures::goes_with_pack, ps_tree::specs::View::type_of))]
+#[tactic(auto, unfolding(crate::specs::Procedures::goes_with_pack, ps_tree::specs::View::type_of))]
 fn goes_with_pack(unpacked: &Ty, packed: &Ty, index: Ordinal, at: Places) -> Result<(), Fault>
     ensures ok { IfOk result (λ _. spec.goes_with_pack (type_of unpacked.now) (type_of packed.now) index ≡ true) }
     ensures err { IfErr result (λ fault. IsFault fault → spec.goes_with_pack (type_of unpacked.now) (type_of packed.now) index ≡ false) }
@@ -91,7 +91,7 @@ fn goes_with_pack(unpacked: &Ty, packed: &Ty, index: Ordinal, at: Places) -> Res
                 if *is_packed {
                     return Err(wrong_type(at.unpacked));
                 }
-                if !*is_other_packed || !same_type(component, other) {
+                if !*is_other_packed || !same_type(component.ty(), other.ty()) {
                     return Err(wrong_type(at.packed));
                 }
                 if !same_host(index.host, bounds.host) {

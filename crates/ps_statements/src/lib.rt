@@ -9,7 +9,5 @@ mod heap;
 mod labels;
 mod procedure;
 pub mod statement;
-#[cfg(test)]
-mod tests;
 mod text;
 pub mod threat;

@@ -275,7 +275,7 @@ fn with_statement(
 
 /// The same where the last of the records, of type `ty`, is still to be opened; it begins at `at`.
 #[cycle(statement)]
-#[tactic(auto, using(ps_tree::proofs::ViewLemmas::type_of_Record), unfolding(crate::specs::Structured::record_region, ps_regions::specs::Views::scope_of, ps_tree::specs::View::type_of))]
+#[tactic(auto, unfolding(crate::specs::Structured::record_region, ps_regions::specs::Views::scope_of, ps_tree::specs::View::type_of))]
 fn with_record(
     x: &Syntax,
     site: Site<'_>,

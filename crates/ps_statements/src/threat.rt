@@ -2,6 +2,7 @@
 //! from the checked statements; here it is sought in the text.
 
 use crate::argument::first_token;
+use ps_changes::place::Entries;
 use ps_changes::threat::is_threat;
 use ps_regions::reading::Reading;
 use ps_syntax::{
@@ -36,7 +37,7 @@ impl Control<'_> {
     }
 
     fn is_threatened_by(self, statement: &Statement) -> bool {
-        is_threat(statement, self.up, self.entry)
+        is_threat(statement, self.up, Entries::One(self.entry))
     }
 }
 

@@ -6,8 +6,6 @@ ghost use Rattle.ps_text.specs.Lines.{line_count, line_at, IsSource};
 ghost use Rattle.ps_text.specs.Refusals.{number_of};
 
 mod table;
-#[cfg(test)]
-mod tests;
 
 use std::marker::Model;
 pub use table::{LineTable, OutOfMemory};

@@ -1,4 +1,5 @@
-pub mod ViewLemmas
+pub mod NameLemmas
+pub mod FieldLemmas
 pub mod TreeLemmas
 pub mod StatementLemmas
 pub mod Compatibility

@@ -1,5 +1,9 @@
+pub mod Names
 pub mod Types
 pub mod Sizes
+pub mod TypeCode
+pub mod TypeView
+pub mod TypeDepth
 pub mod Tree
 pub mod Counts
 pub mod View

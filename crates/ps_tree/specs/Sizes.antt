@@ -1,7 +1,7 @@
 -- The size of a type's variables, in cells and in bytes (this project's format).
-use Rattle.std.specs.Prelude.{ℕ, ◌+◌, ◌*◌, ◌/◌, pos, ◌-ℤ◌, unsigned_abs, int_lt, int_le, Bool, false, ◌&&◌, if◌then◌else◌}
+use Rattle.std.specs.Prelude.{ℕ, suc, max, ◌+◌, ◌*◌, ◌/◌, pos, ◌-ℤ◌, unsigned_abs, int_lt, int_le, Bool, false, ◌&&◌, if◌then◌else◌}
 use Rattle.ps_tree.specs.declared.types.Ordinal.{Ordinal}
-use Rattle.ps_tree.specs.Types.{DataType, OrdinalType, PointerType, NilType, SetType, EmptySetType, TextType, ArrayType, RecordType, FieldList, no_field, field_before}
+use Rattle.ps_tree.specs.Types.{DataType, OrdinalType, PointerType, NilType, SetType, EmptySetType, TextType, ArrayType, RecordType, FieldList, field_list, DataTypes, no_type, type_before}
 
 -- the number of values of an ordinal type
 abbrev pub value_count : Ordinal → ℕ
@@ -20,12 +20,12 @@ unfoldable mutual
   cells (RecordType at packed fields) = record_cells fields
 
   pub record_cells : FieldList → ℕ
-  record_cells no_field = 1
-  record_cells (field_before name type rest) = cells type + field_cells rest
+  record_cells (field_list names no_type) = 1
+  record_cells (field_list names (type_before type rest)) = cells type + field_cells rest
 
-  pub field_cells : FieldList → ℕ
-  field_cells no_field = 0
-  field_cells (field_before name type rest) = cells type + field_cells rest
+  pub field_cells : DataTypes → ℕ
+  field_cells no_type = 0
+  field_cells (type_before type rest) = cells type + field_cells rest
 
 -- all values lie in 0..255
 abbrev pub fits_byte : DataType → Bool
@@ -46,8 +46,30 @@ unfoldable mutual
   bytes EmptySetType = 32
   bytes (TextType length) = whole_words length
   bytes (ArrayType at packed index component) = if packed && fits_byte component then whole_words (value_count index) else value_count index * bytes component
-  bytes (RecordType at packed fields) = field_bytes fields
+  bytes (RecordType at packed fields) = record_bytes fields
 
-  pub field_bytes : FieldList → ℕ
-  field_bytes no_field = 0
-  field_bytes (field_before name type rest) = bytes type + field_bytes rest
+  pub record_bytes : FieldList → ℕ
+  record_bytes (field_list names types) = field_bytes types
+
+  pub field_bytes : DataTypes → ℕ
+  field_bytes no_type = 0
+  field_bytes (type_before type rest) = bytes type + field_bytes rest
+
+-- how deep the records and arrays in a type stand in one another
+unfoldable mutual
+  pub depth : DataType → ℕ
+  depth (OrdinalType o) = 0
+  depth (PointerType number) = 0
+  depth NilType = 0
+  depth (SetType denoter packing base) = 0
+  depth EmptySetType = 0
+  depth (TextType length) = 0
+  depth (ArrayType at packed index component) = suc (depth component)
+  depth (RecordType at packed fields) = suc (depth_of_fields fields)
+
+  pub depth_of_fields : FieldList → ℕ
+  depth_of_fields (field_list names types) = greatest_depth types
+
+  pub greatest_depth : DataTypes → ℕ
+  greatest_depth no_type = 0
+  greatest_depth (type_before type rest) = max (depth type) (greatest_depth rest)

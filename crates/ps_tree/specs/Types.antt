@@ -1,10 +1,11 @@
 -- The types of a program (6.4): what a type is, when two are one type (6.4.1), compatible (6.4.5) and assignment-compatible (6.4.6).
-use Rattle.std.specs.Prelude.{◌≡◌, ℕ, ℤ, pos, negsuc, Bool, true, false, ◌&&◌, ◌||◌, ◌==◌, if◌then◌else◌, int_lt, List, Option, Some, None, is_some, is_none, IsTrue}
+use Rattle.std.specs.Prelude.{◌≡◌, ℕ, zero, suc, option_map, option_and_then, nat_le, ℤ, pos, negsuc, Bool, true, false, ◌&&◌, ◌||◌, ◌==◌, if◌then◌else◌, int_lt, List, [], ◌∷◌, Option, Some, None, is_some, is_none, IsTrue}
 use Rattle.ps_tree.specs.declared.types.Host.{Host}
 use Rattle.ps_tree.specs.declared.types.Host.TheVariants.{Integer, Char, Boolean, Enumeration}
 use Rattle.ps_tree.specs.declared.types.Ordinal.{Ordinal}
 use Rattle.ps_tree.specs.declared.types.Packing.{Packing}
 use Rattle.ps_tree.specs.declared.types.Packing.TheVariants.{Packed, Unpacked}
+use Rattle.ps_tree.specs.Names.{place}
 
 -- Each denoter other than a type name makes a new type (6.4.1): a set, array or record type, a subrange and an enumerated
 -- type bear the offset of their denoter's first token. A pointer type bears its number among the pointer types.
@@ -23,9 +24,17 @@ mutual
     ArrayType : (at : ℕ) (packed : Bool) (index : Ordinal) → DataType → DataType
     RecordType : (at : ℕ) (packed : Bool) → FieldList → DataType
 
+  -- the names of the fields and their types, in one order
   pub data FieldList : Type 0 where
-    no_field : FieldList
-    field_before : (name : List ℕ) → DataType → FieldList → FieldList
+    field_list : (names : List (List ℕ)) → DataTypes → FieldList
+
+  pub data DataTypes : Type 0 where
+    no_type : DataTypes
+    type_before : DataType → DataTypes → DataTypes
+
+-- the types of the fields
+abbrev pub field_types : FieldList → DataTypes
+field_types (field_list names types) = types
 
 abbrev pub is_same_host : Host → Host → Bool
 is_same_host Integer Integer = true
@@ -122,3 +131,22 @@ is_compatible s t = is_same_type s t || are_same (string_length s) (string_lengt
 
 abbrev pub is_assignable : DataType → DataType → Bool
 is_assignable from to = has_variables to && is_compatible from to
+
+-- these types
+abbrev pub listed : List DataType → DataTypes
+listed [] = no_type
+listed (t ∷ ts) = type_before t (listed ts)
+
+-- the type at this place
+abbrev pub type_at : DataTypes → ℕ → Option DataType
+type_at no_type n = None
+type_at (type_before type rest) zero = Some type
+type_at (type_before type rest) (suc n) = type_at rest n
+
+-- the field at this place, by its number and its type. Numbers go up to 4294967295 (this project's limit; no text of 1,048,576 bytes comes near).
+abbrev pub field_at : DataTypes → ℕ → Option (ℕ × DataType)
+field_at types n = if nat_le n 4294967295 then option_map (λ type. (n, type)) (type_at types n) else None
+
+-- 6.4.3.3: the field of this name
+abbrev pub field_in : FieldList → List ℕ → Option (ℕ × DataType)
+field_in (field_list names types) s = option_and_then (field_at types) (place names s)

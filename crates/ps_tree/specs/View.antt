@@ -1,9 +1,8 @@
 -- What the values of the program's types stand for in the definitions.
+pub use Rattle.ps_tree.specs.TypeView.{type_of, types_of}
 use Rattle.std.specs.Prelude.{List, [], ◌∷◌, map, option_map}
-use Rattle.ps_tree.specs.Types.{DataType, OrdinalType, PointerType, NilType, SetType, EmptySetType, TextType, ArrayType, RecordType, FieldList, no_field, field_before}
 use Rattle.ps_tree.specs.Tree as Tree
-use Rattle.ps_tree.specs.declared.types.Ty.{Ty, Simple, Pointer, Nil as NilTy, Set as SetTy, EmptySet, Text, Array', Record'}
-use Rattle.ps_tree.specs.declared.types.Fields.{Fields, Fields', Row_of-Field, end_of-Field, more_of-Field}
+use Rattle.ps_tree.specs.declared.types.Ty.{Ty}
 use Rattle.ps_tree.specs.declared.tree.Place.{Place, Entry, Opened, Element', Field', Target'}
 use Rattle.ps_tree.specs.declared.tree.Expr.{Expr, Number, Nil, Load', Plus', Minus', Not', Arithmetic', Logic', Compare', ComparePointers', CompareSets', CompareStrings', In', Apply', Eof, Eoln, Call', CallFormal', Row_of-Argument, end_of-Argument, more_of-Argument}
 use Rattle.ps_tree.specs.declared.tree.SetExpr.{SetExpr, Constructor', Combine', Row_of-Member, end_of-Member, more_of-Member}
@@ -21,24 +20,6 @@ use Rattle.ps_tree.specs.declared.tree.Statement.{Statement, Empty, Assign, Assi
 use Rattle.ps_tree.specs.declared.tree.CaseElement.{CaseElement, out-CaseElement}
 use Rattle.ps_tree.specs.declared.tree.Formal.{Formal, Value as ValueFormal, Variable as VariableFormal, Routine' as RoutineFormal', Row_of-Formal, end_of-Formal, more_of-Formal}
 use Rattle.ps_tree.specs.declared.tree.Routine.{Routine}
-
-unfoldable mutual
-  pub type_of : Ty → DataType
-  type_of (Simple o) = OrdinalType o
-  type_of (Pointer n) = PointerType n
-  type_of NilTy = NilType
-  type_of (SetTy at packing base) = SetType at packing base
-  type_of EmptySet = EmptySetType
-  type_of (Text length) = TextType length
-  type_of (Array' at packed index p component) = ArrayType at packed index (type_of component)
-  type_of (Record' at packed p fields) = RecordType at packed (fields_of fields)
-
-  pub fields_of : Fields → FieldList
-  fields_of (Fields' shape row) = fields_of_row row
-
-  pub fields_of_row : {m : _} → Row_of-Field m → FieldList
-  fields_of_row end_of-Field = no_field
-  fields_of_row (more_of-Field name ty rest) = field_before name.items (type_of ty) (fields_of_row rest)
 
 unfoldable mutual
   pub place_of : Place → Tree.Place

@@ -3,8 +3,7 @@
 
 mod count;
 pub mod line;
+pub mod names;
 pub mod program;
-#[cfg(test)]
-mod tests;
 pub mod tree;
 pub mod types;

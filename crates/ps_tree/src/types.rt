@@ -1,11 +1,13 @@
 // Types: what they are, when two are one, and their sizes.
 
-ghost use Rattle.std.specs.Prelude.{◌≡◌, ◌↔◌, ◌-◌, ◌^◌, ◌≤◌, min, IfOk, IsTrue};
-ghost use Rattle.ps_tree.specs.Types.{Compatible, Assignable, is_same_host, are_same, is_same_ordinal, is_same_type, is_char, is_string_index, string_length, goes_with, has_variables, is_compatible, is_assignable};
-ghost use Rattle.ps_tree.specs.Sizes.{value_count, fits_byte, whole_words, cells, record_cells, bytes, field_bytes};
-ghost use Rattle.ps_tree.specs.View.{type_of, fields_of};
+ghost use Rattle.std.specs.Prelude.{◌≡◌, ◌↔◌, ◌-◌, ◌^◌, ◌≤◌, min, IfOk, IsTrue, option_map, ℕ, List};
+ghost use Rattle.ps_tree.specs.Types.{Compatible, Assignable, is_same_host, are_same, is_same_ordinal, is_same_type, is_char, is_string_index, string_length, goes_with, has_variables, is_compatible, is_assignable, field_list, field_types, field_at, field_in};
+ghost use Rattle.ps_tree.specs.Sizes.{value_count, fits_byte, whole_words, cells, record_cells, bytes, record_bytes, field_bytes};
+ghost use Rattle.ps_tree.specs.TypeView.{type_of, types_of};
 
+use crate::names::Names;
 use std::alloc::AllocError;
+use std::marker::Model;
 use std::rc::Rc;
 
 /// What the values of an ordinal type are (6.4.2.2, 6.4.2.3). An enumerated type is known by its denoter.
@@ -65,7 +67,7 @@ pub enum Ty {
         at: u32,
         packed: bool,
         index: Ordinal,
-        component: Rc<Ty>,
+        component: Rc<Component>,
     },
     Record {
         at: u32,
@@ -74,19 +76,69 @@ pub enum Ty {
     },
 }
 
-/// The fields of a record type, in their order.
+/// The type of an array's components, with its sizes.
+#[cycle(types)]
+#[derive(Drop)]
+pub struct Component {
+    ty: Ty,
+    cell_count: u64,
+    byte_count: u32,
+}
+
+/// The fields of a record type: their names, in small letters, and their types, in one order. With the sizes of a record.
 #[cycle(types)]
 #[derive(Drop)]
 pub struct Fields {
-    pub fields: Vec<Field>,
+    names: Names,
+    types: Vec<Ty>,
+    cell_count: u64,
+    byte_count: u32,
 }
 
-/// A field of a record type; its name is in small letters.
-#[cycle(types)]
-#[derive(Drop)]
-pub struct Field {
-    pub name: Vec<u8>,
-    pub ty: Ty,
+impl Model for Component {
+    ghost use Rattle.ps_tree.specs.Types.{DataType};
+    ghost use Rattle.ps_tree.specs.TypeCode.{type_code};
+
+    ghost Value = { DataType };
+
+    ghost coded = { type_code };
+
+    ghost use Rattle.std.specs.Prelude.{◌≡◌, ◌^◌, ◌-◌, min};
+    ghost use Rattle.ps_tree.specs.Sizes.{cells, bytes, depth};
+    ghost use Rattle.ps_tree.specs.TypeView.{type_of};
+
+    ghost view = { λ c. type_of c.ty };
+
+    ghost invariant = { λ c. (c.cell_count ≡ min (cells (type_of c.ty)) (2 ^ 64 - 1)) × (c.byte_count ≡ min (bytes (type_of c.ty)) (2 ^ 32 - 1)) };
+
+    ghost size = { depth };
+
+    ghost use Rattle.ps_tree.specs.TypeDepth.{deep_in_type};
+
+    ghost size_decreases = { λ c h. deep_in_type c.ty };
+}
+
+impl Model for Fields {
+    ghost use Rattle.ps_tree.specs.Types.{FieldList, field_list};
+    ghost use Rattle.ps_tree.specs.TypeCode.{fields_code};
+
+    ghost Value = { FieldList };
+
+    ghost coded = { fields_code };
+
+    ghost use Rattle.std.specs.Prelude.{◌≡◌, ◌^◌, ◌-◌, min};
+    ghost use Rattle.ps_tree.specs.Sizes.{record_cells, record_bytes, depth_of_fields};
+    ghost use Rattle.ps_tree.specs.TypeView.{types_of};
+
+    ghost view = { λ f. field_list f.names (types_of f.types.items) };
+
+    ghost invariant = { λ f. (f.cell_count ≡ min (record_cells (field_list f.names (types_of f.types.items))) (2 ^ 64 - 1)) × (f.byte_count ≡ min (record_bytes (field_list f.names (types_of f.types.items))) (2 ^ 32 - 1)) };
+
+    ghost size = { depth_of_fields };
+
+    ghost use Rattle.ps_tree.specs.TypeDepth.{deep_in_fields};
+
+    ghost size_decreases = { λ f h. deep_in_fields f.names f.types.items };
 }
 
 /// Two types have values of one kind: all their subranges apart, they are one type.
@@ -153,7 +205,7 @@ impl Ordinal {
 
 impl Ty {
     /// The same type.
-    #[tactic(auto, using(crate::proofs::ViewLemmas::type_of_Array, crate::proofs::ViewLemmas::type_of_Record), unfolding(crate::specs::View::type_of))]
+    #[tactic(auto, unfolding(crate::specs::TypeView::type_of))]
     pub fn copy(&self) -> Result<Ty, AllocError>
         ensures { IfOk result (λ ty. type_of ty ≡ type_of self.now) }
     {
@@ -188,7 +240,7 @@ impl Ty {
     }
 
     /// The type char itself.
-    #[tactic(auto, unfolding(crate::specs::View::type_of))]
+    #[tactic(auto, unfolding(crate::specs::TypeView::type_of))]
     fn is_char(&self) -> bool
         ensures { result ≡ is_char (type_of self.now) }
     {
@@ -206,7 +258,7 @@ impl Ty {
     }
 
     /// The length of the strings that are the type's values, where it is a string type (6.4.3.2).
-    #[tactic(auto, unfolding(crate::specs::View::type_of, crate::specs::Types::string_length))]
+    #[tactic(auto, unfolding(crate::specs::TypeView::type_of, crate::specs::Types::string_length))]
     pub fn string_length(&self) -> Option<u32>
         ensures { result ≡ string_length (type_of self.now) }
     {
@@ -218,7 +270,7 @@ impl Ty {
                 component,
                 ..
             } => {
-                if *packed && component.is_char() && index.is_string_index() {
+                if *packed && component.ty.is_char() && index.is_string_index() {
                     Some(index.high.unsigned_abs())
                 } else {
                     None
@@ -235,7 +287,7 @@ impl Ty {
 }
 
 /// One type (6.4.1).
-#[tactic(auto, unfolding(crate::specs::View::type_of, crate::specs::Types::is_same_type))]
+#[tactic(auto, unfolding(crate::specs::TypeView::type_of, crate::specs::Types::is_same_type))]
 pub fn same_type(a: &Ty, b: &Ty) -> bool
     ensures { result ≡ is_same_type (type_of a.now) (type_of b.now) }
 {
@@ -261,14 +313,14 @@ pub fn same_type(a: &Ty, b: &Ty) -> bool
 }
 
 /// String types with equally many components.
-#[tactic(auto, unfolding(crate::specs::View::type_of))]
+#[tactic(auto, unfolding(crate::specs::TypeView::type_of))]
 fn same_strings(a: &Ty, b: &Ty) -> bool
     ensures { result ≡ are_same (string_length (type_of a.now)) (string_length (type_of b.now)) }
 {
     same_number(a.string_length(), b.string_length())
 }
 
-#[tactic(auto, unfolding(crate::specs::View::type_of, crate::specs::Types::is_compatible))]
+#[tactic(auto, unfolding(crate::specs::TypeView::type_of, crate::specs::Types::is_compatible))]
 fn test_compatible(a: &Ty, b: &Ty) -> bool
     ensures { result ≡ is_compatible (type_of a.now) (type_of b.now) }
 {
@@ -312,7 +364,7 @@ pub fn compatible(a: &Ty, b: &Ty) -> bool
     test_compatible(a, b)
 }
 
-#[tactic(auto, unfolding(crate::specs::View::type_of))]
+#[tactic(auto, unfolding(crate::specs::TypeView::type_of))]
 fn may_be_of_a_variable(ty: &Ty) -> bool
     ensures { result ≡ has_variables (type_of ty.now) }
 {
@@ -352,7 +404,7 @@ fn capped(n: u64) -> u32
 
 impl Ty {
     /// Whether all values of the type lie in 0..255.
-    #[tactic(auto, unfolding(crate::specs::View::type_of))]
+    #[tactic(auto, unfolding(crate::specs::TypeView::type_of))]
     fn fits_byte(&self) -> bool
         ensures { result ≡ fits_byte (type_of self.now) }
     {
@@ -370,8 +422,7 @@ impl Ty {
 
     /// The cells of a variable of the type: 1 for an ordinal or a pointer, 8 for a set, for an array its length times
     /// its component's, for a record the sum, or 1 where it has no field. A count of 2^64 and more is told as 2^64 - 1.
-    #[cycle(cells)]
-    #[tactic(auto, using(crate::proofs::SizeLemmas::times_capped), unfolding(crate::specs::View::type_of, crate::specs::Sizes::cells))]
+    #[tactic(auto, using(crate::proofs::SizeLemmas::times_capped), unfolding(crate::specs::TypeView::type_of, crate::specs::Sizes::cells))]
     pub fn cells(&self) -> u64
         ensures { result ≡ min (cells (type_of self.now)) (2 ^ 64 - 1) }
     {
@@ -391,8 +442,7 @@ impl Ty {
     /// The bytes of a variable of the type: 4 for an ordinal or a pointer, 32 for a set, for an array its length times
     /// its component's, for a record the sum. A packed array whose components lie in 0..255 takes one for each, filled
     /// up to a multiple of 4. A count of 2^32 and more is told as 2^32 - 1.
-    #[cycle(bytes)]
-    #[tactic(auto, using(crate::proofs::SizeLemmas::times_capped), unfolding(crate::specs::View::type_of, crate::specs::Sizes::bytes))]
+    #[tactic(auto, using(crate::proofs::SizeLemmas::times_capped), unfolding(crate::specs::TypeView::type_of, crate::specs::Sizes::bytes))]
     pub fn bytes(&self) -> u32
         ensures { result ≡ min (bytes (type_of self.now)) (2 ^ 32 - 1) }
     {
@@ -406,7 +456,7 @@ impl Ty {
                 component,
                 ..
             } => {
-                if *packed && component.fits_byte() {
+                if *packed && component.ty.fits_byte() {
                     capped(whole_words(index.value_count()))
                 } else {
                     capped(index.value_count() * u64::from(component.bytes()))
@@ -417,29 +467,113 @@ impl Ty {
     }
 }
 
-impl Fields {
-    #[cycle(cells)]
-    fn cells(&self) -> u64
-        ensures { result ≡ min (record_cells (fields_of self.now)) (2 ^ 64 - 1) }
+impl Component {
+    /// The type, as that of components.
+    pub fn new(ty: Ty) -> Component
+        ensures { result ≡ type_of ty }
     {
-        if self.fields.is_empty() {
-            return 1;
+        let cell_count = ty.cells();
+        let byte_count = ty.bytes();
+        Component {
+            ty,
+            cell_count,
+            byte_count,
         }
-        let mut total: u64 = 0;
-        for field in &self.fields {
-            total = total.saturating_add(field.ty.cells());
-        }
-        total
     }
 
-    #[cycle(bytes)]
-    fn bytes(&self) -> u32
-        ensures { result ≡ min (field_bytes (fields_of self.now)) (2 ^ 32 - 1) }
+    /// The type itself.
+    pub fn ty(&self) -> &Ty
+        ensures { type_of result.now ≡ self.now }
     {
-        let mut total: u32 = 0;
-        for field in &self.fields {
-            total = total.saturating_add(field.ty.bytes());
+        &self.ty
+    }
+
+    fn cells(&self) -> u64
+        ensures { result ≡ min (cells self.now) (2 ^ 64 - 1) }
+    {
+        self.cell_count
+    }
+
+    fn bytes(&self) -> u32
+        ensures { result ≡ min (bytes self.now) (2 ^ 32 - 1) }
+    {
+        self.byte_count
+    }
+}
+
+/// The cells of a record with fields of these types.
+fn cells_of_all(types: &[Ty]) -> u64
+    ensures { (names : List (List ℕ)) → result ≡ min (record_cells (field_list names (types_of types.now))) (2 ^ 64 - 1) }
+{
+    if types.is_empty() {
+        return 1;
+    }
+    let mut total: u64 = 0;
+    for ty in types {
+        total = total.saturating_add(ty.cells());
+    }
+    total
+}
+
+/// The bytes of a record with fields of these types.
+fn bytes_of_all(types: &[Ty]) -> u32
+    ensures { result ≡ min (field_bytes (types_of types.now)) (2 ^ 32 - 1) }
+{
+    let mut total: u32 = 0;
+    for ty in types {
+        total = total.saturating_add(ty.bytes());
+    }
+    total
+}
+
+#[tactic(auto, using(crate::proofs::FieldLemmas::field_at_place, crate::proofs::FieldLemmas::no_field_above, crate::proofs::FieldLemmas::no_field_past))]
+fn field_at(types: &[Ty], place: usize) -> Option<(u32, &Ty)>
+    ensures { option_map (λ f. (f.0, type_of f.1.now)) result ≡ field_at (types_of types.now) place }
+{
+    if types.len() <= place || 0xFFFF_FFFF < place {
+        return None;
+    }
+    Some((place as u32, &types[place]))
+}
+
+impl Fields {
+    /// The fields of these names and types, in their order.
+    pub fn new(names: Names, types: Vec<Ty>) -> Fields
+        ensures { result ≡ field_list names (types_of types.items) }
+    {
+        let cell_count = cells_of_all(types.as_slice());
+        let byte_count = bytes_of_all(types.as_slice());
+        Fields {
+            names,
+            types,
+            cell_count,
+            byte_count,
         }
-        total
+    }
+
+    /// The field of this name (6.4.3.3): its number, counted from 0, and its type. A number above 2^32 - 1 can't be told.
+    pub fn find(&self, name: &[u8]) -> Option<(u32, &Ty)>
+        ensures { option_map (λ f. (f.0, type_of f.1.now)) result ≡ field_in self.now name.now }
+    {
+        field_at(self.types.as_slice(), self.names.find(name)?)
+    }
+
+    /// The types of the fields, in their order.
+    pub fn types(&self) -> &[Ty]
+        ensures { types_of result.now ≡ field_types self.now }
+    {
+        self.types.as_slice()
+    }
+
+    fn cells(&self) -> u64
+        ensures { result ≡ min (record_cells self.now) (2 ^ 64 - 1) }
+    {
+        self.cell_count
+    }
+
+    fn bytes(&self) -> u32
+        ensures { result ≡ min (record_bytes self.now) (2 ^ 32 - 1) }
+    {
+        self.byte_count
     }
 }

@@ -1,10 +1,10 @@
 -- Variables (6.5).
 use Rattle.std.specs.Prelude.{ℕ, false, List, Option, Some, None, slice_get}
-use Rattle.ps_tree.specs.Types.{DataType, OrdinalType, PointerType, ArrayType, RecordType, is_compatible}
+use Rattle.ps_tree.specs.Types.{DataType, OrdinalType, PointerType, ArrayType, RecordType, field_in, is_compatible}
 use Rattle.ps_tree.specs.Tree as Tree
 use Rattle.ps_regions.specs.Option.{◌>>=◌, provided}
 use Rattle.ps_regions.specs.Spelling.{line_in}
-use Rattle.ps_regions.specs.Regions.{Context, Point, BlockPoint, FieldPoint, VariableMeaning, ParameterMeaning, field_in}
+use Rattle.ps_regions.specs.Regions.{Context, Point, BlockPoint, FieldPoint, VariableMeaning, ParameterMeaning}
 use Rattle.ps_typing.specs.Values.{Value, SimpleValue, Variable, Operand, is_packed}
 
 -- 6.5.2, 6.8.3.10: the variable that a name denotes: one of a block, or a field of a record that a `with` opens
@@ -29,7 +29,7 @@ field_of place type (Some f) = Some (record { place = Tree.Field place type f.0;
 
 -- 6.5.3.3: a field of a record
 unfoldable pub component : Tree.Place → DataType → List ℕ → Option Variable
-component place (RecordType at packed fields) name = field_of place (RecordType at packed fields) (field_in 0 fields name)
+component place (RecordType at packed fields) name = field_of place (RecordType at packed fields) (field_in fields name)
 component place _ name = None
 
 -- 6.5.4: what a pointer identifies

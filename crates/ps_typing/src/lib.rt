@@ -7,6 +7,4 @@ pub mod operators;
 pub mod parameter;
 pub mod place;
 pub mod site;
-#[cfg(test)]
-mod tests;
 pub mod value;

@@ -12,7 +12,7 @@ use crate::site::Site;
 use crate::value::{TypedPlace, TypedValue, is_packed};
 use ps_regions::meaning::Meaning;
 use ps_regions::refusal::{Fault, Rule};
-use ps_regions::scope::{Found, field_of};
+use ps_regions::scope::Found;
 use ps_tree::line::Line;
 use ps_tree::tree::Place;
 use ps_tree::types::{Ty, compatible};
@@ -78,7 +78,7 @@ pub fn variable_found(found: Found<'_>, at: u32) -> Result<TypedPlace, Fault>
 }
 
 /// The element of an array, which begins at `at.first`, at an index, which begins at `at.second`.
-#[tactic(auto, using(ps_tree::proofs::ViewLemmas::type_of_Array), unfolding(crate::specs::Places::element, crate::specs::View::value_of, ps_tree::specs::View::type_of, ps_tree::specs::View::place_of))]
+#[tactic(auto, unfolding(crate::specs::Places::element, crate::specs::View::value_of, ps_tree::specs::View::type_of, ps_tree::specs::View::place_of))]
 pub fn element(
     alloc: Global,
     array: TypedPlace,
@@ -96,7 +96,7 @@ pub fn element(
             index,
             component,
             ..
-        } => (component.copy()?, *packed, *index),
+        } => (component.ty().copy()?, *packed, *index),
         Ty::Simple(_)
         | Ty::Pointer { .. }
         | Ty::Nil
@@ -127,7 +127,7 @@ pub fn element(
 }
 
 /// The field of a record, which begins at `first`; the field's name is at `at`.
-#[tactic(auto, using(ps_tree::proofs::ViewLemmas::type_of_Record), unfolding(crate::specs::Places::component, ps_tree::specs::View::type_of, ps_tree::specs::View::place_of))]
+#[tactic(auto, unfolding(crate::specs::Places::component, ps_tree::specs::View::type_of, ps_tree::specs::View::place_of))]
 pub fn component(
     alloc: Global,
     base: TypedPlace,
@@ -140,7 +140,7 @@ pub fn component(
 {
     let TypedPlace { place, ty, .. } = base;
     let (number, field) = match &ty {
-        Ty::Record { fields, .. } => match field_of(fields, name) {
+        Ty::Record { fields, .. } => match fields.find(name) {
             None => {
                 return Err(Fault::Broken {
                     rule: Rule::Unknown,

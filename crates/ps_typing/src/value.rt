@@ -161,7 +161,7 @@ pub fn set_type_of_both(a: &Ty, b: &Ty) -> Ty
 }
 
 /// The contents of a variable, whose first token is at `at`.
-#[tactic(auto, using(ps_tree::proofs::ViewLemmas::type_of_Array, ps_tree::proofs::ViewLemmas::type_of_Record), unfolding(crate::specs::Values::contents, crate::specs::View::value_of, ps_tree::specs::View::type_of, ps_tree::specs::View::expr_of, ps_tree::specs::View::set_of, ps_tree::specs::View::structure_of))]
+#[tactic(auto, unfolding(crate::specs::Values::contents, crate::specs::View::value_of, ps_tree::specs::View::type_of, ps_tree::specs::View::expr_of, ps_tree::specs::View::set_of, ps_tree::specs::View::structure_of))]
 pub fn loaded(alloc: Global, variable: TypedPlace, at: u32) -> Result<TypedValue, Fault>
     ensures ok { IfOk result (λ v. loaded (variable_of variable) ≡ Some (value_of v)) }
     ensures err { IfErr result (λ fault. IsFault fault → loaded (variable_of variable) ≡ None) }

@@ -23,6 +23,3 @@ pub use refusal::ImageRefusal;
 pub use rows::{CallRow, FrameRow, ObjectRow, TrapRow};
 pub use view::ImageView;
 pub use writing::{OutOfMemory, write};
-
-#[cfg(test)]
-mod tests;

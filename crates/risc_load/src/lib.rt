@@ -6,6 +6,3 @@ mod loading;
 
 pub use budget::{Budget, LoadRefusal};
 pub use loading::load;
-
-#[cfg(test)]
-mod tests;

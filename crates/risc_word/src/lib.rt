@@ -10,6 +10,3 @@ pub use field::{Displacement, Immediate, Offset, Register};
 pub use instr::{Condition, Instr, Operand, Operation, Target, Width};
 pub use text::{OutOfMemory, print};
 pub use word::{decode, encode};
-
-#[cfg(test)]
-mod tests;

@@ -1,9 +1,10 @@
+use Rattle.ps_changes.specs.Changes.{watched_of}
 use Rattle.ps_changes.proofs.Walks.{Passed}
 use Rattle.ps_changes.proofs.Lists.{elements_answer, statements_answer}
 use Rattle.ps_changes.proofs.threat.+threats.Given as goal
 
 abbrev pub invariant-by_elements-loop-element : goal.invariant-by_elements-loop-element
-invariant-by_elements-loop-element l = Passed (elements_answer l.up l.index) l.elements l.element-index
+invariant-by_elements-loop-element l = Passed (elements_answer l.up (watched_of l.watched)) l.elements l.element-index
 
 abbrev pub invariant-threatens-loop-statement : goal.invariant-threatens-loop-statement
-invariant-threatens-loop-statement l = Passed (statements_answer l.up l.index) l.statements l.statement-index
+invariant-threatens-loop-statement l = Passed (statements_answer l.up (watched_of l.watched)) l.statements l.statement-index

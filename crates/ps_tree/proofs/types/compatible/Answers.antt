@@ -1,5 +1,5 @@
 use Rattle.ps_tree.proofs.Compatibility.{compatible_means}
-use Rattle.ps_tree.specs.View.{type_of}
+use Rattle.ps_tree.specs.TypeView.{type_of}
 use Rattle.ps_tree.proofs.types.compatible.Goals as goal
 
 pub returns-clause-rule : goal.returns-clause-rule

@@ -79,3 +79,12 @@ term_value-returns-clause-err t c = rw (term_value, c.in_ok-first.ensures.ok, �
 
 pub variable_place-returns-clause-err : goal.variable_place-returns-clause-err
 variable_place-returns-clause-err t c = rw (variable_variable, c.in_ok-found.ensures.ok, c.in_ok-entire.ensures.ok, ← c.as_slice.ensures) c.select_all.ensures.err
+
+pub simple_value-returns-clause-ok : goal.simple_value-returns-clause-ok
+simple_value-returns-clause-ok t c = rw (simple_value, c.in_ok-term.ensures.ok, c.in_ok-first.ensures.ok, ← c.as_slice.ensures) c.add_terms.ensures.ok
+
+pub term_value-returns-clause-ok : goal.term_value-returns-clause-ok
+term_value-returns-clause-ok t c = rw (term_value, c.in_ok-first.ensures.ok, ← c.as_slice.ensures) c.multiply_factors.ensures.ok
+
+pub variable_place-returns-clause-ok : goal.variable_place-returns-clause-ok
+variable_place-returns-clause-ok t c = rw (variable_variable, c.in_ok-found.ensures.ok, c.in_ok-entire.ensures.ok, ← c.as_slice.ensures) c.select_all.ensures.ok
