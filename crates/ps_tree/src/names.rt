@@ -1,4 +1,4 @@
-//! The names of a region.
+//! The names of a region, and of the fields of a record.
 
 ghost use Rattle.std.specs.Prelude.{◌≡◌, ◌++◌, [], ◌∷◌, ℕ, List, map, IfOk, length, OnErr, not, if◌then◌else◌};
 ghost use Rattle.ps_tree.specs.Names.{has, place};
