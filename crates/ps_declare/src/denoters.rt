@@ -147,7 +147,12 @@ fn type_at(found: &Found, at: u32) -> Result<Ty, Fault>
 }
 
 /// The type that a name denotes.
-pub fn type_named(reading: &Reading, alloc: Global, scope: &Scope, name: Span) -> Result<Ty, Fault>
+pub(crate) fn type_named(
+    reading: &Reading,
+    alloc: Global,
+    scope: &Scope,
+    name: Span,
+) -> Result<Ty, Fault>
     ensures ok { IfOk result (λ ty. type_named reading.now.source.now (scope_of scope.now) name ≡ Some (type_of ty)) }
     ensures err { IfErr result (λ fault. IsFault fault → type_named reading.now.source.now (scope_of scope.now) name ≡ None) }
 {
@@ -157,7 +162,7 @@ pub fn type_named(reading: &Reading, alloc: Global, scope: &Scope, name: Span) -
 
 /// The type that a name denotes at a place of a block.
 #[tactic(auto, using(crate::proofs::HiddenLemmas::type_named_past, crate::proofs::HiddenLemmas::type_named_hidden), unfolding(ps_regions::specs::Views::scope_of))]
-pub fn type_in(
+pub(crate) fn type_in(
     frame: &Frame,
     alloc: Global,
     hidden: &Hidden,
@@ -198,7 +203,7 @@ fn pass_hidden_in(
 
 /// A constant at a place of a block.
 #[tactic(auto, using(crate::proofs::HiddenLemmas::constant_past, crate::proofs::HiddenLemmas::constant_hidden), unfolding(ps_regions::specs::Views::scope_of))]
-pub fn constant_in(
+pub(crate) fn constant_in(
     frame: &Frame,
     alloc: Global,
     hidden: &Hidden,
@@ -540,7 +545,7 @@ fn set_type(
 /// The type of a denoter.
 #[cycle(denoter)]
 #[tactic(auto, using(crate::proofs::FoldLemmas::denoter_Ordinal, crate::proofs::FoldLemmas::denoter_Pointer, crate::proofs::FoldLemmas::denoter_Structure, crate::proofs::FoldLemmas::denoter_Packed))]
-pub fn denoter(
+pub(crate) fn denoter(
     ty: &TypeDenoter,
     frame: &Frame,
     alloc: Global,

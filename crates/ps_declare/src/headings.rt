@@ -219,7 +219,7 @@ fn section(
 
 /// The names of the parameters of a list, each of which is new.
 #[tactic(auto, using(crate::proofs::Walks::walked_next, crate::proofs::HeadingLemmas::names_fault, crate::proofs::HeadingLemmas::names_end))]
-pub fn list_names(
+pub(crate) fn list_names(
     list: &[SectionDenoter],
     frame: &Frame,
     alloc: Global,

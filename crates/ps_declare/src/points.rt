@@ -14,7 +14,7 @@ use ps_tree::names::Names;
 use std::alloc::Global;
 
 /// One more name, which is new.
-pub fn add_point(
+pub(crate) fn add_point(
     reading: &Reading,
     alloc: Global,
     names: &mut Names,
@@ -35,7 +35,7 @@ pub fn add_point(
 
 /// More names, which are new.
 #[tactic(auto, unfolding(crate::specs::Points::add_points))]
-pub fn add_points(
+pub(crate) fn add_points(
     reading: &Reading,
     alloc: Global,
     names: &mut Names,
@@ -241,7 +241,7 @@ fn add_definitions(
 
 /// The points of a declaration of variables.
 #[tactic(auto, using(crate::proofs::Walks::added_none, crate::proofs::Walks::added_both, crate::proofs::Walks::added_first, crate::proofs::Walks::added_second), unfolding(crate::specs::Points::variables_points))]
-pub fn add_declaration(
+pub(crate) fn add_declaration(
     reading: &Reading,
     alloc: Global,
     names: &mut Names,

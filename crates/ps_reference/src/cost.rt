@@ -37,7 +37,7 @@ fn left_after(costs: &[u32], numbers: &[u32], budget: u64) -> Option<u64>
 }
 
 /// The bytes of the objects that were made, and of one more of this pointer type, pass the heap.
-pub fn passes_heap(job: &Job, made: &[u32], pointer: u32) -> bool
+pub(crate) fn passes_heap(job: &Job, made: &[u32], pointer: u32) -> bool
     ensures { result ≡ m.passes_heap (costs_in job.now) (made.now ++ pointer ∷ []) }
 {
     match left_after(job.objects, made, job.heap) {
@@ -48,7 +48,7 @@ pub fn passes_heap(job: &Job, made: &[u32], pointer: u32) -> bool
 
 /// The frame bytes of the open routines pass the stack. Where no costs are listed nothing is summed.
 #[tactic(auto, using(crate::proofs::Worlds::numbers_of_Number, crate::proofs::Costs::free_of_cost), unfolding(crate::specs::Worlds::numbers_of))]
-pub fn passes_stack(job: &Job, active: &Numbers) -> bool
+pub(crate) fn passes_stack(job: &Job, active: &Numbers) -> bool
     ensures { result ≡ m.passes_stack (costs_in job.now) (numbers_of active.now) }
 {
     if job.frames.len() == 0 {

@@ -286,7 +286,7 @@ fn are_between(below: u16, low: i32, high: i32, tests: &[bool]) -> bool
 }
 
 /// Each member of a set, up to 255, lies between two bounds.
-pub fn set_fits(low: i32, high: i32, tests: &[bool]) -> bool
+pub(crate) fn set_fits(low: i32, high: i32, tests: &[bool]) -> bool
     ensures { result ≡ set_fits low high (listed tests.now) }
 {
     are_between(256, low, high, tests)
@@ -301,7 +301,7 @@ pub fn is_member(x: i32, tests: &[bool]) -> bool
 
 /// The set of the numbers from low to high.
 #[tactic(auto, using(crate::proofs::Loops::interval_next, crate::proofs::Loops::interval_all))]
-pub fn interval(alloc: Global, low: u8, high: u8) -> Result<Vec<bool>, AllocError>
+pub(crate) fn interval(alloc: Global, low: u8, high: u8) -> Result<Vec<bool>, AllocError>
     ensures { IfOk result (λ v. listed v.items ≡ interval (pos low) (pos high)) }
 {
     let mut tests = Vec::new(alloc);

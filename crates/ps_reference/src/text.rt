@@ -10,7 +10,7 @@ use std::alloc::{AllocError, Global};
 
 impl<'a> Input<'a> {
     /// The next character, if there is one: a line that was begun ends where the bytes end.
-    pub fn next_character(&self) -> Option<u8>
+    pub(crate) fn next_character(&self) -> Option<u8>
         ensures { result ≡ next_character (input_of self.now) }
     {
         match self.left {
@@ -20,7 +20,7 @@ impl<'a> Input<'a> {
     }
 
     /// The input after a look at the next character.
-    pub fn looked_at(self) -> Input<'a>
+    pub(crate) fn looked_at(self) -> Input<'a>
         ensures { input_of result ≡ looked_at (input_of self.entry) }
     {
         Input {
@@ -31,7 +31,7 @@ impl<'a> Input<'a> {
     }
 
     /// The input after the next character is taken.
-    pub fn taken(self) -> Input<'a>
+    pub(crate) fn taken(self) -> Input<'a>
         ensures { input_of result ≡ taken (input_of self.entry) }
     {
         match self.left {
@@ -50,7 +50,7 @@ impl<'a> Input<'a> {
 }
 
 /// A line end is read as a space.
-pub fn as_character(byte: u8) -> u8
+pub(crate) fn as_character(byte: u8) -> u8
     ensures { result ≡ as_character byte }
 {
     if byte == 10 { 32 } else { byte }
@@ -273,7 +273,7 @@ fn after_line_end(bytes: &[u8]) -> &[u8]
 
 impl<'a> Input<'a> {
     /// The input after the rest of a line, and its end, is taken.
-    pub fn after_line(self) -> Input<'a>
+    pub(crate) fn after_line(self) -> Input<'a>
         ensures { input_of result ≡ after_line (input_of self.entry) }
     {
         if has_line_end(self.left) {
@@ -292,14 +292,14 @@ impl<'a> Input<'a> {
     }
 
     /// How many first looks it takes to look at all bytes up to and with the first of the rest, or the end.
-    pub fn looks_to(&self, rest: usize) -> usize
+    pub(crate) fn looks_to(&self, rest: usize) -> usize
         ensures { result ≡ (length self.now.left.now - rest) + (if self.now.looked then 0 else 1) }
     {
         self.left.len().saturating_sub(rest) + if self.looked { 0 } else { 1 }
     }
 
     /// How many first looks it takes to look at the rest of a line and its end, or at the end.
-    pub fn looks_to_line(&self) -> usize
+    pub(crate) fn looks_to_line(&self) -> usize
         ensures { replicate result mark ≡ line_marks (input_of self.now) }
     {
         if has_line_end(self.left) {

@@ -118,7 +118,7 @@ impl Value {
 /// The same values.
 #[cycle(copy)]
 #[tactic(auto, using(crate::proofs::Values::values_next))]
-pub fn copy_all(alloc: Global, values: &[Value]) -> Result<Vec<Value>, AllocError>
+pub(crate) fn copy_all(alloc: Global, values: &[Value]) -> Result<Vec<Value>, AllocError>
     ensures { IfOk result (λ v. values_of v.items ≡ values_of values.now) }
 {
     let mut copies = Vec::new(alloc);
@@ -196,7 +196,7 @@ fn first_fields(alloc: Global, fields: &Fields) -> Result<Vec<Value>, AllocError
 
 /// The value of a string.
 #[tactic(auto, using(crate::proofs::Values::text_next), unfolding(crate::specs::View::value_of, crate::specs::View::values_of))]
-pub fn text_values(alloc: Global, characters: &[u8]) -> Result<Vec<Value>, AllocError>
+pub(crate) fn text_values(alloc: Global, characters: &[u8]) -> Result<Vec<Value>, AllocError>
     ensures { IfOk result (λ v. values_of v.items ≡ text_values characters.now) }
 {
     let mut values = Vec::new(alloc);
@@ -218,7 +218,7 @@ impl Value {
 
 /// The part of a value at the end of a path.
 #[tactic(auto, using(crate::proofs::Values::part_of_unset, crate::proofs::Values::value_of_Ordinal))]
-pub fn part(alloc: Global, value: &Value, path: &[u32]) -> Result<Value, AllocError>
+pub(crate) fn part(alloc: Global, value: &Value, path: &[u32]) -> Result<Value, AllocError>
     ensures { IfOk result (λ v. value_of v ≡ part (value_of value.now) path.now) }
 {
     match path {
@@ -249,7 +249,7 @@ fn with_component(values: Vec<Value>, first: u32, rest: &[u32], new: Value) -> V
 /// The value with another in the place of the part at the end of a path.
 #[cycle(with)]
 #[tactic(auto, using(crate::proofs::Values::value_of_Structure), unfolding(crate::specs::View::value_of))]
-pub fn with_part(value: Value, path: &[u32], new: Value) -> Value
+pub(crate) fn with_part(value: Value, path: &[u32], new: Value) -> Value
     ensures { value_of result ≡ with_part (value_of value) path.now (value_of new) }
 {
     match path {

@@ -140,7 +140,11 @@ pub fn routine_in(alloc: Global, env: &Env, index: u32) -> Result<(u32, Rc<Env>)
 impl Numbers {
     /// A number before others.
     #[tactic(auto, using(crate::proofs::Worlds::numbers_of_Number))]
-    pub fn before(alloc: Global, first: u32, rest: &Rc<Numbers>) -> Result<Rc<Numbers>, AllocError>
+    pub(crate) fn before(
+        alloc: Global,
+        first: u32,
+        rest: &Rc<Numbers>,
+    ) -> Result<Rc<Numbers>, AllocError>
         ensures { IfOk result (λ n. numbers_of n.value ≡ first ∷ numbers_of rest.now.value) }
     {
         let rest = rest.clone()?;

@@ -215,7 +215,11 @@ fn formal_call(up: u32, index: u32, arguments: Vec<Argument>, line: Line, ty: Ty
 
 /// No actual parameters, where there are no formal ones.
 #[tactic(auto, using(crate::proofs::Judgement::none_of_none, crate::proofs::Judgement::none_of_listed))]
-pub fn no_arguments(site: Site<'_>, sections: &[Section], at: u32) -> Result<Vec<Argument>, Fault>
+pub(crate) fn no_arguments(
+    site: Site<'_>,
+    sections: &[Section],
+    at: u32,
+) -> Result<Vec<Argument>, Fault>
     ensures ok { IfOk result (λ list. actuals (context_at site.entry) (regions_at site.entry) (sections_of sections.now) [] ≡ Some (map argument_of list.items)) }
     ensures err { IfErr result (λ fault. IsFault fault → actuals (context_at site.entry) (regions_at site.entry) (sections_of sections.now) [] ≡ None) }
 {
@@ -688,7 +692,7 @@ fn required_call(
 
 /// The actual parameters of a call, whose name is at `at`.
 #[cycle(expression)]
-pub fn argument_all(
+pub(crate) fn argument_all(
     operands: &[Syntax],
     site: Site<'_>,
     sections: &[Section],

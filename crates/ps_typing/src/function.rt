@@ -29,7 +29,7 @@ use ps_tree::types::{Host, Ordinal, Ty, same_host};
 use std::alloc::{AllocError, Global};
 
 /// The constant that a string's token is.
-pub fn text_at(site: Site<'_>, at: Span) -> Result<ConstantValue, AllocError>
+pub(crate) fn text_at(site: Site<'_>, at: Span) -> Result<ConstantValue, AllocError>
     ensures { IfOk result (λ v. constant_of v ≡ text_constant (characters (bytes_at (context_at site.entry).text at))) }
 {
     let characters = string_value(site.alloc, site.reading.bytes(at))?;
@@ -38,7 +38,7 @@ pub fn text_at(site: Site<'_>, at: Span) -> Result<ConstantValue, AllocError>
 
 /// The value of a constant, whose first token is at `at`.
 #[tactic(auto, unfolding(crate::specs::Expressions::constant_value, ps_regions::specs::Views::constant_of, crate::specs::View::value_of, ps_tree::specs::View::type_of, ps_tree::specs::View::expr_of, ps_tree::specs::View::structure_of))]
-pub fn of_constant(constant: ConstantValue, at: u32) -> Result<TypedValue, Fault>
+pub(crate) fn of_constant(constant: ConstantValue, at: u32) -> Result<TypedValue, Fault>
     ensures ok { IfOk result (λ v. constant_value (constant_of constant) ≡ Some (value_of v)) }
     ensures err { IfErr result (λ fault. IsFault fault → constant_value (constant_of constant) ≡ None) }
 {
@@ -113,7 +113,7 @@ fn is_procedure(required: Required) -> bool {
 
 /// Why a required routine, whose name is at `at.first`, is no function of what begins at `at.second`: a procedure is of
 /// another kind, and else that breaks the rule.
-pub fn refused(required: Required, rule: Rule, at: Operands) -> Fault
+pub(crate) fn refused(required: Required, rule: Rule, at: Operands) -> Fault
     ensures { IsFault result }
 {
     if is_procedure(required) {
@@ -127,7 +127,7 @@ pub fn refused(required: Required, rule: Rule, at: Operands) -> Fault
 }
 
 /// Why a required routine may not stand alone; its name is at `at`. Only eof and eoln may, where there is an input.
-pub fn refused_alone(required: Required, at: u32) -> Fault
+pub(crate) fn refused_alone(required: Required, at: u32) -> Fault
     ensures { IsFault result }
 {
     let rule = match required {
@@ -145,7 +145,7 @@ pub fn refused_alone(required: Required, at: u32) -> Fault
 }
 
 /// Whether the operand of a required function has to be an integer.
-pub fn needs_integer(required: Required) -> bool
+pub(crate) fn needs_integer(required: Required) -> bool
     ensures { result ≡ needs_integer required }
 {
     match required {
@@ -166,7 +166,10 @@ pub fn needs_integer(required: Required) -> bool
 }
 
 /// The required function of an operand of an ordinal type (6.6.6.2 to 6.6.6.4), and the type of its value.
-pub fn function_of(required: Required, ordinal: Ordinal) -> Option<(RequiredFunction, Ordinal)>
+pub(crate) fn function_of(
+    required: Required,
+    ordinal: Ordinal,
+) -> Option<(RequiredFunction, Ordinal)>
     ensures { result ≡ function_of required ordinal }
 {
     match required {
@@ -197,7 +200,7 @@ pub fn function_of(required: Required, ordinal: Ordinal) -> Option<(RequiredFunc
 
 /// The value of a required function, whose name is at `at.first`, of one operand, which begins at `at.second`.
 #[tactic(auto, unfolding(crate::specs::Calls::required_value, crate::specs::View::value_of, ps_tree::specs::View::type_of, ps_tree::specs::View::expr_of))]
-pub fn required_value(
+pub(crate) fn required_value(
     alloc: Global,
     required: Required,
     line: Line,
@@ -226,7 +229,7 @@ pub fn required_value(
 
 /// What eof or eoln tells of the input. `wrong` is why another required routine tells nothing.
 #[tactic(auto, unfolding(crate::specs::Calls::look, crate::specs::View::value_of, ps_tree::specs::View::type_of, ps_tree::specs::View::expr_of))]
-pub fn look(required: Required, line: Line, wrong: Fault) -> Result<TypedValue, Fault>
+pub(crate) fn look(required: Required, line: Line, wrong: Fault) -> Result<TypedValue, Fault>
     ensures ok { IfOk result (λ v. look required line.number ≡ Some (value_of v)) }
     ensures err { IfErr result (λ fault. IsFault fault → look required line.number ≡ None) }
 {
@@ -253,7 +256,7 @@ pub fn look(required: Required, line: Line, wrong: Fault) -> Result<TypedValue, 
 
 /// The name of the input.
 #[tactic(auto, unfolding(crate::specs::Calls::is_input, ps_regions::specs::Views::meaning_of))]
-pub fn is_input(found: Found<'_>) -> bool
+pub(crate) fn is_input(found: Found<'_>) -> bool
     ensures { result ≡ is_input (point_of found.entry) }
 {
     match found {

@@ -52,7 +52,7 @@ impl Operands {
 
 /// An operand with a sign before it; `at` is where the operand begins.
 #[tactic(auto, unfolding(crate::specs::Operators::with_sign, crate::specs::View::value_of, ps_tree::specs::View::type_of, ps_tree::specs::View::expr_of))]
-pub fn with_sign(
+pub(crate) fn with_sign(
     alloc: Global,
     sign: Sign,
     line: Line,
@@ -80,7 +80,7 @@ pub fn with_sign(
 
 /// `not` before an operand, which begins at `at`.
 #[tactic(auto, unfolding(crate::specs::Operators::negated, crate::specs::View::value_of, ps_tree::specs::View::type_of, ps_tree::specs::View::expr_of))]
-pub fn negated(alloc: Global, operand: TypedValue, at: u32) -> Result<TypedValue, Fault>
+pub(crate) fn negated(alloc: Global, operand: TypedValue, at: u32) -> Result<TypedValue, Fault>
     ensures ok { IfOk result (λ v. negated (value_of operand) ≡ Some (value_of v)) }
     ensures err { IfErr result (λ fault. IsFault fault → negated (value_of operand) ≡ None) }
 {
@@ -197,7 +197,7 @@ fn logic(
 
 /// An adding operator.
 #[tactic(auto, unfolding(crate::specs::Operators::added))]
-pub fn added(
+pub(crate) fn added(
     alloc: Global,
     operator: Adding,
     line: Line,
@@ -223,7 +223,7 @@ pub fn added(
 
 /// A multiplying operator.
 #[tactic(auto, unfolding(crate::specs::Operators::multiplied))]
-pub fn multiplied(
+pub(crate) fn multiplied(
     alloc: Global,
     operator: Multiplying,
     line: Line,
@@ -461,7 +461,7 @@ fn membership(
 
 /// A relational operator.
 #[tactic(auto, unfolding(crate::specs::Operators::compared, crate::specs::View::value_of))]
-pub fn compared(
+pub(crate) fn compared(
     alloc: Global,
     relation: Relation,
     left: TypedValue,

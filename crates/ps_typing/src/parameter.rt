@@ -32,7 +32,7 @@ fn are_one_type(a: &Option<Ty>, b: &Option<Ty>) -> bool
 /// Two lists of formal parameters are congruous (6.6.3.6).
 #[cycle(congruity)]
 #[tactic(auto, using(crate::proofs::ParameterLemmas::congruous_uneven))]
-pub fn congruous(a: &[Section], b: &[Section]) -> bool
+pub(crate) fn congruous(a: &[Section], b: &[Section]) -> bool
     ensures { result ≡ congruous (sections_of a.now) (sections_of b.now) }
 {
     if a.len() != b.len() {

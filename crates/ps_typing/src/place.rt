@@ -30,7 +30,7 @@ pub fn wrong_kind(at: u32) -> Fault
 
 /// A name that the profile leaves out, there or everywhere: the files stand as first parameters of some required routines
 /// alone.
-pub fn left_out(at: u32) -> Fault
+pub(crate) fn left_out(at: u32) -> Fault
     ensures { IsFault result }
 {
     Fault::Broken {
@@ -79,7 +79,7 @@ pub fn variable_found(found: Found<'_>, at: u32) -> Result<TypedPlace, Fault>
 
 /// The element of an array, which begins at `at.first`, at an index, which begins at `at.second`.
 #[tactic(auto, unfolding(crate::specs::Places::element, crate::specs::View::value_of, ps_tree::specs::View::type_of, ps_tree::specs::View::place_of))]
-pub fn element(
+pub(crate) fn element(
     alloc: Global,
     array: TypedPlace,
     index: TypedValue,
@@ -128,7 +128,7 @@ pub fn element(
 
 /// The field of a record, which begins at `first`; the field's name is at `at`.
 #[tactic(auto, unfolding(crate::specs::Places::component, ps_tree::specs::View::type_of, ps_tree::specs::View::place_of))]
-pub fn component(
+pub(crate) fn component(
     alloc: Global,
     base: TypedPlace,
     name: &[u8],
@@ -168,7 +168,7 @@ pub fn component(
 
 /// What a pointer, which begins at `first`, identifies; `line` is that of the `^`.
 #[tactic(auto, unfolding(crate::specs::Places::target, ps_tree::specs::View::type_of, ps_tree::specs::View::place_of))]
-pub fn target(
+pub(crate) fn target(
     site: Site<'_>,
     pointer: TypedPlace,
     line: Line,

@@ -33,7 +33,7 @@ pub struct TypedPlace {
 }
 
 /// The type of a host: an operand of a subrange type counts as of it (6.7.1).
-pub fn host_type(host: Host) -> Ordinal
+pub(crate) fn host_type(host: Host) -> Ordinal
     ensures { result ≡ host_type host }
 {
     match host {
@@ -81,7 +81,7 @@ pub fn is_boolean(ty: &Ty) -> bool
 
 /// A packed array or record type.
 #[tactic(auto, unfolding(ps_tree::specs::View::type_of))]
-pub fn is_packed(ty: &Ty) -> bool
+pub(crate) fn is_packed(ty: &Ty) -> bool
     ensures { result ≡ is_packed (type_of ty.now) }
 {
     match ty {
@@ -126,7 +126,7 @@ fn packing_of_both(a: Packing, b: Packing) -> Packing
 
 /// The type of an operation on two sets (6.7.2.4).
 #[tactic(auto, unfolding(ps_tree::specs::View::type_of))]
-pub fn set_type_of_both(a: &Ty, b: &Ty) -> Ty
+pub(crate) fn set_type_of_both(a: &Ty, b: &Ty) -> Ty
     ensures { type_of result ≡ set_type_of_both (type_of a.now) (type_of b.now) }
 {
     match (a, b) {
@@ -162,7 +162,7 @@ pub fn set_type_of_both(a: &Ty, b: &Ty) -> Ty
 
 /// The contents of a variable, whose first token is at `at`.
 #[tactic(auto, unfolding(crate::specs::Values::contents, crate::specs::View::value_of, ps_tree::specs::View::type_of, ps_tree::specs::View::expr_of, ps_tree::specs::View::set_of, ps_tree::specs::View::structure_of))]
-pub fn loaded(alloc: Global, variable: TypedPlace, at: u32) -> Result<TypedValue, Fault>
+pub(crate) fn loaded(alloc: Global, variable: TypedPlace, at: u32) -> Result<TypedValue, Fault>
     ensures ok { IfOk result (λ v. loaded (variable_of variable) ≡ Some (value_of v)) }
     ensures err { IfErr result (λ fault. IsFault fault → loaded (variable_of variable) ≡ None) }
 {
