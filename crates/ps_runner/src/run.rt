@@ -1,11 +1,11 @@
 // The run of a program.
 
-ghost use Rattle.std.specs.Prelude.{◌≡◌, ◌≤◌, [], ℕ, List, IfOk, IfErr};
+ghost use Rattle.std.specs.Prelude.{◌≡◌, ◌≢◌, ◌≤◌, [], ℕ, List, IfOk, IfErr};
 ghost use Rattle.std.specs.List.{All};
 ghost use Rattle.ps_tree.specs.Checked.{program_in};
 ghost use Rattle.ps_meaning.specs.Worlds.{Outside};
 ghost use Rattle.ps_meaning.specs.Run as m;
-ghost use Rattle.ps_reference.specs.declared.stop.Refusal.TheVariants.{Untyped};
+ghost use Rattle.ps_reference.specs.declared.stop.Refusal.TheVariants.{TooDeep, Untyped};
 ghost use Rattle.ps_reference.specs.Worlds.{Answers, caller, context_of, env_of, numbers_of, world_of, done_of, program_of, costs_in};
 ghost use Rattle.ps_runner.specs.Runs.{shown, Tells, trail_of};
 
@@ -195,11 +195,12 @@ pub fn trail(alloc: Global, program: &Checked, input: &[u8], fuel: u64) -> Resul
     Ok(first_lines(ran))
 }
 
-/// The bytes that a transcript shows, without its marks. It is `Untyped` only where an item is neither.
+/// The bytes that a transcript shows, without its marks. It is `Untyped` only where an item is neither, and never `TooDeep`.
 #[tactic(auto, using(crate::proofs::Runs::shown_mark, crate::proofs::Runs::shown_byte, crate::proofs::Runs::neither_byte_nor_mark))]
 pub fn output(alloc: Global, transcript: &[u16]) -> Result<Vec<u8>, Refusal>
     ensures shown { IfOk result (λ v. v.items ≡ m.output_of transcript.now) }
     ensures refused { IfErr result (λ refusal. refusal ≡ Untyped → All (λ b. b ≤ 256) transcript.now → ⊥) }
+    ensures depth { IfErr result (λ refusal. refusal ≢ TooDeep) }
 {
     let mut bytes = Vec::new(alloc);
     for item in transcript {
