@@ -1,6 +1,6 @@
 // Signed overflow of sums and differences of words.
 
-ghost use Rattle.std.specs.Prelude.{◌≡◌, pos, ◌+ℤ◌, ◌-ℤ◌};
+ghost use Rattle.std.specs.Prelude.{◌≡◌, ◌≤◌, unsigned_abs, pos, ◌+ℤ◌, ◌-ℤ◌};
 ghost use Rattle.std.specs.Int.{from_bool};
 ghost use Rattle.risc_machine.specs.Step.{signed, overflows};
 
@@ -11,16 +11,24 @@ fn leaves_word(value: i64) -> bool
     value < i64::from(i32::MIN) || value > i64::from(i32::MAX)
 }
 
+// A word as a signed number, of 64 bits.
+fn widened(word: u32) -> i64
+    ensures value { result ≡ signed word }
+    ensures small { unsigned_abs result ≤ 2147483648 }
+{
+    i64::from(word.cast_signed())
+}
+
 // Whether the signed sum with a carry leaves 32 bits.
 pub(crate) fn sum_overflows(left: u32, right: u32, carry: bool) -> bool
     ensures { result ≡ overflows (signed left +ℤ signed right +ℤ pos (from_bool carry)) }
 {
-    leaves_word(i64::from(left.cast_signed()) + i64::from(right.cast_signed()) + carry as i64)
+    leaves_word(widened(left) + widened(right) + carry as i64)
 }
 
 // Whether the signed difference with a borrow leaves 32 bits.
 pub(crate) fn difference_overflows(left: u32, right: u32, borrow: bool) -> bool
     ensures { result ≡ overflows (signed left -ℤ signed right -ℤ pos (from_bool borrow)) }
 {
-    leaves_word(i64::from(left.cast_signed()) - i64::from(right.cast_signed()) - borrow as i64)
+    leaves_word(widened(left) - widened(right) - borrow as i64)
 }

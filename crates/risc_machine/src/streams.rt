@@ -72,6 +72,3 @@ impl<R: Read, W: Write> Console for Streams<R, W> {
         }
     }
 }
-
-#[cfg(test)]
-mod tests;

@@ -32,12 +32,12 @@ fn bytes_of(alloc: Global, version: u8, words: &[u32]) -> Result<Vec<u8>, AllocE
 #[test]
 fn a_loop_is_read(rt: HostRuntime) -> Result<(), Fail> {
     let image = ImageView::read(&LOOP).ok().ok_or("an image")?;
-    assert_eq!(rt; image.global(), 0);
-    assert_eq!(rt; image.words(), 1);
-    assert_eq!(rt; image.word(0), Some(0xE7FFFFFF));
-    assert_eq!(rt; image.word(1), None);
+    assert_eq!(rt;
+        (image.global(), image.words(), image.calls()),
+        (0, 1, None)
+    );
+    assert_eq!(rt; (image.word(0), image.word(1)), (Some(0xE7FFFFFF), None));
     assert_eq!(rt; image.code(), [0xFF, 0xFF, 0xFF, 0xE7].as_slice());
-    assert_eq!(rt; image.calls(), None);
     let second = ImageView::read(&SECOND_LOOP)
         .ok()
         .ok_or("an image of the second version")?;
@@ -109,6 +109,14 @@ fn rows_rise(rt: HostRuntime) -> Result<(), Fail> {
     Ok(())
 }
 
+fn trap(link: u32, error: u32, line: u32) -> Option<TrapRow> {
+    Some(TrapRow { link, error, line })
+}
+
+fn call(link: u32, line: u32) -> Option<CallRow> {
+    Some(CallRow { link, line })
+}
+
 #[test]
 fn rows_are_found_by_their_links(rt: HostRuntime) -> Result<(), Fail> {
     // four words of code, three traps, two calls
@@ -121,36 +129,19 @@ fn rows_are_found_by_their_links(rt: HostRuntime) -> Result<(), Fail> {
         ],
     )?;
     let image = ImageView::read(&bytes).ok().ok_or("an image")?;
-    assert_eq!(rt; image.traps(), 3);
-    assert_eq!(rt;
+    assert_eq!(rt; (image.traps(), image.calls()), (3, Some(2)));
+    let traps = [
         image.trap(1),
-        Some(TrapRow {
-            link: 8,
-            error: 13,
-            line: 65535
-        })
-    );
-    assert_eq!(rt;
         image.trap_of(4),
-        Some(TrapRow {
-            link: 4,
-            error: 1,
-            line: 7
-        })
-    );
-    assert_eq!(rt;
         image.trap_of(16),
-        Some(TrapRow {
-            link: 16,
-            error: 5,
-            line: 1
-        })
+        image.trap_of(12),
+    ];
+    assert_eq!(rt;
+        traps,
+        [trap(8, 13, 65535), trap(4, 1, 7), trap(16, 5, 1), None]
     );
-    assert_eq!(rt; image.trap_of(12), None);
-    assert_eq!(rt; image.calls(), Some(2));
-    assert_eq!(rt; image.call(0), Some(CallRow { link: 4, line: 9 }));
-    assert_eq!(rt; image.call_of(12), Some(CallRow { link: 12, line: 10 }));
-    assert_eq!(rt; image.call_of(8), None);
+    let calls = [image.call(0), image.call_of(12), image.call_of(8)];
+    assert_eq!(rt; calls, [call(4, 9), call(12, 10), None]);
     Ok(())
 }
 
@@ -173,7 +164,11 @@ fn what_is_written_is_read(rt: HostRuntime) -> Result<(), Fail> {
     )?;
     assert_eq!(rt; bytes.as_slice(), want.as_slice());
     let image = ImageView::read(&bytes).ok().ok_or("an image")?;
-    assert_eq!(rt; image.frame(0), Some(FrameRow { entry: 4, bytes: 8 }));
-    assert_eq!(rt; image.call_of(8), Some(CallRow { link: 8, line: 3 }));
+    let frame = FrameRow { entry: 4, bytes: 8 };
+    let call = CallRow { link: 8, line: 3 };
+    assert_eq!(rt;
+        (image.frame(0), image.call_of(8)),
+        (Some(frame), Some(call))
+    );
     Ok(())
 }

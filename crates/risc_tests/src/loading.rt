@@ -16,12 +16,14 @@ fn the_largest_budget_is_loaded(rt: HostRuntime) -> Result<(), Fail> {
         heap: 0,
     };
     let machine = load(rt.alloc(), &image, budget).ok().ok_or("a machine")?;
-    assert_eq!(rt; machine.size(), 16777152);
-    assert_eq!(rt; machine.pc(), 0);
-    assert_eq!(rt; machine.reg(0), 4);
-    assert_eq!(rt; machine.reg(1), 4);
-    assert_eq!(rt; machine.reg(13), 4);
-    assert_eq!(rt; machine.reg(14), 16777152);
+    assert_eq!(rt; (machine.size(), machine.pc()), (16777152, 0));
+    let registers = [
+        machine.reg(0),
+        machine.reg(1),
+        machine.reg(13),
+        machine.reg(14),
+    ];
+    assert_eq!(rt; registers, [4, 4, 4, 16777152]);
     Ok(())
 }
 

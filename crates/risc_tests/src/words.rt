@@ -18,8 +18,7 @@ fn at(number: u8) -> Register
 
 fn same(rt: &impl Abort, alloc: Global, word: u32, instr: &Instr, text: &str) -> Result<(), Fail> {
     let printed = print(alloc, *instr)?;
-    assert_eq!(rt; encode(*instr), word);
-    assert_eq!(rt; decode(word), Some(*instr));
+    assert_eq!(rt; (encode(*instr), decode(word)), (word, Some(*instr)));
     assert_eq!(rt; printed.as_str(), text);
     Ok(())
 }

@@ -1,3 +1,4 @@
 pub mod Places
 pub mod Temps
 pub mod Performs
+pub mod Widened

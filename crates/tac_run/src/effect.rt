@@ -37,7 +37,7 @@ pub enum Effect {
     },
 }
 
-ghost use Rattle.std.specs.Prelude.{◌≡◌, MatchResult, MatchOption, MatchBool, IsTrue, ◌↔◌, if◌then◌else◌, FitsSigned, Some, None, ℤ, pos, ◌-ℤ◌, ◌+◌, ◌*◌, nat_lt, int_lt, false, not, ◌&&◌, ◌||◌, length, List, ℕ};
+ghost use Rattle.std.specs.Prelude.{◌≡◌, MatchResult, MatchOption, MatchBool, IsTrue, ◌↔◌, ◌≤◌, if◌then◌else◌, FitsSigned, unsigned_abs, Some, None, ℤ, pos, ◌-ℤ◌, ◌+◌, ◌*◌, nat_lt, int_lt, false, not, ◌&&◌, ◌||◌, length, List, ℕ};
 ghost use Rattle.tac_code.specs.Numbers.{computed, Gives, Fails, bits, compared, truth, is_zero, is_integer};
 ghost use Rattle.tac_code.specs.Meaning.{pointer_of, same_pointer, is_nil};
 ghost use Rattle.tac_run.specs.Effect.{ended_by, if_some, if_number, if_address, if_routine, if_byte, if_natural, checked_by, given_address, given_computed};
@@ -63,10 +63,18 @@ fn fitting(z: i64, error: u8) -> Result<i32, u8>
     }
 }
 
+// A number in 64 bits, where sums and products of two such numbers fit.
+fn widened(number: i32) -> i64
+    ensures value { result ≡ number }
+    ensures small { unsigned_abs result ≤ 2147483648 }
+{
+    i64::from(number)
+}
+
 fn compute(operator: Operator, error: u8, x: i32, y: i32) -> Result<i32, u8>
     ensures { MatchResult result (λ z. computed operator error x y ≡ Gives z) (λ e. computed operator error x y ≡ Fails e) }
 {
-    let (left, right) = (i64::from(x), i64::from(y));
+    let (left, right) = (widened(x), widened(y));
     match operator {
         Operator::Add => fitting(left + right, error),
         Operator::Subtract => fitting(left - right, error),
@@ -251,7 +259,7 @@ pub(crate) fn index_address(
     let (Some(Value::Address(block, offset)), Some(Value::Number(x))) = (base, index) else {
         return STUCK;
     };
-    let components = i64::from(x) - i64::from(low);
+    let components = widened(x) - widened(low);
     if components < 0 {
         return STUCK;
     }

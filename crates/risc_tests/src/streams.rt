@@ -1,7 +1,7 @@
 // A console over a reader and a writer that fail in mid-stream.
 
-use super::*;
-use std::io::{self, ErrorKind};
+use risc_machine::{Console, DeviceFault, Streams};
+use std::io::{self, ErrorKind, Read, Write};
 use std::test::Fail;
 
 // Its second read is an error; its second write takes no byte, and its fourth is an error.
@@ -42,16 +42,18 @@ impl Write for Failing {
 #[test]
 fn an_error_is_one_device_fault(rt: HostRuntime) -> Result<(), Fail> {
     let mut console = Streams::new(Failing { calls: 0 }, Failing { calls: 0 });
-    assert_eq!(rt; console.take(), Ok(Some(1)));
-    assert_eq!(rt; console.take(), Err(DeviceFault));
-    assert_eq!(rt; console.take(), Ok(Some(3)));
-    assert_eq!(rt; console.put(7), Ok(()));
-    assert_eq!(rt; console.put(7), Err(DeviceFault));
-    assert_eq!(rt; console.put(7), Ok(()));
-    assert_eq!(rt; console.put(7), Err(DeviceFault));
-    assert_eq!(rt; console.put(7), Ok(()));
+    let taken = [console.take(), console.take(), console.take()];
+    assert_eq!(rt; taken, [Ok(Some(1)), Err(DeviceFault), Ok(Some(3))]);
+    let put = [
+        console.put(7),
+        console.put(7),
+        console.put(7),
+        console.put(7),
+        console.put(7),
+    ];
+    let (done, fault) = (Ok(()), Err(DeviceFault));
+    assert_eq!(rt; put, [done, fault, done, fault, done]);
     let (reader, writer) = console.into_parts();
-    assert_eq!(rt; reader.calls, 3);
-    assert_eq!(rt; writer.calls, 5);
+    assert_eq!(rt; (reader.calls, writer.calls), (3, 5));
     Ok(())
 }
