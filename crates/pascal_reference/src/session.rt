@@ -5,8 +5,10 @@ use pascal_cli::{
     CommandFault, Job, ReadFault, Task, command, message, put_all, read_up_to, status,
 };
 use ps_build::{Outcome, Refusal};
-use ps_reference::stop::{self, Ending};
-use ps_runner::run::{Budget, output, reference_to_depth};
+use ps_runner::ending::Ending;
+use ps_runner::run::{
+    Budget, Ran, Refusal as RunRefusal, TranscriptFault, output, reference_to_depth,
+};
 use ps_tree::program::Checked;
 use std::alloc::Global;
 use std::rt::{Env, Files};
@@ -92,22 +94,20 @@ fn go_file<R: Files + Print + Eprint + Input + AllocGlobal>(
     }
 }
 
-// What a program writes on an input, and how it ends.
-fn shown(
+// The run of a program on an input.
+fn run_program(
     alloc: Global,
     program: &Checked,
     input: &[u8],
     steps: u64,
-) -> Result<(Vec<u8>, Ending), stop::Refusal> {
+) -> Result<Ran, RunRefusal> {
     let free = Budget {
         frames: &[],
         objects: &[],
         stack: 0,
         heap: 0,
     };
-    let ran = reference_to_depth(alloc, program, &free, input, steps, DEPTH)?;
-    let bytes = output(alloc, ran.transcript.as_slice())?;
-    Ok((bytes, ran.ending))
+    reference_to_depth(alloc, program, &free, input, steps, DEPTH)
 }
 
 // Runs a text on an input, writes what it writes, and tells how it ended.
@@ -116,14 +116,18 @@ fn go<R: Print + Eprint + AllocGlobal>(rt: &R, text: &[u8], input: &[u8], steps:
         Ok(program) => program,
         Err(refusal) => return tell(rt, &Err(refusal)),
     };
-    let (bytes, ending) = match shown(rt.alloc(), &program, input, steps) {
-        Ok(shown) => shown,
-        Err(stop::Refusal::OutOfMemory) => return tell(rt, &Err(Refusal::OutOfMemory)),
-        Err(stop::Refusal::TooDeep) => return give_up(rt, "too deep for the host's stack"),
-        Err(stop::Refusal::Untyped) => return give_up(rt, "no checked program"),
+    let ran = match run_program(rt.alloc(), &program, input, steps) {
+        Ok(ran) => ran,
+        Err(RunRefusal::OutOfMemory) => return tell(rt, &Err(Refusal::OutOfMemory)),
+        Err(RunRefusal::TooDeep) => return give_up(rt, "too deep for the host's stack"),
+    };
+    let bytes = match output(rt.alloc(), ran.transcript.as_slice()) {
+        Ok(bytes) => bytes,
+        Err(TranscriptFault::OutOfMemory) => return tell(rt, &Err(Refusal::OutOfMemory)),
+        Err(TranscriptFault::NoByteAndNoMark) => return give_up(rt, "no transcript of a run"),
     };
     match put_all(&mut io::writer(rt), bytes.as_slice()) {
-        Ok(()) => tell(rt, &Ok(outcome_of(ending))),
+        Ok(()) => tell(rt, &Ok(outcome_of(ran.ending))),
         Err(_) => tell(rt, &Ok(Outcome::OutputFault)),
     }
 }

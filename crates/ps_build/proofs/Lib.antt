@@ -5,4 +5,5 @@ pub mod Told
 pub mod Compiled
 pub mod Results
 pub mod Appending
+pub mod Bytes
 pub mod Meant

@@ -1,5 +1,5 @@
 -- What a program of strings means: it writes its bytes and ends, or is stopped for stack at once.
-use Rattle.std.proofs.Common.{◌≡◌, ℕ, ℤ, pos, negsuc, zero, suc, ◌+◌, ◌-◌, ◌<◌, Bool, true, false, cond, List, [], ◌∷◌, ◌++◌, Option, Some, None, length, replicate, take, nat_lt, get_or, refl, sym, ap, ◌∙◌, arith, append_assoc}
+use Rattle.std.proofs.Common.{◌≡◌, ℕ, ℤ, pos, negsuc, zero, suc, ◌+◌, ◌-◌, ◌%◌, ◌<◌, Bool, true, false, cond, List, [], ◌∷◌, ◌++◌, Option, Some, None, length, replicate, take, nat_lt, get_or, refl, sym, ap, ◌∙◌, arith, append_assoc}
 use Rattle.std.specs.Prelude.{option_and_then}
 use Rattle.std.proofs.lemmas.List.{append-nil}
 use Rattle.ps_tree.specs.Tree as Tree
@@ -16,10 +16,9 @@ use Rattle.ps_meaning.specs.Run.{Ran, first_world, first_context, costs_of, ran_
 use Rattle.ps_meaning.proofs.Limits.{bind_quiet}
 use Rattle.ps_build.specs.Strings.{joined, character_text, parameter_text, parameters_text, statement_text, statements_text, only_block, compiled_of}
 
--- the characters of a string's value are the string
-text_back : (text : List ℕ) → characters (text_values text) ≡ text
-text_back [] = refl
-text_back (b ∷ text) = ap (λ rest. b ∷ rest) (text_back text)
+-- a byte is its own number modulo 256
+a_byte : (n : ℕ) → nat_lt n 256 ≡ true → n % 256 ≡ n
+a_byte n lt = grind arith
 
 -- a string in a field of its own length
 fitted_whole : (text : List ℕ) → fitted (length text) text ≡ text
@@ -66,17 +65,16 @@ module _ (program : Tree.Program) (costs : Costs) (call : Caller) (next : Next) 
 
   character_writes : (n : ℤ) (text : List ℕ) → character_text n ≡ Some text → Writes (write program costs call next (Tree.WriteChar (Tree.Number n) Tree.DefaultWidth) c) text
   character_writes (negsuc n) text e w = absurd (cc e)
-  character_writes (pos n) text e w = ap (λ t. Gives done (says w t)) (at (nat_lt n 256) e)
+  character_writes (pos n) text e w = ap (λ t. Gives done (says w t)) (at (nat_lt n 256) refl e)
     where
-      at : (b : Bool) → cond b (Some (n ∷ [])) None ≡ Some text → n ∷ [] ≡ text
-      at true e = some_is (n ∷ []) text e
-      at false e = absurd (cc e)
+      at : (b : Bool) → nat_lt n 256 ≡ b → cond b (Some (n ∷ [])) None ≡ Some text → (n % 256) ∷ [] ≡ text
+      at true lt e = ap (λ k. k ∷ []) (a_byte n lt) ∙ some_is (n ∷ []) text e
+      at false lt e = absurd (cc e)
 
   parameter_writes : (p : Tree.WriteParameter) (text : List ℕ) → parameter_text p ≡ Some text → Writes (write program costs call next p c) text
   unfolding parameter_text
   parameter_writes (Tree.WriteText (Tree.Literal string) Tree.DefaultWidth) text e w =
-      ap (λ t. Gives done (says w (fitted (length t) t))) (text_back string)
-      ∙ ap (λ t. Gives done (says w t)) (fitted_whole string ∙ some_is string text e)
+      ap (λ t. Gives done (says w t)) (fitted_whole (characters (text_values string)) ∙ some_is (characters (text_values string)) text e)
   parameter_writes (Tree.WriteText (Tree.Literal string) (Tree.GivenWidth e' line)) text e w = absurd (cc e)
   parameter_writes (Tree.WriteText (Tree.Contents p type) width) text e w = absurd (cc e)
   parameter_writes (Tree.WriteInteger e' width) text e w = absurd (cc e)

@@ -2,6 +2,8 @@
 -- And what these write (6.9.3, 6.9.4), as the meaning of programs says: that it is so is a part of the proof.
 use Rattle.std.specs.Prelude.{◌≡◌, ℕ, ℤ, pos, negsuc, nat_lt, if◌then◌else◌, List, [], ◌∷◌, ◌++◌, Option, Some, None, option_and_then}
 use Rattle.ps_tree.specs.Types.{DataType}
+use Rattle.ps_meaning.specs.Values.{text_values}
+use Rattle.ps_meaning.specs.Statements.{characters}
 use Rattle.ps_tree.specs.Tree.{Number, Literal, DefaultWidth, WriteParameter, WriteChar, WriteText, Statement, Empty, Write, Writeln, Statements, no_statement, statement_before, Routine, Program}
 
 abbrev pub joined : Option (List ℕ) → Option (List ℕ) → Option (List ℕ)
@@ -15,7 +17,7 @@ character_text (negsuc n) = None
 -- A string of the text, without a width. One of a single character is a character (6.4.2.2).
 unfoldable pub parameter_text : WriteParameter → Option (List ℕ)
 parameter_text (WriteChar (Number n) DefaultWidth) = character_text n
-parameter_text (WriteText (Literal characters) DefaultWidth) = Some characters
+parameter_text (WriteText (Literal string) DefaultWidth) = Some (characters (text_values string))
 parameter_text _ = None
 
 unfoldable pub parameters_text : List WriteParameter → Option (List ℕ)

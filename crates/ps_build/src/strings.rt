@@ -1,15 +1,17 @@
 // Which checked programs are compiled so far: those that only write strings.
 
-ghost use Rattle.std.specs.Prelude.{◌≡◌, ◌≤◌, ◌++◌, Some, None, IfOk, IfErr, map, option_map};
+ghost use Rattle.std.specs.Prelude.{◌≡◌, ◌≤◌, ◌++◌, Some, None, IfOk, IfErr, OnOk, map, option_map};
 ghost use Rattle.ps_tree.specs.Checked.{program_in};
 ghost use Rattle.ps_tree.specs.View.{write_of, statement_of, statements_of, routine_of};
+ghost use Rattle.ps_meaning.specs.Values.{text_values};
+ghost use Rattle.ps_meaning.specs.Statements.{characters};
 ghost use Rattle.ps_build.specs.Strings.{character_text, parameter_text, parameters_text, statement_text, statements_text, only_block, compiled_of, Grows};
 ghost use Rattle.ps_build.specs.Refusals.{OnlyNotYet};
 
 use crate::refusal::Refusal;
 use ps_tree::program::Checked;
 use ps_tree::tree::{Expr, Routine, Statement, Structure, Width, WriteParameter};
-use std::alloc::Global;
+use std::alloc::{AllocError, Global};
 
 /// What is compiled of a checked program: the line of its block's `begin`, and the bytes that it writes.
 #[derive(Drop)]
@@ -30,6 +32,13 @@ fn append_character(output: &mut Vec<u8>, ordinal: i32) -> Result<(), Refusal>
     Ok(())
 }
 
+// Appends the characters of a string.
+fn append_string(output: &mut Vec<u8>, string: &[u8]) -> Result<(), AllocError>
+    ensures { OnOk result (Grows output.old.items output.new.items (Some (characters (text_values string.now)))) }
+{
+    output.extend_from_slice(string)
+}
+
 // Appends the characters of a parameter that is a string without a width.
 #[tactic(auto, unfolding(ps_tree::specs::View::expr_of, ps_tree::specs::View::write_of, ps_tree::specs::View::structure_of, ps_tree::specs::View::width_of, crate::specs::Strings::parameter_text))]
 fn append_parameter(output: &mut Vec<u8>, parameter: &WriteParameter) -> Result<(), Refusal>
@@ -40,7 +49,7 @@ fn append_parameter(output: &mut Vec<u8>, parameter: &WriteParameter) -> Result<
         WriteParameter::Text { value, width } => match value {
             Structure::Literal(characters) => match width {
                 Width::Default => {
-                    output.extend_from_slice(characters)?;
+                    append_string(output, characters)?;
                     Ok(())
                 }
                 Width::Given { .. } => Err(Refusal::NotYet),

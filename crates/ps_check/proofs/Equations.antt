@@ -1,5 +1,5 @@
 -- What is read of headings, routines and blocks, construction by construction.
-use Rattle.std.proofs.Common.{◌≡◌, ℕ, true, false, List, [], ◌∷◌, length, nat_lt, Option, Some, None, sym, ap, ◌∙◌}
+use Rattle.std.proofs.Common.{◌≡◌, ℕ, true, false, List, [], ◌∷◌, length, nat_lt, Option, Some, None, refl, sym, ap, ◌∙◌}
 use Rattle.ps_declare.specs.Denoters.{Frame}
 use Rattle.ps_regions.specs.Option.{◌>>=◌, provided, steps}
 use Rattle.ps_declare.specs.Points.{add_name}
@@ -86,9 +86,20 @@ module _ (c : Context) where
     unfolding introduce
     introduce_Completion x name b e is = ap (introduce f (routine c x) r) e ∙ ap (λ y. introduce f y r None) (ap (routine c) is ∙ routine_Completion name b)
 
--- the formal parameters' names are not apart
-pub start_names_fault : (chain inner : List ℕ) (h : Regions.Heading) (none names : List (List ℕ)) → provided (nat_lt (length chain) 16) (h.number ∷ chain) ≡ Some inner → none ≡ [] → names ≡ h.names → steps add_name none names ≡ None → start chain h ≡ None
-unfolding start
-start_names_fault chain inner h none names e f g n =
-    ap (λ o. o >>= (λ inner. steps add_name [] h.names >>= (λ names. add_sections (record { next = first_entry h.result; known = [] }) h.sections >>= (λ d. Some (as_start inner names d))))) e
-    ∙ ap (λ o. o >>= (λ names. add_sections (record { next = first_entry h.result; known = [] }) h.sections >>= (λ d. Some (as_start inner names d)))) (ap (λ l. steps add_name l h.names) (sym f) ∙ ap (steps add_name none) (sym g) ∙ n)
+-- ---- what the block of a routine begins with
+
+-- there is nothing, whatever stands before, where nothing follows
+nothing_behind : {A B : Type 0} (o : Option A) (f : A → Option B) → ((x : A) → f x ≡ None) → (o >>= f) ≡ None
+nothing_behind None f e = refl
+nothing_behind (Some x) f e = e x
+
+module _ (chain : List ℕ) (h : Regions.Heading) where
+  -- the formal parameters' names are not apart
+  pub start_names_fault : steps add_name [] h.names ≡ None → start chain h ≡ None
+  unfolding start
+  start_names_fault e = nothing_behind (provided (nat_lt (length chain) 16) (h.number ∷ chain)) _ (λ inner. ap (λ o. o >>= (λ names. add_sections (record { next = first_entry h.result; known = [] }) h.sections >>= (λ d. Some (as_start inner names d)))) e)
+
+  -- they are too many
+  pub start_entries_fault : add_sections (record { next = first_entry h.result; known = [] }) h.sections ≡ None → start chain h ≡ None
+  unfolding start
+  start_entries_fault e = nothing_behind (provided (nat_lt (length chain) 16) (h.number ∷ chain)) _ (λ inner. nothing_behind (steps add_name [] h.names) _ (λ names. ap (λ o. o >>= (λ d. Some (as_start inner names d))) e))

@@ -14,17 +14,16 @@ ghost use Rattle.ps_check.specs.Views.{gathered_of, start_of, done_of, routines_
 use crate::chain::Chain;
 use crate::changes::{threatened, within};
 use crate::routines::{
-    add_routines, all_complete, broken, finish, heading_at, index_of, introduce, routine_name,
-    start,
+    add_routines, all_complete, finish, heading_at, index_of, introduce, routine_name, start,
 };
 use crate::state::{Done, Gathered, Start};
-use crate::told::{open_heading, threatening_name};
+use crate::told::{open_fault, threat_fault};
 use ps_declare::declarations::declarations;
 use ps_declare::frame::{Declared, Frame};
 use ps_declare::points::add_block;
 use ps_regions::meaning::Meaning;
 use ps_regions::reading::Reading;
-use ps_regions::refusal::{Fault, Rule};
+use ps_regions::refusal::Fault;
 use ps_regions::scope::Scope;
 use ps_statements::statement::statements;
 use ps_syntax::{Block, Routine, Statement};
@@ -35,8 +34,33 @@ use ps_typing::site::Site;
 use std::alloc::Global;
 use std::mem;
 
-/// The statements of a block, whose names have these meanings.
+/// The same reading, where these domain types are known.
+fn reading_with<'a>(reading: &Reading<'a>, domains: &'a [Ty]) -> Reading<'a>
+    ensures { context_of result ≡ with_domains (context_of reading.now) (map type_of domains.now) }
+{
+    Reading {
+        source: reading.source,
+        lines: reading.lines,
+        domains,
+        has_input: reading.has_input,
+        has_output: reading.has_output,
+    }
+}
+
+/// The regions that enclose a place of a block, whose names have these meanings so far.
 #[tactic(auto, unfolding(ps_regions::specs::Views::scope_of))]
+fn scope_within<'a>(frame: &'a Frame<'a>, known: &'a [Meaning]) -> Scope<'a>
+    ensures { scope_of result ≡ BlockRegion frame.now.routine frame.now.names.now (map meaning_of known.now) ∷ scope_of frame.now.outer.now }
+{
+    Scope::Block {
+        routine: frame.routine,
+        names: frame.names,
+        known,
+        outer: frame.outer,
+    }
+}
+
+/// The statements of a block, whose names have these meanings.
 fn read_statements(
     list: &[Statement],
     frame: &Frame,
@@ -47,19 +71,8 @@ fn read_statements(
     ensures ok { IfOk result (λ body. statements (with_domains (context_of frame.now.reading.now) (map type_of domains.now)) (BlockRegion frame.now.routine frame.now.names.now (map meaning_of known.now) ∷ scope_of frame.now.outer.now) list.now ≡ Some (statements_of body.items)) }
     ensures err { IfErr result (λ fault. IsFault fault → statements (with_domains (context_of frame.now.reading.now) (map type_of domains.now)) (BlockRegion frame.now.routine frame.now.names.now (map meaning_of known.now) ∷ scope_of frame.now.outer.now) list.now ≡ None) }
 {
-    let reading = Reading {
-        source: frame.reading.source,
-        lines: frame.reading.lines,
-        domains,
-        has_input: frame.reading.has_input,
-        has_output: frame.reading.has_output,
-    };
-    let scope = Scope::Block {
-        routine: frame.routine,
-        names: frame.names,
-        known,
-        outer: &*frame.outer,
-    };
+    let reading = reading_with(frame.reading, domains);
+    let scope = scope_within(frame, known);
     let site = Site {
         alloc,
         reading: &reading,
@@ -90,21 +103,21 @@ fn add_block_names(
     add_routines(reading, alloc, names, written.routines.as_slice())
 }
 
-/// The declarations of a block: the meanings of its names so far, and the types of its variables.
+/// The declarations of a block: the meanings of its names, behind those that are there, and the types of its variables.
 #[tactic(auto, unfolding(crate::specs::Blocks::declared))]
 fn declare(
     written: &Block,
     frame: &Frame,
     alloc: Global,
-    known: Vec<Meaning>,
+    known: &mut Vec<Meaning>,
     first: u32,
     gathered: &mut Gathered,
-) -> Result<(Vec<Meaning>, Vec<Ty>), Fault>
-    ensures ok { IfOk result (λ d. declared (frame_of frame.now) (layer (context_of frame.now.reading.now) written.now) first (map meaning_of known.items) (gathered_of gathered.old) ≡ Some (routines_of d.0.items gathered.new, map type_of d.1.items)) }
-    ensures err { IfErr result (λ fault. IsFault fault → declared (frame_of frame.now) (layer (context_of frame.now.reading.now) written.now) first (map meaning_of known.items) (gathered_of gathered.old) ≡ None) }
+) -> Result<Vec<Ty>, Fault>
+    ensures ok { IfOk result (λ variables. declared (frame_of frame.now) (layer (context_of frame.now.reading.now) written.now) first (map meaning_of known.old.items) (gathered_of gathered.old) ≡ Some (routines_of known.new.items gathered.new, map type_of variables.items)) }
+    ensures err { IfErr result (λ fault. IsFault fault → declared (frame_of frame.now) (layer (context_of frame.now.reading.now) written.now) first (map meaning_of known.old.items) (gathered_of gathered.old) ≡ None) }
 {
     let mut declared = Declared {
-        known,
+        known: mem::replace(known, Vec::new(alloc)),
         domains: mem::replace(&mut gathered.domains, Vec::new(alloc)),
         pending: Vec::new(alloc),
         variables: Vec::new(alloc),
@@ -118,8 +131,9 @@ fn declare(
         written.types.as_slice(),
         written.variables.as_slice(),
     )?;
+    *known = declared.known;
     gathered.domains = declared.domains;
-    Ok((declared.known, declared.variables))
+    Ok(declared.variables)
 }
 
 /// The statements of a block. The routines within it come behind the first ones.
@@ -136,10 +150,8 @@ fn read_body(
     ensures ok { IfOk result (λ body. block_body (context_of frame.now.reading.now) (frame_of frame.now) (layer (context_of frame.now.reading.now) written.now) (length chain.now) before (routines_of known.now gathered.now) ≡ Some (statements_of body.items)) }
     ensures err { IfErr result (λ fault. IsFault fault → block_body (context_of frame.now.reading.now) (frame_of frame.now) (layer (context_of frame.now.reading.now) written.now) (length chain.now) before (routines_of known.now gathered.now) ≡ None) }
 {
-    let at = written.begin.from;
     if !all_complete(gathered, known) {
-        let open = open_heading(written.routines.as_slice(), frame, alloc, known, gathered)?;
-        return Err(broken(Rule::ForwardOpen, open.unwrap_or(at)));
+        return Err(open_fault(written, frame, alloc, known, gathered));
     }
     let body = read_statements(
         written.statements.as_slice(),
@@ -149,16 +161,15 @@ fn read_body(
         &gathered.domains,
     )?;
     let inner = within(&gathered.routines, before);
-    match threatened(alloc, inner, chain.depth(), &body)? {
+    let depth = chain.depth();
+    match threatened(alloc, inner, depth, &body)? {
         None => Ok(body),
-        Some(entry) => {
-            let name = threatening_name(written, frame, alloc, known, inner, chain.depth(), entry)?;
-            Err(broken(Rule::ControlVariable, name.unwrap_or(at)))
-        }
+        Some(entry) => Err(threat_fault(written, frame, alloc, known, inner, depth, entry)),
     }
 }
 
-/// A block, and the routines within it.
+/// A block, and the routines within it. The names of its region and their meanings are added to those that it begins
+/// with.
 #[cycle(block)]
 #[tactic(auto, using(crate::proofs::Equations::block_is), unfolding(crate::specs::Blocks::block_step))]
 pub fn block(
@@ -167,35 +178,31 @@ pub fn block(
     outer: &Scope,
     alloc: Global,
     chain: &Chain,
-    start: Start,
+    start: &mut Start,
     gathered: &mut Gathered,
 ) -> Result<Done, Fault>
-    ensures ok { IfOk result (λ done. block (context_of reading.now) written.now (scope_of outer.now) (start_of chain.now start) (gathered_of gathered.old) ≡ Some (done_of done gathered.new)) }
-    ensures err { IfErr result (λ fault. IsFault fault → block (context_of reading.now) written.now (scope_of outer.now) (start_of chain.now start) (gathered_of gathered.old) ≡ None) }
+    ensures ok { IfOk result (λ done. block (context_of reading.now) written.now (scope_of outer.now) (start_of chain.now start.old) (gathered_of gathered.old) ≡ Some (done_of done gathered.new)) }
+    ensures err { IfErr result (λ fault. IsFault fault → block (context_of reading.now) written.now (scope_of outer.now) (start_of chain.now start.old) (gathered_of gathered.old) ≡ None) }
 {
-    let Start {
-        mut names,
-        known,
-        first,
-    } = start;
-    add_block_names(written, reading, alloc, &mut names)?;
+    add_block_names(written, reading, alloc, &mut start.names)?;
+    let known = &mut start.known;
     let frame = Frame {
         reading: &*reading,
         routine: chain.own_number(),
-        names: &names,
+        names: &start.names,
         outer: &*outer,
     };
     let before = gathered.routines.len();
-    let (mut known, variables) = declare(written, &frame, alloc, known, first, gathered)?;
+    let variables = declare(written, &frame, alloc, known, start.first, gathered)?;
     read_routines(
         written.routines.as_slice(),
         &frame,
         alloc,
         chain,
-        &mut known,
+        known,
         gathered,
     )?;
-    let body = read_body(written, &frame, alloc, chain, &known, gathered, before)?;
+    let body = read_body(written, &frame, alloc, chain, known, gathered, before)?;
     Ok(Done {
         variables,
         body,
@@ -242,10 +249,7 @@ fn read_routine(
     let at = routine_name(written).from;
     match written {
         Routine::Forward(_) => Ok(()),
-        Routine::Whole(_, block) => {
-            read_block(block, frame, alloc, chain, known, index, at, gathered)
-        }
-        Routine::Completion(_, block) => {
+        Routine::Whole(_, block) | Routine::Completion(_, block) => {
             read_block(block, frame, alloc, chain, known, index, at, gathered)
         }
     }
@@ -253,7 +257,7 @@ fn read_routine(
 
 /// The block of the heading with this index. `at` is where a fault of the whole routine is told.
 #[cycle(block)]
-#[tactic(auto, unfolding(crate::specs::Blocks::read_block, ps_regions::specs::Views::scope_of))]
+#[tactic(auto, unfolding(crate::specs::Blocks::read_block))]
 fn read_block(
     written: &Block,
     frame: &Frame,
@@ -268,13 +272,8 @@ fn read_block(
     ensures err { IfErr result (λ fault. IsFault fault → read_block (frame_of frame.now) chain.now index (routines_of known.now gathered.old) (Some (block (context_of frame.now.reading.now) written.now)) ≡ None) }
 {
     let heading = heading_at(known, index, at)?;
-    let (inner, start) = start(heading, chain, alloc, at)?;
-    let outer = Scope::Block {
-        routine: frame.routine,
-        names: frame.names,
-        known,
-        outer: &*frame.outer,
-    };
+    let (inner, mut start) = start(heading, chain, alloc, at)?;
+    let outer = scope_within(&*frame, &*known);
     let before = gathered.routines.len();
     let done = block(
         written,
@@ -282,8 +281,10 @@ fn read_block(
         &outer,
         alloc,
         &inner,
-        start,
+        &mut start,
         gathered,
-    )?;
-    finish(heading, inner, before, done, gathered, alloc, at)
+    );
+    // It goes before the fault is passed on: so it is dropped in one place.
+    drop(start);
+    finish(heading, inner, before, done?, gathered, alloc, at)
 }

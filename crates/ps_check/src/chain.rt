@@ -2,6 +2,7 @@
 
 ghost use Rattle.std.specs.Prelude.{◌≤◌, length};
 
+use ps_regions::refusal::{Fault, Rule};
 use ps_tree::tree::Routine;
 use std::alloc::{AllocError, Global};
 use std::marker::Model;
@@ -23,8 +24,9 @@ impl Model for Chain {
 }
 
 impl Chain {
-    ghost use Rattle.std.specs.Prelude.{◌≡◌, ◌≤◌, ◌∷◌, [], IfOk, length, nat_lt, option_map};
+    ghost use Rattle.std.specs.Prelude.{◌≡◌, ◌≤◌, ◌∷◌, [], IfOk, IfErr, Some, None, length, nat_lt};
     ghost use Rattle.ps_regions.specs.Option.{provided};
+    ghost use Rattle.ps_regions.specs.Refusal.{IsFault, IsToldAt};
     ghost use Rattle.ps_check.specs.Blocks.{own_number};
     ghost use Rattle.ps_check.specs.Programs.{program_chain};
 
@@ -37,17 +39,22 @@ impl Chain {
         Ok(Chain { numbers })
     }
 
-    /// That of a routine of the block, where it isn't too deep.
-    pub fn inner(&self, alloc: Global, number: u32) -> Result<Option<Chain>, AllocError>
-        ensures { IfOk result (λ inner. inner ≡ provided (nat_lt (length self.now) 16) (number ∷ self.now)) }
+    /// That of a routine of the block, which may not be too deep. `at` is where a fault is told.
+    pub fn inner(&self, alloc: Global, number: u32, at: u32) -> Result<Chain, Fault>
+        ensures ok { IfOk result (λ inner. provided (nat_lt (length self.now) 16) (number ∷ self.now) ≡ Some inner) }
+        ensures err { IfErr result (λ fault. IsFault fault → provided (nat_lt (length self.now) 16) (number ∷ self.now) ≡ None) }
+        ensures told { IfErr result (IsToldAt at) }
     {
         if self.numbers.len() >= 16 {
-            return Ok(None);
+            return Err(Fault::Broken {
+                rule: Rule::Limit,
+                at,
+            });
         }
         let mut numbers = Vec::new(alloc);
         numbers.push(number)?;
         numbers.extend_from_slice(&self.numbers)?;
-        Ok(Some(Chain { numbers }))
+        Ok(Chain { numbers })
     }
 
     /// The number of the block's routine.

@@ -4,13 +4,16 @@ ghost use Rattle.std.specs.Prelude.{◌≡◌, [], Some, None, IfOk, IfErr, code
 ghost use Rattle.ps_tree.specs.Checked.{program_in};
 ghost use Rattle.ps_regions.specs.Refusal.{IsFault, IsRefusal};
 ghost use Rattle.ps_regions.specs.Spelling.{has};
-ghost use Rattle.ps_check.specs.Programs.{nothing_gathered, program_with, program};
-ghost use Rattle.ps_check.specs.Views.{files_of, gathered_of};
+ghost use Rattle.ps_regions.specs.Views.{context_of, scope_of};
+ghost use Rattle.ps_check.specs.Blocks.{block};
+ghost use Rattle.ps_check.specs.Programs.{nothing_gathered, program_chain, program_with, program};
+ghost use Rattle.ps_check.specs.Views.{files_of, gathered_of, start_of, done_of};
 
 use crate::blocks::block;
 use crate::chain::Chain;
 use crate::program::{Files, list_files, program_of, required};
-use crate::state::{Gathered, Start};
+use crate::state::{Done, Gathered, Start};
+use ps_regions::answer::paired;
 use ps_regions::reading::Reading;
 use ps_regions::refusal::{CheckRefusal, Fault};
 use ps_regions::scope::Scope;
@@ -18,6 +21,30 @@ use ps_syntax::Program;
 use ps_text::{LineTable, Source};
 use ps_tree::program::Checked;
 use std::alloc::{AllocError, Global};
+
+/// The block of a program within this region, and all that is read with it.
+fn read_program(
+    alloc: Global,
+    reading: &Reading,
+    outer: &Scope,
+    start: &mut Start,
+    written: &Program,
+) -> Result<(Done, Gathered), Fault>
+    ensures ok { IfOk result (λ read. block (context_of reading.now) written.now.block (scope_of outer.now) (start_of program_chain start.old) nothing_gathered ≡ Some (done_of read.0 read.1)) }
+    ensures err { IfErr result (λ fault. IsFault fault → block (context_of reading.now) written.now.block (scope_of outer.now) (start_of program_chain start.old) nothing_gathered ≡ None) }
+{
+    let (chain, mut gathered) = paired(Chain::program(alloc), nothing_gathered(alloc))?;
+    let done = block(
+        &written.block,
+        reading,
+        outer,
+        alloc,
+        &chain,
+        start,
+        &mut gathered,
+    )?;
+    Ok((done, gathered))
+}
 
 /// The checked tree of a program whose heading lists these files.
 #[tactic(auto, unfolding(crate::specs::Programs::program_with, ps_regions::specs::Views::scope_of))]
@@ -40,24 +67,16 @@ fn check_block(
         known: &around.known,
         outer: &Scope::Outside,
     };
-    let mut gathered = nothing_gathered(alloc)?;
-    let start = Start {
+    let mut start = Start {
         names: files.names,
         known: files.known,
         first: 0,
     };
-    let chain = Chain::program(alloc)?;
-    let done = block(
-        &written.block,
-        reading,
-        &outer,
-        alloc,
-        &chain,
-        start,
-        &mut gathered,
-    )?;
-    let checked = program_of(alloc, done, gathered, written.name.from)?;
-    Ok(checked)
+    let read = read_program(alloc, reading, &outer, &mut start, written);
+    // They go before the fault is passed on: so they are dropped in one place.
+    drop((around, start));
+    let (done, gathered) = read?;
+    program_of(alloc, done, gathered, written.name.from)
 }
 
 /// The program before anything of it is read: routine 0 is that of the program block.
@@ -86,8 +105,7 @@ fn check_text(alloc: Global, heading: &Reading, written: &Program) -> Result<Che
         has_input: files.names.contains(b"input"),
         has_output: files.names.contains(b"output"),
     };
-    let checked = check_block(alloc, &reading, files, written)?;
-    Ok(checked)
+    check_block(alloc, &reading, files, written)
 }
 
 /// What is told of a fault.

@@ -5,12 +5,13 @@ ghost use Rattle.ps_tree.specs.Tree.{ValueFormal, VariableFormal};
 ghost use Rattle.ps_tree.specs.View.{type_of, formal_of, formals_of};
 ghost use Rattle.ps_regions.specs.Regions as regions;
 ghost use Rattle.ps_regions.specs.Regions.{ParameterMeaning, one_more};
-ghost use Rattle.ps_regions.specs.Refusal.{IsFault};
+ghost use Rattle.ps_regions.specs.Refusal.{IsFault, IsToldAt};
 ghost use Rattle.ps_regions.specs.Views.{section_of, sections_of};
 ghost use Rattle.ps_check.specs.Blocks.{add_entry, add_parameters, add_section, add_sections, first_entry};
 ghost use Rattle.ps_check.specs.Formals.{section_formals};
 ghost use Rattle.ps_check.specs.Views.{entries_of};
 
+use ps_regions::answer::paired;
 use ps_regions::meaning::{Meaning, Section};
 use ps_regions::refusal::{Fault, Rule};
 use ps_regions::scope::one_more;
@@ -92,6 +93,7 @@ pub fn formals_of(sections: &[Section], alloc: Global) -> Result<Vec<Formal>, Al
 fn entry_behind(entry: u32, at: u32) -> Result<u32, Fault>
     ensures ok { IfOk result (λ next. one_more entry ≡ Some next) }
     ensures err { IfErr result (λ fault. IsFault fault → one_more entry ≡ None) }
+    ensures told { IfErr result (IsToldAt at) }
 {
     match one_more(entry) {
         None => Err(Fault::Broken {
@@ -107,6 +109,7 @@ fn entry_behind(entry: u32, at: u32) -> Result<u32, Fault>
 fn add_parameter(ty: &Ty, entry: u32, known: &mut Vec<Meaning>, at: u32) -> Result<u32, Fault>
     ensures ok { IfOk result (λ next. add_entry (λ i. ParameterMeaning i (type_of ty.now)) (entries_of entry known.old.items) ≡ Some (entries_of next known.new.items)) }
     ensures err { IfErr result (λ fault. IsFault fault → add_entry (λ i. ParameterMeaning i (type_of ty.now)) (entries_of entry known.old.items) ≡ None) }
+    ensures told { IfErr result (IsToldAt at) }
 {
     let next = entry_behind(entry, at)?;
     known.push(Meaning::Parameter {
@@ -127,6 +130,7 @@ fn add_parameters(
 ) -> Result<u32, Fault>
     ensures ok { IfOk result (λ next. add_parameters (type_of ty.now) count (entries_of entry known.old.items) ≡ Some (entries_of next known.new.items)) }
     ensures err { IfErr result (λ fault. IsFault fault → add_parameters (type_of ty.now) count (entries_of entry known.old.items) ≡ None) }
+    ensures told { IfErr result (IsToldAt at) }
 {
     let mut next = entry;
     for _ in 0..count {
@@ -145,6 +149,7 @@ fn add_section(
 ) -> Result<u32, Fault>
     ensures ok { IfOk result (λ next. add_section (entries_of entry known.old.items) (section_of section.now) ≡ Some (entries_of next known.new.items)) }
     ensures err { IfErr result (λ fault. IsFault fault → add_section (entries_of entry known.old.items) (section_of section.now) ≡ None) }
+    ensures told { IfErr result (IsToldAt at) }
 {
     match section {
         Section::Value { count, ty } | Section::Variable { count, ty } => {
@@ -152,10 +157,11 @@ fn add_section(
         }
         Section::Routine { sections, result } => {
             let next = entry_behind(entry, at)?;
+            let (sections, result) = paired(Rc::clone(sections), copy_result(result))?;
             known.push(Meaning::RoutineParameter {
                 entry,
-                sections: Rc::clone(sections)?,
-                result: copy_result(result)?,
+                sections,
+                result,
             })?;
             Ok(next)
         }
@@ -173,6 +179,7 @@ pub fn add_sections(
 ) -> Result<u32, Fault>
     ensures ok { IfOk result (λ next. add_sections (entries_of entry known.old.items) (sections_of sections.now) ≡ Some (entries_of next known.new.items)) }
     ensures err { IfErr result (λ fault. IsFault fault → add_sections (entries_of entry known.old.items) (sections_of sections.now) ≡ None) }
+    ensures told { IfErr result (IsToldAt at) }
 {
     let mut next = entry;
     for section in sections {

@@ -127,21 +127,25 @@ fn next_number(gathered: &Gathered, at: u32) -> Result<u32, Fault>
     }
 }
 
-/// The meaning of a routine's name.
+/// The meaning of the name of a routine, whose heading says this.
 #[tactic(auto, using(ps_declare::proofs::HeadingLemmas::list_of_sections), unfolding(ps_regions::specs::Views::meaning_of))]
 fn routine_meaning(
-    alloc: Global,
+    written: &HeadingDenoter,
     number: u32,
     signature: Signature,
-    names: Vec<Vec<u8>>,
     is_forward: bool,
+    frame: &Frame,
+    alloc: Global,
+    known: &[Meaning],
 ) -> Result<Meaning, AllocError>
-    ensures { IfOk result (λ meaning. meaning_of meaning ≡ RoutineMeaning (record { number = number; sections = section_list (signature_of signature).0; result = (signature_of signature).1; names = map (λ name. name.items) names.items; is_forward = is_forward })) }
+    ensures { IfOk result (λ meaning. meaning_of meaning ≡ RoutineMeaning (record { number = number; sections = section_list (signature_of signature).0; result = (signature_of signature).1; names = map (spelled frame.now.reading.now.source.now) (all (map (section_points (frame_of frame.now) (map meaning_of known.now)) (heading_list written.now))); is_forward = is_forward })) }
 {
+    let Signature { sections, result } = signature;
+    let names = parameter_names(heading_list(written), frame, alloc, known)?;
     Ok(Meaning::Routine(Heading {
         number,
-        sections: Rc::new(alloc, signature.sections)?,
-        result: signature.result,
+        sections: Rc::new(alloc, sections)?,
+        result,
         names,
         is_forward,
     }))
@@ -162,8 +166,16 @@ pub fn new_heading(
 {
     let number = next_number(gathered, heading_name(written).from)?;
     let signature = heading(written, frame, alloc, &Hidden::Nothing, known.as_slice())?;
-    let names = parameter_names(heading_list(written), frame, alloc, known.as_slice())?;
-    known.push(routine_meaning(alloc, number, signature, names, is_forward)?)?;
+    let meaning = routine_meaning(
+        written,
+        number,
+        signature,
+        is_forward,
+        frame,
+        alloc,
+        known.as_slice(),
+    )?;
+    known.push(meaning)?;
     gathered.routines.push(None)?;
     Ok(())
 }

@@ -6,7 +6,7 @@ ghost use Rattle.ps_tree.specs.View as tree;
 ghost use Rattle.ps_tree.specs.View.{routine_of};
 ghost use Rattle.ps_tree.specs.Checked.{program_in};
 ghost use Rattle.ps_regions.specs.Option.{provided, steps, traverse};
-ghost use Rattle.ps_regions.specs.Refusal.{IsFault};
+ghost use Rattle.ps_regions.specs.Refusal.{IsFault, IsToldAt};
 ghost use Rattle.ps_regions.specs.Regions.{BlockRegion, FileMeaning};
 ghost use Rattle.ps_regions.specs.Views.{meaning_of};
 ghost use Rattle.ps_check.specs.Programs.{required, add_required, file_named, list_file, no_files, assembled, program_routine, program_of};
@@ -261,6 +261,7 @@ pub fn program_of(
 ) -> Result<Checked, Fault>
     ensures ok { IfOk result (λ checked. program_of (done_of block gathered) ≡ Some (program_in checked)) }
     ensures err { IfErr result (λ fault. IsFault fault → program_of (done_of block gathered) ≡ None) }
+    ensures told { IfErr result (IsToldAt at) }
 {
     let finished = program_routine(alloc, block)?;
     put(&mut gathered, 0, finished);

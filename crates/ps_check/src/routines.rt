@@ -1,17 +1,18 @@
 //! The names of a block's routines, forward headings, and what a routine's block begins and ends with.
 
-ghost use Rattle.std.specs.Prelude.{◌≡◌, [], Some, None, IfOk, IfErr, OnOk, map, option_map, slice_get, slice_set};
+ghost use Rattle.std.specs.Prelude.{◌≡◌, ◌⊎◌, [], true, false, Some, None, IfOk, IfErr, OnOk, map, option_map, slice_get, slice_set};
 ghost use Rattle.ps_tree.specs.View.{routine_of};
 ghost use Rattle.ps_regions.specs.Option.{steps};
-ghost use Rattle.ps_regions.specs.Refusal.{IsFault};
+ghost use Rattle.ps_regions.specs.Refusal.{IsFault, IsToldAt};
+ghost use Rattle.ps_regions.specs.declared.refusal.Fault.TheVariants.{Broken};
 ghost use Rattle.ps_regions.specs.Regions.{Context};
 ghost use Rattle.ps_regions.specs.Spelling.{spelled, place};
 ghost use Rattle.ps_regions.specs.Views.{meaning_of, heading_of, context_of};
 ghost use Rattle.ps_declare.specs.Points.{add_name};
 ghost use Rattle.ps_declare.specs.Views.{frame_of};
-ghost use Rattle.ps_check.specs.Blocks.{may_complete, add_routine, is_open, is_waiting, is_complete, all_complete, introduce, heading_at, start, routine_tree, is_small_routine, finished, routine};
+ghost use Rattle.ps_check.specs.Blocks.{may_complete, add_routine, is_open, is_waiting, is_complete, all_complete, introduce, heading_at, start, add_sections, first_entry, routine_tree, is_small_routine, finished, routine};
 ghost use Rattle.ps_check.specs.declared.state.Gathered.{Gathered};
-ghost use Rattle.ps_check.specs.Views.{finished_of, gathered_of, routines_of, start_of, done_of};
+ghost use Rattle.ps_check.specs.Views.{finished_of, gathered_of, routines_of, entries_of, start_of, done_of};
 
 use crate::chain::{Chain, Finished};
 use crate::changes::assigns;
@@ -19,6 +20,7 @@ use crate::formals::{add_sections, copy_result, first_entry, formals_of};
 use crate::headings::{heading_name, is_bare, new_heading};
 use crate::state::{Done, Gathered, Start};
 use ps_declare::frame::Frame;
+use ps_regions::answer::paired;
 use ps_regions::meaning::{Heading, Meaning};
 use ps_regions::reading::Reading;
 use ps_regions::refusal::{Fault, Rule};
@@ -30,7 +32,8 @@ use std::alloc::{AllocError, Global};
 
 /// The fault of a rule that is broken at an offset.
 pub fn broken(rule: Rule, at: u32) -> Fault
-    ensures { IsFault result }
+    ensures fault { IsFault result }
+    ensures told { result ≡ Broken rule at }
 {
     Fault::Broken { rule, at }
 }
@@ -190,8 +193,27 @@ fn meaning_at(known: &[Meaning], index: usize) -> Option<&Meaning>
     known.get(index)
 }
 
+/// A new heading of a routine, which isn't that of a forward one.
+#[tactic(auto, using(crate::proofs::Equations::introduce_Whole, crate::proofs::Equations::introduce_Forward, crate::proofs::Equations::introduce_Completion))]
+fn add_heading(
+    written: &Routine,
+    frame: &Frame,
+    alloc: Global,
+    known: &mut Vec<Meaning>,
+    gathered: &mut Gathered,
+) -> Result<(), Fault>
+    ensures ok { OnOk result (introduce (frame_of frame.now) (routine (context_of frame.now.reading.now) written.now) (routines_of known.old.items gathered.old) None ≡ Some (routines_of known.new.items gathered.new)) }
+    ensures err { IfErr result (λ fault. IsFault fault → introduce (frame_of frame.now) (routine (context_of frame.now.reading.now) written.now) (routines_of known.old.items gathered.old) None ≡ None) }
+{
+    match written {
+        Routine::Whole(heading, _) => new_heading(heading, false, frame, alloc, known, gathered),
+        Routine::Forward(heading) => new_heading(heading, true, frame, alloc, known, gathered),
+        Routine::Completion(name, _) => Err(broken(Rule::Unknown, name.from)),
+    }
+}
+
 /// The heading of a routine, whose name has this index among the names: a new one, unless it completes a forward one.
-#[tactic(auto, using(crate::proofs::Equations::introduce_waiting, crate::proofs::Equations::introduce_twice, crate::proofs::Equations::introduce_Whole, crate::proofs::Equations::introduce_Forward, crate::proofs::Equations::introduce_Completion))]
+#[tactic(auto, using(crate::proofs::Equations::introduce_waiting, crate::proofs::Equations::introduce_twice))]
 pub fn introduce(
     written: &Routine,
     index: usize,
@@ -209,17 +231,7 @@ pub fn introduce(
         }
         return Err(broken(Rule::Twice, routine_name(written).from));
     }
-    match written {
-        Routine::Whole(heading, _) => {
-            new_heading(heading, false, frame, alloc, known, gathered)?;
-            Ok(())
-        }
-        Routine::Forward(heading) => {
-            new_heading(heading, true, frame, alloc, known, gathered)?;
-            Ok(())
-        }
-        Routine::Completion(name, _) => Err(broken(Rule::Unknown, name.from)),
-    }
+    add_heading(written, frame, alloc, known, gathered)
 }
 
 /// The heading with this index among the meanings of a block's names. `at` is where a fault is told.
@@ -227,6 +239,7 @@ pub fn introduce(
 pub fn heading_at(known: &[Meaning], index: usize, at: u32) -> Result<&Heading, Fault>
     ensures ok { IfOk result (λ heading. heading_at (slice_get (map meaning_of known.now) index) ≡ Some (heading_of heading.now)) }
     ensures err { IfErr result (λ fault. IsFault fault → heading_at (slice_get (map meaning_of known.now) index) ≡ None) }
+    ensures told { IfErr result (IsToldAt at) }
 {
     match known.get(index) {
         Some(Meaning::Routine(heading)) => Ok(heading),
@@ -238,6 +251,7 @@ pub fn heading_at(known: &[Meaning], index: usize, at: u32) -> Result<&Heading, 
 fn add_name(names: &mut Names, name: &[u8], alloc: Global, at: u32) -> Result<(), Fault>
     ensures ok { OnOk result (add_name names.old name.now ≡ Some names.new) }
     ensures err { IfErr result (λ fault. IsFault fault → add_name names.old name.now ≡ None) }
+    ensures told { IfErr result (IsToldAt at) }
 {
     let copy = Vec::from_slice(alloc, name)?;
     if names.add(copy)? {
@@ -247,20 +261,45 @@ fn add_name(names: &mut Names, name: &[u8], alloc: Global, at: u32) -> Result<()
     }
 }
 
-/// The names of the formal parameters, each of which is new.
+/// These names, each of which is new.
 #[tactic(auto, using(ps_regions::proofs::Lists::stepped_next_map, ps_regions::proofs::Lists::stepped_fault_map, ps_regions::proofs::Lists::stepped_end_map))]
-fn add_names(names: &mut Names, more: &[Vec<u8>], alloc: Global, at: u32) -> Result<(), Fault>
-    ensures ok { OnOk result (steps add_name names.old (map (λ name. name.items) more.now) ≡ Some names.new) }
-    ensures err { IfErr result (λ fault. IsFault fault → steps add_name names.old (map (λ name. name.items) more.now) ≡ None) }
+fn names_of(list: &[Vec<u8>], alloc: Global, at: u32) -> Result<Names, Fault>
+    ensures ok { IfOk result (λ names. steps add_name [] (map (λ name. name.items) list.now) ≡ Some names) }
+    ensures err { IfErr result (λ fault. IsFault fault → steps add_name [] (map (λ name. name.items) list.now) ≡ None) }
+    ensures told { IfErr result (IsToldAt at) }
 {
-    for name in more {
-        add_name(names, name.as_slice(), alloc, at)?;
+    let mut names = Names::new(alloc);
+    for name in list {
+        add_name(&mut names, name.as_slice(), alloc, at)?;
     }
-    Ok(())
+    Ok(names)
+}
+
+/// The names of a heading's formal parameters with what they stand for, and the entry behind theirs. `at` is where a
+/// fault is told.
+fn parameters(heading: &Heading, alloc: Global, at: u32) -> Result<Start, Fault>
+    ensures names { IfOk result (λ s. steps add_name [] (heading_of heading.now).names ≡ Some s.names) }
+    ensures entries { IfOk result (λ s. add_sections (entries_of (first_entry (heading_of heading.now).result) []) (heading_of heading.now).sections ≡ Some (entries_of s.first s.known.items)) }
+    ensures err { IfErr result (λ fault. IsFault fault → (steps add_name [] (heading_of heading.now).names ≡ None) ⊎ (add_sections (entries_of (first_entry (heading_of heading.now).result) []) (heading_of heading.now).sections ≡ None)) }
+    ensures told { IfErr result (IsToldAt at) }
+{
+    let names = names_of(&heading.names, alloc, at)?;
+    let mut known = Vec::new(alloc);
+    let first = add_sections(
+        &heading.sections,
+        first_entry(&heading.result),
+        &mut known,
+        at,
+    )?;
+    Ok(Start {
+        names,
+        known,
+        first,
+    })
 }
 
 /// What the block of a routine begins with. `at` is where a fault is told.
-#[tactic(auto, using(crate::proofs::Equations::start_names_fault), unfolding(crate::specs::Blocks::start))]
+#[tactic(auto, using(crate::proofs::Equations::start_names_fault, crate::proofs::Equations::start_entries_fault), unfolding(crate::specs::Blocks::start))]
 pub fn start(
     heading: &Heading,
     chain: &Chain,
@@ -269,28 +308,21 @@ pub fn start(
 ) -> Result<(Chain, Start), Fault>
     ensures ok { IfOk result (λ s. start chain.now (heading_of heading.now) ≡ Some (start_of s.0 s.1)) }
     ensures err { IfErr result (λ fault. IsFault fault → start chain.now (heading_of heading.now) ≡ None) }
+    ensures told { IfErr result (IsToldAt at) }
 {
-    let inner = match chain.inner(alloc, heading.number)? {
-        None => return Err(broken(Rule::Limit, at)),
-        Some(inner) => inner,
-    };
-    let mut names = Names::new(alloc);
-    add_names(&mut names, &heading.names, alloc, at)?;
-    let mut known = Vec::new(alloc);
-    let first = add_sections(
-        &heading.sections,
-        first_entry(&heading.result),
-        &mut known,
-        at,
-    )?;
-    Ok((
-        inner,
-        Start {
-            names,
-            known,
-            first,
-        },
-    ))
+    paired(
+        chain.inner(alloc, heading.number, at),
+        parameters(heading, alloc, at),
+    )
+}
+
+/// Puts an item to its place, where there is one.
+fn put_at<A: Drop>(list: &mut Vec<A>, index: usize, item: A)
+    ensures { list.new.items ≡ slice_set list.old.items index item }
+{
+    if let Some(place) = list.get_mut(index) {
+        *place = item;
+    }
 }
 
 /// Puts a routine to its number.
@@ -298,9 +330,7 @@ pub fn put(gathered: &mut Gathered, number: u32, routine: Finished)
     ensures domains { gathered.new.domains ≡ gathered.old.domains }
     ensures routines { map finished_of gathered.new.routines.items ≡ slice_set (map finished_of gathered.old.routines.items) number (Some (routine_of routine.routine)) }
 {
-    if let Some(place) = gathered.routines.get_mut(number as usize) {
-        *place = Some(routine);
-    }
+    put_at(&mut gathered.routines, number as usize, Some(routine));
 }
 
 /// The routine of a heading and a block.
@@ -313,8 +343,10 @@ fn routine_tree(
 ) -> Result<Finished, AllocError>
     ensures { IfOk result (λ finished. (g : Gathered) → routine_of finished.routine ≡ routine_tree chain (heading_of heading.now) (done_of block g)) }
 {
-    let formals = formals_of(&heading.sections, alloc)?;
-    let result = copy_result(&heading.result)?;
+    let (formals, result) = paired(
+        formals_of(&heading.sections, alloc),
+        copy_result(&heading.result),
+    )?;
     Ok(Finished {
         routine: RoutineTree {
             chain: chain.into_numbers(),
@@ -335,6 +367,23 @@ fn is_small(routine: &RoutineTree) -> bool
     routine.cells() <= 100_000 && routine.nodes() <= 4_194_304
 }
 
+/// Puts a routine to its number, where it keeps the limits. `at` is where a fault is told.
+fn put_small(gathered: &mut Gathered, number: u32, routine: Finished, at: u32) -> Result<(), Fault>
+    ensures small { OnOk result (is_small_routine (routine_of routine.routine) ≡ true) }
+    ensures domains { OnOk result (gathered.new.domains ≡ gathered.old.domains) }
+    ensures routines { OnOk result (map finished_of gathered.new.routines.items ≡ slice_set (map finished_of gathered.old.routines.items) number (Some (routine_of routine.routine))) }
+    ensures err { IfErr result (λ fault. IsFault fault → is_small_routine (routine_of routine.routine) ≡ false) }
+    ensures told { IfErr result (IsToldAt at) }
+{
+    if is_small(&routine.routine) {
+        put(gathered, number, routine);
+        Ok(())
+    } else {
+        drop(routine);
+        Err(broken(Rule::Limit, at))
+    }
+}
+
 /// The routine of a heading and a block is whole. The routines within it come behind the first ones. `at` is where a
 /// fault is told.
 #[tactic(auto, unfolding(crate::specs::Blocks::finished))]
@@ -349,21 +398,19 @@ pub fn finish(
 ) -> Result<(), Fault>
     ensures ok { OnOk result (finished (heading_of heading.now) chain before (done_of block gathered.old) ≡ Some (gathered_of gathered.new)) }
     ensures err { IfErr result (λ fault. IsFault fault → finished (heading_of heading.now) chain before (done_of block gathered.old) ≡ None) }
+    ensures told { IfErr result (IsToldAt at) }
 {
-    let depth = chain.depth();
-    if !assigns(
+    let is_assigned = assigns(
         &heading.result,
-        depth,
+        chain.depth(),
         &block.body,
         &gathered.routines,
         before,
-    ) {
-        return Err(broken(Rule::NoResultAssigned, at));
+    );
+    if is_assigned {
+        let finished = routine_tree(heading, chain, block, alloc)?;
+        put_small(gathered, heading.number, finished, at)
+    } else {
+        Err(broken(Rule::NoResultAssigned, at))
     }
-    let finished = routine_tree(heading, chain, block, alloc)?;
-    if !is_small(&finished.routine) {
-        return Err(broken(Rule::Limit, at));
-    }
-    put(gathered, heading.number, finished);
-    Ok(())
 }

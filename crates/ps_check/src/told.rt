@@ -1,13 +1,18 @@
 //! Where refusals are told that are found behind a block: this is sought in the text.
 
+ghost use Rattle.std.specs.Prelude.{◌≡◌, ◌⊎◌, ℕ};
+ghost use Rattle.ps_regions.specs.declared.refusal.Fault.TheVariants.{OutOfMemory, Broken};
+ghost use Rattle.ps_regions.specs.declared.refusal.Rule.TheVariants.{ForwardOpen, ControlVariable};
+
 use crate::chain::Finished;
 use crate::headings::heading_name;
-use crate::routines::is_complete;
+use crate::routines::{broken, is_complete};
 use crate::state::Gathered;
 use ps_changes::place::Entries;
 use ps_changes::threat::threatens;
 use ps_declare::frame::Frame;
 use ps_regions::meaning::Meaning;
+use ps_regions::refusal::{Fault, Rule};
 use ps_statements::threat::{Control, in_list};
 use ps_syntax::{Block, Routine};
 use ps_text::Span;
@@ -29,7 +34,7 @@ fn meaning_of<'a>(
 }
 
 /// The name of a forward heading that still waits for its block.
-pub fn open_heading(
+fn open_heading(
     list: &[Routine],
     frame: &Frame,
     alloc: Global,
@@ -47,6 +52,22 @@ pub fn open_heading(
         }
     }
     Ok(None)
+}
+
+/// The fault of a block with a forward heading that still waits for its block.
+pub fn open_fault(
+    written: &Block,
+    frame: &Frame,
+    alloc: Global,
+    known: &[Meaning],
+    gathered: &Gathered,
+) -> Fault
+    ensures { (result ≡ OutOfMemory) ⊎ ((at : ℕ) × (result ≡ Broken ForwardOpen at)) }
+{
+    match open_heading(written.routines.as_slice(), frame, alloc, known, gathered) {
+        Err(_) => Fault::OutOfMemory,
+        Ok(open) => broken(Rule::ForwardOpen, open.unwrap_or(written.begin.from)),
+    }
 }
 
 /// The name of a variable of the block, by its entry.
@@ -105,7 +126,7 @@ fn in_routine(written: &Routine, routine: &RoutineTree, control: Control<'_>) ->
 
 /// The name by which a routine within a block threatens a control variable of the block. The chain of the block's
 /// routine has `depth` numbers.
-pub fn threatening_name(
+fn threatening_name(
     written: &Block,
     frame: &Frame,
     alloc: Global,
@@ -132,4 +153,22 @@ pub fn threatening_name(
         }
     }
     Ok(None)
+}
+
+/// The fault of a block of whose `for` statements the control variable with this entry is threatened within it.
+pub fn threat_fault(
+    written: &Block,
+    frame: &Frame,
+    alloc: Global,
+    known: &[Meaning],
+    routines: &[Option<Finished>],
+    depth: usize,
+    entry: u32,
+) -> Fault
+    ensures { (result ≡ OutOfMemory) ⊎ ((at : ℕ) × (result ≡ Broken ControlVariable at)) }
+{
+    match threatening_name(written, frame, alloc, known, routines, depth, entry) {
+        Err(_) => Fault::OutOfMemory,
+        Ok(name) => broken(Rule::ControlVariable, name.unwrap_or(written.begin.from)),
+    }
 }

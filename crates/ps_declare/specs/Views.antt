@@ -1,5 +1,5 @@
 -- What the values of the program stand for in the definitions.
-use Rattle.std.specs.Prelude.{List, [], ◌∷◌, map, option_map}
+use Rattle.std.specs.Prelude.{ℕ, List, [], ◌∷◌, map, option_map}
 use Rattle.ps_tree.specs.View.{type_of}
 use Rattle.ps_regions.specs.Views.{scope_of, meaning_of, section_of}
 use Rattle.ps_declare.specs.declared.frame.Frame as RustFrame
@@ -20,6 +20,11 @@ unfoldable pub hidden_of : RustHidden.Hidden → Hidden
 hidden_of Nothing = []
 hidden_of (Variables points) = []
 hidden_of (Record' names defined p outer) = names.now ∷ hidden_of outer
+
+-- the same, at a place behind the first `defined` names of the innermost record
+abbrev pub behind : RustHidden.Hidden → (defined : ℕ) → RustHidden.Hidden
+behind (Record' names _ p outer) defined = Record' names defined p outer
+behind hidden defined = hidden
 
 abbrev pub signature_of : RustSignature.Signature → Signature
 signature_of s = (map section_of s.sections.items, option_map type_of s.result)

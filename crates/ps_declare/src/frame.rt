@@ -44,12 +44,13 @@ pub enum Hidden<'a> {
 
 impl<'a> Hidden<'a> {
     ghost use Rattle.std.specs.Prelude.{◌≡◌};
-    ghost use Rattle.ps_declare.specs.Views.{hidden_of};
+    ghost use Rattle.ps_declare.specs.Views.{behind, hidden_of};
 
     /// The same records, at a place behind the first `defined` names of the innermost one.
     #[tactic(auto, unfolding(crate::specs::Views::hidden_of))]
     pub fn behind(self, defined: usize) -> Hidden<'a>
-        ensures { hidden_of result ≡ hidden_of self.entry }
+        ensures place { result ≡ behind self.entry defined }
+        ensures same { hidden_of result ≡ hidden_of self.entry }
     {
         match self {
             Hidden::Nothing => Hidden::Nothing,

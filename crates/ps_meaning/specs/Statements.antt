@@ -1,5 +1,5 @@
 -- Statements (6.8), the required procedures (6.6.5, 6.9): fuel is spent on a loop's next turn and on a called block.
-use Rattle.std.specs.Prelude.{ℕ, ◌+◌, ℤ, pos, ◌+ℤ◌, ◌-ℤ◌, unsigned_abs, int_lt, Bool, nat_lt, nat_le, if◌then◌else◌, List, [], ◌∷◌, ◌++◌, length, Option, Some, None, unwrap_or, sum_by}
+use Rattle.std.specs.Prelude.{ℕ, ◌+◌, ◌%◌, ℤ, pos, negsuc, ◌+ℤ◌, ◌-ℤ◌, unsigned_abs, int_lt, Bool, nat_lt, nat_le, if◌then◌else◌, List, [], ◌∷◌, ◌++◌, length, Option, Some, None, unwrap_or, sum_by}
 use Rattle.ps_tree.specs.declared.types.Ordinal.{Ordinal}
 use Rattle.ps_tree.specs.declared.tree.Range.TheVariants.{Within as WithinBounds}
 use Rattle.ps_tree.specs.declared.tree.Direction.{Direction}
@@ -47,18 +47,24 @@ abbrev pub is_past : Direction → ℤ → ℤ → Bool
 is_past To x y = int_lt y x
 is_past Downto x y = int_lt x y
 
+-- the next value of a control variable; the same value where there is no next integer, since a for statement has had
+-- its last turn by then (6.8.3.9)
 abbrev pub succeeding : Direction → ℤ → ℤ
-succeeding To x = x +ℤ pos 1
-succeeding Downto x = x -ℤ pos 1
+succeeding To x = if int_lt x (pos 2147483647) then x +ℤ pos 1 else x
+succeeding Downto x = if int_lt (negsuc 2147483647) x then x -ℤ pos 1 else x
 
 -- an entry of the routine itself
 abbrev pub own_spot : ℕ → Context → Spot
 own_spot index c = spot_in (frame_of c.env) index
 
+-- the byte of a character: its ordinal number, which lies in 0..255 (6.4.2.2 d), modulo 256
+abbrev pub character : Value → ℕ
+character v = unsigned_abs (number_of v) % 256
+
 -- the characters of a string
 abbrev pub characters : Values → List ℕ
 characters no_value = []
-characters (value_before v rest) = unsigned_abs (number_of v) ∷ characters rest
+characters (value_before v rest) = character v ∷ characters rest
 
 -- the number of an index's component; error 5 for one outside the index type
 abbrev pub index_place : Ordinal → ℤ → (line : ℕ) → Context → Act ℕ
@@ -134,7 +140,7 @@ module _ (program : Program) (costs : Costs) (call : Caller) (next : Next) where
   write (WriteChar e width) c = do
     x ← value call e c
     n ← width_value width c
-    write_text (right_aligned (unwrap_or n 1) (unsigned_abs (number_of x) ∷ []))
+    write_text (right_aligned (unwrap_or n 1) (character x ∷ []))
   write (WriteBoolean e width) c = do
     x ← value call e c
     n ← width_value width c

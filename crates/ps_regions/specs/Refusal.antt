@@ -1,5 +1,5 @@
 -- The numbers and lines of the checker's refusals (this project's format).
-use Rattle.std.specs.Prelude.{ℕ, Option, Some, None}
+use Rattle.std.specs.Prelude.{◌≡◌, ℕ, Option, Some, None}
 use Rattle.ps_regions.specs.declared.refusal.Rule.{Rule}
 use Rattle.ps_regions.specs.declared.refusal.Rule.TheVariants.{NotInProfile, Unknown, Twice, UsedBefore, WrongKind, WrongType, NotAssignable, BadSubrange, SetBase, CaseTwice, ControlVariable, PackedVariable, NotCongruous, ForwardOpen, NoResultAssigned, NoInputOutput, Limit}
 use Rattle.ps_regions.specs.declared.refusal.Fault.{Fault}
@@ -38,6 +38,11 @@ line_of (refusal.Broken rule line) = Some line
 abbrev pub IsFault : Fault → Type 0
 IsFault fault.OutOfMemory = ⊥
 IsFault (fault.Broken rule at) = Unit {0}
+
+-- a fault that is told at a token, by its offset; want of memory is told nowhere
+abbrev pub IsToldAt : (at : ℕ) → Fault → Type 0
+IsToldAt at fault.OutOfMemory = Unit {0}
+IsToldAt at (fault.Broken rule place) = place ≡ at
 
 abbrev pub IsRefusal : CheckRefusal → Type 0
 IsRefusal refusal.OutOfMemory = ⊥

@@ -1,29 +1,35 @@
 -- Statements, loops and lists of them.
-use Rattle.std.proofs.Common.{◌≡◌, ℕ, ℤ, zero, suc, ◌+◌, ◌<◌, ◌≤◌, Bool, true, false, if◌then◌else◌, ◌-◌, ◌≢◌, arith, List, ◌∷◌, length, get_or, drop, map, Result, refl, sym, ap, subst, ◌∙◌}
+use Rattle.std.proofs.Common.{◌≡◌, ℕ, ℤ, zero, suc, ◌+◌, ◌<◌, ◌≤◌, Bool, true, false, if◌then◌else◌, ◌-◌, ◌≢◌, max, arith, List, ◌∷◌, length, get_or, drop, map, Result, Vec, Global, refl, sym, ap, subst, ◌∙◌}
 use mathlib.Core.Path.{fun_ext}
 use Rattle.std.proofs.lemmas.List.{drop_all}
 use Rattle.ps_tree.specs.Tree as t
 use Rattle.ps_tree.specs.declared.tree.Direction.{Direction}
-use Rattle.ps_tree.specs.declared.tree.Statement.{Statement}
+use Rattle.ps_tree.specs.declared.line.Line.{Line}
+use Rattle.ps_tree.specs.declared.tree.Expr.{Expr}
+use Rattle.ps_tree.specs.declared.tree.Statement.{Statement, Case, Repeat}
 use Rattle.ps_tree.specs.declared.tree.CaseElement.{CaseElement, out-CaseElement}
 use Rattle.ps_tree.specs.declared.tree.Place.{Place}
 use Rattle.ps_tree.specs.declared.tree.ReadVariable.{ReadVariable}
 use Rattle.ps_tree.specs.declared.tree.WriteParameter.{WriteParameter}
-use Rattle.ps_tree.specs.View.{place_of, statement_of, statements_of, elements_of, read_of, write_of}
+use Rattle.ps_tree.specs.View.{place_of, expr_of, statement_of, statements_of, elements_of, read_of, write_of}
 use Rattle.ps_meaning.specs.Values as v
 use Rattle.ps_meaning.specs.Operators.{is_true, is_equal, is_among}
 use Rattle.ps_meaning.specs.Worlds as m
 use Rattle.ps_meaning.specs.Worlds.{◌>>◌}
 use Rattle.ps_meaning.specs.Expressions as e
 use Rattle.ps_meaning.specs.Statements as s
-use Rattle.ps_reference.specs.declared.stop.Stop.{Stop}
-use Rattle.ps_reference.specs.declared.world.Job.{Job}
-use Rattle.ps_reference.specs.declared.world.World.{World}
-use Rattle.ps_reference.specs.Worlds as r
-use Rattle.ps_reference.specs.Worlds.{Stopped, caller, next, acting, acting_all, selecting, turning, reading, reading_all, writing, writing_all, opening_all}
-use Rattle.ps_runner.specs.Runs.{truth_in, advancing}
-use Rattle.ps_runner.proofs.Answers.{stopped_then}
-use Rattle.ps_runner.proofs.Trees.{drop_next, statements_at, statements_past, elements_at, elements_past}
+use Rattle.ps_runner.specs.declared.stop.Stop.{Stop}
+use Rattle.ps_runner.specs.declared.world.Job.{Job}
+use Rattle.ps_runner.specs.declared.world.World.{World}
+use Rattle.ps_runner.specs.Worlds as r
+use Rattle.ps_runner.specs.Worlds.{Stopped, caller, next, acting, acting_all, selecting, turning, reading, reading_all, writing, writing_all, opening_all}
+use Rattle.ps_runner.specs.declared.stop.Halt.{Halt}
+use Rattle.ps_runner.specs.Heights.{place_height, expr_height, statement_height, statements_height, elements_height, places_height, read_height, reads_height, write_height, writes_height}
+use Rattle.ps_runner.specs.Runs.{Halted, Runs, call_levels, levels, truth_in, advancing}
+use Rattle.ps_runner.proofs.Heights.{statement_within, read_within, write_within, place_within, fewer_calls}
+use Rattle.ps_runner.proofs.Answers.{stopped_then, halted_by, runs_deeper}
+use Rattle.ps_runner.proofs.Trees as tree
+use Rattle.ps_runner.proofs.Trees.{case_is, drop_next, statements_at, statements_past, elements_at, elements_past}
 
 -- an answer that is known, followed by an act
 pub then_gives : {A B : Type 0} (a : m.Answer A) (f : A → m.Act B) (x : A) (w : m.World) → a ≡ m.Gives x w → m.and_then a f ≡ f x w
@@ -37,9 +43,14 @@ pub acts_next : (job : Job) (n : ℕ) (c : m.Context) (statements : List Stateme
 acts_next job n c statements i x w u gives at lt =
     sym (ap (λ l. acting_all job n l c w) (statements_at statements i x lt at) ∙ ap (λ a. m.and_then a (λ _. acting_all job n (statements_of (drop (i + 1) statements)) c)) gives)
 
-pub acts_stop : (job : Job) (n : ℕ) (c : m.Context) (statements : List Statement) (i : ℕ) (x : Statement) (stop : Stop) (w : m.World) (u : World) (all : m.Answer m.Done) → acting_all job n (statements_of (drop i statements)) c w ≡ all → Stopped (acting job n (statement_of x) c w) stop u → x ≡ get_or statements i x → i < length statements → Stopped all stop u
+acts_stop : (job : Job) (n : ℕ) (c : m.Context) (statements : List Statement) (i : ℕ) (x : Statement) (stop : Stop) (w : m.World) (u : World) (all : m.Answer m.Done) → acting_all job n (statements_of (drop i statements)) c w ≡ all → Stopped (acting job n (statement_of x) c w) stop u → x ≡ get_or statements i x → i < length statements → Stopped all stop u
 acts_stop job n c statements i x stop w u all is h at lt =
     stopped_same _ all stop u (sym (ap (λ l. acting_all job n l c w) (statements_at statements i x lt at)) ∙ is) (stopped_then (acting job n (statement_of x) c w) (λ _. acting_all job n (statements_of (drop (i + 1) statements)) c) stop u h)
+
+pub acts_halt : (job : Job) (n : ℕ) (c : m.Context) (statements : List Statement) (i : ℕ) (x : Statement) (halt : Halt) (w : m.World) (u : World) (all : m.Answer m.Done) (d : ℕ) → acting_all job n (statements_of (drop i statements)) c w ≡ all → Halted (acting job n (statement_of x) c w) d (levels job n (statement_height (statement_of x))) halt u → x ≡ get_or statements i x → i < length statements → Halted all d (levels job n (statements_height (statements_of statements))) halt u
+acts_halt job n c statements i x halt w u all d is h at lt =
+    let le : statement_height (statement_of x) ≤ statements_height (statements_of statements) = statement_within statements i x at lt in
+    halted_by (acting job n (statement_of x) c w) all halt u d (levels job n (statement_height (statement_of x))) d (levels job n (statements_height (statements_of statements))) (λ stop s. acts_stop job n c statements i x stop w u all is s at lt) h (omega arith)
 
 pub acts_end : (job : Job) (n : ℕ) (c : m.Context) (statements : List Statement) (i : ℕ) (w : m.World) → length statements ≤ i → acting_all job n (statements_of (drop i statements)) c w ≡ m.Gives m.done w
 acts_end job n c statements i w le = ap (λ l. acting_all job n l c w) (statements_past statements i le)
@@ -49,9 +60,14 @@ pub reads_next : (job : Job) (n : ℕ) (c : m.Context) (xs : List ReadVariable) 
 reads_next job n c xs i x w u all is gives at lt =
     sym (ap (λ l. reading_all job n (map read_of l) c w) (drop_next xs i x lt at) ∙ ap (λ a. m.and_then a (λ _. reading_all job n (map read_of (drop (i + 1) xs)) c)) gives) ∙ is
 
-pub reads_stop : (job : Job) (n : ℕ) (c : m.Context) (xs : List ReadVariable) (i : ℕ) (x : ReadVariable) (stop : Stop) (w : m.World) (u : World) (all : m.Answer m.Done) → reading_all job n (map read_of (drop i xs)) c w ≡ all → Stopped (reading job n (read_of x) c w) stop u → x ≡ get_or xs i x → i < length xs → Stopped all stop u
+reads_stop : (job : Job) (n : ℕ) (c : m.Context) (xs : List ReadVariable) (i : ℕ) (x : ReadVariable) (stop : Stop) (w : m.World) (u : World) (all : m.Answer m.Done) → reading_all job n (map read_of (drop i xs)) c w ≡ all → Stopped (reading job n (read_of x) c w) stop u → x ≡ get_or xs i x → i < length xs → Stopped all stop u
 reads_stop job n c xs i x stop w u all is h at lt =
     stopped_same _ all stop u (sym (ap (λ l. reading_all job n (map read_of l) c w) (drop_next xs i x lt at)) ∙ is) (stopped_then (reading job n (read_of x) c w) (λ _. reading_all job n (map read_of (drop (i + 1) xs)) c) stop u h)
+
+pub reads_halt : (job : Job) (n : ℕ) (c : m.Context) (xs : List ReadVariable) (i : ℕ) (x : ReadVariable) (halt : Halt) (w : m.World) (u : World) (all : m.Answer m.Done) (d : ℕ) → reading_all job n (map read_of (drop i xs)) c w ≡ all → Halted (reading job n (read_of x) c w) d (levels job n (read_height (read_of x))) halt u → x ≡ get_or xs i x → i < length xs → Halted all d (levels job n (reads_height (map read_of xs))) halt u
+reads_halt job n c xs i x halt w u all d is h at lt =
+    let le : read_height (read_of x) ≤ reads_height (map read_of xs) = read_within xs i x at lt in
+    halted_by (reading job n (read_of x) c w) all halt u d (levels job n (read_height (read_of x))) d (levels job n (reads_height (map read_of xs))) (λ stop s. reads_stop job n c xs i x stop w u all is s at lt) h (omega arith)
 
 pub reads_end : (job : Job) (n : ℕ) (c : m.Context) (xs : List ReadVariable) (i : ℕ) (w : m.World) (all : m.Answer m.Done) → reading_all job n (map read_of (drop i xs)) c w ≡ all → length xs ≤ i → all ≡ m.Gives m.done w
 reads_end job n c xs i w all is le = sym is ∙ ap (λ l. reading_all job n (map read_of l) c w) (drop_all i xs le)
@@ -61,9 +77,14 @@ pub writes_next : (job : Job) (n : ℕ) (c : m.Context) (xs : List WriteParamete
 writes_next job n c xs i x w u all is gives at lt =
     sym (ap (λ l. writing_all job n (map write_of l) c w) (drop_next xs i x lt at) ∙ ap (λ a. m.and_then a (λ _. writing_all job n (map write_of (drop (i + 1) xs)) c)) gives) ∙ is
 
-pub writes_stop : (job : Job) (n : ℕ) (c : m.Context) (xs : List WriteParameter) (i : ℕ) (x : WriteParameter) (stop : Stop) (w : m.World) (u : World) (all : m.Answer m.Done) → writing_all job n (map write_of (drop i xs)) c w ≡ all → Stopped (writing job n (write_of x) c w) stop u → x ≡ get_or xs i x → i < length xs → Stopped all stop u
+writes_stop : (job : Job) (n : ℕ) (c : m.Context) (xs : List WriteParameter) (i : ℕ) (x : WriteParameter) (stop : Stop) (w : m.World) (u : World) (all : m.Answer m.Done) → writing_all job n (map write_of (drop i xs)) c w ≡ all → Stopped (writing job n (write_of x) c w) stop u → x ≡ get_or xs i x → i < length xs → Stopped all stop u
 writes_stop job n c xs i x stop w u all is h at lt =
     stopped_same _ all stop u (sym (ap (λ l. writing_all job n (map write_of l) c w) (drop_next xs i x lt at)) ∙ is) (stopped_then (writing job n (write_of x) c w) (λ _. writing_all job n (map write_of (drop (i + 1) xs)) c) stop u h)
+
+pub writes_halt : (job : Job) (n : ℕ) (c : m.Context) (xs : List WriteParameter) (i : ℕ) (x : WriteParameter) (halt : Halt) (w : m.World) (u : World) (all : m.Answer m.Done) (d : ℕ) → writing_all job n (map write_of (drop i xs)) c w ≡ all → Halted (writing job n (write_of x) c w) d (levels job n (write_height (write_of x))) halt u → x ≡ get_or xs i x → i < length xs → Halted all d (levels job n (writes_height (map write_of xs))) halt u
+writes_halt job n c xs i x halt w u all d is h at lt =
+    let le : write_height (write_of x) ≤ writes_height (map write_of xs) = write_within xs i x at lt in
+    halted_by (writing job n (write_of x) c w) all halt u d (levels job n (write_height (write_of x))) d (levels job n (writes_height (map write_of xs))) (λ stop s. writes_stop job n c xs i x stop w u all is s at lt) h (omega arith)
 
 pub writes_end : (job : Job) (n : ℕ) (c : m.Context) (xs : List WriteParameter) (i : ℕ) (w : m.World) (all : m.Answer m.Done) → writing_all job n (map write_of (drop i xs)) c w ≡ all → length xs ≤ i → all ≡ m.Gives m.done w
 writes_end job n c xs i w all is le = sym is ∙ ap (λ l. writing_all job n (map write_of l) c w) (drop_all i xs le)
@@ -73,9 +94,14 @@ pub opening_next : (job : Job) (n : ℕ) (c d : m.Context) (xs : List Place) (i 
 opening_next job n c d xs i x spot w u all is gives within at lt =
     ap (λ k. opening_all job n (map place_of (drop (i + 1) xs)) k u) within ∙ sym (ap (λ l. opening_all job n (map place_of l) c w) (drop_next xs i x lt at) ∙ ap (λ a. m.and_then a (λ y. opening_all job n (map place_of (drop (i + 1) xs)) (s.with_opened (y ∷ c.opened) c))) gives) ∙ is
 
-pub opening_stop : (job : Job) (n : ℕ) (c : m.Context) (xs : List Place) (i : ℕ) (x : Place) (stop : Stop) (w : m.World) (u : World) (all : m.Answer (List v.Spot)) → opening_all job n (map place_of (drop i xs)) c w ≡ all → Stopped (e.access (caller job n) (place_of x) c w) stop u → x ≡ get_or xs i x → i < length xs → Stopped all stop u
+opening_stop : (job : Job) (n : ℕ) (c : m.Context) (xs : List Place) (i : ℕ) (x : Place) (stop : Stop) (w : m.World) (u : World) (all : m.Answer (List v.Spot)) → opening_all job n (map place_of (drop i xs)) c w ≡ all → Stopped (e.access (caller job n) (place_of x) c w) stop u → x ≡ get_or xs i x → i < length xs → Stopped all stop u
 opening_stop job n c xs i x stop w u all is h at lt =
     stopped_same _ all stop u (sym (ap (λ l. opening_all job n (map place_of l) c w) (drop_next xs i x lt at)) ∙ is) (stopped_then (e.access (caller job n) (place_of x) c w) (λ y. opening_all job n (map place_of (drop (i + 1) xs)) (s.with_opened (y ∷ c.opened) c)) stop u h)
+
+pub opening_halt : (job : Job) (n : ℕ) (c : m.Context) (xs : List Place) (i : ℕ) (x : Place) (halt : Halt) (w : m.World) (u : World) (all : m.Answer (List v.Spot)) (d : ℕ) → opening_all job n (map place_of (drop i xs)) c w ≡ all → Halted (e.access (caller job n) (place_of x) c w) d (levels job n (place_height (place_of x))) halt u → x ≡ get_or xs i x → i < length xs → Halted all d (levels job n (places_height (map place_of xs))) halt u
+opening_halt job n c xs i x halt w u all d is h at lt =
+    let le : place_height (place_of x) ≤ places_height (map place_of xs) = place_within xs i x at lt in
+    halted_by (e.access (caller job n) (place_of x) c w) all halt u d (levels job n (place_height (place_of x))) d (levels job n (places_height (map place_of xs))) (λ stop s. opening_stop job n c xs i x stop w u all is s at lt) h (omega arith)
 
 pub opening_end : (job : Job) (n : ℕ) (c : m.Context) (xs : List Place) (i : ℕ) (w : m.World) (all : m.Answer (List v.Spot)) → opening_all job n (map place_of (drop i xs)) c w ≡ all → length xs ≤ i → all ≡ m.Gives c.opened w
 opening_end job n c xs i w all is le = sym is ∙ ap (λ l. opening_all job n (map place_of l) c w) (drop_all i xs le)
@@ -133,9 +159,14 @@ while_is : (job : Job) (n : ℕ) (a : t.Expr) (b : t.Statement) (c : m.Context) 
 unfolding while_again
 while_is job n a b c w = truth_split (e.value (caller job n) a c w) (acting job n b c >> next job n (s.Again (t.While a b)) c) (m.give m.done)
 
-pub while_stop : (job : Job) (n : ℕ) (a : t.Expr) (b : t.Statement) (c : m.Context) (stop : Stop) (w : m.World) (u : World) (all : m.Answer m.Done) → acting job n (t.While a b) c w ≡ all → Stopped (truth_in job n a c w) stop u → Stopped all stop u
+while_stop : (job : Job) (n : ℕ) (a : t.Expr) (b : t.Statement) (c : m.Context) (stop : Stop) (w : m.World) (u : World) (all : m.Answer m.Done) → acting job n (t.While a b) c w ≡ all → Stopped (truth_in job n a c w) stop u → Stopped all stop u
 while_stop job n a b c stop w u all is h =
     stopped_same _ all stop u (sym (while_is job n a b c w) ∙ is) (stopped_then (truth_in job n a c w) (while_again job n a b c) stop u h)
+
+pub while_halt : (job : Job) (j n : ℕ) (a : t.Expr) (b : t.Statement) (c : m.Context) (halt : Halt) (w : m.World) (u : World) (all : m.Answer m.Done) (d : ℕ) → j ≤ n → acting job j (t.While a b) c w ≡ all → Halted (truth_in job j a c w) d (levels job j (expr_height a)) halt u → Halted all d (levels job n (max (expr_height a) (statement_height b))) halt u
+while_halt job j n a b c halt w u all d le is h =
+    let fewer : call_levels job j ≤ call_levels job n = fewer_calls job j n le in
+    halted_by (truth_in job j a c w) all halt u d (levels job j (expr_height a)) d (levels job n (max (expr_height a) (statement_height b))) (λ stop s. while_stop job j a b c stop w u all is s) h (omega arith)
 
 while_begun : (job : Job) (n : ℕ) (a : t.Expr) (b : t.Statement) (c : m.Context) (k : Bool) (w u : m.World) (all : m.Answer m.Done) → acting job n (t.While a b) c w ≡ all → truth_in job n a c w ≡ m.Gives k u → while_again job n a b c k u ≡ all
 while_begun job n a b c k w u all is gives = sym (while_is job n a b c w ∙ then_gives _ _ _ _ gives) ∙ is
@@ -148,9 +179,14 @@ while_turn : (job : Job) (n : ℕ) (a : t.Expr) (b : t.Statement) (c : m.Context
 unfolding while_again
 while_turn job n a b c k w u all is gives holds = sym (ap (λ x. while_again job n a b c x u) holds) ∙ while_begun job n a b c k w u all is gives
 
-pub while_body : (job : Job) (n : ℕ) (a : t.Expr) (b : t.Statement) (c : m.Context) (k : Bool) (stop : Stop) (w u : m.World) (z : World) (all : m.Answer m.Done) → acting job n (t.While a b) c w ≡ all → truth_in job n a c w ≡ m.Gives k u → k ≡ true → Stopped (acting job n b c u) stop z → Stopped all stop z
+while_body : (job : Job) (n : ℕ) (a : t.Expr) (b : t.Statement) (c : m.Context) (k : Bool) (stop : Stop) (w u : m.World) (z : World) (all : m.Answer m.Done) → acting job n (t.While a b) c w ≡ all → truth_in job n a c w ≡ m.Gives k u → k ≡ true → Stopped (acting job n b c u) stop z → Stopped all stop z
 while_body job n a b c k stop w u z all is gives holds h =
     stopped_same _ all stop z (while_turn job n a b c k w u all is gives holds) (stopped_then (acting job n b c u) (λ _. next job n (s.Again (t.While a b)) c) stop z h)
+
+pub while_body_halt : (job : Job) (j n : ℕ) (a : t.Expr) (b : t.Statement) (c : m.Context) (k : Bool) (halt : Halt) (w u : m.World) (z : World) (all : m.Answer m.Done) (d : ℕ) → j ≤ n → acting job j (t.While a b) c w ≡ all → truth_in job j a c w ≡ m.Gives k u → k ≡ true → Halted (acting job j b c u) d (levels job j (statement_height b)) halt z → Halted all d (levels job n (max (expr_height a) (statement_height b))) halt z
+while_body_halt job j n a b c k halt w u z all d le is gives holds h =
+    let fewer : call_levels job j ≤ call_levels job n = fewer_calls job j n le in
+    halted_by (acting job j b c u) all halt z d (levels job j (statement_height b)) d (levels job n (max (expr_height a) (statement_height b))) (λ stop s. while_body job j a b c k stop w u z all is gives holds s) h (omega arith)
 
 while_further : (job : Job) (n : ℕ) (a : t.Expr) (b : t.Statement) (c : m.Context) (k : Bool) (w u z : m.World) (all : m.Answer m.Done) → acting job n (t.While a b) c w ≡ all → truth_in job n a c w ≡ m.Gives k u → k ≡ true → acting job n b c u ≡ m.Gives m.done z → next job n (s.Again (t.While a b)) c z ≡ all
 while_further job n a b c k w u z all is gives holds did = sym (then_gives (acting job n b c u) (λ _. next job n (s.Again (t.While a b)) c) m.done z did) ∙ while_turn job n a b c k w u all is gives holds
@@ -173,16 +209,26 @@ repeat_is job n b a c w =
     let G : m.Done → m.Act m.Done = λ _ u. m.and_then (truth_in job n a c u) (λ k. if k then m.give m.done else next job n (s.Again (t.Repeat b a)) c) in
     ap (m.and_then (acting_all job n b c w)) (fun_ext {f = F} {g = G} (λ _. fun_ext (λ u. truth_split (e.value (caller job n) a c u) (m.give m.done) (next job n (s.Again (t.Repeat b a)) c))))
 
-pub repeat_stop : (job : Job) (n : ℕ) (b : t.Statements) (a : t.Expr) (c : m.Context) (stop : Stop) (w : m.World) (u : World) (all : m.Answer m.Done) → acting job n (t.Repeat b a) c w ≡ all → Stopped (acting_all job n b c w) stop u → Stopped all stop u
+repeat_stop : (job : Job) (n : ℕ) (b : t.Statements) (a : t.Expr) (c : m.Context) (stop : Stop) (w : m.World) (u : World) (all : m.Answer m.Done) → acting job n (t.Repeat b a) c w ≡ all → Stopped (acting_all job n b c w) stop u → Stopped all stop u
 repeat_stop job n b a c stop w u all is h =
     stopped_same _ all stop u (sym (repeat_is job n b a c w) ∙ is) (stopped_then (acting_all job n b c w) (λ _ z. m.and_then (truth_in job n a c z) (repeat_again job n b a c)) stop u h)
+
+pub repeat_halt : (job : Job) (j n : ℕ) (b : t.Statements) (a : t.Expr) (c : m.Context) (halt : Halt) (w : m.World) (u : World) (all : m.Answer m.Done) (d : ℕ) → j ≤ n → acting job j (t.Repeat b a) c w ≡ all → Halted (acting_all job j b c w) d (levels job j (statements_height b)) halt u → Halted all d (levels job n (max (statements_height b) (expr_height a))) halt u
+repeat_halt job j n b a c halt w u all d le is h =
+    let fewer : call_levels job j ≤ call_levels job n = fewer_calls job j n le in
+    halted_by (acting_all job j b c w) all halt u d (levels job j (statements_height b)) d (levels job n (max (statements_height b) (expr_height a))) (λ stop s. repeat_stop job j b a c stop w u all is s) h (omega arith)
 
 repeat_begun : (job : Job) (n : ℕ) (b : t.Statements) (a : t.Expr) (c : m.Context) (w u : m.World) (all : m.Answer m.Done) → acting job n (t.Repeat b a) c w ≡ all → acting_all job n b c w ≡ m.Gives m.done u → m.and_then (truth_in job n a c u) (repeat_again job n b a c) ≡ all
 repeat_begun job n b a c w u all is did = sym (repeat_is job n b a c w ∙ then_gives (acting_all job n b c w) (λ _ z. m.and_then (truth_in job n a c z) (repeat_again job n b a c)) m.done u did) ∙ is
 
-pub repeat_until_stop : (job : Job) (n : ℕ) (b : t.Statements) (a : t.Expr) (c : m.Context) (stop : Stop) (w u : m.World) (z : World) (all : m.Answer m.Done) → acting job n (t.Repeat b a) c w ≡ all → acting_all job n b c w ≡ m.Gives m.done u → Stopped (truth_in job n a c u) stop z → Stopped all stop z
+repeat_until_stop : (job : Job) (n : ℕ) (b : t.Statements) (a : t.Expr) (c : m.Context) (stop : Stop) (w u : m.World) (z : World) (all : m.Answer m.Done) → acting job n (t.Repeat b a) c w ≡ all → acting_all job n b c w ≡ m.Gives m.done u → Stopped (truth_in job n a c u) stop z → Stopped all stop z
 repeat_until_stop job n b a c stop w u z all is did h =
     stopped_same _ all stop z (repeat_begun job n b a c w u all is did) (stopped_then (truth_in job n a c u) (repeat_again job n b a c) stop z h)
+
+pub repeat_until_halt : (job : Job) (j n : ℕ) (b : t.Statements) (a : t.Expr) (c : m.Context) (halt : Halt) (w u : m.World) (z : World) (all : m.Answer m.Done) (d : ℕ) → j ≤ n → acting job j (t.Repeat b a) c w ≡ all → acting_all job j b c w ≡ m.Gives m.done u → Halted (truth_in job j a c u) d (levels job j (expr_height a)) halt z → Halted all d (levels job n (max (statements_height b) (expr_height a))) halt z
+repeat_until_halt job j n b a c halt w u z all d le is did h =
+    let fewer : call_levels job j ≤ call_levels job n = fewer_calls job j n le in
+    halted_by (truth_in job j a c u) all halt z d (levels job j (expr_height a)) d (levels job n (max (statements_height b) (expr_height a))) (λ stop s. repeat_until_stop job j b a c stop w u z all is did s) h (omega arith)
 
 repeat_known : (job : Job) (n : ℕ) (b : t.Statements) (a : t.Expr) (c : m.Context) (k : Bool) (w u z : m.World) (all : m.Answer m.Done) → acting job n (t.Repeat b a) c w ≡ all → acting_all job n b c w ≡ m.Gives m.done u → truth_in job n a c u ≡ m.Gives k z → repeat_again job n b a c k z ≡ all
 repeat_known job n b a c k w u z all is did gives = sym (then_gives (truth_in job n a c u) (repeat_again job n b a c) k z gives) ∙ repeat_begun job n b a c w u all is did
@@ -211,10 +257,15 @@ unfolding turn_again turning
 turn_is job n variable direction last b c w =
     elim (is_equal (v.number_of (m.contents_in w (s.own_spot variable c))) last) as (λ k. (if k then m.give m.done else (λ u. m.and_then (m.put (s.own_spot variable c) (v.OrdinalValue (s.succeeding direction (v.number_of (m.contents_in w (s.own_spot variable c))))) u) (λ _ z. m.and_then (acting job n b c z) (λ _. next job n (s.Further variable direction last b) c)))) w ≡ m.and_then (if k then m.Gives false w else m.Gives true (m.with_contents w (s.own_spot variable c) (v.OrdinalValue (s.succeeding direction (v.number_of (m.contents_in w (s.own_spot variable c))))))) (λ x. if x then (λ u. m.and_then (acting job n b c u) (λ _. next job n (s.Further variable direction last b) c)) else m.give m.done)) [ true ↦ refl | false ↦ refl ]
 
-pub turns_stop : (job : Job) (n variable : ℕ) (direction : Direction) (last : ℤ) (b : t.Statement) (c : m.Context) (stop : Stop) (w : m.World) (u : World) (all : m.Answer m.Done) → turning job n variable direction last b c w ≡ all → Stopped (acting job n b c w) stop u → Stopped all stop u
+turns_stop : (job : Job) (n variable : ℕ) (direction : Direction) (last : ℤ) (b : t.Statement) (c : m.Context) (stop : Stop) (w : m.World) (u : World) (all : m.Answer m.Done) → turning job n variable direction last b c w ≡ all → Stopped (acting job n b c w) stop u → Stopped all stop u
 unfolding turning
 turns_stop job n variable direction last b c stop w u all is h =
     stopped_same _ all stop u is (stopped_then (acting job n b c w) (λ _. next job n (s.Further variable direction last b) c) stop u h)
+
+pub turns_halt : (job : Job) (j n variable : ℕ) (direction : Direction) (last : ℤ) (b : t.Statement) (c : m.Context) (halt : Halt) (w : m.World) (u : World) (all : m.Answer m.Done) (d : ℕ) → j ≤ n → turning job j variable direction last b c w ≡ all → Halted (acting job j b c w) d (levels job j (statement_height b)) halt u → Halted all d (levels job n (statement_height b)) halt u
+turns_halt job j n variable direction last b c halt w u all d le is h =
+    let fewer : call_levels job j ≤ call_levels job n = fewer_calls job j n le in
+    halted_by (acting job j b c w) all halt u d (levels job j (statement_height b)) d (levels job n (statement_height b)) (λ stop s. turns_stop job j variable direction last b c stop w u all is s) h (omega arith)
 
 turns_further : (job : Job) (n variable : ℕ) (direction : Direction) (last : ℤ) (b : t.Statement) (c : m.Context) (w u : m.World) (all : m.Answer m.Done) → turning job n variable direction last b c w ≡ all → acting job n b c w ≡ m.Gives m.done u → next job n (s.Further variable direction last b) c u ≡ all
 unfolding turning
@@ -227,10 +278,6 @@ turns_begun : (job : Job) (n variable : ℕ) (direction : Direction) (last : ℤ
 turns_begun job zero variable direction last b c spot w u all is did more at = absurd (more refl)
 turns_begun job (suc n) variable direction last b c spot w u all is did more at =
     ap (λ j. m.and_then (advancing spot direction last u) (turn_again job j variable direction last b c)) (one_less n) ∙ ap (λ y. m.and_then (advancing y direction last u) (turn_again job n variable direction last b c)) at ∙ sym (further_next job n variable direction last b c u ∙ turn_is job n variable direction last b c u) ∙ turns_further job (suc n) variable direction last b c w u all is did
-
-pub turns_advance_stop : (job : Job) (n variable : ℕ) (direction : Direction) (last : ℤ) (b : t.Statement) (c : m.Context) (spot : v.Spot) (stop : Stop) (w u : m.World) (z : World) (all : m.Answer m.Done) → turning job n variable direction last b c w ≡ all → acting job n b c w ≡ m.Gives m.done u → n ≢ 0 → spot ≡ s.own_spot variable c → Stopped (advancing spot direction last u) stop z → Stopped all stop z
-turns_advance_stop job n variable direction last b c spot stop w u z all is did more at h =
-    stopped_same _ all stop z (turns_begun job n variable direction last b c spot w u all is did more at) (stopped_then (advancing spot direction last u) (turn_again job (n - 1) variable direction last b c) stop z h)
 
 turns_known : (job : Job) (n variable : ℕ) (direction : Direction) (last : ℤ) (b : t.Statement) (c : m.Context) (spot : v.Spot) (k : Bool) (w u z : m.World) (all : m.Answer m.Done) → turning job n variable direction last b c w ≡ all → acting job n b c w ≡ m.Gives m.done u → n ≢ 0 → spot ≡ s.own_spot variable c → advancing spot direction last u ≡ m.Gives k z → turn_again job (n - 1) variable direction last b c k z ≡ all
 turns_known job n variable direction last b c spot k w u z all is did more at gives = sym (then_gives (advancing spot direction last u) (turn_again job (n - 1) variable direction last b c) k z gives) ∙ turns_begun job n variable direction last b c spot w u all is did more at
@@ -252,16 +299,24 @@ pub for_counts : (job : Job) (n variable : ℕ) (low high : ℤ) (a : t.Expr) (f
 for_counts job n variable low high a from_line direction b to_line body c x y w u z first second =
     sym (for_is job n variable low high a from_line direction b to_line body c w ∙ then_gives (e.value (caller job n) a c w) (λ i j. m.and_then (e.value (caller job n) b c j) (λ k. r.counting job n variable low high i from_line direction k to_line body c)) x u first ∙ then_gives (e.value (caller job n) b c u) (λ k. r.counting job n variable low high x from_line direction k to_line body c) y z second)
 
-pub for_stop : (job : Job) (n variable : ℕ) (low high : ℤ) (a : t.Expr) (from_line : ℕ) (direction : Direction) (b : t.Expr) (to_line : ℕ) (body : t.Statement) (c : m.Context) (stop : Stop) (w : m.World) (u : World) → Stopped (e.value (caller job n) a c w) stop u → Stopped (acting job n (t.For variable low high a from_line direction b to_line body) c w) stop u
+for_stop : (job : Job) (n variable : ℕ) (low high : ℤ) (a : t.Expr) (from_line : ℕ) (direction : Direction) (b : t.Expr) (to_line : ℕ) (body : t.Statement) (c : m.Context) (stop : Stop) (w : m.World) (u : World) → Stopped (e.value (caller job n) a c w) stop u → Stopped (acting job n (t.For variable low high a from_line direction b to_line body) c w) stop u
 for_stop job n variable low high a from_line direction b to_line body c stop w u h =
     stopped_same _ _ stop u (sym (for_is job n variable low high a from_line direction b to_line body c w)) (stopped_then (e.value (caller job n) a c w) (λ i j. m.and_then (e.value (caller job n) b c j) (λ k. r.counting job n variable low high i from_line direction k to_line body c)) stop u h)
 
-pub for_stop_second : (job : Job) (n variable : ℕ) (low high : ℤ) (a : t.Expr) (from_line : ℕ) (direction : Direction) (b : t.Expr) (to_line : ℕ) (body : t.Statement) (c : m.Context) (x : v.Value) (stop : Stop) (w u : m.World) (z : World) → e.value (caller job n) a c w ≡ m.Gives x u → Stopped (e.value (caller job n) b c u) stop z → Stopped (acting job n (t.For variable low high a from_line direction b to_line body) c w) stop z
+pub for_halt : (job : Job) (n variable : ℕ) (low high : ℤ) (a : t.Expr) (from_line : ℕ) (direction : Direction) (b : t.Expr) (to_line : ℕ) (body : t.Statement) (c : m.Context) (halt : Halt) (w : m.World) (u : World) (d : ℕ) → Halted (e.value (caller job n) a c w) d (levels job n (expr_height a)) halt u → Halted (acting job n (t.For variable low high a from_line direction b to_line body) c w) d (levels job n (max (expr_height a) (max (expr_height b) (statement_height body)))) halt u
+for_halt job n variable low high a from_line direction b to_line body c halt w u d h =
+    halted_by (e.value (caller job n) a c w) (acting job n (t.For variable low high a from_line direction b to_line body) c w) halt u d (levels job n (expr_height a)) d (levels job n (max (expr_height a) (max (expr_height b) (statement_height body)))) (λ stop s. for_stop job n variable low high a from_line direction b to_line body c stop w u s) h (omega arith)
+
+for_stop_second : (job : Job) (n variable : ℕ) (low high : ℤ) (a : t.Expr) (from_line : ℕ) (direction : Direction) (b : t.Expr) (to_line : ℕ) (body : t.Statement) (c : m.Context) (x : v.Value) (stop : Stop) (w u : m.World) (z : World) → e.value (caller job n) a c w ≡ m.Gives x u → Stopped (e.value (caller job n) b c u) stop z → Stopped (acting job n (t.For variable low high a from_line direction b to_line body) c w) stop z
 for_stop_second job n variable low high a from_line direction b to_line body c x stop w u z first h =
     stopped_same _ _ stop z (sym (for_is job n variable low high a from_line direction b to_line body c w ∙ then_gives (e.value (caller job n) a c w) (λ i j. m.and_then (e.value (caller job n) b c j) (λ k. r.counting job n variable low high i from_line direction k to_line body c)) x u first)) (stopped_then (e.value (caller job n) b c u) (λ k. r.counting job n variable low high x from_line direction k to_line body c) stop z h)
 
-pub answers_same : {A R : Type 0} (view : R → A) (a b : m.Answer A) (result : Result R Stop) (u : World) → a ≡ b → r.Answers view a result u → r.Answers view b result u
-answers_same view a b result u is h = subst (λ x. r.Answers view x result u) is h
+pub for_halt_second : (job : Job) (n variable : ℕ) (low high : ℤ) (a : t.Expr) (from_line : ℕ) (direction : Direction) (b : t.Expr) (to_line : ℕ) (body : t.Statement) (c : m.Context) (x : v.Value) (halt : Halt) (w u : m.World) (z : World) (d : ℕ) → e.value (caller job n) a c w ≡ m.Gives x u → Halted (e.value (caller job n) b c u) d (levels job n (expr_height b)) halt z → Halted (acting job n (t.For variable low high a from_line direction b to_line body) c w) d (levels job n (max (expr_height a) (max (expr_height b) (statement_height body)))) halt z
+for_halt_second job n variable low high a from_line direction b to_line body c x halt w u z d first h =
+    halted_by (e.value (caller job n) b c u) (acting job n (t.For variable low high a from_line direction b to_line body) c w) halt z d (levels job n (expr_height b)) d (levels job n (max (expr_height a) (max (expr_height b) (statement_height body)))) (λ stop s. for_stop_second job n variable low high a from_line direction b to_line body c x stop w u z first s) h (omega arith)
+
+pub runs_same : {A R : Type 0} (view : R → A) (a b : m.Answer A) (result : Result R Halt) (u : World) (d k n : ℕ) → a ≡ b → k ≤ n → Runs view a d k result u → Runs view b d n result u
+runs_same view a b result u d k n is le h = runs_deeper view b result u d k d n (subst (λ x. Runs view x d k result u) is h) (omega arith)
 
 -- new
 pub new_stop : (job : Job) (n : ℕ) (p : t.Place) (pointer line : ℕ) (c : m.Context) (spot : v.Spot) (stop : Stop) (w u : m.World) (z : World) → e.access (caller job n) p c w ≡ m.Gives spot u → Stopped (r.making job n pointer line c u) stop z → Stopped (acting job n (t.New p pointer line) c w) stop z
@@ -271,3 +326,19 @@ new_stop job n p pointer line c spot stop w u z gives h =
 pub new_done : (job : Job) (n : ℕ) (p : t.Place) (pointer line : ℕ) (c : m.Context) (spot : v.Spot) (x : v.Value) (w u z k : m.World) → e.access (caller job n) p c w ≡ m.Gives spot u → r.making job n pointer line c u ≡ m.Gives x z → k ≡ m.with_contents z spot x → acting job n (t.New p pointer line) c w ≡ m.Gives m.done k
 new_done job n p pointer line c spot x w u z k gives made is =
     then_gives (e.access (caller job n) p c w) (λ i j. m.and_then (r.making job n pointer line c j) (m.put i)) spot u gives ∙ then_gives (r.making job n pointer line c u) (m.put spot) x z made ∙ ap (m.Gives m.done) (sym is)
+
+-- case and repeat statements, read again
+pub case_runs : (job : Job) (n : ℕ) (c : m.Context) (w : m.World) (x : Statement) (index : Expr) (v : Vec CaseElement Global) (line : Line) (items : List CaseElement) (result : Result (Unit {0}) Halt) (u : World) (d : ℕ) → x ≡ Case index v line → items ≡ v.items → Runs r.done_of (acting job n (t.Case (expr_of index) (elements_of items) line.number) c w) (d - 1) (levels job n (max (expr_height (expr_of index)) (elements_height (elements_of items)))) result u → Runs r.done_of (acting job n (statement_of x) c w) d (levels job n (statement_height (statement_of x))) result u
+case_runs job n c w x index v line items result u d is at h =
+    subst (λ (y : t.Statement). Runs r.done_of (acting job n y c w) d (levels job n (statement_height y)) result u) (case_is x index v line items is at) (runs_deeper r.done_of (acting job n (t.Case (expr_of index) (elements_of items) line.number) c w) result u (d - 1) (levels job n (max (expr_height (expr_of index)) (elements_height (elements_of items)))) d (levels job n (suc (max (expr_height (expr_of index)) (elements_height (elements_of items))))) h (omega arith))
+
+pub repeat_runs : (job : Job) (n : ℕ) (c : m.Context) (w : m.World) (x : Statement) (condition : Expr) (v : Vec Statement Global) (items : List Statement) (result : Result (Unit {0}) Halt) (u : World) (d : ℕ) → x ≡ Repeat v condition → items ≡ v.items → Runs r.done_of (acting job n (t.Repeat (statements_of items) (expr_of condition)) c w) (d - 1) (levels job n (max (statements_height (statements_of items)) (expr_height (expr_of condition)))) result u → Runs r.done_of (acting job n (statement_of x) c w) d (levels job n (statement_height (statement_of x))) result u
+repeat_runs job n c w x condition v items result u d is at h =
+    subst (λ (y : t.Statement). Runs r.done_of (acting job n y c w) d (levels job n (statement_height y)) result u) (tree.repeat_is x condition v items is at) (runs_deeper r.done_of (acting job n (t.Repeat (statements_of items) (expr_of condition)) c w) result u (d - 1) (levels job n (max (statements_height (statements_of items)) (expr_height (expr_of condition)))) d (levels job n (suc (max (statements_height (statements_of items)) (expr_height (expr_of condition))))) h (omega arith))
+
+-- a with statement, when its records were opened
+pub with_runs : (job inner : Job) (n : ℕ) (places : List t.Place) (body : t.Statement) (c d : m.Context) (spots : List v.Spot) (w u : m.World) (result : Result (Unit {0}) Halt) (z : World) (depth : ℕ) → opening_all job n places c w ≡ m.Gives spots u → d ≡ s.with_opened spots c → inner ≡ job → Runs r.done_of (acting inner n body d u) depth (levels inner n (statement_height body)) result z → Runs r.done_of (acting job n (t.With places body) c w) depth (levels job n (max (places_height places) (statement_height body))) result z
+with_runs job inner n places body c d spots w u result z depth gives within same h =
+    let is : acting inner n body d u ≡ acting job n (t.With places body) c w = ap (λ j. acting j n body d u) same ∙ ap (λ k. acting job n body k u) within ∙ sym (then_gives (opening_all job n places c w) (λ i. acting job n body (s.with_opened i c)) spots u gives) in
+    let few : levels inner n (statement_height body) ≡ levels job n (statement_height body) = ap (λ j. levels j n (statement_height body)) same in
+    runs_same r.done_of _ _ result z depth (levels inner n (statement_height body)) (levels job n (max (places_height places) (statement_height body))) is (omega arith) h

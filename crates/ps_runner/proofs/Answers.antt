@@ -1,24 +1,45 @@
 -- Acts after one another.
-use Rattle.std.proofs.Common.{◌≡◌, ℕ, ◌+◌, ◌<◌, ◌≤◌, Bool, ◌||◌, List, [], ◌∷◌, ◌++◌, length, get_or, drop, refl, sym, ap, subst, ◌∙◌, append_assoc, append-nil, true, false}
+use Rattle.std.proofs.Common.{◌≡◌, ℕ, suc, ◌+◌, ◌-◌, Vec, Global, ◌<◌, ◌≤◌, Bool, ◌||◌, List, [], ◌∷◌, ◌++◌, length, get_or, drop, Result, Ok, Err, refl, sym, ap, subst, ◌∙◌, append_assoc, append-nil, true, false, arith}
 use mathlib.Core.Path.{fun_ext}
 use Rattle.ps_tree.specs.declared.tree.SetOperator.TheVariants.{Union}
 use Rattle.ps_tree.specs.declared.tree.Member.{Member}
 use Rattle.ps_tree.specs.declared.tree.Argument.{Argument}
 use Rattle.ps_tree.specs.Tree as t
-use Rattle.ps_tree.specs.View.{member_of, members_of, argument_of, arguments_of}
+use Rattle.ps_tree.specs.declared.line.Line.{Line}
+use Rattle.ps_tree.specs.declared.tree.Expr.{Expr, Call, CallFormal}
+use Rattle.ps_tree.specs.View.{expr_of, member_of, members_of, argument_of, arguments_of}
 use Rattle.ps_meaning.specs.Operators.{combine_sets}
 use Rattle.ps_meaning.specs.Worlds as m
 use Rattle.ps_meaning.specs.Expressions as e
-use Rattle.ps_reference.specs.declared.stop.Stop.{Stop}
-use Rattle.ps_reference.specs.declared.stop.Stop.TheVariants.{Ended, Refused}
-use Rattle.ps_reference.specs.declared.world.World.{World}
-use Rattle.ps_reference.specs.View.{listed}
-use Rattle.ps_reference.specs.Worlds.{Stopped}
-use Rattle.ps_runner.proofs.Trees.{members_at, members_past, arguments_at, arguments_past}
+use Rattle.ps_runner.specs.declared.stop.Stop.{Stop}
+use Rattle.ps_runner.specs.declared.stop.Stop.TheVariants.{Ended, OutOfMemory}
+use Rattle.ps_runner.specs.declared.world.Job.{Job}
+use Rattle.ps_runner.specs.declared.world.World.{World}
+use Rattle.ps_runner.specs.declared.value.Value.{Value}
+use Rattle.ps_runner.specs.View.{listed, value_of}
+use Rattle.ps_runner.specs.Worlds.{Stopped, caller}
+use Rattle.ps_runner.specs.declared.stop.Halt.{Halt}
+use Rattle.ps_runner.specs.declared.stop.Halt.TheVariants.{Stopped as StoppedBy, TooDeep}
+use Rattle.ps_runner.specs.Heights.{expr_height, member_height, members_height, argument_height, arguments_height}
+use Rattle.ps_runner.specs.Runs.{Halted, Runs, levels}
+use Rattle.ps_runner.proofs.Heights.{member_within, argument_within}
+use Rattle.ps_runner.proofs.Trees.{call_is, call_formal_is, members_at, members_past, arguments_at, arguments_past}
 
 pub stopped_then : {A B : Type 0} (a : m.Answer A) (f : A → m.Act B) (stop : Stop) (w : World) → Stopped a stop w → Stopped (m.and_then a f) stop w
 stopped_then a f (Ended ending calls) w h = ap (λ x. m.and_then x f) h
-stopped_then a f (Refused refusal) w h = tt
+stopped_then a f OutOfMemory w h = tt
+
+-- what goes no further in a part goes no further in the whole, which needs no fewer levels than the part's way down to it
+pub halted_by : {A B : Type 0} (a : m.Answer A) (b : m.Answer B) (halt : Halt) (w : World) (d k e n : ℕ) → ((stop : Stop) → Stopped a stop w → Stopped b stop w) → Halted a d k halt w → e + k ≤ d + n → Halted b e n halt w
+halted_by a b (StoppedBy stop) w d k e n f h le = f stop h
+halted_by a b TooDeep w d k e n f h le = let lt : d < k = h in omega arith
+
+pub halted_then : {A B : Type 0} (a : m.Answer A) (f : A → m.Act B) (halt : Halt) (w : World) (d k e n : ℕ) → Halted a d k halt w → e + k ≤ d + n → Halted (m.and_then a f) e n halt w
+halted_then a f halt w d k e n h le = halted_by a (m.and_then a f) halt w d k e n (λ stop. stopped_then a f stop w) h le
+
+pub runs_deeper : {A R : Type 0} (view : R → A) (a : m.Answer A) (result : Result R Halt) (w : World) (d k e n : ℕ) → Runs view a d k result w → e + k ≤ d + n → Runs view a e n result w
+runs_deeper view a (Ok r) w d k e n h le = h
+runs_deeper view a (Err halt) w d k e n h le = halted_by a a halt w d k e n (λ stop s. s) h le
 
 -- the members of a set constructor from a place on, after those that were taken
 unfoldable pub members_left : e.Caller → m.Context → List Member → ℕ → List Bool → m.World → m.Answer (ℕ → Bool)
@@ -46,10 +67,15 @@ members_next call c members i tests more both x w v lt at gives is =
     let rest = members_of (drop (i + 1) members) in
     sym (ap (λ t. m.and_then (e.members_value call t c w) (λ s. m.give (combine_sets Union (listed tests) s))) (members_at members i x lt at) ∙ ap (λ a. m.and_then (m.and_then a (λ y u. m.and_then (e.members_value call rest c u) (λ z. m.give (combine_sets Union y z)))) (λ s. m.give (combine_sets Union (listed tests) s))) gives ∙ members_more (listed tests) (listed more) (e.members_value call rest c v) ∙ ap (λ s. m.and_then (e.members_value call rest c v) (λ y. m.give (combine_sets Union s y))) (sym is))
 
-pub members_stop : (call : e.Caller) (c : m.Context) (members : List Member) (i : ℕ) (tests : List Bool) (x : Member) (stop : Stop) (w : m.World) (v : World) (all : m.Answer (ℕ → Bool)) → members_left call c members i tests w ≡ all → Stopped (e.member_value call (member_of x) c w) stop v → x ≡ get_or members i x → i < length members → Stopped all stop v
+members_stop : (call : e.Caller) (c : m.Context) (members : List Member) (i : ℕ) (tests : List Bool) (x : Member) (stop : Stop) (w : m.World) (v : World) (all : m.Answer (ℕ → Bool)) → members_left call c members i tests w ≡ all → Stopped (e.member_value call (member_of x) c w) stop v → x ≡ get_or members i x → i < length members → Stopped all stop v
 unfolding members_left
 members_stop call c members i tests x stop w v all is h at lt =
     subst (λ a. Stopped a stop v) (sym (ap (λ t. m.and_then (e.members_value call t c w) (λ s. m.give (combine_sets Union (listed tests) s))) (members_at members i x lt at)) ∙ is) (stopped_then (e.members_value call (t.member_before (member_of x) (members_of (drop (i + 1) members))) c w) (λ s. m.give (combine_sets Union (listed tests) s)) stop v (stopped_then (e.member_value call (member_of x) c w) (λ y u. m.and_then (e.members_value call (members_of (drop (i + 1) members)) c u) (λ z. m.give (combine_sets Union y z))) stop v h))
+
+pub members_halt : (job : Job) (n : ℕ) (c : m.Context) (members : List Member) (i : ℕ) (tests : List Bool) (x : Member) (halt : Halt) (w : m.World) (v : World) (all : m.Answer (ℕ → Bool)) (d : ℕ) → members_left (caller job n) c members i tests w ≡ all → Halted (e.member_value (caller job n) (member_of x) c w) d (levels job n (member_height (member_of x))) halt v → x ≡ get_or members i x → i < length members → Halted all d (levels job n (members_height (members_of members))) halt v
+members_halt job n c members i tests x halt w v all d is h at lt =
+    let le : member_height (member_of x) ≤ members_height (members_of members) = member_within members i x at lt in
+    halted_by (e.member_value (caller job n) (member_of x) c w) all halt v d (levels job n (member_height (member_of x))) d (levels job n (members_height (members_of members))) (λ stop s. members_stop (caller job n) c members i tests x stop w v all is s at lt) h (omega arith)
 
 or_false : (b : Bool) → (b || false) ≡ b
 or_false true = refl
@@ -82,12 +108,28 @@ actuals_next call c arguments i taken both x actual w v lt at gives is =
     let rest = arguments_of (drop (i + 1) arguments) in
     sym (ap (λ t. m.and_then (e.actuals_of call t c w) (λ xs. m.give (taken ++ xs))) (arguments_at arguments i x lt at) ∙ ap (λ a. m.and_then (m.and_then a (λ y u. m.and_then (e.actuals_of call rest c u) (λ ys. m.give (y ∷ ys)))) (λ xs. m.give (taken ++ xs))) gives ∙ actuals_more taken actual (e.actuals_of call rest c v) ∙ ap (λ l. m.and_then (e.actuals_of call rest c v) (λ xs. m.give (l ++ xs))) (sym is))
 
-pub actuals_stop : (call : e.Caller) (c : m.Context) (arguments : List Argument) (i : ℕ) (taken : List e.Actual) (x : Argument) (stop : Stop) (w : m.World) (v : World) (all : m.Answer (List e.Actual)) → actuals_left call c arguments i taken w ≡ all → Stopped (e.actual_of call (argument_of x) c w) stop v → x ≡ get_or arguments i x → i < length arguments → Stopped all stop v
+actuals_stop : (call : e.Caller) (c : m.Context) (arguments : List Argument) (i : ℕ) (taken : List e.Actual) (x : Argument) (stop : Stop) (w : m.World) (v : World) (all : m.Answer (List e.Actual)) → actuals_left call c arguments i taken w ≡ all → Stopped (e.actual_of call (argument_of x) c w) stop v → x ≡ get_or arguments i x → i < length arguments → Stopped all stop v
 unfolding actuals_left
 actuals_stop call c arguments i taken x stop w v all is h at lt =
     subst (λ a. Stopped a stop v) (sym (ap (λ t. m.and_then (e.actuals_of call t c w) (λ xs. m.give (taken ++ xs))) (arguments_at arguments i x lt at)) ∙ is) (stopped_then (e.actuals_of call (t.argument_before (argument_of x) (arguments_of (drop (i + 1) arguments))) c w) (λ xs. m.give (taken ++ xs)) stop v (stopped_then (e.actual_of call (argument_of x) c w) (λ y u. m.and_then (e.actuals_of call (arguments_of (drop (i + 1) arguments)) c u) (λ ys. m.give (y ∷ ys))) stop v h))
+
+pub actuals_halt : (job : Job) (n : ℕ) (c : m.Context) (arguments : List Argument) (i : ℕ) (taken : List e.Actual) (x : Argument) (halt : Halt) (w : m.World) (v : World) (all : m.Answer (List e.Actual)) (d : ℕ) → actuals_left (caller job n) c arguments i taken w ≡ all → Halted (e.actual_of (caller job n) (argument_of x) c w) d (levels job n (argument_height (argument_of x))) halt v → x ≡ get_or arguments i x → i < length arguments → Halted all d (levels job n (arguments_height (arguments_of arguments))) halt v
+actuals_halt job n c arguments i taken x halt w v all d is h at lt =
+    let le : argument_height (argument_of x) ≤ arguments_height (arguments_of arguments) = argument_within arguments i x at lt in
+    halted_by (e.actual_of (caller job n) (argument_of x) c w) all halt v d (levels job n (argument_height (argument_of x))) d (levels job n (arguments_height (arguments_of arguments))) (λ stop s. actuals_stop (caller job n) c arguments i taken x stop w v all is s at lt) h (omega arith)
 
 pub actuals_end : (call : e.Caller) (c : m.Context) (arguments : List Argument) (i : ℕ) (taken : List e.Actual) (w : m.World) → length arguments ≤ i → actuals_left call c arguments i taken w ≡ m.Gives taken w
 unfolding actuals_left
 actuals_end call c arguments i taken w le =
     ap (λ t. m.and_then (e.actuals_of call t c w) (λ xs. m.give (taken ++ xs))) (arguments_past arguments i le) ∙ ap (λ l. m.Gives l w) (append-nil taken)
+
+-- calls of functions, read again
+pub call_runs : (job : Job) (n : ℕ) (c : m.Context) (w : m.World) (x : Expr) (routine up : ℕ) (v : Vec Argument Global) (line : Line) (items : List Argument) (result : Result Value Halt) (u : World) (d : ℕ) → x ≡ Call routine up v line → items ≡ v.items → Runs value_of (e.value (caller job n) (t.Call routine up (arguments_of items) line.number) c w) (d - 1) (levels job n (arguments_height (arguments_of items))) result u → Runs value_of (e.value (caller job n) (expr_of x) c w) d (levels job n (expr_height (expr_of x))) result u
+call_runs job n c w x routine up v line items result u d is at h =
+    let called : t.Expr = t.Call routine up (arguments_of items) line.number in
+    subst (λ (y : t.Expr). Runs value_of (e.value (caller job n) y c w) d (levels job n (expr_height y)) result u) (call_is x routine up v line items is at) (runs_deeper value_of (e.value (caller job n) called c w) result u (d - 1) (levels job n (arguments_height (arguments_of items))) d (levels job n (suc (arguments_height (arguments_of items)))) h (omega arith))
+
+pub call_formal_runs : (job : Job) (n : ℕ) (c : m.Context) (w : m.World) (x : Expr) (up index : ℕ) (v : Vec Argument Global) (line : Line) (items : List Argument) (result : Result Value Halt) (u : World) (d : ℕ) → x ≡ CallFormal up index v line → items ≡ v.items → Runs value_of (e.value (caller job n) (t.CallFormal up index (arguments_of items) line.number) c w) (d - 1) (levels job n (arguments_height (arguments_of items))) result u → Runs value_of (e.value (caller job n) (expr_of x) c w) d (levels job n (expr_height (expr_of x))) result u
+call_formal_runs job n c w x up index v line items result u d is at h =
+    let called : t.Expr = t.CallFormal up index (arguments_of items) line.number in
+    subst (λ (y : t.Expr). Runs value_of (e.value (caller job n) y c w) d (levels job n (expr_height y)) result u) (call_formal_is x up index v line items is at) (runs_deeper value_of (e.value (caller job n) called c w) result u (d - 1) (levels job n (arguments_height (arguments_of items))) d (levels job n (suc (arguments_height (arguments_of items)))) h (omega arith))

@@ -1,3 +1,11 @@
+pub mod Values
+pub mod SetsAndStrings
+pub mod Worlds
+pub mod Written
+pub mod Procedures
+pub mod Costs
+pub mod Blocks
+pub mod Heights
 pub mod Trees
 pub mod Answers
 pub mod Acts

@@ -8,16 +8,17 @@ use Rattle.ps_meaning.specs.Values as v
 use Rattle.ps_meaning.specs.Worlds as m
 use Rattle.ps_meaning.specs.Text as t
 use Rattle.ps_meaning.specs.Run as d
-use Rattle.ps_reference.specs.declared.stop.Ending.{Ending}
-use Rattle.ps_reference.specs.declared.stop.Ending.TheVariants.{Normal}
-use Rattle.ps_reference.specs.declared.stop.Stop.{Stop}
-use Rattle.ps_reference.specs.declared.stop.Stop.TheVariants.{Ended}
-use Rattle.ps_reference.specs.declared.value.Value.{Value}
-use Rattle.ps_reference.specs.declared.world.Job.{Job}
-use Rattle.ps_reference.specs.declared.world.World.{World}
-use Rattle.ps_reference.specs.View.{value_of}
-use Rattle.ps_reference.specs.Worlds.{Stopped, stored, caller, world_of, ending_of, program_of, costs_in}
-use Rattle.ps_runner.specs.Runs.{Tells}
+use Rattle.ps_runner.specs.declared.ending.Ending.{Ending}
+use Rattle.ps_runner.specs.declared.ending.Ending.TheVariants.{Normal}
+use Rattle.ps_runner.specs.declared.stop.Stop.TheVariants.{Ended}
+use Rattle.ps_runner.specs.declared.value.Value.{Value}
+use Rattle.ps_runner.specs.declared.world.Job.{Job}
+use Rattle.ps_runner.specs.declared.world.World.{World}
+use Rattle.ps_runner.specs.View.{value_of}
+use Rattle.ps_runner.specs.Worlds.{stored, caller, world_of, ending_of, program_of, costs_in}
+use Rattle.ps_runner.specs.declared.stop.Halt.{Halt}
+use Rattle.ps_runner.specs.declared.stop.Halt.TheVariants.{Stopped as StoppedBy}
+use Rattle.ps_runner.specs.Runs.{Halted, Tells}
 
 no_store : stored [] ≡ (λ (name : ℕ). m.unset)
 unfolding stored
@@ -38,9 +39,9 @@ answer_is job n input = refl
 pub tells_done : (w : World) (calls : Vec ℕ Global) (a : m.Answer m.Done) → a ≡ m.Gives m.done (world_of w) → calls.items ≡ [] → Tells (record { transcript = w.transcript; ending = Normal; calls = calls }) a
 tells_done w calls a is none = subst (λ x. Tells (record { transcript = w.transcript; ending = Normal; calls = calls }) x) (sym is) (refl, (refl, none))
 
-pub tells_stopped : (w : World) (ending : Ending) (calls : Vec ℕ Global) (stop : Stop) (a : m.Answer m.Done) → Stopped a stop w → stop ≡ Ended ending calls → Tells (record { transcript = w.transcript; ending = ending; calls = calls }) a
-tells_stopped w ending calls stop a h is =
-    let ends : a ≡ m.Ends w.transcript.items (ending_of ending) calls.items = subst (λ s. Stopped a s w) is h in
+pub tells_stopped : (w : World) (ending : Ending) (calls : Vec ℕ Global) (halt : Halt) (a : m.Answer m.Done) (d n : ℕ) → Halted a d n halt w → halt ≡ StoppedBy (Ended ending calls) → Tells (record { transcript = w.transcript; ending = ending; calls = calls }) a
+tells_stopped w ending calls halt a d n h is =
+    let ends : a ≡ m.Ends w.transcript.items (ending_of ending) calls.items = subst (λ s. Halted a d n s w) is h in
     subst (λ x. Tells (record { transcript = w.transcript; ending = ending; calls = calls }) x) (sym ends) (refl, (refl, refl))
 
 -- a mark, or a byte, more

@@ -1,5 +1,5 @@
 -- Parts of statements, and what a run tells.
-use Rattle.std.specs.Prelude.{◌≡◌, ℕ, ℤ, Bool, true, false, if◌then◌else◌, List, [], take}
+use Rattle.std.specs.Prelude.{◌≡◌, ℕ, ◌+◌, ◌*◌, ◌<◌, ℤ, Bool, true, false, if◌then◌else◌, List, [], take, Result, Ok, Err}
 use Rattle.ps_tree.specs.Tree as t
 use Rattle.ps_tree.specs.declared.tree.Direction.{Direction}
 use Rattle.ps_meaning.specs.Values as v
@@ -7,10 +7,33 @@ use Rattle.ps_meaning.specs.Operators.{is_equal, is_true}
 use Rattle.ps_meaning.specs.Worlds as m
 use Rattle.ps_meaning.specs.Expressions as e
 use Rattle.ps_meaning.specs.Statements as s
-use Rattle.ps_reference.specs.declared.world.Job.{Job}
+use Rattle.ps_runner.specs.declared.world.Job.{Job}
 use Rattle.ps_meaning.specs.Run.{Ran as RanOf, plain_ending}
-use Rattle.ps_reference.specs.Worlds.{caller, ending_of}
+use Rattle.ps_runner.specs.declared.world.World.{World}
+use Rattle.ps_runner.specs.Worlds.{Stopped, caller, ending_of, program_of, world_of}
+use Rattle.ps_runner.specs.declared.stop.Halt.{Halt}
+use Rattle.ps_runner.specs.declared.stop.Halt.TheVariants.{Stopped as StoppedBy, TooDeep}
 use Rattle.ps_runner.specs.declared.run.Ran.{Ran}
+use Rattle.ps_runner.specs.Heights.{highest}
+
+-- The levels that calls with so much fuel may take: each is no higher than the highest body. A part of a body needs
+-- those of its own height too.
+unfoldable pub call_levels : Job → (fuel : ℕ) → ℕ
+call_levels job n = n * highest (program_of job)
+
+abbrev pub levels : Job → (fuel height : ℕ) → ℕ
+levels job n height = height + call_levels job n
+
+-- where the definition's answer is known to end the run, or fewer levels were allowed than are needed; nothing is said
+-- where memory was refused
+abbrev pub Halted : {A : Type 0} → m.Answer A → (depth needed : ℕ) → Halt → World → Type 0
+Halted answer depth needed (StoppedBy stop) w = Stopped answer stop w
+Halted answer depth needed TooDeep w = depth < needed
+
+-- a part of the runner answers what the definition's answer is
+abbrev pub Runs : {A R : Type 0} → (R → A) → m.Answer A → (depth needed : ℕ) → Result R Halt → World → Type 0
+Runs view answer depth needed (Ok r) w = answer ≡ m.Gives (view r) (world_of w)
+Runs view answer depth needed (Err halt) w = Halted answer depth needed halt w
 
 -- the truth of a condition
 abbrev pub truth_in : Job → ℕ → t.Expr → m.Context → m.Act Bool

@@ -1,17 +1,21 @@
 // The run of a program.
 
-ghost use Rattle.std.specs.Prelude.{◌≡◌, ◌≢◌, ◌≤◌, [], ℕ, List, IfOk, IfErr};
+ghost use Rattle.std.specs.Prelude.{◌≡◌, ◌*◌, ◌<◌, ◌≤◌, [], ℕ, List, IfOk, IfErr};
 ghost use Rattle.std.specs.List.{All};
 ghost use Rattle.ps_tree.specs.Checked.{program_in};
 ghost use Rattle.ps_meaning.specs.Worlds.{Outside};
 ghost use Rattle.ps_meaning.specs.Run as m;
-ghost use Rattle.ps_reference.specs.declared.stop.Refusal.TheVariants.{TooDeep, Untyped};
-ghost use Rattle.ps_reference.specs.Worlds.{Answers, caller, context_of, env_of, numbers_of, world_of, done_of, program_of, costs_in};
-ghost use Rattle.ps_runner.specs.Runs.{shown, Tells, trail_of};
+ghost use Rattle.ps_runner.specs.Worlds.{caller, context_of, env_of, numbers_of, world_of, done_of, program_of, costs_in};
+ghost use Rattle.ps_runner.specs.declared.run.TheConstants.{DEPTH};
+ghost use Rattle.ps_runner.specs.declared.run.Refusal.TheVariants.{TooDeep};
+ghost use Rattle.ps_runner.specs.declared.run.TranscriptFault.TheVariants.{NoByteAndNoMark};
+ghost use Rattle.ps_runner.specs.Heights.{highest};
+ghost use Rattle.ps_runner.specs.Runs.{Runs, levels, shown, Tells, trail_of};
 
 use crate::calls::do_block;
-use ps_reference::stop::{Ending, Refusal, Stop};
-use ps_reference::world::{Context, Env, Input, Job, Numbers, World};
+use crate::ending::Ending;
+use crate::stop::{Halt, Stop};
+use crate::world::{Context, Env, Input, Job, Numbers, World};
 use ps_tree::program::Checked;
 use std::alloc::{AllocError, Global};
 use std::rc::Rc;
@@ -19,6 +23,15 @@ use std::rc::Rc;
 /// How deep calls, statements and expressions may lie in one another on a host's stack of 8 MB: one of them takes at
 /// most about 4 KB there. A call of a Pascal function takes some four of them.
 pub const DEPTH: u32 = 2_000;
+
+/// Why there is no answer.
+#[derive(Clone, Copy, PartialEq, Eq, Debug)]
+pub enum Refusal {
+    /// A growth was refused.
+    OutOfMemory,
+    /// Calls, statements and expressions lie deeper in one another than was allowed.
+    TooDeep,
+}
 
 /// How a run went: its transcript, where 256 marks a first look at a byte of the input or at its end; how it ended; and the
 /// lines of the calls that were open at its end, the innermost first.
@@ -49,7 +62,7 @@ fn first_world(alloc: Global, input: &[u8]) -> World<'_>
 }
 
 /// No calls, and no routines.
-#[tactic(auto, unfolding(ps_reference::specs::Worlds::numbers_of))]
+#[tactic(auto, unfolding(crate::specs::Worlds::numbers_of))]
 fn no_numbers(alloc: Global) -> Result<Rc<Numbers>, AllocError>
     ensures { IfOk result (λ k. numbers_of k.value ≡ []) }
 {
@@ -57,7 +70,7 @@ fn no_numbers(alloc: Global) -> Result<Rc<Numbers>, AllocError>
 }
 
 /// The environment of the program block.
-#[tactic(auto, unfolding(ps_reference::specs::Worlds::env_of))]
+#[tactic(auto, unfolding(crate::specs::Worlds::env_of))]
 fn outside(alloc: Global) -> Result<Rc<Env>, AllocError>
     ensures { IfOk result (λ k. env_of k.value ≡ Outside) }
 {
@@ -79,8 +92,9 @@ fn first_context<'a>(job: &'a Job<'a>) -> Result<Context<'a>, AllocError>
 }
 
 /// Does the program block.
-fn run_job(world: &mut World, job: &Job, fuel: u64, depth: u32) -> Result<(), Stop>
-    ensures { Answers done_of (caller job.now fuel 0 Outside [] m.first_context (world_of world.old)) result world.new }
+#[tactic(auto, using(crate::proofs::Heights::body_within))]
+fn run_job(world: &mut World, job: &Job, fuel: u64, depth: u32) -> Result<(), Halt>
+    ensures { Runs done_of (caller job.now fuel 0 Outside [] m.first_context (world_of world.old)) depth (levels job.now fuel 0) result world.new }
 {
     let c = first_context(job)?;
     let parent = outside(job.alloc)?;
@@ -90,8 +104,10 @@ fn run_job(world: &mut World, job: &Job, fuel: u64, depth: u32) -> Result<(), St
 }
 
 /// How a run on an input went.
+#[tactic(auto, unfolding(crate::specs::Runs::call_levels))]
 fn run_on(job: &Job, input: &[u8], fuel: u64, depth: u32) -> Result<Ran, Refusal>
-    ensures { IfOk result (λ k. Tells k (m.answer (program_of job.now) (costs_in job.now) input.now fuel)) }
+    ensures told { IfOk result (λ k. Tells k (m.answer (program_of job.now) (costs_in job.now) input.now fuel)) }
+    ensures refused { IfErr result (λ refusal. refusal ≡ TooDeep → depth < fuel * highest (program_of job.now)) }
 {
     let mut world = first_world(job.alloc, input);
     match run_job(&mut world, job, fuel, depth) {
@@ -100,12 +116,13 @@ fn run_on(job: &Job, input: &[u8], fuel: u64, depth: u32) -> Result<Ran, Refusal
             ending: Ending::Normal,
             calls: Vec::new(job.alloc),
         }),
-        Err(Stop::Ended { ending, calls }) => Ok(Ran {
+        Err(Halt::Stopped(Stop::Ended { ending, calls })) => Ok(Ran {
             transcript: world.transcript,
             ending,
             calls,
         }),
-        Err(Stop::Refused(refusal)) => Err(refusal),
+        Err(Halt::Stopped(Stop::OutOfMemory)) => Err(Refusal::OutOfMemory),
+        Err(Halt::TooDeep) => Err(Refusal::TooDeep),
     }
 }
 
@@ -121,7 +138,7 @@ pub struct Budget<'a> {
 
 /// The run of a program on an input with so much fuel, within costs and a budget. It is refused where memory is, or
 /// where calls, statements and expressions lie deeper in one another than so many: `DEPTH` of them go onto a stack of
-/// 8 MB, and more onto a larger one.
+/// 8 MB, and more onto a larger one. As many as the fuel times the height of the program's highest body are enough.
 pub fn reference_to_depth(
     alloc: Global,
     program: &Checked,
@@ -132,6 +149,7 @@ pub fn reference_to_depth(
 ) -> Result<Ran, Refusal>
     ensures told { IfOk result (λ k. Tells k (m.answer (program_in program.now) (m.costs_of budget.now.frames.now budget.now.objects.now budget.now.stack budget.now.heap) input.now fuel)) }
     ensures run { IfOk result (λ k. shown k ≡ m.run_within (program_in program.now) budget.now.frames.now budget.now.objects.now budget.now.stack budget.now.heap input.now fuel) }
+    ensures refused { IfErr result (λ refusal. refusal ≡ TooDeep → depth < fuel * highest (program_in program.now)) }
 {
     let job = Job {
         alloc,
@@ -155,14 +173,16 @@ pub fn reference_within(
 ) -> Result<Ran, Refusal>
     ensures told { IfOk result (λ k. Tells k (m.answer (program_in program.now) (m.costs_of budget.now.frames.now budget.now.objects.now budget.now.stack budget.now.heap) input.now fuel)) }
     ensures run { IfOk result (λ k. shown k ≡ m.run_within (program_in program.now) budget.now.frames.now budget.now.objects.now budget.now.stack budget.now.heap input.now fuel) }
+    ensures refused { IfErr result (λ refusal. refusal ≡ TooDeep → DEPTH < fuel * highest (program_in program.now)) }
 {
     reference_to_depth(alloc, program, budget, input, fuel, DEPTH)
 }
 
-/// The run of a program on an input with so much fuel, without costs.
+/// The run of a program on an input with so much fuel, without costs. It is refused as that within costs is.
 pub fn reference(alloc: Global, program: &Checked, input: &[u8], fuel: u64) -> Result<Ran, Refusal>
     ensures told { IfOk result (λ k. Tells k (m.answer (program_in program.now) (m.costs_of [] [] 0 0) input.now fuel)) }
     ensures run { IfOk result (λ k. shown k ≡ m.run (program_in program.now) input.now fuel) }
+    ensures refused { IfErr result (λ refusal. refusal ≡ TooDeep → DEPTH < fuel * highest (program_in program.now)) }
 {
     let free = Budget {
         frames: &[],
@@ -189,18 +209,27 @@ fn first_lines(ran: Ran) -> Vec<u32>
 /// The lines of the calls that are open at an error, the innermost first, the first 16 of them; none where no error is
 /// met.
 pub fn trail(alloc: Global, program: &Checked, input: &[u8], fuel: u64) -> Result<Vec<u32>, Refusal>
-    ensures { IfOk result (λ v. v.items ≡ m.trail (program_in program.now) input.now fuel) }
+    ensures told { IfOk result (λ v. v.items ≡ m.trail (program_in program.now) input.now fuel) }
+    ensures refused { IfErr result (λ refusal. refusal ≡ TooDeep → DEPTH < fuel * highest (program_in program.now)) }
 {
     let ran = reference(alloc, program, input, fuel)?;
     Ok(first_lines(ran))
 }
 
-/// The bytes that a transcript shows, without its marks. It is `Untyped` only where an item is neither, and never `TooDeep`.
+/// Why a transcript shows nothing.
+#[derive(Clone, Copy, PartialEq, Eq, Debug)]
+pub enum TranscriptFault {
+    /// A growth was refused.
+    OutOfMemory,
+    /// An item is neither a byte nor a mark, as in no run's transcript.
+    NoByteAndNoMark,
+}
+
+/// The bytes that a transcript shows, without its marks.
 #[tactic(auto, using(crate::proofs::Runs::shown_mark, crate::proofs::Runs::shown_byte, crate::proofs::Runs::neither_byte_nor_mark))]
-pub fn output(alloc: Global, transcript: &[u16]) -> Result<Vec<u8>, Refusal>
+pub fn output(alloc: Global, transcript: &[u16]) -> Result<Vec<u8>, TranscriptFault>
     ensures shown { IfOk result (λ v. v.items ≡ m.output_of transcript.now) }
-    ensures refused { IfErr result (λ refusal. refusal ≡ Untyped → All (λ b. b ≤ 256) transcript.now → ⊥) }
-    ensures depth { IfErr result (λ refusal. refusal ≢ TooDeep) }
+    ensures refused { IfErr result (λ fault. fault ≡ NoByteAndNoMark → All (λ b. b ≤ 256) transcript.now → ⊥) }
 {
     let mut bytes = Vec::new(alloc);
     for item in transcript {
@@ -208,10 +237,10 @@ pub fn output(alloc: Global, transcript: &[u16]) -> Result<Vec<u8>, Refusal>
             continue;
         }
         let Ok(byte) = u8::try_from(*item) else {
-            return Err(Refusal::Untyped);
+            return Err(TranscriptFault::NoByteAndNoMark);
         };
         if bytes.push(byte).is_err() {
-            return Err(Refusal::OutOfMemory);
+            return Err(TranscriptFault::OutOfMemory);
         }
     }
     Ok(bytes)

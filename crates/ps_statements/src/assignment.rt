@@ -7,6 +7,7 @@ ghost use Rattle.ps_regions.specs.Views.{scope_of, heading_of, point_of};
 ghost use Rattle.ps_typing.specs.View.{context_at, regions_at, value_of, variable_of};
 ghost use Rattle.ps_statements.specs.Assignments.{result_of, result_in, target_at, target, set_assigned, assigned, assignment};
 
+use ps_regions::answer::paired;
 use ps_regions::meaning::{Heading, Meaning};
 use ps_regions::refusal::{Fault, Rule};
 use ps_regions::scope::{Found, Scope};
@@ -123,36 +124,27 @@ fn not_assignable(at: u32) -> Fault
 /// An assignment of a set; the `:=` is at `at`.
 #[tactic(auto, unfolding(crate::specs::Assignments::set_assigned, ps_tree::specs::View::type_of, ps_tree::specs::View::statement_of))]
 fn set_assigned(
-    variable: TypedPlace,
-    value: SetExpr,
-    from: Ty,
+    target: (Place, &Ty),
+    value: (SetExpr, &Ty),
     line: Line,
     at: u32,
 ) -> Result<Statement, Fault>
-    ensures ok { IfOk result (λ s. set_assigned (place_of variable.place) (type_of variable.ty) (set_of value) (type_of from) line.number ≡ Some (statement_of s)) }
-    ensures err { IfErr result (λ fault. IsFault fault → set_assigned (place_of variable.place) (type_of variable.ty) (set_of value) (type_of from) line.number ≡ None) }
+    ensures ok { IfOk result (λ s. set_assigned (place_of target.entry.0) (type_of target.entry.1.now) (set_of value.entry.0) (type_of value.entry.1.now) line.number ≡ Some (statement_of s)) }
+    ensures err { IfErr result (λ fault. IsFault fault → set_assigned (place_of target.entry.0) (type_of target.entry.1.now) (set_of value.entry.0) (type_of value.entry.1.now) line.number ≡ None) }
 {
-    let TypedPlace { place, ty, .. } = variable;
+    let ((target, ty), (value, from)) = (target, value);
     match ty {
-        Ty::Set { base, .. } => {
-            if !assignable(&from, &ty) {
-                return Err(not_assignable(at));
-            }
-            Ok(Statement::AssignSet {
-                target: place,
-                low: base.low,
-                high: base.high,
-                value,
-                line,
-            })
+        Ty::Set { base, .. } if assignable(from, ty) => Ok(Statement::AssignSet {
+            target,
+            low: base.low,
+            high: base.high,
+            value,
+            line,
+        }),
+        _ => {
+            drop((target, value));
+            Err(not_assignable(at))
         }
-        Ty::Simple(_)
-        | Ty::Pointer { .. }
-        | Ty::Nil
-        | Ty::EmptySet
-        | Ty::Text { .. }
-        | Ty::Array { .. }
-        | Ty::Record { .. } => Err(not_assignable(at)),
     }
 }
 
@@ -167,27 +159,33 @@ fn assigned(
     ensures ok { IfOk result (λ s. assigned (variable_of variable) (value_of value) line.number ≡ Some (statement_of s)) }
     ensures err { IfErr result (λ fault. IsFault fault → assigned (variable_of variable) (value_of value) line.number ≡ None) }
 {
+    let TypedPlace {
+        place: target,
+        ty,
+        ..
+    } = variable;
     match value {
         TypedValue::Simple(value, from) => {
-            if !assignable(&from, &variable.ty) {
-                return Err(not_assignable(at));
+            if assignable(&from, &ty) {
+                Ok(Statement::Assign {
+                    target,
+                    range: range_of(&ty),
+                    value,
+                    line,
+                })
+            } else {
+                drop((target, value));
+                Err(not_assignable(at))
             }
-            Ok(Statement::Assign {
-                range: range_of(&variable.ty),
-                target: variable.place,
-                value,
-                line,
-            })
         }
-        TypedValue::Set(value, from) => set_assigned(variable, value, from, line, at),
+        TypedValue::Set(value, from) => set_assigned((target, &ty), (value, &from), line, at),
         TypedValue::Structure(value, from) => {
-            if !assignable(&from, &variable.ty) {
-                return Err(not_assignable(at));
+            if assignable(&from, &ty) {
+                Ok(Statement::AssignStructure { target, value })
+            } else {
+                drop((target, value));
+                Err(not_assignable(at))
             }
-            Ok(Statement::AssignStructure {
-                target: variable.place,
-                value,
-            })
         }
     }
 }
@@ -202,7 +200,6 @@ pub(crate) fn assignment(
     ensures ok { IfOk result (λ s. assignment (context_at site.entry) (regions_at site.entry) x.now at y.now ≡ Some (statement_of s)) }
     ensures err { IfErr result (λ fault. IsFault fault → assignment (context_at site.entry) (regions_at site.entry) x.now at y.now ≡ None) }
 {
-    let variable = target(x, site)?;
-    let value = expr_value(y, site)?;
+    let (variable, value) = paired(target(x, site), expr_value(y, site))?;
     assigned(variable, value, site.reading.line(at.from), at.from)
 }

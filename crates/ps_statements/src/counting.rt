@@ -12,6 +12,7 @@ ghost use Rattle.ps_statements.specs.View.{head_of};
 use crate::threat::{Control, in_statement};
 use ps_changes::place::Entries;
 use ps_changes::threat::is_threat;
+use ps_regions::answer::paired;
 use ps_regions::meaning::Meaning;
 use ps_regions::refusal::{Fault, Rule};
 use ps_regions::scope::Found;
@@ -95,12 +96,17 @@ fn bound(value: TypedValue, ordinal: Ordinal, at: u32) -> Result<Expr, Fault>
 {
     match value {
         TypedValue::Simple(value, ty) => {
-            if !compatible(&ty, &Ty::Simple(ordinal)) {
-                return Err(wrong_type(at));
+            if compatible(&ty, &Ty::Simple(ordinal)) {
+                Ok(value)
+            } else {
+                drop(value);
+                Err(wrong_type(at))
             }
-            Ok(value)
         }
-        TypedValue::Set(..) | TypedValue::Structure(..) => Err(wrong_type(at)),
+        value @ (TypedValue::Set(..) | TypedValue::Structure(..)) => {
+            drop(value);
+            Err(wrong_type(at))
+        }
     }
 }
 
@@ -134,8 +140,7 @@ pub(crate) fn for_head(
 {
     let found = site.denoted(name)?;
     let (variable, ordinal) = control_found(found, name.from)?;
-    let first = bound_at(x, site, ordinal)?;
-    let last = bound_at(y, site, ordinal)?;
+    let (first, last) = paired(bound_at(x, site, ordinal), bound_at(y, site, ordinal))?;
     Ok(Head {
         variable,
         ordinal,
@@ -168,6 +173,7 @@ pub(crate) fn repeated(
             entry: head.variable,
         };
         let at = in_statement(x, &body, control).unwrap_or(name.from);
+        drop(head);
         return Err(wrong_control(at));
     }
     Ok(Statement::For {

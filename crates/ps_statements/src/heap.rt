@@ -8,6 +8,7 @@ ghost use Rattle.ps_typing.specs.View.{context_at, regions_at, variable_of};
 ghost use Rattle.ps_statements.specs.Procedures as spec;
 
 use crate::argument::{first_token, parameter_value, parameter_variable, wrong_number};
+use ps_regions::answer::paired;
 use ps_regions::refusal::Fault;
 use ps_syntax::Parameter;
 use ps_text::Span;
@@ -138,9 +139,9 @@ pub(crate) fn pack_statement(
 {
     match parameters {
         [a, i, z] => {
-            let from = parameter_variable(a, site)?;
-            let index = index_at(i, site)?;
-            let to = parameter_variable(z, site)?;
+            let from = parameter_variable(a, site);
+            let rest = paired(index_at(i, site), parameter_variable(z, site));
+            let (from, (index, to)) = paired(from, rest)?;
             let at = Places {
                 unpacked: first_token(a),
                 packed: first_token(z),
@@ -164,9 +165,9 @@ pub(crate) fn unpack_statement(
 {
     match parameters {
         [z, a, i] => {
-            let from = parameter_variable(z, site)?;
-            let to = parameter_variable(a, site)?;
-            let index = index_at(i, site)?;
+            let from = parameter_variable(z, site);
+            let rest = paired(parameter_variable(a, site), index_at(i, site));
+            let (from, (to, index)) = paired(from, rest)?;
             let at = Places {
                 unpacked: first_token(a),
                 packed: first_token(z),
@@ -190,7 +191,10 @@ fn packed_from(
     ensures ok { IfOk result (λ s. spec.packed_from (variable_of from) (variable_of to) line.number (expr_of index.0, index.1) ≡ Some (statement_of s)) }
     ensures err { IfErr result (λ fault. IsFault fault → spec.packed_from (variable_of from) (variable_of to) line.number (expr_of index.0, index.1) ≡ None) }
 {
-    goes_with_pack(&from.ty, &to.ty, index.1, at)?;
+    if let Err(fault) = goes_with_pack(&from.ty, &to.ty, index.1, at) {
+        drop((from, index, to));
+        return Err(fault);
+    }
     Ok(Statement::Pack {
         from: from.place,
         from_ty: from.ty,
@@ -213,7 +217,10 @@ fn unpacked_to(
     ensures ok { IfOk result (λ s. spec.unpacked_to (variable_of from) (variable_of to) line.number (expr_of index.0, index.1) ≡ Some (statement_of s)) }
     ensures err { IfErr result (λ fault. IsFault fault → spec.unpacked_to (variable_of from) (variable_of to) line.number (expr_of index.0, index.1) ≡ None) }
 {
-    goes_with_pack(&to.ty, &from.ty, index.1, at)?;
+    if let Err(fault) = goes_with_pack(&to.ty, &from.ty, index.1, at) {
+        drop((from, to, index));
+        return Err(fault);
+    }
     Ok(Statement::Unpack {
         from: from.place,
         from_ty: from.ty,

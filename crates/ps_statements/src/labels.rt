@@ -1,6 +1,6 @@
 // Case constants (6.8.3.5).
 
-ghost use Rattle.std.specs.Prelude.{◌≡◌, map, is_none, IfOk, IfErr, Some, None, MatchOption};
+ghost use Rattle.std.specs.Prelude.{◌≡◌, true, false, map, is_none, IfOk, IfErr, Some, None, MatchOption};
 ghost use Rattle.ps_tree.specs.View.{expr_of, statement_of};
 ghost use Rattle.ps_regions.specs.Option.{traverse, steps};
 ghost use Rattle.ps_regions.specs.Refusal.{IsFault};
@@ -10,6 +10,7 @@ ghost use Rattle.ps_statements.specs.Structured.{case_constant, case_label, fres
 ghost use Rattle.ps_statements.specs.Statements.{case_behind};
 ghost use Rattle.ps_statements.specs.View.{element_of};
 
+use crate::answer::beside;
 use indexmap::IndexSet;
 use ps_regions::constants::{ConstantValue, constant};
 use ps_regions::refusal::{Fault, Rule};
@@ -109,6 +110,23 @@ fn case_twice(elements: &[Element], place: (usize, usize), at: u32) -> Fault
     }
 }
 
+/// Case elements, of which `list` is the text, where no constant stands for a second time; the `case` is at `at`.
+fn distinct(
+    alloc: Global,
+    list: &[Element],
+    at: u32,
+    elements: Vec<CaseElement>,
+) -> Result<Vec<CaseElement>, Fault>
+    ensures same { IfOk result (λ kept. kept.items ≡ elements.items) }
+    ensures ok { IfOk result (λ _. are_distinct (map element_of elements.items) ≡ true) }
+    ensures err { IfErr result (λ fault. IsFault fault → are_distinct (map element_of elements.items) ≡ false) }
+{
+    match repeated_label(alloc, &elements)? {
+        None => Ok(elements),
+        Some(place) => Err(case_twice(list, place, at)),
+    }
+}
+
 /// A `case` statement of an index and typed elements, of which `list` is the text; its `case` is at `at`. No constant
 /// stands for a second time.
 #[tactic(auto, using(crate::proofs::Equations::elements_listed, ps_tree::proofs::StatementLemmas::statement_of_Case))]
@@ -122,12 +140,11 @@ pub(crate) fn case_behind(
     ensures ok { IfOk result (λ s. case_behind (context_at site.entry) (expr_of index) (map element_of elements.items) at ≡ Some (statement_of s)) }
     ensures err { IfErr result (λ fault. IsFault fault → case_behind (context_at site.entry) (expr_of index) (map element_of elements.items) at ≡ None) }
 {
-    match repeated_label(site.alloc, &elements)? {
-        None => Ok(Statement::Case {
-            index,
-            elements,
-            line: site.reading.line(at.from),
-        }),
-        Some(place) => Err(case_twice(list, place, at.from)),
-    }
+    let elements = distinct(site.alloc, list, at.from, elements);
+    let (index, elements) = beside(index, elements)?;
+    Ok(Statement::Case {
+        index,
+        elements,
+        line: site.reading.line(at.from),
+    })
 }

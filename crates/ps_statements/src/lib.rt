@@ -1,6 +1,7 @@
 //! The typing of statements (ISO 7185, 6.8 and 6.9).
 #![tactic(auto)]
 
+mod answer;
 mod argument;
 mod assignment;
 mod counting;

@@ -1,11 +1,12 @@
 // Procedure statements (6.8.2.3).
 
-ghost use Rattle.std.specs.Prelude.{◌≡◌, map, IfOk, IfErr, Some, None};
-ghost use Rattle.ps_tree.specs.View.{argument_of, statement_of};
+ghost use Rattle.std.specs.Prelude.{◌≡◌, map, option_map, IfOk, IfErr, Some, None};
+ghost use Rattle.ps_tree.specs.View.{argument_of, statement_of, type_of};
 ghost use Rattle.ps_tree.specs.Tree as Tree;
 ghost use Rattle.ps_regions.specs.Refusal.{IsFault};
 ghost use Rattle.ps_regions.specs.Spelling.{line_in};
-ghost use Rattle.ps_regions.specs.Views.{point_of};
+ghost use Rattle.ps_regions.specs.Regions.{BlockPoint, RoutineMeaning, RoutineParameterMeaning};
+ghost use Rattle.ps_regions.specs.Views.{point_of, heading_of, sections_of};
 ghost use Rattle.ps_typing.specs.Values.{argument_list};
 ghost use Rattle.ps_typing.specs.View.{context_at, regions_at};
 ghost use Rattle.ps_statements.specs.Procedures as spec;
@@ -13,13 +14,14 @@ ghost use Rattle.ps_statements.specs.Procedures as spec;
 use crate::argument::actual_parameters;
 use crate::heap::{new_statement, pack_statement, unpack_statement};
 use crate::text::{read, readln, write, writeln};
-use ps_regions::meaning::{Meaning, Required};
+use ps_regions::meaning::{Heading, Meaning, Required, Section};
 use ps_regions::refusal::{Fault, Rule};
 use ps_regions::scope::Found;
 use ps_syntax::Parameter;
 use ps_text::Span;
 use ps_tree::line::Line;
 use ps_tree::tree::{Argument, Statement};
+use ps_tree::types::Ty;
 use ps_typing::place::wrong_kind;
 use ps_typing::site::Site;
 
@@ -80,6 +82,47 @@ fn formal_call(up: u32, index: u32, arguments: Vec<Argument>, line: Line) -> Sta
     }
 }
 
+/// A call of a declared routine, which is a procedure.
+#[tactic(auto, unfolding(crate::specs::Procedures::procedure_called))]
+fn routine_called(
+    list: &[Parameter],
+    site: Site<'_>,
+    up: u32,
+    heading: &Heading,
+    name: Span,
+) -> Result<Statement, Fault>
+    ensures ok { IfOk result (λ s. spec.procedure_called (context_at site.entry) (regions_at site.entry) (line_in (context_at site.entry).text name.from) list.now (BlockPoint up (RoutineMeaning (heading_of heading.now))) ≡ Some (statement_of s)) }
+    ensures err { IfErr result (λ fault. IsFault fault → spec.procedure_called (context_at site.entry) (regions_at site.entry) (line_in (context_at site.entry).text name.from) list.now (BlockPoint up (RoutineMeaning (heading_of heading.now))) ≡ None) }
+{
+    if heading.result.is_some() {
+        return Err(wrong_kind(name.from));
+    }
+    let arguments = actual_parameters(list, site, &heading.sections, name.from)?;
+    let line = site.reading.line(name.from);
+    Ok(declared_call(heading.number, up, arguments, line))
+}
+
+/// A call of a formal parameter that is a routine, and a procedure.
+#[tactic(auto, unfolding(crate::specs::Procedures::procedure_called))]
+fn parameter_called(
+    list: &[Parameter],
+    site: Site<'_>,
+    variable: (u32, u32),
+    heading: (&[Section], &Option<Ty>),
+    name: Span,
+) -> Result<Statement, Fault>
+    ensures ok { IfOk result (λ s. spec.procedure_called (context_at site.entry) (regions_at site.entry) (line_in (context_at site.entry).text name.from) list.now (BlockPoint variable.0 (RoutineParameterMeaning variable.1 (sections_of heading.entry.0.now) (option_map type_of heading.entry.1.now))) ≡ Some (statement_of s)) }
+    ensures err { IfErr result (λ fault. IsFault fault → spec.procedure_called (context_at site.entry) (regions_at site.entry) (line_in (context_at site.entry).text name.from) list.now (BlockPoint variable.0 (RoutineParameterMeaning variable.1 (sections_of heading.entry.0.now) (option_map type_of heading.entry.1.now))) ≡ None) }
+{
+    let (sections, outcome) = heading;
+    if outcome.is_some() {
+        return Err(wrong_kind(name.from));
+    }
+    let arguments = actual_parameters(list, site, sections, name.from)?;
+    let line = site.reading.line(name.from);
+    Ok(formal_call(variable.0, variable.1, arguments, line))
+}
+
 /// A call of the procedure that a name denotes.
 #[tactic(auto, unfolding(crate::specs::Procedures::procedure_called, ps_regions::specs::Views::meaning_of))]
 fn procedure_called(
@@ -91,28 +134,15 @@ fn procedure_called(
     ensures ok { IfOk result (λ s. spec.procedure_called (context_at site.entry) (regions_at site.entry) (line_in (context_at site.entry).text name.from) list.now (point_of found.entry) ≡ Some (statement_of s)) }
     ensures err { IfErr result (λ fault. IsFault fault → spec.procedure_called (context_at site.entry) (regions_at site.entry) (line_in (context_at site.entry).text name.from) list.now (point_of found.entry) ≡ None) }
 {
-    let line = site.reading.line(name.from);
     match found {
         Found::Field { .. } => Err(wrong_kind(name.from)),
         Found::Name { up, meaning } => match meaning {
-            Meaning::Routine(heading) => {
-                if heading.result.is_some() {
-                    return Err(wrong_kind(name.from));
-                }
-                let arguments = actual_parameters(list, site, &heading.sections, name.from)?;
-                Ok(declared_call(heading.number, up, arguments, line))
-            }
+            Meaning::Routine(heading) => routine_called(list, site, up, heading, name),
             Meaning::RoutineParameter {
                 entry,
                 sections,
                 result: outcome,
-            } => {
-                if outcome.is_some() {
-                    return Err(wrong_kind(name.from));
-                }
-                let arguments = actual_parameters(list, site, sections, name.from)?;
-                Ok(formal_call(up, *entry, arguments, line))
-            }
+            } => parameter_called(list, site, (up, *entry), (sections, outcome), name),
             Meaning::Required(required) => required_procedure(list, site, *required, name),
             Meaning::Constant { .. }
             | Meaning::Text(_)

@@ -9,10 +9,12 @@ ghost use Rattle.ps_statements.specs.Structured.{condition, record_at};
 ghost use Rattle.ps_statements.specs.Statements as spec;
 ghost use Rattle.ps_statements.specs.View.{element_of, head_of};
 
+use crate::answer::beside;
 use crate::assignment::assignment;
 use crate::counting::{Head, for_head, repeated};
 use crate::labels::{case_behind, case_labels};
 use crate::procedure::procedure_statement;
+use ps_regions::answer::{boxed_answer, paired, push_answer};
 use ps_regions::refusal::Fault;
 use ps_regions::scope::Scope;
 use ps_syntax::{Element, Expr as SyntaxExpr, Statement as Syntax, Variable};
@@ -33,12 +35,17 @@ fn condition(value: TypedValue, at: u32) -> Result<Expr, Fault>
 {
     match value {
         TypedValue::Simple(value, ty) => {
-            if !is_boolean(&ty) {
-                return Err(wrong_type(at));
+            if is_boolean(&ty) {
+                Ok(value)
+            } else {
+                drop(value);
+                Err(wrong_type(at))
             }
-            Ok(value)
         }
-        TypedValue::Set(..) | TypedValue::Structure(..) => Err(wrong_type(at)),
+        value @ (TypedValue::Set(..) | TypedValue::Structure(..)) => {
+            drop(value);
+            Err(wrong_type(at))
+        }
     }
 }
 
@@ -70,7 +77,8 @@ fn opened_record(
 {
     let TypedPlace { place, ty, .. } = variable_place(x, site)?;
     let mut places = opened;
-    places.push(place)?;
+    let added = push_answer(&mut places, Ok(place));
+    let (ty, ()) = beside(ty, added)?;
     Ok((places, ty))
 }
 
@@ -114,9 +122,7 @@ fn boxed(x: &Syntax, site: Site<'_>) -> Result<Box<Statement>, Fault>
     ensures ok { IfOk result (λ s. spec.statement (context_at site.entry) x.now (regions_at site.entry) ≡ Some (statement_of s.value)) }
     ensures err { IfErr result (λ fault. IsFault fault → spec.statement (context_at site.entry) x.now (regions_at site.entry) ≡ None) }
 {
-    let statement = statement(x, site)?;
-    let statement = Box::new(site.alloc, statement)?;
-    Ok(statement)
+    boxed_answer(site.alloc, statement(x, site))
 }
 
 /// A sequence of statements (6.8.3.2). The error is that of the statement at fault.
@@ -128,7 +134,7 @@ pub fn statements(list: &[Syntax], site: Site<'_>) -> Result<Vec<Statement>, Fau
 {
     let mut typed = Vec::new(site.alloc);
     for x in list {
-        typed.push(statement(x, site)?)?;
+        push_answer(&mut typed, statement(x, site))?;
     }
     Ok(typed)
 }
@@ -149,8 +155,7 @@ fn if_statement(body: &Syntax, site: Site<'_>, x: &SyntaxExpr) -> Result<Stateme
     ensures ok { IfOk result (λ s. spec.if_statement (context_at site.entry) (regions_at site.entry) x.now (spec.statement (context_at site.entry) body.now) ≡ Some (statement_of s)) }
     ensures err { IfErr result (λ fault. IsFault fault → spec.if_statement (context_at site.entry) (regions_at site.entry) x.now (spec.statement (context_at site.entry) body.now) ≡ None) }
 {
-    let condition = condition_at(x, site)?;
-    let body = boxed(body, site)?;
+    let (condition, body) = paired(condition_at(x, site), boxed(body, site))?;
     Ok(Statement::If { condition, body })
 }
 
@@ -165,9 +170,8 @@ fn if_else_statement(
     ensures ok { IfOk result (λ s. spec.if_else_statement (context_at site.entry) (regions_at site.entry) x.now (spec.statement (context_at site.entry) body.now) (spec.statement (context_at site.entry) otherwise.now) ≡ Some (statement_of s)) }
     ensures err { IfErr result (λ fault. IsFault fault → spec.if_else_statement (context_at site.entry) (regions_at site.entry) x.now (spec.statement (context_at site.entry) body.now) (spec.statement (context_at site.entry) otherwise.now) ≡ None) }
 {
-    let condition = condition_at(x, site)?;
-    let body = boxed(body, site)?;
-    let otherwise = boxed(otherwise, site)?;
+    let branches = paired(boxed(body, site), boxed(otherwise, site));
+    let (condition, (body, otherwise)) = paired(condition_at(x, site), branches)?;
     Ok(Statement::IfElse {
         condition,
         body,
@@ -181,8 +185,7 @@ fn while_statement(body: &Syntax, site: Site<'_>, x: &SyntaxExpr) -> Result<Stat
     ensures ok { IfOk result (λ s. spec.while_statement (context_at site.entry) (regions_at site.entry) x.now (spec.statement (context_at site.entry) body.now) ≡ Some (statement_of s)) }
     ensures err { IfErr result (λ fault. IsFault fault → spec.while_statement (context_at site.entry) (regions_at site.entry) x.now (spec.statement (context_at site.entry) body.now) ≡ None) }
 {
-    let condition = condition_at(x, site)?;
-    let body = boxed(body, site)?;
+    let (condition, body) = paired(condition_at(x, site), boxed(body, site))?;
     Ok(Statement::While { condition, body })
 }
 
@@ -192,8 +195,7 @@ fn repeat_statement(list: &[Syntax], site: Site<'_>, x: &SyntaxExpr) -> Result<S
     ensures ok { IfOk result (λ s. spec.repeat_statement (context_at site.entry) (regions_at site.entry) (spec.statements (context_at site.entry) (regions_at site.entry) list.now) x.now ≡ Some (statement_of s)) }
     ensures err { IfErr result (λ fault. IsFault fault → spec.repeat_statement (context_at site.entry) (regions_at site.entry) (spec.statements (context_at site.entry) (regions_at site.entry) list.now) x.now ≡ None) }
 {
-    let body = statements(list, site)?;
-    let condition = condition_at(x, site)?;
+    let (body, condition) = paired(statements(list, site), condition_at(x, site))?;
     Ok(Statement::Repeat { body, condition })
 }
 
@@ -209,7 +211,7 @@ fn case_statement(
     ensures err { IfErr result (λ fault. IsFault fault → spec.case_statement (context_at site.entry) (regions_at site.entry) at x.now (map (spec.element (context_at site.entry)) list.now) ≡ None) }
 {
     let (index, ordinal) = index_at(x, site)?;
-    let elements = elements(list, site, ordinal)?;
+    let (index, elements) = beside(index, elements(list, site, ordinal))?;
     case_behind(site, list, at, index, elements)
 }
 
@@ -220,7 +222,7 @@ fn elements(list: &[Element], site: Site<'_>, index: Ordinal) -> Result<Vec<Case
 {
     let mut typed = Vec::new(site.alloc);
     for x in list {
-        typed.push(element(x, site, index)?)?;
+        push_answer(&mut typed, element(x, site, index))?;
     }
     Ok(typed)
 }
@@ -231,8 +233,8 @@ fn element(x: &Element, site: Site<'_>, index: Ordinal) -> Result<CaseElement, F
     ensures ok { IfOk result (λ e. spec.element (context_at site.entry) x.now (regions_at site.entry) index ≡ Some (element_of e)) }
     ensures err { IfErr result (λ fault. IsFault fault → spec.element (context_at site.entry) x.now (regions_at site.entry) index ≡ None) }
 {
-    let constants = case_labels(site, index, x.constants.as_slice())?;
-    let body = statement(&x.statement, site)?;
+    let constants = case_labels(site, index, x.constants.as_slice());
+    let (constants, body) = paired(constants, statement(&x.statement, site))?;
     Ok(CaseElement { constants, body })
 }
 
@@ -242,7 +244,7 @@ fn for_statement(x: &Syntax, site: Site<'_>, head: Head, name: Span) -> Result<S
     ensures ok { IfOk result (λ s. spec.for_behind (context_at site.entry) (regions_at site.entry) (spec.statement (context_at site.entry) x.now) (head_of head) ≡ Some (statement_of s)) }
     ensures err { IfErr result (λ fault. IsFault fault → spec.for_behind (context_at site.entry) (regions_at site.entry) (spec.statement (context_at site.entry) x.now) (head_of head) ≡ None) }
 {
-    let body = boxed(x, site)?;
+    let (head, body) = beside(head, boxed(x, site))?;
     repeated(site, head, body, x, name)
 }
 
@@ -268,7 +270,9 @@ fn with_statement(
         }
         [first, rest @ ..] => {
             let (places, ty) = opened_record(first, site, opened)?;
-            with_record(x, site, rest, places, &ty, first.name.from)
+            let statement = with_record(x, site, rest, places, &ty, first.name.from);
+            drop(ty);
+            statement
         }
     }
 }

@@ -2,6 +2,7 @@
 
 ghost use Rattle.std.specs.Prelude.{◌≡◌, map, IfOk, IfErr, Some, None};
 ghost use Rattle.ps_tree.specs.View.{expr_of, type_of, place_of, read_of, write_of, width_of, statement_of};
+ghost use Rattle.ps_regions.specs.Option.{traverse};
 ghost use Rattle.ps_regions.specs.Refusal.{IsFault};
 ghost use Rattle.ps_regions.specs.Spelling.{line_in};
 ghost use Rattle.ps_regions.specs.declared.meaning.Required.TheVariants as Required;
@@ -10,6 +11,7 @@ ghost use Rattle.ps_statements.specs.Procedures as spec;
 
 use crate::argument::{first_token, parameter_variable, wrong_number};
 use crate::file::behind_file;
+use ps_regions::answer::{paired, push_answer};
 use ps_regions::meaning::File;
 use ps_regions::refusal::Fault;
 use ps_syntax::{Expr as Syntax, Parameter};
@@ -72,6 +74,18 @@ fn read_parameter(parameter: &Parameter, site: Site<'_>) -> Result<ReadVariable,
     read_variable(variable, site.reading.line(at), at)
 }
 
+/// The parameters of read or readln behind the file.
+fn variables_read(parameters: &[Parameter], site: Site<'_>) -> Result<Vec<ReadVariable>, Fault>
+    ensures ok { IfOk result (λ list. traverse (spec.read_parameter (context_at site.entry) (regions_at site.entry)) parameters.now ≡ Some (map read_of list.items)) }
+    ensures err { IfErr result (λ fault. IsFault fault → traverse (spec.read_parameter (context_at site.entry) (regions_at site.entry)) parameters.now ≡ None) }
+{
+    let mut list = Vec::new(site.alloc);
+    for parameter in parameters {
+        push_answer(&mut list, read_parameter(parameter, site))?;
+    }
+    Ok(list)
+}
+
 /// The parameters of read or readln, whose name is at `at`.
 fn read_parameters(
     parameters: &[Parameter],
@@ -82,11 +96,7 @@ fn read_parameters(
     ensures err { IfErr result (λ fault. IsFault fault → spec.read_parameters (context_at site.entry) (regions_at site.entry) parameters.now ≡ None) }
 {
     let rest = behind_file(site, File::Input, site.reading.has_input, parameters, at)?;
-    let mut list = Vec::new(site.alloc);
-    for parameter in rest {
-        list.push(read_parameter(parameter, site)?)?;
-    }
-    Ok(list)
+    variables_read(rest, site)
 }
 
 /// read, which has at least one variable.
@@ -132,7 +142,10 @@ fn ordinal_written(
         Host::Integer => Ok(WriteParameter::Integer { value, width }),
         Host::Char => Ok(WriteParameter::Char { value, width }),
         Host::Boolean => Ok(WriteParameter::Boolean { value, width }),
-        Host::Enumeration { .. } => Err(wrong_type(at)),
+        Host::Enumeration { .. } => {
+            drop((value, width));
+            Err(wrong_type(at))
+        }
     }
 }
 
@@ -151,15 +164,23 @@ fn written(value: TypedValue, width: Width, at: u32) -> Result<WriteParameter, F
             | Ty::EmptySet
             | Ty::Text { .. }
             | Ty::Array { .. }
-            | Ty::Record { .. } => Err(wrong_type(at)),
+            | Ty::Record { .. } => {
+                drop((value, width));
+                Err(wrong_type(at))
+            }
         },
         TypedValue::Structure(value, ty) => {
-            if ty.string_length().is_none() {
-                return Err(wrong_type(at));
+            if ty.string_length().is_some() {
+                Ok(WriteParameter::Text { value, width })
+            } else {
+                drop((value, width));
+                Err(wrong_type(at))
             }
-            Ok(WriteParameter::Text { value, width })
         }
-        TypedValue::Set(..) => Err(wrong_type(at)),
+        value @ TypedValue::Set(..) => {
+            drop((value, width));
+            Err(wrong_type(at))
+        }
     }
 }
 
@@ -171,12 +192,17 @@ fn width_of(value: TypedValue, line: Line, at: u32) -> Result<Width, Fault>
 {
     match value {
         TypedValue::Simple(value, ty) => {
-            if !is_integer(&ty) {
-                return Err(wrong_type(at));
+            if is_integer(&ty) {
+                Ok(Width::Given { value, line })
+            } else {
+                drop(value);
+                Err(wrong_type(at))
             }
-            Ok(Width::Given { value, line })
         }
-        TypedValue::Set(..) | TypedValue::Structure(..) => Err(wrong_type(at)),
+        value @ (TypedValue::Set(..) | TypedValue::Structure(..)) => {
+            drop(value);
+            Err(wrong_type(at))
+        }
     }
 }
 
@@ -201,11 +227,23 @@ fn write_parameter(parameter: &Parameter, site: Site<'_>) -> Result<WriteParamet
             written(value, Width::Default, x.first_token())
         }
         Parameter::Width(x, width) => {
-            let value = expr_value(x, site)?;
-            let width = width_at(width.get(), site)?;
+            let value = expr_value(x, site);
+            let (value, width) = paired(value, width_at(width.get(), site))?;
             written(value, width, x.first_token())
         }
     }
+}
+
+/// The parameters of write or writeln behind the file.
+fn values_written(parameters: &[Parameter], site: Site<'_>) -> Result<Vec<WriteParameter>, Fault>
+    ensures ok { IfOk result (λ list. traverse (spec.write_parameter (context_at site.entry) (regions_at site.entry)) parameters.now ≡ Some (map write_of list.items)) }
+    ensures err { IfErr result (λ fault. IsFault fault → traverse (spec.write_parameter (context_at site.entry) (regions_at site.entry)) parameters.now ≡ None) }
+{
+    let mut list = Vec::new(site.alloc);
+    for parameter in parameters {
+        push_answer(&mut list, write_parameter(parameter, site))?;
+    }
+    Ok(list)
 }
 
 /// The parameters of write or writeln, whose name is at `at`.
@@ -218,11 +256,7 @@ fn write_parameters(
     ensures err { IfErr result (λ fault. IsFault fault → spec.write_parameters (context_at site.entry) (regions_at site.entry) parameters.now ≡ None) }
 {
     let rest = behind_file(site, File::Output, site.reading.has_output, parameters, at)?;
-    let mut list = Vec::new(site.alloc);
-    for parameter in rest {
-        list.push(write_parameter(parameter, site)?)?;
-    }
-    Ok(list)
+    values_written(rest, site)
 }
 
 /// write, which has at least one parameter.

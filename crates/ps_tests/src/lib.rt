@@ -12,8 +12,6 @@ mod programs;
 #[cfg(test)]
 mod regions;
 #[cfg(test)]
-mod required;
-#[cfg(test)]
 mod runs;
 #[cfg(test)]
 mod statements;
@@ -25,5 +23,3 @@ mod threats;
 mod tokens;
 #[cfg(test)]
 mod types;
-#[cfg(test)]
-mod values;

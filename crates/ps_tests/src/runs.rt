@@ -1,7 +1,7 @@
 // Programs worked out by hand.
 
-use ps_reference::stop::Ending;
-use ps_runner::run::{output, reference, trail};
+use ps_runner::ending::Ending;
+use ps_runner::run::{Budget, Refusal, output, reference, reference_to_depth, trail};
 use ps_tree::line::Line;
 use ps_tree::program::Checked;
 use ps_tree::tree::{
@@ -172,5 +172,13 @@ fn runs_a_recursive_function(rt: HostRuntime) -> Result<(), AllocError> {
         Ok(ran) => assert!(rt; ran.ending == Ending::More),
         Err(_) => assert!(rt; false),
     }
+    let free = Budget {
+        frames: &[],
+        objects: &[],
+        stack: 0,
+        heap: 0,
+    };
+    let shallow = reference_to_depth(alloc, &checked, &free, b"5", 100, 8);
+    assert!(rt; matches!(shallow, Err(Refusal::TooDeep)));
     Ok(())
 }

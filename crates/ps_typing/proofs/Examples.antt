@@ -22,8 +22,8 @@ use Rattle.ps_regions.specs.Spelling.{line_in}
 use Rattle.ps_regions.specs.Constants.{integer, char, number_at}
 use Rattle.ps_regions.specs.Regions.{Context, Region, BlockRegion, BlockPoint, ConstantMeaning, find, find_past}
 use Rattle.ps_typing.specs.Values.{Value, SimpleValue}
-use Rattle.ps_typing.specs.Operators.{negated, added, arithmetic_or_set, arithmetic}
-use Rattle.ps_typing.specs.Places.{element}
+use Rattle.ps_typing.specs.Operators.{operand_of, negated, added, arithmetic_or_set, arithmetic}
+use Rattle.ps_typing.specs.Places.{element, index_operand}
 use Rattle.ps_typing.specs.Calls.{by_variable}
 use Rattle.ps_typing.specs.Expressions.{constant_value, first_term, gathered, set_value, operand, factor_operand, multiply_factor, add_term, term_operand}
 use Rattle.ps_typing.proofs.Equations.{operand_simple, factor_number, factor_not, add_term_is}
@@ -39,7 +39,7 @@ mixed_set = refl
 -- `a[1]` on line 2, where `a` is a packed array of char with an integer index
 element_at : element (Tree.Entry 0 4) (ArrayType 9 true integer (OrdinalType char)) (SimpleValue (Tree.Number (pos 1)) (OrdinalType integer)) 2
     ≡ Some (record { place = Tree.Element (Tree.Entry 0 4) (ArrayType 9 true integer (OrdinalType char)) (Tree.Number (pos 1)) 2; type = OrdinalType char; in_packed = true })
-unfolding element is_compatible
+unfolding element index_operand is_compatible
 element_at = refl
 
 -- a component of a packed variable is no variable parameter, but any other variable of the type is
@@ -85,7 +85,7 @@ module _ (c : Context) (Γ : List Region) where
 
   -- `not 1` is nothing
   not_number : (at one : Span) → (factor_operand c Γ (f.Not at (f.Number one))).value ≡ None
-  unfolding negated
+  unfolding negated operand_of
   not_number at one = ap (λ x. x.value) (factor_not c Γ at (f.Number one)) ∙ ap (λ o. o >>= negated) (number one)
 
   number_term : (at : Span) → (term_operand c Γ (roll-Term (only (f.Number at)))).value ≡ Some (number_value c at)
@@ -97,7 +97,7 @@ module _ (c : Context) (Γ : List Region) where
   sum_value m at n = SimpleValue (Tree.Arithmetic Add (Tree.Number (number_at c.text m)) (Tree.Number (number_at c.text n)) (line_in c.text at.from)) (OrdinalType integer)
 
   added_number : (m at n : Span) → add_term c Γ (roll-AddedTerm (plus at (roll-Term (only (f.Number n))))) (number_value c m) ≡ Some (sum_value m at n)
-  unfolding added arithmetic_or_set arithmetic
+  unfolding added arithmetic_or_set arithmetic operand_of
   added_number m at n = add_term_is c Γ (roll-AddedTerm (plus at (roll-Term (only (f.Number n))))) (number_value c m)
       ∙ ap (λ (t : AddedTerm-F Expr Factor Member Selector AddedTerm MultipliedFactor Simple Term v.Variable). (term_operand c Γ t.term).value >>= added t.operator (line_in c.text t.at.from) (number_value c m)) (out-roll-AddedTerm (plus at (roll-Term (only (f.Number n)))))
       ∙ ap (λ o. o >>= added Plus (line_in c.text at.from) (number_value c m)) (number_term n)

@@ -21,29 +21,40 @@ use Rattle.ps_tree.specs.declared.tree.PointerRelation.TheVariants as pointers
 use Rattle.ps_tree.specs.declared.tree.SetRelation.{SetRelation}
 use Rattle.ps_tree.specs.declared.tree.SetRelation.TheVariants as sets
 use Rattle.ps_tree.specs.Types.{DataType, OrdinalType, SetType, EmptySetType, is_same_host, are_same, string_length, is_compatible}
+use Rattle.ps_tree.specs.declared.types.Host.{Host}
+use Rattle.ps_tree.specs.declared.types.Host.TheVariants.{Integer, Boolean}
 use Rattle.ps_tree.specs.Tree as Tree
 use Rattle.ps_regions.specs.Option.{◌>>=◌, provided}
-use Rattle.ps_typing.specs.Values.{Value, SimpleValue, SetValue, StructureValue, is_integer, is_boolean, set_type_of_both}
+use Rattle.ps_typing.specs.Values.{Value, SimpleValue, SetValue, StructureValue, has_host, set_type_of_both}
 use Rattle.ps_regions.specs.Constants.{integer, boolean}
+
+-- ---- operands, and what an operator on them gives
+
+abbrev pub number : Tree.Expr → Value
+number e = SimpleValue e (OrdinalType integer)
+
+abbrev pub truth : Tree.Expr → Value
+truth e = SimpleValue e (OrdinalType boolean)
+
+-- an operand of a host type, or of a subrange of it
+unfoldable pub operand_of : Host → Value → Option Tree.Expr
+operand_of host (SimpleValue e type) = provided (has_host host type) e
+operand_of host _ = None
 
 -- ---- signs and `not` (6.7.2.2, 6.7.2.3): a sign applies to the whole first term
 
 unfoldable pub with_sign : Sign → ℕ → Value → Option Value
-with_sign sign.Plus line (SimpleValue e type) = provided (is_integer type) (SimpleValue (Tree.Plus e) (OrdinalType integer))
-with_sign sign.Minus line (SimpleValue e type) = provided (is_integer type) (SimpleValue (Tree.Minus e line) (OrdinalType integer))
-with_sign _ line _ = None
+with_sign sign.Plus line v = operand_of Integer v >>= (λ e. Some (number (Tree.Plus e)))
+with_sign sign.Minus line v = operand_of Integer v >>= (λ e. Some (number (Tree.Minus e line)))
 
 unfoldable pub negated : Value → Option Value
-negated (SimpleValue e type) = provided (is_boolean type) (SimpleValue (Tree.Not e) (OrdinalType boolean))
-negated _ = None
+negated v = operand_of Boolean v >>= (λ e. Some (truth (Tree.Not e)))
 
 -- ---- operators on two operands
 
 -- on integers (6.7.2.2)
 unfoldable pub arithmetic : ArithmeticOperator → ℕ → Value → Value → Option Value
-arithmetic operator line (SimpleValue a s) (SimpleValue b t) =
-    provided (is_integer s && is_integer t) (SimpleValue (Tree.Arithmetic operator a b line) (OrdinalType integer))
-arithmetic operator line _ _ = None
+arithmetic operator line v w = operand_of Integer v >>= (λ a. operand_of Integer w >>= (λ b. Some (number (Tree.Arithmetic operator a b line))))
 
 -- on integers or on sets of compatible types (6.7.2.4)
 unfoldable pub arithmetic_or_set : ArithmeticOperator → SetOperator → ℕ → Value → Value → Option Value
@@ -53,9 +64,7 @@ arithmetic_or_set operator sets line a b = arithmetic operator line a b
 
 -- on Boolean operands (6.7.2.3)
 unfoldable pub logic : BooleanOperator → Value → Value → Option Value
-logic operator (SimpleValue a s) (SimpleValue b t) =
-    provided (is_boolean s && is_boolean t) (SimpleValue (Tree.Logic operator a b) (OrdinalType boolean))
-logic operator _ _ = None
+logic operator v w = operand_of Boolean v >>= (λ a. operand_of Boolean w >>= (λ b. Some (truth (Tree.Logic operator a b))))
 
 unfoldable pub added : Adding → ℕ → Value → Value → Option Value
 added adding.Plus line a b = arithmetic_or_set Add Union line a b
@@ -93,9 +102,6 @@ of_sets relation.NotEqual = Some sets.Other
 of_sets relation.LessEqual = Some sets.Included
 of_sets relation.GreaterEqual = Some sets.Includes
 of_sets _ = None
-
-abbrev pub truth : Tree.Expr → Value
-truth e = SimpleValue e (OrdinalType boolean)
 
 -- two ordinals, or two pointers or nil, of types that are compatible
 unfoldable pub simple_comparison : Relation → Tree.Expr → Tree.Expr → DataType → Option Value

@@ -1,6 +1,7 @@
 -- Variables (6.5).
 use Rattle.std.specs.Prelude.{ℕ, false, List, Option, Some, None, slice_get}
 use Rattle.ps_tree.specs.Types.{DataType, OrdinalType, PointerType, ArrayType, RecordType, field_in, is_compatible}
+use Rattle.ps_tree.specs.declared.types.Ordinal.{Ordinal}
 use Rattle.ps_tree.specs.Tree as Tree
 use Rattle.ps_regions.specs.Option.{◌>>=◌, provided}
 use Rattle.ps_regions.specs.Spelling.{line_in}
@@ -14,10 +15,15 @@ variable_at (BlockPoint up (ParameterMeaning entry type)) = Some (record { place
 variable_at (FieldPoint which record_type number type) = Some (record { place = Tree.Opened which record_type number; type = type; in_packed = is_packed record_type })
 variable_at _ = None
 
--- 6.5.3.2: an element of an array, at an index that is compatible with the array's
+-- 6.5.3.2: an index is of a type that is compatible with the array's
+unfoldable pub index_operand : Ordinal → Value → Option Tree.Expr
+index_operand index (SimpleValue e type) = provided (is_compatible type (OrdinalType index)) e
+index_operand index _ = None
+
+-- an element of an array
 unfoldable pub element : Tree.Place → DataType → Value → ℕ → Option Variable
-element place (ArrayType at packed index component) (SimpleValue e type) line =
-    provided (is_compatible type (OrdinalType index)) (record { place = Tree.Element place (ArrayType at packed index component) e line; type = component; in_packed = packed })
+element place (ArrayType at packed index component) v line =
+    index_operand index v >>= (λ e. Some (record { place = Tree.Element place (ArrayType at packed index component) e line; type = component; in_packed = packed }))
 element place _ _ line = None
 
 abbrev pub indexed : Context → Variable → Operand → Option Variable

@@ -22,6 +22,7 @@ use crate::parameter::{by_routine, by_value, by_variable, parameters};
 use crate::place::{component, element, left_out, target, variable_found, wrong_kind};
 use crate::site::Site;
 use crate::value::{TypedPlace, TypedValue, loaded};
+use ps_regions::answer::paired;
 use ps_regions::constants::{ConstantValue, INTEGER, number_at};
 use ps_regions::meaning::{Meaning, Required, Section};
 use ps_regions::refusal::{Fault, Rule};
@@ -101,6 +102,7 @@ fn range(
     ensures err { IfErr result (λ fault. IsFault fault → both (expr_of from.0, from.1) (expr_of to.0, to.1) (line_in (context_at site.entry).text at.first) ≡ None) }
 {
     if !same_host(from.1.host, to.1.host) {
+        drop((from, to));
         return Err(wrong_type(at.second));
     }
     let member = Member::Range {
@@ -327,8 +329,7 @@ pub fn expr_value(x: &Syntax, site: Site<'_>) -> Result<TypedValue, Fault>
                 first: left.first_token(),
                 second: right.first_token(),
             };
-            let left = simple_value(left, site)?;
-            let right = simple_value(right, site)?;
+            let (left, right) = paired(simple_value(left, site), simple_value(right, site))?;
             compared(site.alloc, *relation, left, right, at)
         }
     }
@@ -470,8 +471,8 @@ fn set_value(members: &[SyntaxMember], site: Site<'_>) -> Result<TypedValue, Fau
     let mut base = None;
     for x in members {
         let (member, ordinal) = member_value(x, site)?;
-        base = Some(joined(base, ordinal, x.first_token())?);
         list.push(member)?;
+        base = Some(joined(base, ordinal, x.first_token())?);
     }
     Ok(constructed(list, base))
 }
@@ -496,10 +497,8 @@ fn member_value(x: &SyntaxMember, site: Site<'_>) -> Result<(Member, Ordinal), F
                 first: from.first_token(),
                 second: to.first_token(),
             };
-            let from = expr_value(from, site)?;
-            let to = expr_value(to, site)?;
-            let from = ordinal_of(from, at.first)?;
-            let to = ordinal_of(to, at.second)?;
+            let (from, to) = paired(expr_value(from, site), expr_value(to, site))?;
+            let (from, to) = paired(ordinal_of(from, at.first), ordinal_of(to, at.second))?;
             range(site, from, to, at)
         }
     }

@@ -2,7 +2,7 @@
 
 ghost use Rattle.std.specs.Prelude.{◌≡◌, IfOk, IfErr, Some, None};
 ghost use Rattle.ps_tree.specs.View.{expr_of};
-ghost use Rattle.ps_regions.specs.Refusal.{IsFault};
+ghost use Rattle.ps_regions.specs.Refusal.{IsFault, IsToldAt};
 ghost use Rattle.ps_regions.specs.Views.{point_of};
 ghost use Rattle.ps_typing.specs.Values.{ordinal_of};
 ghost use Rattle.ps_typing.specs.Calls.{needs_integer, function_of, required_value, look, is_input};
@@ -64,6 +64,7 @@ pub(crate) fn of_constant(constant: ConstantValue, at: u32) -> Result<TypedValue
 pub fn ordinal_of(value: TypedValue, at: u32) -> Result<(Expr, Ordinal), Fault>
     ensures ok { IfOk result (λ v. ordinal_of (value_of value) ≡ Some (expr_of v.0, v.1)) }
     ensures err { IfErr result (λ fault. IsFault fault → ordinal_of (value_of value) ≡ None) }
+    ensures told { IfErr result (IsToldAt at) }
 {
     ordinal_or(value, wrong_type(at))
 }
@@ -73,6 +74,7 @@ pub fn ordinal_of(value: TypedValue, at: u32) -> Result<(Expr, Ordinal), Fault>
 fn ordinal_or(value: TypedValue, wrong: Fault) -> Result<(Expr, Ordinal), Fault>
     ensures ok { IfOk result (λ v. ordinal_of (value_of value) ≡ Some (expr_of v.0, v.1)) }
     ensures err { IfErr result (λ fault. IsFault fault → ordinal_of (value_of value) ≡ None) }
+    ensures told { IfErr result (λ fault. fault ≡ wrong) }
 {
     match value {
         TypedValue::Simple(value, ty) => match ty {
@@ -83,9 +85,15 @@ fn ordinal_or(value: TypedValue, wrong: Fault) -> Result<(Expr, Ordinal), Fault>
             | Ty::EmptySet
             | Ty::Text { .. }
             | Ty::Array { .. }
-            | Ty::Record { .. } => Err(wrong),
+            | Ty::Record { .. } => {
+                drop(value);
+                Err(wrong)
+            }
         },
-        TypedValue::Set(..) | TypedValue::Structure(..) => Err(wrong),
+        other @ (TypedValue::Set(..) | TypedValue::Structure(..)) => {
+            drop(other);
+            Err(wrong)
+        }
     }
 }
 
@@ -212,13 +220,13 @@ pub(crate) fn required_value(
 {
     let wrong = refused(required, Rule::WrongType, at);
     let (operand, ordinal) = ordinal_or(operand, wrong)?;
+    let operand = Box::new(alloc, operand)?;
     let Some((function, ty)) = function_of(required, ordinal) else {
         return Err(wrong);
     };
     if needs_integer(required) && !same_host(ordinal.host, Host::Integer) {
         return Err(wrong);
     }
-    let operand = Box::new(alloc, operand)?;
     let value = Expr::Apply {
         function,
         operand,

@@ -1,14 +1,18 @@
 //! The operators (ISO 7185, 6.7.2).
 
-ghost use Rattle.std.specs.Prelude.{◌≡◌, IfOk, IfErr, Some, None};
+ghost use Rattle.std.specs.Prelude.{◌≡◌, false, if◌then◌else◌, IfOk, IfErr, Some, None};
 ghost use Rattle.ps_tree.specs.View.{type_of, expr_of, set_of, structure_of};
-ghost use Rattle.ps_tree.specs.Types.{are_same, string_length, OrdinalType};
+ghost use Rattle.ps_tree.specs.Types.{are_same, is_compatible, string_length, OrdinalType};
+ghost use Rattle.ps_tree.specs.Tree as Tree;
+ghost use Rattle.ps_regions.specs.Option.{provided};
 ghost use Rattle.ps_regions.specs.Refusal.{IsFault};
-ghost use Rattle.ps_typing.specs.Values.{SimpleValue, SetValue, StructureValue};
-ghost use Rattle.ps_typing.specs.Operators.{with_sign, negated, arithmetic, arithmetic_or_set, logic, added, multiplied, ordered, of_pointers, of_sets, simple_comparison, may_be_member, is_in, compared, truth};
+ghost use Rattle.ps_regions.specs.declared.refusal.Fault.TheVariants.{Broken};
+ghost use Rattle.ps_regions.specs.declared.refusal.Rule.TheVariants.{WrongType};
+ghost use Rattle.ps_typing.specs.Values.{SimpleValue, SetValue, StructureValue, set_type_of_both};
+ghost use Rattle.ps_typing.specs.Operators.{operand_of, number, with_sign, negated, arithmetic, arithmetic_or_set, logic, added, multiplied, ordered, of_pointers, of_sets, simple_comparison, may_be_member, is_in, compared, truth};
 ghost use Rattle.ps_typing.specs.View.{value_of};
 
-use crate::value::{TypedValue, is_boolean, is_integer, set_type_of_both};
+use crate::value::{TypedValue, has_host, set_type_of_both};
 use ps_regions::constants::{BOOLEAN, INTEGER};
 use ps_regions::refusal::{Fault, Rule};
 use ps_syntax::{Adding, Multiplying, Relation, Sign};
@@ -17,8 +21,8 @@ use ps_tree::tree::{
     ArithmeticOperator, BooleanOperator, Expr, PointerRelation, Relation as TreeRelation, SetExpr,
     SetOperator, SetRelation, Structure,
 };
-use ps_tree::types::{Ty, compatible, same_host};
-use std::alloc::Global;
+use ps_tree::types::{Host, Ty, compatible, same_host};
+use std::alloc::{AllocError, Global};
 
 /// Where the first tokens of two operands are.
 #[derive(Clone, Copy)]
@@ -29,7 +33,8 @@ pub struct Operands {
 
 /// An operand of a wrong type, whose first token is at `at`.
 pub fn wrong_type(at: u32) -> Fault
-    ensures { IsFault result }
+    ensures fault { IsFault result }
+    ensures told { result ≡ Broken WrongType at }
 {
     Fault::Broken {
         rule: Rule::WrongType,
@@ -40,7 +45,8 @@ pub fn wrong_type(at: u32) -> Fault
 impl Operands {
     /// The first operand can't be right by itself, or else the two don't go together.
     fn wrong(self, is_first_right: bool) -> Fault
-        ensures { IsFault result }
+        ensures fault { IsFault result }
+        ensures told { result ≡ Broken WrongType (if is_first_right then self.second else self.first) }
     {
         wrong_type(if is_first_right {
             self.second
@@ -50,8 +56,56 @@ impl Operands {
     }
 }
 
+/// Two parts of the tree, on the heap.
+fn boxed_pair<A: Drop, B: Drop>(
+    alloc: Global,
+    left: A,
+    right: B,
+) -> Result<(Box<A>, Box<B>), AllocError>
+    ensures left { IfOk result (λ pair. pair.0.value ≡ left) }
+    ensures right { IfOk result (λ pair. pair.1.value ≡ right) }
+{
+    Ok((Box::new(alloc, left)?, Box::new(alloc, right)?))
+}
+
+/// An operand that must be of the host type or of a subrange of it; `at` is where it begins.
+#[tactic(auto, unfolding(crate::specs::Operators::operand_of, crate::specs::View::value_of))]
+fn operand_of(alloc: Global, host: Host, operand: TypedValue, at: u32) -> Result<Box<Expr>, Fault>
+    ensures ok { IfOk result (λ e. operand_of host (value_of operand) ≡ Some (expr_of e.value)) }
+    ensures err { IfErr result (λ fault. IsFault fault → operand_of host (value_of operand) ≡ None) }
+{
+    match operand {
+        TypedValue::Simple(value, ty) => {
+            let value = Box::new(alloc, value)?;
+            if has_host(&ty, host) {
+                Ok(value)
+            } else {
+                Err(wrong_type(at))
+            }
+        }
+        other @ (TypedValue::Set(..) | TypedValue::Structure(..)) => {
+            drop(other);
+            Err(wrong_type(at))
+        }
+    }
+}
+
+#[tactic(auto, unfolding(crate::specs::View::value_of, ps_tree::specs::View::type_of))]
+fn number(value: Expr) -> TypedValue
+    ensures { value_of result ≡ number (expr_of value) }
+{
+    TypedValue::Simple(value, Ty::Simple(INTEGER))
+}
+
+#[tactic(auto, unfolding(crate::specs::View::value_of, ps_tree::specs::View::type_of))]
+fn truth(value: Expr) -> TypedValue
+    ensures { value_of result ≡ truth (expr_of value) }
+{
+    TypedValue::Simple(value, Ty::Simple(BOOLEAN))
+}
+
 /// An operand with a sign before it; `at` is where the operand begins.
-#[tactic(auto, unfolding(crate::specs::Operators::with_sign, crate::specs::View::value_of, ps_tree::specs::View::type_of, ps_tree::specs::View::expr_of))]
+#[tactic(auto, unfolding(crate::specs::Operators::with_sign, ps_tree::specs::View::expr_of))]
 pub(crate) fn with_sign(
     alloc: Global,
     sign: Sign,
@@ -62,42 +116,25 @@ pub(crate) fn with_sign(
     ensures ok { IfOk result (λ v. with_sign sign line.number (value_of operand) ≡ Some (value_of v)) }
     ensures err { IfErr result (λ fault. IsFault fault → with_sign sign line.number (value_of operand) ≡ None) }
 {
-    match operand {
-        TypedValue::Simple(value, ty) => {
-            if !is_integer(&ty) {
-                return Err(wrong_type(at));
-            }
-            let operand = Box::new(alloc, value)?;
-            let signed = match sign {
-                Sign::Plus => Expr::Plus(operand),
-                Sign::Minus => Expr::Minus { operand, line },
-            };
-            Ok(TypedValue::Simple(signed, Ty::Simple(INTEGER)))
-        }
-        TypedValue::Set(..) | TypedValue::Structure(..) => Err(wrong_type(at)),
-    }
+    let operand = operand_of(alloc, Host::Integer, operand, at)?;
+    Ok(number(match sign {
+        Sign::Plus => Expr::Plus(operand),
+        Sign::Minus => Expr::Minus { operand, line },
+    }))
 }
 
 /// `not` before an operand, which begins at `at`.
-#[tactic(auto, unfolding(crate::specs::Operators::negated, crate::specs::View::value_of, ps_tree::specs::View::type_of, ps_tree::specs::View::expr_of))]
+#[tactic(auto, unfolding(crate::specs::Operators::negated, ps_tree::specs::View::expr_of))]
 pub(crate) fn negated(alloc: Global, operand: TypedValue, at: u32) -> Result<TypedValue, Fault>
     ensures ok { IfOk result (λ v. negated (value_of operand) ≡ Some (value_of v)) }
     ensures err { IfErr result (λ fault. IsFault fault → negated (value_of operand) ≡ None) }
 {
-    match operand {
-        TypedValue::Simple(value, ty) => {
-            if !is_boolean(&ty) {
-                return Err(wrong_type(at));
-            }
-            let value = Expr::Not(Box::new(alloc, value)?);
-            Ok(TypedValue::Simple(value, Ty::Simple(BOOLEAN)))
-        }
-        TypedValue::Set(..) | TypedValue::Structure(..) => Err(wrong_type(at)),
-    }
+    let operand = operand_of(alloc, Host::Boolean, operand, at)?;
+    Ok(truth(Expr::Not(operand)))
 }
 
 /// An operator on two integers.
-#[tactic(auto, unfolding(crate::specs::Operators::arithmetic, crate::specs::View::value_of, ps_tree::specs::View::type_of, ps_tree::specs::View::expr_of))]
+#[tactic(auto, unfolding(crate::specs::Operators::arithmetic, ps_tree::specs::View::expr_of))]
 fn arithmetic(
     alloc: Global,
     operator: ArithmeticOperator,
@@ -109,29 +146,45 @@ fn arithmetic(
     ensures ok { IfOk result (λ v. arithmetic operator line.number (value_of left) (value_of right) ≡ Some (value_of v)) }
     ensures err { IfErr result (λ fault. IsFault fault → arithmetic operator line.number (value_of left) (value_of right) ≡ None) }
 {
-    match (left, right) {
-        (TypedValue::Simple(a, s), TypedValue::Simple(b, t)) => {
-            let is_first_right = is_integer(&s);
-            if !(is_first_right && is_integer(&t)) {
-                return Err(at.wrong(is_first_right));
-            }
-            let value = Expr::Arithmetic {
-                operator,
-                left: Box::new(alloc, a)?,
-                right: Box::new(alloc, b)?,
-                line,
-            };
-            Ok(TypedValue::Simple(value, Ty::Simple(INTEGER)))
-        }
-        (TypedValue::Simple(_, s), TypedValue::Set(..) | TypedValue::Structure(..)) => Err(at.wrong(
-            is_integer(&s),
-        )),
-        (TypedValue::Set(..) | TypedValue::Structure(..), _) => Err(at.wrong(false)),
+    let left = operand_of(alloc, Host::Integer, left, at.first);
+    let right = operand_of(alloc, Host::Integer, right, at.second);
+    Ok(number(Expr::Arithmetic {
+        operator,
+        left: left?,
+        right: right?,
+        line,
+    }))
+}
+
+/// An operator on two sets of compatible types.
+#[tactic(auto, unfolding(crate::specs::View::value_of, ps_tree::specs::View::set_of))]
+fn set_operation(
+    alloc: Global,
+    operator: SetOperator,
+    left: (SetExpr, Ty),
+    right: (SetExpr, Ty),
+    at: Operands,
+) -> Result<TypedValue, Fault>
+    ensures ok { IfOk result (λ v. provided (is_compatible (type_of left.1) (type_of right.1)) (SetValue (Tree.Combine operator (set_of left.0) (set_of right.0)) (set_type_of_both (type_of left.1) (type_of right.1))) ≡ Some (value_of v)) }
+    ensures err { IfErr result (λ fault. IsFault fault → is_compatible (type_of left.1) (type_of right.1) ≡ false) }
+{
+    let ty = set_type_of_both(&left.1, &right.1);
+    let are_compatible = compatible(&left.1, &right.1);
+    let (left, right) = boxed_pair(alloc, left.0, right.0)?;
+    if are_compatible {
+        let value = SetExpr::Combine {
+            operator,
+            left,
+            right,
+        };
+        Ok(TypedValue::Set(value, ty))
+    } else {
+        Err(at.wrong(true))
     }
 }
 
-/// An operator on two sets.
-#[tactic(auto, unfolding(crate::specs::Operators::arithmetic_or_set, crate::specs::Operators::arithmetic, crate::specs::View::value_of, ps_tree::specs::View::set_of))]
+/// An operator on two integers or on two sets.
+#[tactic(auto, unfolding(crate::specs::Operators::arithmetic_or_set, crate::specs::Operators::arithmetic, crate::specs::Operators::operand_of, crate::specs::View::value_of))]
 fn arithmetic_or_set(
     alloc: Global,
     operators: (ArithmeticOperator, SetOperator),
@@ -145,26 +198,21 @@ fn arithmetic_or_set(
 {
     match (left, right) {
         (TypedValue::Set(a, s), TypedValue::Set(b, t)) => {
-            if !compatible(&s, &t) {
-                return Err(at.wrong(true));
-            }
-            let ty = set_type_of_both(&s, &t);
-            let value = SetExpr::Combine {
-                operator: operators.1,
-                left: Box::new(alloc, a)?,
-                right: Box::new(alloc, b)?,
-            };
-            Ok(TypedValue::Set(value, ty))
+            set_operation(alloc, operators.1, (a, s), (b, t), at)
         }
-        (TypedValue::Set(..), TypedValue::Simple(..) | TypedValue::Structure(..)) => Err(at.wrong(
-            true,
-        )),
+        (
+            left @ TypedValue::Set(..),
+            right @ (TypedValue::Simple(..) | TypedValue::Structure(..)),
+        ) => {
+            drop((left, right));
+            Err(at.wrong(true))
+        }
         (left, right) => arithmetic(alloc, operators.0, line, left, right, at),
     }
 }
 
 /// An operator on two Boolean operands.
-#[tactic(auto, unfolding(crate::specs::Operators::logic, crate::specs::View::value_of, ps_tree::specs::View::type_of, ps_tree::specs::View::expr_of))]
+#[tactic(auto, unfolding(crate::specs::Operators::logic, ps_tree::specs::View::expr_of))]
 fn logic(
     alloc: Global,
     operator: BooleanOperator,
@@ -175,24 +223,13 @@ fn logic(
     ensures ok { IfOk result (λ v. logic operator (value_of left) (value_of right) ≡ Some (value_of v)) }
     ensures err { IfErr result (λ fault. IsFault fault → logic operator (value_of left) (value_of right) ≡ None) }
 {
-    match (left, right) {
-        (TypedValue::Simple(a, s), TypedValue::Simple(b, t)) => {
-            let is_first_right = is_boolean(&s);
-            if !(is_first_right && is_boolean(&t)) {
-                return Err(at.wrong(is_first_right));
-            }
-            let value = Expr::Logic {
-                operator,
-                left: Box::new(alloc, a)?,
-                right: Box::new(alloc, b)?,
-            };
-            Ok(TypedValue::Simple(value, Ty::Simple(BOOLEAN)))
-        }
-        (TypedValue::Simple(_, s), TypedValue::Set(..) | TypedValue::Structure(..)) => Err(at.wrong(
-            is_boolean(&s),
-        )),
-        (TypedValue::Set(..) | TypedValue::Structure(..), _) => Err(at.wrong(false)),
-    }
+    let left = operand_of(alloc, Host::Boolean, left, at.first);
+    let right = operand_of(alloc, Host::Boolean, right, at.second);
+    Ok(truth(Expr::Logic {
+        operator,
+        left: left?,
+        right: right?,
+    }))
 }
 
 /// An adding operator.
@@ -300,33 +337,30 @@ fn may_be_first(relation: Relation, ty: &Ty) -> bool {
     }
 }
 
-#[tactic(auto, unfolding(crate::specs::View::value_of, ps_tree::specs::View::type_of))]
-fn truth(value: Expr) -> TypedValue
-    ensures { value_of result ≡ truth (expr_of value) }
-{
-    TypedValue::Simple(value, Ty::Simple(BOOLEAN))
-}
-
-/// A comparison of two ordinals, or of two pointers or nil, of compatible types, the first of which is `ty`.
-#[tactic(auto, unfolding(crate::specs::Operators::simple_comparison, ps_tree::specs::View::type_of, ps_tree::specs::View::expr_of))]
+/// A comparison of two ordinals, or of two pointers or nil, of compatible types.
+#[tactic(auto, unfolding(crate::specs::Operators::simple_comparison, crate::specs::Operators::compared, crate::specs::View::value_of, ps_tree::specs::View::type_of, ps_tree::specs::View::expr_of))]
 fn simple_comparison(
     alloc: Global,
     relation: Relation,
-    left: Expr,
-    right: Expr,
-    ty: &Ty,
+    left: (Expr, &Ty),
+    right: (Expr, &Ty),
     at: Operands,
 ) -> Result<TypedValue, Fault>
-    ensures ok { IfOk result (λ v. simple_comparison relation (expr_of left) (expr_of right) (type_of ty.now) ≡ Some (value_of v)) }
-    ensures err { IfErr result (λ fault. IsFault fault → simple_comparison relation (expr_of left) (expr_of right) (type_of ty.now) ≡ None) }
+    ensures ok { IfOk result (λ v. compared relation (SimpleValue (expr_of left.entry.0) (type_of left.entry.1.now)) (SimpleValue (expr_of right.entry.0) (type_of right.entry.1.now)) ≡ Some (value_of v)) }
+    ensures err { IfErr result (λ fault. IsFault fault → compared relation (SimpleValue (expr_of left.entry.0) (type_of left.entry.1.now)) (SimpleValue (expr_of right.entry.0) (type_of right.entry.1.now)) ≡ None) }
 {
-    match ty {
+    let ((left, s), (right, t)) = (left, right);
+    let (left, right) = boxed_pair(alloc, left, right)?;
+    if !compatible(s, t) {
+        return Err(at.wrong(may_be_first(relation, s)));
+    }
+    match s {
         Ty::Simple(_) => match ordered(relation) {
             None => Err(at.wrong(true)),
             Some(relation) => Ok(truth(Expr::Compare {
                 relation,
-                left: Box::new(alloc, left)?,
-                right: Box::new(alloc, right)?,
+                left,
+                right,
             })),
         },
         Ty::Pointer { .. }
@@ -339,8 +373,8 @@ fn simple_comparison(
             None => Err(at.wrong(false)),
             Some(relation) => Ok(truth(Expr::ComparePointers {
                 relation,
-                left: Box::new(alloc, left)?,
-                right: Box::new(alloc, right)?,
+                left,
+                right,
             })),
         },
     }
@@ -383,23 +417,22 @@ fn are_equally_long(a: &Ty, b: &Ty) -> bool
 fn set_comparison(
     alloc: Global,
     relation: Relation,
-    left: (SetExpr, Ty),
-    right: (SetExpr, Ty),
+    left: (SetExpr, &Ty),
+    right: (SetExpr, &Ty),
     at: Operands,
 ) -> Result<TypedValue, Fault>
-    ensures ok { IfOk result (λ v. compared relation (SetValue (set_of left.0) (type_of left.1)) (SetValue (set_of right.0) (type_of right.1)) ≡ Some (value_of v)) }
-    ensures err { IfErr result (λ fault. IsFault fault → compared relation (SetValue (set_of left.0) (type_of left.1)) (SetValue (set_of right.0) (type_of right.1)) ≡ None) }
+    ensures ok { IfOk result (λ v. compared relation (SetValue (set_of left.entry.0) (type_of left.entry.1.now)) (SetValue (set_of right.entry.0) (type_of right.entry.1.now)) ≡ Some (value_of v)) }
+    ensures err { IfErr result (λ fault. IsFault fault → compared relation (SetValue (set_of left.entry.0) (type_of left.entry.1.now)) (SetValue (set_of right.entry.0) (type_of right.entry.1.now)) ≡ None) }
 {
-    if !compatible(&left.1, &right.1) {
-        return Err(at.wrong(may_be_first(relation, &left.1)));
-    }
+    let ((left, s), (right, t)) = (left, right);
+    let (left, right) = boxed_pair(alloc, left, right)?;
     match of_sets(relation) {
-        None => Err(at.wrong(false)),
-        Some(relation) => Ok(truth(Expr::CompareSets {
+        Some(relation) if compatible(s, t) => Ok(truth(Expr::CompareSets {
             relation,
-            left: Box::new(alloc, left.0)?,
-            right: Box::new(alloc, right.0)?,
+            left,
+            right,
         })),
+        _ => Err(at.wrong(may_be_first(relation, s))),
     }
 }
 
@@ -408,23 +441,22 @@ fn set_comparison(
 fn string_comparison(
     alloc: Global,
     relation: Relation,
-    left: (Structure, Ty),
-    right: (Structure, Ty),
+    left: (Structure, &Ty),
+    right: (Structure, &Ty),
     at: Operands,
 ) -> Result<TypedValue, Fault>
-    ensures ok { IfOk result (λ v. compared relation (StructureValue (structure_of left.0) (type_of left.1)) (StructureValue (structure_of right.0) (type_of right.1)) ≡ Some (value_of v)) }
-    ensures err { IfErr result (λ fault. IsFault fault → compared relation (StructureValue (structure_of left.0) (type_of left.1)) (StructureValue (structure_of right.0) (type_of right.1)) ≡ None) }
+    ensures ok { IfOk result (λ v. compared relation (StructureValue (structure_of left.entry.0) (type_of left.entry.1.now)) (StructureValue (structure_of right.entry.0) (type_of right.entry.1.now)) ≡ Some (value_of v)) }
+    ensures err { IfErr result (λ fault. IsFault fault → compared relation (StructureValue (structure_of left.entry.0) (type_of left.entry.1.now)) (StructureValue (structure_of right.entry.0) (type_of right.entry.1.now)) ≡ None) }
 {
-    if !are_equally_long(&left.1, &right.1) {
-        return Err(at.wrong(may_be_first(relation, &left.1)));
-    }
+    let ((left, s), (right, t)) = (left, right);
+    let (left, right) = boxed_pair(alloc, left, right)?;
     match ordered(relation) {
-        None => Err(at.wrong(false)),
-        Some(relation) => Ok(truth(Expr::CompareStrings {
+        Some(relation) if are_equally_long(s, t) => Ok(truth(Expr::CompareStrings {
             relation,
-            left: Box::new(alloc, left.0)?,
-            right: Box::new(alloc, right.0)?,
+            left,
+            right,
         })),
+        _ => Err(at.wrong(may_be_first(relation, s))),
     }
 }
 
@@ -433,29 +465,38 @@ fn string_comparison(
 fn membership(
     alloc: Global,
     relation: Relation,
-    left: (Expr, Ty),
-    right: (SetExpr, Ty),
+    left: (Expr, &Ty),
+    right: (SetExpr, &Ty),
     at: Operands,
 ) -> Result<TypedValue, Fault>
-    ensures ok { IfOk result (λ v. compared relation (SimpleValue (expr_of left.0) (type_of left.1)) (SetValue (set_of right.0) (type_of right.1)) ≡ Some (value_of v)) }
-    ensures err { IfErr result (λ fault. IsFault fault → compared relation (SimpleValue (expr_of left.0) (type_of left.1)) (SetValue (set_of right.0) (type_of right.1)) ≡ None) }
+    ensures ok { IfOk result (λ v. compared relation (SimpleValue (expr_of left.entry.0) (type_of left.entry.1.now)) (SetValue (set_of right.entry.0) (type_of right.entry.1.now)) ≡ Some (value_of v)) }
+    ensures err { IfErr result (λ fault. IsFault fault → compared relation (SimpleValue (expr_of left.entry.0) (type_of left.entry.1.now)) (SetValue (set_of right.entry.0) (type_of right.entry.1.now)) ≡ None) }
 {
+    let ((left, s), (right, t)) = (left, right);
+    let (left, right) = boxed_pair(alloc, left, right)?;
     match relation {
         Relation::In => {
-            if !may_be_member(&left.1, &right.1) {
-                return Err(at.wrong(false));
+            if may_be_member(s, t) {
+                Ok(truth(Expr::In { left, right }))
+            } else {
+                Err(at.wrong(false))
             }
-            Ok(truth(Expr::In {
-                left: Box::new(alloc, left.0)?,
-                right: Box::new(alloc, right.0)?,
-            }))
         }
         Relation::Equal
         | Relation::NotEqual
         | Relation::Less
         | Relation::Greater
         | Relation::LessEqual
-        | Relation::GreaterEqual => Err(at.wrong(may_be_first(relation, &left.1))),
+        | Relation::GreaterEqual => Err(at.wrong(may_be_first(relation, s))),
+    }
+}
+
+/// Why no relation compares two operands, the first of which is `left`.
+fn unlike(relation: Relation, left: &TypedValue, at: Operands) -> Fault {
+    match left {
+        TypedValue::Simple(_, ty) | TypedValue::Set(_, ty) | TypedValue::Structure(_, ty) => {
+            at.wrong(may_be_first(relation, ty))
+        }
     }
 }
 
@@ -471,28 +512,28 @@ pub(crate) fn compared(
     ensures ok { IfOk result (λ v. compared relation (value_of left) (value_of right) ≡ Some (value_of v)) }
     ensures err { IfErr result (λ fault. IsFault fault → compared relation (value_of left) (value_of right) ≡ None) }
 {
-    match left {
-        TypedValue::Simple(a, s) => match right {
-            TypedValue::Simple(b, t) => {
-                if !compatible(&s, &t) {
-                    return Err(at.wrong(may_be_first(relation, &s)));
-                }
-                simple_comparison(alloc, relation, a, b, &s, at)
-            }
-            TypedValue::Set(b, t) => membership(alloc, relation, (a, s), (b, t), at),
-            TypedValue::Structure(..) => Err(at.wrong(may_be_first(relation, &s))),
-        },
-        TypedValue::Set(a, s) => match right {
-            TypedValue::Set(b, t) => set_comparison(alloc, relation, (a, s), (b, t), at),
-            TypedValue::Simple(..) | TypedValue::Structure(..) => Err(at.wrong(may_be_first(
-                relation, &s,
-            ))),
-        },
-        TypedValue::Structure(a, s) => match right {
-            TypedValue::Structure(b, t) => string_comparison(alloc, relation, (a, s), (b, t), at),
-            TypedValue::Simple(..) | TypedValue::Set(..) => Err(at.wrong(may_be_first(
-                relation, &s,
-            ))),
-        },
+    match (left, right) {
+        (TypedValue::Simple(a, s), TypedValue::Simple(b, t)) => {
+            simple_comparison(alloc, relation, (a, &s), (b, &t), at)
+        }
+        (TypedValue::Simple(a, s), TypedValue::Set(b, t)) => {
+            membership(alloc, relation, (a, &s), (b, &t), at)
+        }
+        (TypedValue::Set(a, s), TypedValue::Set(b, t)) => {
+            set_comparison(alloc, relation, (a, &s), (b, &t), at)
+        }
+        (TypedValue::Structure(a, s), TypedValue::Structure(b, t)) => {
+            string_comparison(alloc, relation, (a, &s), (b, &t), at)
+        }
+        (left @ TypedValue::Simple(..), right @ TypedValue::Structure(..))
+        | (left @ TypedValue::Set(..), right @ (TypedValue::Simple(..) | TypedValue::Structure(..)))
+        | (
+            left @ TypedValue::Structure(..),
+            right @ (TypedValue::Simple(..) | TypedValue::Set(..)),
+        ) => {
+            let wrong = unlike(relation, &left, at);
+            drop((left, right));
+            Err(wrong)
+        }
     }
 }

@@ -1,10 +1,11 @@
 //! Formal and actual parameters (ISO 7185, 6.6.3).
 
 ghost use Rattle.std.specs.Prelude.{◌≡◌, ◌++◌, [], List, map, option_map, IfOk, IfErr, Some, None};
-ghost use Rattle.ps_tree.specs.View.{type_of, argument_of};
-ghost use Rattle.ps_regions.specs.Refusal.{IsFault};
+ghost use Rattle.ps_tree.specs.View.{type_of, set_of, argument_of};
+ghost use Rattle.ps_regions.specs.Refusal.{IsFault, IsToldAt};
 ghost use Rattle.ps_regions.specs.Regions.{Section as SectionOf};
 ghost use Rattle.ps_regions.specs.Views.{point_of, section_of, sections_of};
+ghost use Rattle.ps_typing.specs.Values.{SetValue};
 ghost use Rattle.ps_typing.specs.Calls.{are_one_type, congruous, are_alike, times, with_parameters, parameters, by_value, by_variable, by_routine};
 ghost use Rattle.ps_typing.specs.View.{value_of, variable_of};
 
@@ -15,7 +16,7 @@ use ps_regions::meaning::{Meaning, Section};
 use ps_regions::refusal::{Fault, Rule};
 use ps_regions::scope::Found;
 use ps_tree::line::Line;
-use ps_tree::tree::Argument;
+use ps_tree::tree::{Argument, SetExpr};
 use ps_tree::types::{Ty, assignable, same_type};
 use std::alloc::{AllocError, Global};
 
@@ -73,11 +74,51 @@ fn are_alike(a: &Section, b: &Section) -> bool
     }
 }
 
+/// An actual parameter by value that is a set, or else what is wrong.
+#[tactic(auto, unfolding(crate::specs::Calls::by_value, ps_tree::specs::View::type_of, ps_tree::specs::View::argument_of))]
+fn set_by_value(
+    ty: &Ty,
+    value: SetExpr,
+    from: Ty,
+    line: Line,
+    wrong: Fault,
+) -> Result<Argument, Fault>
+    ensures ok { IfOk result (λ a. by_value (type_of ty.now) (SetValue (set_of value) (type_of from)) line.number ≡ Some (argument_of a)) }
+    ensures err { IfErr result (λ fault. IsFault fault → by_value (type_of ty.now) (SetValue (set_of value) (type_of from)) line.number ≡ None) }
+    ensures told { IfErr result (λ fault. fault ≡ wrong) }
+{
+    match ty {
+        Ty::Set { base, .. } => {
+            if !assignable(&from, ty) {
+                drop(value);
+                return Err(wrong);
+            }
+            Ok(Argument::Set {
+                value,
+                low: base.low,
+                high: base.high,
+                line,
+            })
+        }
+        Ty::Simple(_)
+        | Ty::Pointer { .. }
+        | Ty::Nil
+        | Ty::EmptySet
+        | Ty::Text { .. }
+        | Ty::Array { .. }
+        | Ty::Record { .. } => {
+            drop(value);
+            Err(wrong)
+        }
+    }
+}
+
 /// An actual parameter by value, for a formal one of type `ty`.
 #[tactic(auto, unfolding(crate::specs::Calls::by_value, crate::specs::View::value_of, ps_tree::specs::View::type_of, ps_tree::specs::View::argument_of))]
 pub fn by_value(ty: &Ty, value: TypedValue, line: Line, at: u32) -> Result<Argument, Fault>
     ensures ok { IfOk result (λ a. by_value (type_of ty.now) (value_of value) line.number ≡ Some (argument_of a)) }
     ensures err { IfErr result (λ fault. IsFault fault → by_value (type_of ty.now) (value_of value) line.number ≡ None) }
+    ensures told { IfErr result (IsToldAt at) }
 {
     let wrong = Fault::Broken {
         rule: Rule::NotAssignable,
@@ -86,33 +127,16 @@ pub fn by_value(ty: &Ty, value: TypedValue, line: Line, at: u32) -> Result<Argum
     match value {
         TypedValue::Simple(value, from) => {
             if !assignable(&from, ty) {
+                drop(value);
                 return Err(wrong);
             }
             let range = range_of(ty);
             Ok(Argument::Value { value, range, line })
         }
-        TypedValue::Set(value, from) => match ty {
-            Ty::Set { base, .. } => {
-                if !assignable(&from, ty) {
-                    return Err(wrong);
-                }
-                Ok(Argument::Set {
-                    value,
-                    low: base.low,
-                    high: base.high,
-                    line,
-                })
-            }
-            Ty::Simple(_)
-            | Ty::Pointer { .. }
-            | Ty::Nil
-            | Ty::EmptySet
-            | Ty::Text { .. }
-            | Ty::Array { .. }
-            | Ty::Record { .. } => Err(wrong),
-        },
+        TypedValue::Set(value, from) => set_by_value(ty, value, from, line, wrong),
         TypedValue::Structure(value, from) => {
             if !assignable(&from, ty) {
+                drop(value);
                 return Err(wrong);
             }
             let ty = ty.copy()?;
@@ -126,6 +150,7 @@ pub fn by_value(ty: &Ty, value: TypedValue, line: Line, at: u32) -> Result<Argum
 pub fn by_variable(ty: &Ty, variable: TypedPlace, at: u32) -> Result<Argument, Fault>
     ensures ok { IfOk result (λ a. by_variable (type_of ty.now) (variable_of variable) ≡ Some (argument_of a)) }
     ensures err { IfErr result (λ fault. IsFault fault → by_variable (type_of ty.now) (variable_of variable) ≡ None) }
+    ensures told { IfErr result (IsToldAt at) }
 {
     let TypedPlace {
         place,
@@ -150,7 +175,8 @@ fn are_of_one_kind(a: &Option<Ty>, b: &Option<Ty>) -> bool {
 }
 
 fn not_congruous(a: &Option<Ty>, b: &Option<Ty>, at: u32) -> Fault
-    ensures { IsFault result }
+    ensures fault { IsFault result }
+    ensures told { IsToldAt at result }
 {
     let rule = if are_of_one_kind(a, b) {
         Rule::NotCongruous
@@ -170,6 +196,7 @@ pub fn by_routine(
 ) -> Result<Argument, Fault>
     ensures ok { IfOk result (λ a. by_routine (sections_of sections.now) (option_map type_of result_type.now) (point_of found.entry) ≡ Some (argument_of a)) }
     ensures err { IfErr result (λ fault. IsFault fault → by_routine (sections_of sections.now) (option_map type_of result_type.now) (point_of found.entry) ≡ None) }
+    ensures told { IfErr result (IsToldAt at) }
 {
     match found {
         Found::Field { .. } => Err(wrong_kind(at)),

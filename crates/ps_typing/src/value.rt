@@ -49,8 +49,9 @@ pub(crate) fn host_type(host: Host) -> Ordinal
     }
 }
 
+/// A type with the values of a host type: the host type itself, or a subrange of it.
 #[tactic(auto, unfolding(ps_tree::specs::View::type_of))]
-fn has_host(ty: &Ty, host: Host) -> bool
+pub(crate) fn has_host(ty: &Ty, host: Host) -> bool
     ensures { result ≡ has_host host (type_of ty.now) }
 {
     match ty {
@@ -167,17 +168,11 @@ pub(crate) fn loaded(alloc: Global, variable: TypedPlace, at: u32) -> Result<Typ
     ensures err { IfErr result (λ fault. IsFault fault → loaded (variable_of variable) ≡ None) }
 {
     let TypedPlace { place, ty, .. } = variable;
+    let place = Box::new(alloc, place)?;
     match ty {
-        Ty::Simple(_) | Ty::Pointer { .. } => {
-            let place = Box::new(alloc, place)?;
-            Ok(TypedValue::Simple(Expr::Load(place), ty))
-        }
-        Ty::Set { .. } => {
-            let place = Box::new(alloc, place)?;
-            Ok(TypedValue::Set(SetExpr::Load(place), ty))
-        }
+        Ty::Simple(_) | Ty::Pointer { .. } => Ok(TypedValue::Simple(Expr::Load(place), ty)),
+        Ty::Set { .. } => Ok(TypedValue::Set(SetExpr::Load(place), ty)),
         Ty::Array { .. } | Ty::Record { .. } => {
-            let place = Box::new(alloc, place)?;
             let copy = ty.copy()?;
             let contents = Structure::Contents { place, ty: copy };
             Ok(TypedValue::Structure(contents, ty))

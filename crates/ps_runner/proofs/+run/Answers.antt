@@ -1,114 +1,126 @@
-use Rattle.std.proofs.Common.{◌≡◌, ◌∙◌, ap, sym, subst, map, true, false, List, ◌∷◌, ℤ, to_z, of_z, w32, rules, arith}
+use Rattle.std.proofs.Common.{◌≡◌, ◌≤◌, ◌-◌, max, ◌∙◌, ap, sym, subst, map, true, false, List, ◌∷◌, ℤ, to_z, of_z, w32, rules, arith}
 use Rattle.std.proofs.Math.Facts.{to_z-of_z}
 use Rattle.ps_tree.specs.Tree.{Expr, Statement}
 use Rattle.ps_tree.specs.Tree as Tree
 use Rattle.ps_tree.specs.declared.tree.CaseElement.{out-CaseElement}
-use Rattle.ps_tree.specs.View.{expr_of, members_of, arguments_of, statements_of, statement_of, read_of, write_of, place_of}
-use Rattle.ps_meaning.specs.Expressions.{access, value, members_value, actuals_of, calling}
+use Rattle.ps_tree.specs.View.{expr_of, set_of, members_of, arguments_of, elements_of, statements_of, statement_of, read_of, write_of, place_of}
+use Rattle.ps_meaning.specs.Expressions.{access, members_value, actuals_of, calling}
 use Rattle.ps_meaning.specs.Statements.{Block, own_spot, with_opened}
 use Rattle.ps_meaning.specs.Values.{number_of}
 use Rattle.ps_meaning.specs.Operators.{is_among}
 use Rattle.ps_meaning.specs.Worlds as m
-use Rattle.ps_reference.specs.declared.world.Job.{Job}
-use Rattle.ps_reference.specs.declared.expressions.Actual.{Actual}
+use Rattle.ps_runner.specs.declared.world.Job.{Job}
+use Rattle.ps_runner.specs.declared.operands.Actual.{Actual}
+use Rattle.ps_runner.specs.Heights.{place_height, expr_height, statement_height, statements_height, elements_height, members_height, arguments_height, places_height, reads_height, writes_height}
+use Rattle.ps_runner.specs.Runs.{Halted, levels}
+use Rattle.ps_runner.proofs.Heights.{place_is_high, expr_is_high, set_is_high, statement_is_high, element_within, block_levels}
 use Rattle.ps_runner.proofs.Acts as a
-use Rattle.ps_reference.specs.View.{value_of, spot_of}
-use Rattle.ps_reference.specs.Worlds.{Answers, Stopped, caller, next, context_of, world_of, env_of, actual_of, acting, acting_all, counting, turning, numbers_of, reading_all, writing_all, opening_all, opened_in, done_of}
-use Rattle.ps_runner.proofs.Trees.{call_is, call_formal_is, case_is, repeat_is}
-use Rattle.ps_runner.proofs.Answers.{members_stop, actuals_stop}
+use Rattle.ps_runner.specs.View.{value_of, spot_of}
+use Rattle.ps_runner.specs.Worlds.{Stopped, caller, next, context_of, world_of, env_of, actual_of, acting, acting_all, counting, turning, numbers_of, reading_all, writing_all, opening_all, opened_in, done_of}
+use Rattle.ps_runner.proofs.Answers.{members_halt, actuals_halt, call_runs, call_formal_runs}
 use Rattle.ps_runner.proofs.+run.Goals as goal
 
+pub expressions::access-returns-then-depth-eq0 : goal.expressions::access-returns-then-depth-eq0
+expressions::access-returns-then-depth-eq0 t c = place_is_high (place_of c.args.place.now) c.args.depth _ c.if-depth-eq0.true
+
+pub expressions::evaluate-returns-then-depth-eq0 : goal.expressions::evaluate-returns-then-depth-eq0
+expressions::evaluate-returns-then-depth-eq0 t c = expr_is_high (expr_of c.args.e.now) c.args.depth _ c.if-depth-eq0.true
+
+pub expressions::evaluate_set-returns-then-depth-eq0 : goal.expressions::evaluate_set-returns-then-depth-eq0
+expressions::evaluate_set-returns-then-depth-eq0 t c = set_is_high (set_of c.args.e.now) c.args.depth _ c.if-depth-eq0.true
+
+pub statements::act-returns-then-depth-eq0 : goal.statements::act-returns-then-depth-eq0
+statements::act-returns-then-depth-eq0 t c = statement_is_high (statement_of c.args.statement.now) c.args.depth _ c.if-depth-eq0.true
+
 pub expressions::evaluate-returns-in-Call : goal.expressions::evaluate-returns-in-Call
-expressions::evaluate-returns-in-Call t c =
-    subst (λ (x : Expr). Answers value_of (value (caller c.args.c.now.job.now c.args.fuel) x (context_of c.args.c.now) (world_of c.args.world.now)) c.call_value.result c.call_value.new.world) (call_is _ _ _ _ _ _ c.in-Call.is c.deref-in-Call.ensures.value) c.call_value.ensures
+expressions::evaluate-returns-in-Call t c = call_runs c.args.c.now.job.now c.args.fuel (context_of c.args.c.now) (world_of c.args.world.now) c.args.e.now _ _ _ _ _ c.call_value.result c.call_value.new.world c.args.depth c.in-Call.is c.deref-in-Call.ensures.value c.call_value.ensures
 
 pub expressions::evaluate-returns-in-CallFormal : goal.expressions::evaluate-returns-in-CallFormal
-expressions::evaluate-returns-in-CallFormal t c =
-    subst (λ (x : Expr). Answers value_of (value (caller c.args.c.now.job.now c.args.fuel) x (context_of c.args.c.now) (world_of c.args.world.now)) c.call_formal_value.result c.call_formal_value.new.world) (call_formal_is _ _ _ _ _ _ c.in-CallFormal.is c.deref-in-CallFormal.ensures.value) c.call_formal_value.ensures
+expressions::evaluate-returns-in-CallFormal t c = call_formal_runs c.args.c.now.job.now c.args.fuel (context_of c.args.c.now) (world_of c.args.world.now) c.args.e.now _ _ _ _ _ c.call_formal_value.result c.call_formal_value.new.world c.args.depth c.in-CallFormal.is c.deref-in-CallFormal.ensures.value c.call_formal_value.ensures
 
 pub expressions::evaluate_members-returns-in_err-more : goal.expressions::evaluate_members-returns-in_err-more
 expressions::evaluate_members-returns-in_err-more t c =
-    let h : Stopped (members_value (caller c.args.c.now.job.now c.args.fuel) (members_of c.args.members.now) (context_of c.args.c.now) (world_of c.args.world.now)) c.in_err-more.field-0.0 c.evaluate_member.new.world = members_stop (caller c.args.c.now.job.now c.args.fuel) (context_of c.args.c.now) c.args.members.now c.loop-member.member-index c.loop-member.tests.items c.member-item.result _ (world_of c.loop-member.world) c.evaluate_member.new.world _ c.loop-member.invariant c.in_err-more.ensures c.member-item.is c.loop-member-test.true in
+    let h : Halted (members_value (caller c.args.c.now.job.now c.args.fuel) (members_of c.args.members.now) (context_of c.args.c.now) (world_of c.args.world.now)) c.args.depth (levels c.args.c.now.job.now c.args.fuel (members_height (members_of c.args.members.now))) c.in_err-more.field-0.0 c.evaluate_member.new.world = members_halt c.args.c.now.job.now c.args.fuel (context_of c.args.c.now) c.args.members.now c.loop-member.member-index c.loop-member.tests.items c.member-item.result _ (world_of c.loop-member.world) c.evaluate_member.new.world _ c.args.depth c.loop-member.invariant c.in_err-more.ensures c.member-item.is c.loop-member-test.true in
     search (rules, h)
 
 pub expressions::take_actuals-returns-in_err-actual : goal.expressions::take_actuals-returns-in_err-actual
 expressions::take_actuals-returns-in_err-actual t c =
-    let h : Stopped (actuals_of (caller c.args.c.now.job.now c.args.fuel) (arguments_of c.args.arguments.now) (context_of c.args.c.now) (world_of c.args.world.now)) c.in_err-actual.field-0.0 c.take_actual.new.world = actuals_stop (caller c.args.c.now.job.now c.args.fuel) (context_of c.args.c.now) c.args.arguments.now c.loop-argument.argument-index (map actual_of c.loop-argument.actuals.items) c.argument-item.result _ (world_of c.loop-argument.world) c.take_actual.new.world _ c.loop-argument.invariant c.in_err-actual.ensures c.argument-item.is c.loop-argument-test.true in
+    let h : Halted (actuals_of (caller c.args.c.now.job.now c.args.fuel) (arguments_of c.args.arguments.now) (context_of c.args.c.now) (world_of c.args.world.now)) c.args.depth (levels c.args.c.now.job.now c.args.fuel (arguments_height (arguments_of c.args.arguments.now))) c.in_err-actual.field-0.0 c.take_actual.new.world = actuals_halt c.args.c.now.job.now c.args.fuel (context_of c.args.c.now) c.args.arguments.now c.loop-argument.argument-index (map actual_of c.loop-argument.actuals.items) c.argument-item.result _ (world_of c.loop-argument.world) c.take_actual.new.world _ c.args.depth c.loop-argument.invariant c.in_err-actual.ensures c.argument-item.is c.loop-argument-test.true in
     search (rules, h)
 
 pub statements::act-returns-in-Case : goal.statements::act-returns-in-Case
-statements::act-returns-in-Case t c =
-    subst (λ (x : Statement). Answers done_of (acting c.args.c.now.job.now c.args.fuel x (context_of c.args.c.now) (world_of c.args.world.now)) c.choose.result c.choose.new.world) (case_is _ _ _ _ _ c.in-Case.is c.deref-in-Case.ensures.value) c.choose.ensures
+statements::act-returns-in-Case t c = a.case_runs c.args.c.now.job.now c.args.fuel (context_of c.args.c.now) (world_of c.args.world.now) c.args.statement.now _ _ _ _ c.choose.result c.choose.new.world c.args.depth c.in-Case.is c.deref-in-Case.ensures.value c.choose.ensures
 
 pub statements::act-returns-in-Repeat : goal.statements::act-returns-in-Repeat
-statements::act-returns-in-Repeat t c =
-    subst (λ (x : Statement). Answers done_of (acting c.args.c.now.job.now c.args.fuel x (context_of c.args.c.now) (world_of c.args.world.now)) c.repeat_until.result c.repeat_until.new.world) (repeat_is _ _ _ _ c.in-Repeat.is c.deref-in-Repeat.ensures.value) c.repeat_until.ensures
+statements::act-returns-in-Repeat t c = a.repeat_runs c.args.c.now.job.now c.args.fuel (context_of c.args.c.now) (world_of c.args.world.now) c.args.statement.now _ _ _ c.repeat_until.result c.repeat_until.new.world c.args.depth c.in-Repeat.is c.deref-in-Repeat.ensures.value c.repeat_until.ensures
 
 pub calls::call-returns : goal.calls::call-returns
 calls::call-returns t c =
     let same : caller c.args.c.now.job.now c.args.fuel c.args.routine (env_of c.args.parent.value) (map actual_of c.args.actuals.items) (calling c.args.line (context_of c.args.c.now)) (world_of c.args.world.now) ≡ next c.in_ok-body.inner.job.now c.args.fuel (Block (statements_of c.in_ok-body.body.now)) (context_of c.in_ok-body.inner) (world_of c.enter.new.self) = ap (λ (l : List Actual). caller c.args.c.now.job.now c.args.fuel c.args.routine (env_of c.args.parent.value) (map actual_of l) (calling c.args.line (context_of c.args.c.now)) (world_of c.args.world.now)) (sym c.as_slice.ensures.value) ∙ c.in_ok-body.ensures.entered c.args.fuel ∙ ap (λ (j : Job). next j c.args.fuel (Block (statements_of c.in_ok-body.body.now)) (context_of c.in_ok-body.inner) (world_of c.enter.new.self)) (sym c.in_ok-body.ensures.job) in
-    a.answers_same done_of _ _ c.do_block.result c.do_block.new.world (sym same) c.do_block.ensures
+    let fewer : levels c.in_ok-body.inner.job.now c.args.fuel 0 ≡ levels c.args.c.now.job.now c.args.fuel 0 = ap (λ (j : Job). levels j c.args.fuel 0) c.in_ok-body.ensures.job in
+    a.runs_same done_of _ _ c.do_block.result c.do_block.new.world c.args.depth (levels c.in_ok-body.inner.job.now c.args.fuel 0) (levels c.args.c.now.job.now c.args.fuel 0) (sym same) (omega arith) c.do_block.ensures
 
 pub calls::do_block-returns-then-fuel-eq0 : goal.calls::do_block-returns-then-fuel-eq0
 calls::do_block-returns-then-fuel-eq0 t c =
-    a.answers_same done_of _ _ c.used_up.result c.args.world.now (a.block_over c.args.c.now.job.now c.args.fuel (statements_of c.args.body.now) (context_of c.args.c.now) (world_of c.args.world.now) c.if-fuel-eq0.true) c.used_up.ensures
+    a.stopped_same _ _ c.used_up.result c.args.world.now (a.block_over c.args.c.now.job.now c.args.fuel (statements_of c.args.body.now) (context_of c.args.c.now) (world_of c.args.world.now) c.if-fuel-eq0.true) c.used_up.ensures
 
 pub calls::do_block-returns-else-fuel-eq0 : goal.calls::do_block-returns-else-fuel-eq0
 calls::do_block-returns-else-fuel-eq0 t c =
-    a.answers_same done_of _ _ c.act_all.result c.act_all.new.world (a.block_done c.args.c.now.job.now c.args.fuel (statements_of c.args.body.now) (context_of c.args.c.now) (world_of c.args.world.now) c.if-fuel-eq0.false) c.act_all.ensures
+    a.runs_same done_of _ _ c.act_all.result c.act_all.new.world c.args.depth (levels c.args.c.now.job.now (c.args.fuel - 1) (statements_height (statements_of c.args.body.now))) (levels c.args.c.now.job.now c.args.fuel 0) (a.block_done c.args.c.now.job.now c.args.fuel (statements_of c.args.body.now) (context_of c.args.c.now) (world_of c.args.world.now) c.if-fuel-eq0.false) (block_levels c.args.c.now.job.now c.args.fuel (statements_height (statements_of c.args.body.now)) c.if-fuel-eq0.false c.requires) c.act_all.ensures
 
 pub statements::act_all-returns-in_err-act : goal.statements::act_all-returns-in_err-act
 statements::act_all-returns-in_err-act t c =
-    let h : Stopped (acting_all c.args.c.now.job.now c.args.fuel (statements_of c.args.statements.now) (context_of c.args.c.now) (world_of c.args.world.now)) c.in_err-act.field-0.0 c.act.new.world = a.acts_stop c.args.c.now.job.now c.args.fuel (context_of c.args.c.now) c.args.statements.now c.loop-statement.statement-index c.statement-item.result _ (world_of c.loop-statement.world) c.act.new.world _ c.loop-statement.invariant c.in_err-act.ensures c.statement-item.is c.loop-statement-test.true in
+    let h : Halted (acting_all c.args.c.now.job.now c.args.fuel (statements_of c.args.statements.now) (context_of c.args.c.now) (world_of c.args.world.now)) c.args.depth (levels c.args.c.now.job.now c.args.fuel (statements_height (statements_of c.args.statements.now))) c.in_err-act.field-0.0 c.act.new.world = a.acts_halt c.args.c.now.job.now c.args.fuel (context_of c.args.c.now) c.args.statements.now c.loop-statement.statement-index c.statement-item.result _ (world_of c.loop-statement.world) c.act.new.world _ c.args.depth c.loop-statement.invariant c.in_err-act.ensures c.statement-item.is c.loop-statement-test.true in
     search (rules, h)
 
-pub statements::act_selected-returns-then-has_constant : goal.statements::act_selected-returns-then-has_constant
-statements::act_selected-returns-then-has_constant t c =
+pub choices::act_selected-returns-then-has_constant : goal.choices::act_selected-returns-then-has_constant
+choices::act_selected-returns-then-has_constant t c =
     let h : is_among (number_of (value_of c.args.x.now)) (out-CaseElement c.element-item.result).constants.items ≡ true = ap (is_among (number_of (value_of c.args.x.now))) (sym c.as_slice.ensures.value) ∙ sym c.has_constant.ensures ∙ c.if-has_constant.true in
-    a.answers_same done_of _ _ c.act.result c.act.new.world (a.selects c.args.c.now.job.now c.args.fuel (context_of c.args.c.now) c.args.elements.now c.loop-element.element-index c.element-item.result (number_of (value_of c.args.x.now)) c.args.line (world_of c.loop-element.world) _ c.loop-element.invariant h c.element-item.is c.loop-element-test.true) c.act.ensures
+    let le : statement_height (statement_of (out-CaseElement c.element-item.result).body) ≤ elements_height (elements_of c.args.elements.now) = element_within c.args.elements.now c.loop-element.element-index c.element-item.result c.element-item.is c.loop-element-test.true in
+    a.runs_same done_of _ _ c.act.result c.act.new.world c.args.depth (levels c.args.c.now.job.now c.args.fuel (statement_height (statement_of (out-CaseElement c.element-item.result).body))) (levels c.args.c.now.job.now c.args.fuel (elements_height (elements_of c.args.elements.now))) (a.selects c.args.c.now.job.now c.args.fuel (context_of c.args.c.now) c.args.elements.now c.loop-element.element-index c.element-item.result (number_of (value_of c.args.x.now)) c.args.line (world_of c.loop-element.world) _ c.loop-element.invariant h c.element-item.is c.loop-element-test.true) (omega arith) c.act.ensures
 
-pub statements::act_selected-loop-element-preserved : goal.statements::act_selected-loop-element-preserved
-statements::act_selected-loop-element-preserved t c =
+pub choices::act_selected-loop-element-preserved : goal.choices::act_selected-loop-element-preserved
+choices::act_selected-loop-element-preserved t c =
     let h : is_among (number_of (value_of c.args.x.now)) (out-CaseElement c.element-item.result).constants.items ≡ false = ap (is_among (number_of (value_of c.args.x.now))) (sym c.as_slice.ensures.value) ∙ sym c.has_constant.ensures ∙ c.if-has_constant.false in
     a.selects_next c.args.c.now.job.now c.args.fuel (context_of c.args.c.now) c.args.elements.now c.loop-element.element-index c.element-item.result (number_of (value_of c.args.x.now)) c.args.line (world_of c.loop-element.world) _ c.loop-element.invariant h c.element-item.is c.loop-element-test.true
 
-pub statements::act_selected-returns : goal.statements::act_selected-returns
-statements::act_selected-returns t c =
+pub choices::act_selected-returns : goal.choices::act_selected-returns
+choices::act_selected-returns t c =
     a.selects_none c.args.c.now.job.now c.args.fuel (context_of c.args.c.now) c.args.elements.now c.loop-element.element-index (number_of (value_of c.args.x.now)) c.args.line (world_of c.loop-element.world) _ c.loop-element.invariant (omega arith) ∙ ap (m.Ends c.loop-element.world.transcript.items (m.Error 7 c.args.line)) (sym (c.in_ok-listed.ensures ∙ ap numbers_of c.deref.ensures))
 
-pub texts::read_all-returns-in_err-read_one : goal.texts::read_all-returns-in_err-read_one
-texts::read_all-returns-in_err-read_one t c =
-    let h : Stopped (reading_all c.args.c.now.job.now c.args.fuel (map read_of c.args.variables.now) (context_of c.args.c.now) (world_of c.args.world.now)) c.in_err-read_one.field-0.0 c.read_one.new.world = a.reads_stop c.args.c.now.job.now c.args.fuel (context_of c.args.c.now) c.args.variables.now c.loop-variable.variable-index c.variable-item.result _ (world_of c.loop-variable.world) c.read_one.new.world _ c.loop-variable.invariant c.in_err-read_one.ensures c.variable-item.is c.loop-variable-test.true in
+pub transfers::read_all-returns-in_err-read_one : goal.transfers::read_all-returns-in_err-read_one
+transfers::read_all-returns-in_err-read_one t c =
+    let h : Halted (reading_all c.args.c.now.job.now c.args.fuel (map read_of c.args.variables.now) (context_of c.args.c.now) (world_of c.args.world.now)) c.args.depth (levels c.args.c.now.job.now c.args.fuel (reads_height (map read_of c.args.variables.now))) c.in_err-read_one.field-0.0 c.read_one.new.world = a.reads_halt c.args.c.now.job.now c.args.fuel (context_of c.args.c.now) c.args.variables.now c.loop-variable.variable-index c.variable-item.result _ (world_of c.loop-variable.world) c.read_one.new.world _ c.args.depth c.loop-variable.invariant c.in_err-read_one.ensures c.variable-item.is c.loop-variable-test.true in
     search (rules, h)
 
-pub texts::read_all-returns : goal.texts::read_all-returns
-texts::read_all-returns t c = a.reads_end c.args.c.now.job.now c.args.fuel (context_of c.args.c.now) c.args.variables.now c.loop-variable.variable-index (world_of c.loop-variable.world) _ c.loop-variable.invariant (omega arith)
+pub transfers::read_all-returns : goal.transfers::read_all-returns
+transfers::read_all-returns t c = a.reads_end c.args.c.now.job.now c.args.fuel (context_of c.args.c.now) c.args.variables.now c.loop-variable.variable-index (world_of c.loop-variable.world) _ c.loop-variable.invariant (omega arith)
 
-pub texts::read_all-loop-variable-preserved : goal.texts::read_all-loop-variable-preserved
-texts::read_all-loop-variable-preserved t c = a.reads_next c.args.c.now.job.now c.args.fuel (context_of c.args.c.now) c.args.variables.now c.loop-variable.variable-index c.variable-item.result (world_of c.loop-variable.world) (world_of c.read_one.new.world) _ c.loop-variable.invariant c.in_ok-read_one.ensures c.variable-item.is c.loop-variable-test.true
+pub transfers::read_all-loop-variable-preserved : goal.transfers::read_all-loop-variable-preserved
+transfers::read_all-loop-variable-preserved t c = a.reads_next c.args.c.now.job.now c.args.fuel (context_of c.args.c.now) c.args.variables.now c.loop-variable.variable-index c.variable-item.result (world_of c.loop-variable.world) (world_of c.read_one.new.world) _ c.loop-variable.invariant c.in_ok-read_one.ensures c.variable-item.is c.loop-variable-test.true
 
-pub texts::write_all-returns-in_err-write_one : goal.texts::write_all-returns-in_err-write_one
-texts::write_all-returns-in_err-write_one t c =
-    let h : Stopped (writing_all c.args.c.now.job.now c.args.fuel (map write_of c.args.parameters.now) (context_of c.args.c.now) (world_of c.args.world.now)) c.in_err-write_one.field-0.0 c.write_one.new.world = a.writes_stop c.args.c.now.job.now c.args.fuel (context_of c.args.c.now) c.args.parameters.now c.loop-parameter.parameter-index c.parameter-item.result _ (world_of c.loop-parameter.world) c.write_one.new.world _ c.loop-parameter.invariant c.in_err-write_one.ensures c.parameter-item.is c.loop-parameter-test.true in
+pub transfers::write_all-returns-in_err-write_one : goal.transfers::write_all-returns-in_err-write_one
+transfers::write_all-returns-in_err-write_one t c =
+    let h : Halted (writing_all c.args.c.now.job.now c.args.fuel (map write_of c.args.parameters.now) (context_of c.args.c.now) (world_of c.args.world.now)) c.args.depth (levels c.args.c.now.job.now c.args.fuel (writes_height (map write_of c.args.parameters.now))) c.in_err-write_one.field-0.0 c.write_one.new.world = a.writes_halt c.args.c.now.job.now c.args.fuel (context_of c.args.c.now) c.args.parameters.now c.loop-parameter.parameter-index c.parameter-item.result _ (world_of c.loop-parameter.world) c.write_one.new.world _ c.args.depth c.loop-parameter.invariant c.in_err-write_one.ensures c.parameter-item.is c.loop-parameter-test.true in
     search (rules, h)
 
-pub texts::write_all-returns : goal.texts::write_all-returns
-texts::write_all-returns t c = a.writes_end c.args.c.now.job.now c.args.fuel (context_of c.args.c.now) c.args.parameters.now c.loop-parameter.parameter-index (world_of c.loop-parameter.world) _ c.loop-parameter.invariant (omega arith)
+pub transfers::write_all-returns : goal.transfers::write_all-returns
+transfers::write_all-returns t c = a.writes_end c.args.c.now.job.now c.args.fuel (context_of c.args.c.now) c.args.parameters.now c.loop-parameter.parameter-index (world_of c.loop-parameter.world) _ c.loop-parameter.invariant (omega arith)
 
-pub texts::write_all-loop-parameter-preserved : goal.texts::write_all-loop-parameter-preserved
-texts::write_all-loop-parameter-preserved t c = a.writes_next c.args.c.now.job.now c.args.fuel (context_of c.args.c.now) c.args.parameters.now c.loop-parameter.parameter-index c.parameter-item.result (world_of c.loop-parameter.world) (world_of c.write_one.new.world) _ c.loop-parameter.invariant c.in_ok-write_one.ensures c.parameter-item.is c.loop-parameter-test.true
+pub transfers::write_all-loop-parameter-preserved : goal.transfers::write_all-loop-parameter-preserved
+transfers::write_all-loop-parameter-preserved t c = a.writes_next c.args.c.now.job.now c.args.fuel (context_of c.args.c.now) c.args.parameters.now c.loop-parameter.parameter-index c.parameter-item.result (world_of c.loop-parameter.world) (world_of c.write_one.new.world) _ c.loop-parameter.invariant c.in_ok-write_one.ensures c.parameter-item.is c.loop-parameter-test.true
 
-pub texts::open_records-returns-in_err-spot-clause-opened : goal.texts::open_records-returns-in_err-spot-clause-opened
-texts::open_records-returns-in_err-spot-clause-opened t c =
-    let access : Stopped (access (caller c.args.c.now.job.now c.args.fuel) (place_of c.place-item.result) (context_of c.loop-place.inner) (world_of c.loop-place.world)) c.in_err-spot.field-0.0 c.access.new.world = subst (λ (j : Job). Stopped (access (caller j c.args.fuel) (place_of c.place-item.result) (context_of c.loop-place.inner) (world_of c.loop-place.world)) c.in_err-spot.field-0.0 c.access.new.world) c.loop-place.invariant.job c.in_err-spot.ensures in
-    let h : Stopped (opening_all c.args.c.now.job.now c.args.fuel (map place_of c.args.places.now) (context_of c.args.c.now) (world_of c.args.world.now)) c.in_err-spot.field-0.0 c.access.new.world = a.opening_stop c.args.c.now.job.now c.args.fuel (context_of c.loop-place.inner) c.args.places.now c.loop-place.place-index c.place-item.result _ (world_of c.loop-place.world) c.access.new.world _ c.loop-place.invariant.rest access c.place-item.is c.loop-place-test.true in
+pub statements::open_records-returns-in_err-spot-clause-opened : goal.statements::open_records-returns-in_err-spot-clause-opened
+statements::open_records-returns-in_err-spot-clause-opened t c =
+    let access : Halted (access (caller c.args.c.now.job.now c.args.fuel) (place_of c.place-item.result) (context_of c.loop-place.inner) (world_of c.loop-place.world)) c.args.depth (levels c.args.c.now.job.now c.args.fuel (place_height (place_of c.place-item.result))) c.in_err-spot.field-0.0 c.access.new.world = subst (λ (j : Job). Halted (access (caller j c.args.fuel) (place_of c.place-item.result) (context_of c.loop-place.inner) (world_of c.loop-place.world)) c.args.depth (levels j c.args.fuel (place_height (place_of c.place-item.result))) c.in_err-spot.field-0.0 c.access.new.world) c.loop-place.invariant.job c.in_err-spot.ensures in
+    let h : Halted (opening_all c.args.c.now.job.now c.args.fuel (map place_of c.args.places.now) (context_of c.args.c.now) (world_of c.args.world.now)) c.args.depth (levels c.args.c.now.job.now c.args.fuel (places_height (map place_of c.args.places.now))) c.in_err-spot.field-0.0 c.access.new.world = a.opening_halt c.args.c.now.job.now c.args.fuel (context_of c.loop-place.inner) c.args.places.now c.loop-place.place-index c.place-item.result _ (world_of c.loop-place.world) c.access.new.world _ c.args.depth c.loop-place.invariant.rest access c.place-item.is c.loop-place-test.true in
     search (rules, h)
 
-pub texts::open_records-returns-clause-opened : goal.texts::open_records-returns-clause-opened
-texts::open_records-returns-clause-opened t c = a.opening_end c.args.c.now.job.now c.args.fuel (context_of c.loop-place.inner) c.args.places.now c.loop-place.place-index (world_of c.loop-place.world) _ c.loop-place.invariant.rest (omega arith)
+pub statements::open_records-returns-clause-opened : goal.statements::open_records-returns-clause-opened
+statements::open_records-returns-clause-opened t c = a.opening_end c.args.c.now.job.now c.args.fuel (context_of c.loop-place.inner) c.args.places.now c.loop-place.place-index (world_of c.loop-place.world) _ c.loop-place.invariant.rest (omega arith)
 
-pub texts::open_records-loop-place-preserved : goal.texts::open_records-loop-place-preserved
-texts::open_records-loop-place-preserved t c =
+pub statements::open_records-loop-place-preserved : goal.statements::open_records-loop-place-preserved
+statements::open_records-loop-place-preserved t c =
     let access : access (caller c.args.c.now.job.now c.args.fuel) (place_of c.place-item.result) (context_of c.loop-place.inner) (world_of c.loop-place.world) ≡ m.Gives (spot_of c.in_ok-spot.spot) (world_of c.access.new.world) = ap (λ (j : Job). access (caller j c.args.fuel) (place_of c.place-item.result) (context_of c.loop-place.inner) (world_of c.loop-place.world)) (sym c.loop-place.invariant.job) ∙ c.in_ok-spot.ensures in
     record {
       rest = a.opening_next c.args.c.now.job.now c.args.fuel (context_of c.loop-place.inner) (context_of c.open.new.self) c.args.places.now c.loop-place.place-index c.place-item.result (spot_of c.in_ok-spot.spot) (world_of c.loop-place.world) (world_of c.access.new.world) _ c.loop-place.invariant.rest access c.in_ok-open.ensures.context c.place-item.is c.loop-place-test.true;
@@ -116,87 +128,93 @@ texts::open_records-loop-place-preserved t c =
       job = c.in_ok-open.ensures.job ∙ c.loop-place.invariant.job;
     }
 
-pub statements::count-returns-in_err-x : goal.statements::count-returns-in_err-x
-statements::count-returns-in_err-x t c =
-    let h : Stopped (acting c.args.c.now.job.now c.args.fuel (Tree.For c.args.variable c.args.low c.args.high (expr_of c.args.from.now) c.args.from_line c.args.direction (expr_of c.args.to.now) c.args.to_line (statement_of c.args.body.now)) (context_of c.args.c.now) (world_of c.args.world.now)) c.in_err-x.field-0.0 c.evaluate.new.world = a.for_stop c.args.c.now.job.now c.args.fuel c.args.variable c.args.low c.args.high (expr_of c.args.from.now) c.args.from_line c.args.direction (expr_of c.args.to.now) c.args.to_line (statement_of c.args.body.now) (context_of c.args.c.now) _ (world_of c.args.world.now) c.evaluate.new.world c.in_err-x.ensures in
+pub statements::act_with-returns : goal.statements::act_with-returns
+statements::act_with-returns t c = a.with_runs c.args.c.now.job.now c.in_ok-inner.inner.job.now c.args.fuel (map place_of c.args.places.now) (statement_of c.args.body.now) (context_of c.args.c.now) (context_of c.in_ok-inner.inner) (opened_in c.in_ok-inner.inner) (world_of c.args.world.now) (world_of c.open_records.new.world) c.act.result c.act.new.world c.args.depth c.in_ok-inner.ensures.opened c.in_ok-inner.ensures.kept c.in_ok-inner.ensures.job c.act.ensures
+
+pub loops::count-returns-in_err-x : goal.loops::count-returns-in_err-x
+loops::count-returns-in_err-x t c =
+    let h : Halted (acting c.args.c.now.job.now c.args.fuel (Tree.For c.args.variable c.args.low c.args.high (expr_of c.args.from.now) c.args.from_line c.args.direction (expr_of c.args.to.now) c.args.to_line (statement_of c.args.body.now)) (context_of c.args.c.now) (world_of c.args.world.now)) c.args.depth (levels c.args.c.now.job.now c.args.fuel (max (expr_height (expr_of c.args.from.now)) (max (expr_height (expr_of c.args.to.now)) (statement_height (statement_of c.args.body.now))))) c.in_err-x.field-0.0 c.evaluate.new.world = a.for_halt c.args.c.now.job.now c.args.fuel c.args.variable c.args.low c.args.high (expr_of c.args.from.now) c.args.from_line c.args.direction (expr_of c.args.to.now) c.args.to_line (statement_of c.args.body.now) (context_of c.args.c.now) _ (world_of c.args.world.now) c.evaluate.new.world c.args.depth c.in_err-x.ensures in
     search (rules, h)
 
-pub statements::count-returns-in_err-y : goal.statements::count-returns-in_err-y
-statements::count-returns-in_err-y t c =
-    let h : Stopped (acting c.args.c.now.job.now c.args.fuel (Tree.For c.args.variable c.args.low c.args.high (expr_of c.args.from.now) c.args.from_line c.args.direction (expr_of c.args.to.now) c.args.to_line (statement_of c.args.body.now)) (context_of c.args.c.now) (world_of c.args.world.now)) c.in_err-y.field-0.0 c.evaluate-2.new.world = a.for_stop_second c.args.c.now.job.now c.args.fuel c.args.variable c.args.low c.args.high (expr_of c.args.from.now) c.args.from_line c.args.direction (expr_of c.args.to.now) c.args.to_line (statement_of c.args.body.now) (context_of c.args.c.now) (value_of c.in_ok-x.x) _ (world_of c.args.world.now) (world_of c.evaluate.new.world) c.evaluate-2.new.world c.in_ok-x.ensures c.in_err-y.ensures in
+pub loops::count-returns-in_err-y : goal.loops::count-returns-in_err-y
+loops::count-returns-in_err-y t c =
+    let h : Halted (acting c.args.c.now.job.now c.args.fuel (Tree.For c.args.variable c.args.low c.args.high (expr_of c.args.from.now) c.args.from_line c.args.direction (expr_of c.args.to.now) c.args.to_line (statement_of c.args.body.now)) (context_of c.args.c.now) (world_of c.args.world.now)) c.args.depth (levels c.args.c.now.job.now c.args.fuel (max (expr_height (expr_of c.args.from.now)) (max (expr_height (expr_of c.args.to.now)) (statement_height (statement_of c.args.body.now))))) c.in_err-y.field-0.0 c.evaluate-2.new.world = a.for_halt_second c.args.c.now.job.now c.args.fuel c.args.variable c.args.low c.args.high (expr_of c.args.from.now) c.args.from_line c.args.direction (expr_of c.args.to.now) c.args.to_line (statement_of c.args.body.now) (context_of c.args.c.now) (value_of c.in_ok-x.x) _ (world_of c.args.world.now) (world_of c.evaluate.new.world) c.evaluate-2.new.world c.args.depth c.in_ok-x.ensures c.in_err-y.ensures in
     search (rules, h)
 
-pub statements::count-returns : goal.statements::count-returns
-statements::count-returns t c =
+pub loops::count-returns : goal.loops::count-returns
+loops::count-returns t c =
     let least = λ (l : ℤ). counting c.args.c.now.job.now c.args.fuel c.args.variable l (to_z w32 (of_z w32 c.args.high)) (value_of c.in_ok-x.x) c.args.from_line c.args.direction (value_of c.in_ok-y.y) c.args.to_line (statement_of c.args.body.now) (context_of c.args.c.now) (world_of c.evaluate-2.new.world) in
     let most = λ (h : ℤ). counting c.args.c.now.job.now c.args.fuel c.args.variable c.args.low h (value_of c.in_ok-x.x) c.args.from_line c.args.direction (value_of c.in_ok-y.y) c.args.to_line (statement_of c.args.body.now) (context_of c.args.c.now) (world_of c.evaluate-2.new.world) in
-    a.answers_same done_of _ _ c.count_between.result c.count_between.new.world (ap least (to_z-of_z c.ranges.low) ∙ ap most (to_z-of_z c.ranges.high) ∙ a.for_counts c.args.c.now.job.now c.args.fuel c.args.variable c.args.low c.args.high (expr_of c.args.from.now) c.args.from_line c.args.direction (expr_of c.args.to.now) c.args.to_line (statement_of c.args.body.now) (context_of c.args.c.now) (value_of c.in_ok-x.x) (value_of c.in_ok-y.y) (world_of c.args.world.now) (world_of c.evaluate.new.world) (world_of c.evaluate-2.new.world) c.in_ok-x.ensures c.in_ok-y.ensures) c.count_between.ensures
+    a.runs_same done_of _ _ c.count_between.result c.count_between.new.world c.args.depth (levels c.args.c.now.job.now c.args.fuel (statement_height (statement_of c.args.body.now))) (levels c.args.c.now.job.now c.args.fuel (max (expr_height (expr_of c.args.from.now)) (max (expr_height (expr_of c.args.to.now)) (statement_height (statement_of c.args.body.now))))) (ap least (to_z-of_z c.ranges.low) ∙ ap most (to_z-of_z c.ranges.high) ∙ a.for_counts c.args.c.now.job.now c.args.fuel c.args.variable c.args.low c.args.high (expr_of c.args.from.now) c.args.from_line c.args.direction (expr_of c.args.to.now) c.args.to_line (statement_of c.args.body.now) (context_of c.args.c.now) (value_of c.in_ok-x.x) (value_of c.in_ok-y.y) (world_of c.args.world.now) (world_of c.evaluate.new.world) (world_of c.evaluate-2.new.world) c.in_ok-x.ensures c.in_ok-y.ensures) (omega arith) c.count_between.ensures
 
-pub statements::repeat_while-returns-in_err-evaluate_truth : goal.statements::repeat_while-returns-in_err-evaluate_truth
-statements::repeat_while-returns-in_err-evaluate_truth t c =
-    let h : Stopped (acting c.args.c.now.job.now c.args.fuel (Tree.While (expr_of c.args.condition.now) (statement_of c.args.body.now)) (context_of c.args.c.now) (world_of c.args.world.now)) c.in_err-evaluate_truth.field-0.0 c.evaluate_truth.new.world = a.while_stop c.args.c.now.job.now c.loop-world.left (expr_of c.args.condition.now) (statement_of c.args.body.now) (context_of c.args.c.now) _ (world_of c.loop-world.world) c.evaluate_truth.new.world _ c.loop-world.invariant c.in_err-evaluate_truth.ensures in
+pub loops::repeat_while-returns-in_err-evaluate_truth : goal.loops::repeat_while-returns-in_err-evaluate_truth
+loops::repeat_while-returns-in_err-evaluate_truth t c =
+    let h : Halted (acting c.args.c.now.job.now c.args.fuel (Tree.While (expr_of c.args.condition.now) (statement_of c.args.body.now)) (context_of c.args.c.now) (world_of c.args.world.now)) c.args.depth (levels c.args.c.now.job.now c.args.fuel (max (expr_height (expr_of c.args.condition.now)) (statement_height (statement_of c.args.body.now)))) c.in_err-evaluate_truth.field-0.0 c.evaluate_truth.new.world = a.while_halt c.args.c.now.job.now c.loop-world.left c.args.fuel (expr_of c.args.condition.now) (statement_of c.args.body.now) (context_of c.args.c.now) _ (world_of c.loop-world.world) c.evaluate_truth.new.world _ c.args.depth c.loop-world.invariant.left c.loop-world.invariant.same c.in_err-evaluate_truth.ensures in
     search (rules, h)
 
-pub statements::repeat_while-returns-in_err-act : goal.statements::repeat_while-returns-in_err-act
-statements::repeat_while-returns-in_err-act t c =
+pub loops::repeat_while-returns-in_err-act : goal.loops::repeat_while-returns-in_err-act
+loops::repeat_while-returns-in_err-act t c =
     let k : c.in_ok-evaluate_truth.field-0 ≡ true = search (rules, c.if-not-branch.false) in
-    let h : Stopped (acting c.args.c.now.job.now c.args.fuel (Tree.While (expr_of c.args.condition.now) (statement_of c.args.body.now)) (context_of c.args.c.now) (world_of c.args.world.now)) c.in_err-act.field-0.0 c.act.new.world = a.while_body c.args.c.now.job.now c.loop-world.left (expr_of c.args.condition.now) (statement_of c.args.body.now) (context_of c.args.c.now) c.in_ok-evaluate_truth.field-0 _ (world_of c.loop-world.world) (world_of c.evaluate_truth.new.world) c.act.new.world _ c.loop-world.invariant c.in_ok-evaluate_truth.ensures k c.in_err-act.ensures in
+    let h : Halted (acting c.args.c.now.job.now c.args.fuel (Tree.While (expr_of c.args.condition.now) (statement_of c.args.body.now)) (context_of c.args.c.now) (world_of c.args.world.now)) c.args.depth (levels c.args.c.now.job.now c.args.fuel (max (expr_height (expr_of c.args.condition.now)) (statement_height (statement_of c.args.body.now)))) c.in_err-act.field-0.0 c.act.new.world = a.while_body_halt c.args.c.now.job.now c.loop-world.left c.args.fuel (expr_of c.args.condition.now) (statement_of c.args.body.now) (context_of c.args.c.now) c.in_ok-evaluate_truth.field-0 _ (world_of c.loop-world.world) (world_of c.evaluate_truth.new.world) c.act.new.world _ c.args.depth c.loop-world.invariant.left c.loop-world.invariant.same c.in_ok-evaluate_truth.ensures k c.in_err-act.ensures in
     search (rules, h)
 
-pub statements::repeat_while-returns-then-left-eq0 : goal.statements::repeat_while-returns-then-left-eq0
-statements::repeat_while-returns-then-left-eq0 t c =
+pub loops::repeat_while-returns-then-left-eq0 : goal.loops::repeat_while-returns-then-left-eq0
+loops::repeat_while-returns-then-left-eq0 t c =
     let k : c.in_ok-evaluate_truth.field-0 ≡ true = search (rules, c.if-not-branch.false) in
-    a.answers_same done_of _ _ c.used_up.result c.act.new.world (a.while_over c.args.c.now.job.now c.loop-world.left (expr_of c.args.condition.now) (statement_of c.args.body.now) (context_of c.args.c.now) c.in_ok-evaluate_truth.field-0 (world_of c.loop-world.world) (world_of c.evaluate_truth.new.world) (world_of c.act.new.world) _ c.loop-world.invariant c.in_ok-evaluate_truth.ensures k c.in_ok-act.ensures c.if-left-eq0.true) c.used_up.ensures
+    a.stopped_same _ _ c.used_up.result c.act.new.world (a.while_over c.args.c.now.job.now c.loop-world.left (expr_of c.args.condition.now) (statement_of c.args.body.now) (context_of c.args.c.now) c.in_ok-evaluate_truth.field-0 (world_of c.loop-world.world) (world_of c.evaluate_truth.new.world) (world_of c.act.new.world) _ c.loop-world.invariant.same c.in_ok-evaluate_truth.ensures k c.in_ok-act.ensures c.if-left-eq0.true) c.used_up.ensures
 
-pub statements::repeat_while-loop-world-preserved : goal.statements::repeat_while-loop-world-preserved
-statements::repeat_while-loop-world-preserved t c =
+pub loops::repeat_while-loop-world-preserved : goal.loops::repeat_while-loop-world-preserved
+loops::repeat_while-loop-world-preserved t c =
     let k : c.in_ok-evaluate_truth.field-0 ≡ true = search (rules, c.if-not-branch.false) in
-    a.while_next c.args.c.now.job.now c.loop-world.left (expr_of c.args.condition.now) (statement_of c.args.body.now) (context_of c.args.c.now) c.in_ok-evaluate_truth.field-0 (world_of c.loop-world.world) (world_of c.evaluate_truth.new.world) (world_of c.act.new.world) _ c.loop-world.invariant c.in_ok-evaluate_truth.ensures k c.in_ok-act.ensures c.if-left-eq0.false
+    record {
+      same = a.while_next c.args.c.now.job.now c.loop-world.left (expr_of c.args.condition.now) (statement_of c.args.body.now) (context_of c.args.c.now) c.in_ok-evaluate_truth.field-0 (world_of c.loop-world.world) (world_of c.evaluate_truth.new.world) (world_of c.act.new.world) _ c.loop-world.invariant.same c.in_ok-evaluate_truth.ensures k c.in_ok-act.ensures c.if-left-eq0.false;
+      left = let le : c.loop-world.left ≤ c.args.fuel = c.loop-world.invariant.left in omega arith;
+    }
 
-pub statements::repeat_until-returns-in_err-act_all : goal.statements::repeat_until-returns-in_err-act_all
-statements::repeat_until-returns-in_err-act_all t c =
-    let h : Stopped (acting c.args.c.now.job.now c.args.fuel (Tree.Repeat (statements_of c.args.body.now) (expr_of c.args.condition.now)) (context_of c.args.c.now) (world_of c.args.world.now)) c.in_err-act_all.field-0.0 c.act_all.new.world = a.repeat_stop c.args.c.now.job.now c.loop-world.left (statements_of c.args.body.now) (expr_of c.args.condition.now) (context_of c.args.c.now) _ (world_of c.loop-world.world) c.act_all.new.world _ c.loop-world.invariant c.in_err-act_all.ensures in
+pub loops::repeat_until-returns-in_err-act_all : goal.loops::repeat_until-returns-in_err-act_all
+loops::repeat_until-returns-in_err-act_all t c =
+    let h : Halted (acting c.args.c.now.job.now c.args.fuel (Tree.Repeat (statements_of c.args.body.now) (expr_of c.args.condition.now)) (context_of c.args.c.now) (world_of c.args.world.now)) c.args.depth (levels c.args.c.now.job.now c.args.fuel (max (statements_height (statements_of c.args.body.now)) (expr_height (expr_of c.args.condition.now)))) c.in_err-act_all.field-0.0 c.act_all.new.world = a.repeat_halt c.args.c.now.job.now c.loop-world.left c.args.fuel (statements_of c.args.body.now) (expr_of c.args.condition.now) (context_of c.args.c.now) _ (world_of c.loop-world.world) c.act_all.new.world _ c.args.depth c.loop-world.invariant.left c.loop-world.invariant.same c.in_err-act_all.ensures in
     search (rules, h)
 
-pub statements::repeat_until-returns-in_err-evaluate_truth : goal.statements::repeat_until-returns-in_err-evaluate_truth
-statements::repeat_until-returns-in_err-evaluate_truth t c =
-    let h : Stopped (acting c.args.c.now.job.now c.args.fuel (Tree.Repeat (statements_of c.args.body.now) (expr_of c.args.condition.now)) (context_of c.args.c.now) (world_of c.args.world.now)) c.in_err-evaluate_truth.field-0.0 c.evaluate_truth.new.world = a.repeat_until_stop c.args.c.now.job.now c.loop-world.left (statements_of c.args.body.now) (expr_of c.args.condition.now) (context_of c.args.c.now) _ (world_of c.loop-world.world) (world_of c.act_all.new.world) c.evaluate_truth.new.world _ c.loop-world.invariant c.in_ok-act_all.ensures c.in_err-evaluate_truth.ensures in
+pub loops::repeat_until-returns-in_err-evaluate_truth : goal.loops::repeat_until-returns-in_err-evaluate_truth
+loops::repeat_until-returns-in_err-evaluate_truth t c =
+    let h : Halted (acting c.args.c.now.job.now c.args.fuel (Tree.Repeat (statements_of c.args.body.now) (expr_of c.args.condition.now)) (context_of c.args.c.now) (world_of c.args.world.now)) c.args.depth (levels c.args.c.now.job.now c.args.fuel (max (statements_height (statements_of c.args.body.now)) (expr_height (expr_of c.args.condition.now)))) c.in_err-evaluate_truth.field-0.0 c.evaluate_truth.new.world = a.repeat_until_halt c.args.c.now.job.now c.loop-world.left c.args.fuel (statements_of c.args.body.now) (expr_of c.args.condition.now) (context_of c.args.c.now) _ (world_of c.loop-world.world) (world_of c.act_all.new.world) c.evaluate_truth.new.world _ c.args.depth c.loop-world.invariant.left c.loop-world.invariant.same c.in_ok-act_all.ensures c.in_err-evaluate_truth.ensures in
     search (rules, h)
 
-pub statements::repeat_until-returns-then-left-eq0 : goal.statements::repeat_until-returns-then-left-eq0
-statements::repeat_until-returns-then-left-eq0 t c =
-    a.answers_same done_of _ _ c.used_up.result c.evaluate_truth.new.world (a.repeat_over c.args.c.now.job.now c.loop-world.left (statements_of c.args.body.now) (expr_of c.args.condition.now) (context_of c.args.c.now) c.in_ok-evaluate_truth.field-0 (world_of c.loop-world.world) (world_of c.act_all.new.world) (world_of c.evaluate_truth.new.world) _ c.loop-world.invariant c.in_ok-act_all.ensures c.in_ok-evaluate_truth.ensures c.if-branch.false c.if-left-eq0.true) c.used_up.ensures
+pub loops::repeat_until-returns-then-left-eq0 : goal.loops::repeat_until-returns-then-left-eq0
+loops::repeat_until-returns-then-left-eq0 t c =
+    a.stopped_same _ _ c.used_up.result c.evaluate_truth.new.world (a.repeat_over c.args.c.now.job.now c.loop-world.left (statements_of c.args.body.now) (expr_of c.args.condition.now) (context_of c.args.c.now) c.in_ok-evaluate_truth.field-0 (world_of c.loop-world.world) (world_of c.act_all.new.world) (world_of c.evaluate_truth.new.world) _ c.loop-world.invariant.same c.in_ok-act_all.ensures c.in_ok-evaluate_truth.ensures c.if-branch.false c.if-left-eq0.true) c.used_up.ensures
 
-pub statements::repeat_until-loop-world-preserved : goal.statements::repeat_until-loop-world-preserved
-statements::repeat_until-loop-world-preserved t c =
-    a.repeat_next c.args.c.now.job.now c.loop-world.left (statements_of c.args.body.now) (expr_of c.args.condition.now) (context_of c.args.c.now) c.in_ok-evaluate_truth.field-0 (world_of c.loop-world.world) (world_of c.act_all.new.world) (world_of c.evaluate_truth.new.world) _ c.loop-world.invariant c.in_ok-act_all.ensures c.in_ok-evaluate_truth.ensures c.if-branch.false c.if-left-eq0.false
+pub loops::repeat_until-loop-world-preserved : goal.loops::repeat_until-loop-world-preserved
+loops::repeat_until-loop-world-preserved t c =
+    record {
+      same = a.repeat_next c.args.c.now.job.now c.loop-world.left (statements_of c.args.body.now) (expr_of c.args.condition.now) (context_of c.args.c.now) c.in_ok-evaluate_truth.field-0 (world_of c.loop-world.world) (world_of c.act_all.new.world) (world_of c.evaluate_truth.new.world) _ c.loop-world.invariant.same c.in_ok-act_all.ensures c.in_ok-evaluate_truth.ensures c.if-branch.false c.if-left-eq0.false;
+      left = let le : c.loop-world.left ≤ c.args.fuel = c.loop-world.invariant.left in omega arith;
+    }
 
-pub statements::turns-returns-in_err-act : goal.statements::turns-returns-in_err-act
-statements::turns-returns-in_err-act t c =
-    let h : Stopped (turning c.args.c.now.job.now c.args.fuel c.args.variable c.args.direction (number_of (value_of c.args.last.now)) (statement_of c.args.body.now) (context_of c.args.c.now) (world_of c.args.world.now)) c.in_err-act.field-0.0 c.act.new.world = a.turns_stop c.args.c.now.job.now c.loop-spot.left c.args.variable c.args.direction (number_of (value_of c.args.last.now)) (statement_of c.args.body.now) (context_of c.args.c.now) _ (world_of c.loop-spot.world) c.act.new.world _ c.loop-spot.invariant c.in_err-act.ensures in
+pub loops::turns-returns-in_err-act : goal.loops::turns-returns-in_err-act
+loops::turns-returns-in_err-act t c =
+    let h : Halted (turning c.args.c.now.job.now c.args.fuel c.args.variable c.args.direction (number_of (value_of c.args.last.now)) (statement_of c.args.body.now) (context_of c.args.c.now) (world_of c.args.world.now)) c.args.depth (levels c.args.c.now.job.now c.args.fuel (statement_height (statement_of c.args.body.now))) c.in_err-act.field-0.0 c.act.new.world = a.turns_halt c.args.c.now.job.now c.loop-spot.left c.args.fuel c.args.variable c.args.direction (number_of (value_of c.args.last.now)) (statement_of c.args.body.now) (context_of c.args.c.now) _ (world_of c.loop-spot.world) c.act.new.world _ c.args.depth c.loop-spot.invariant.left c.loop-spot.invariant.same c.in_err-act.ensures in
     search (rules, h)
 
-pub statements::turns-returns-in_err-advance : goal.statements::turns-returns-in_err-advance
-statements::turns-returns-in_err-advance t c =
-    let own : spot_of c.in_ok-spot.spot ≡ own_spot c.args.variable (context_of c.args.c.now) = search (rules, c.in_ok-spot.ensures, c.deref.ensures) in
-    let h : Stopped (turning c.args.c.now.job.now c.args.fuel c.args.variable c.args.direction (number_of (value_of c.args.last.now)) (statement_of c.args.body.now) (context_of c.args.c.now) (world_of c.args.world.now)) c.in_err-advance.field-0.0 c.advance.new.world = a.turns_advance_stop c.args.c.now.job.now c.loop-spot.left c.args.variable c.args.direction (number_of (value_of c.args.last.now)) (statement_of c.args.body.now) (context_of c.args.c.now) (spot_of c.in_ok-spot.spot) _ (world_of c.loop-spot.world) (world_of c.act.new.world) c.advance.new.world _ c.loop-spot.invariant c.in_ok-act.ensures c.if-left-eq0.false own c.in_err-advance.ensures in
-    search (rules, h)
+pub loops::turns-returns-then-left-eq0 : goal.loops::turns-returns-then-left-eq0
+loops::turns-returns-then-left-eq0 t c =
+    a.stopped_same _ _ c.used_up.result c.act.new.world (a.turns_over c.args.c.now.job.now c.loop-spot.left c.args.variable c.args.direction (number_of (value_of c.args.last.now)) (statement_of c.args.body.now) (context_of c.args.c.now) (world_of c.loop-spot.world) (world_of c.act.new.world) _ c.loop-spot.invariant.same c.in_ok-act.ensures c.if-left-eq0.true) c.used_up.ensures
 
-pub statements::turns-returns-then-left-eq0 : goal.statements::turns-returns-then-left-eq0
-statements::turns-returns-then-left-eq0 t c =
-    a.answers_same done_of _ _ c.used_up.result c.act.new.world (a.turns_over c.args.c.now.job.now c.loop-spot.left c.args.variable c.args.direction (number_of (value_of c.args.last.now)) (statement_of c.args.body.now) (context_of c.args.c.now) (world_of c.loop-spot.world) (world_of c.act.new.world) _ c.loop-spot.invariant c.in_ok-act.ensures c.if-left-eq0.true) c.used_up.ensures
-
-pub statements::turns-returns-then-not-branch : goal.statements::turns-returns-then-not-branch
-statements::turns-returns-then-not-branch t c =
+pub loops::turns-returns-then-not-branch : goal.loops::turns-returns-then-not-branch
+loops::turns-returns-then-not-branch t c =
     let own : spot_of c.in_ok-spot.spot ≡ own_spot c.args.variable (context_of c.args.c.now) = search (rules, c.in_ok-spot.ensures, c.deref.ensures) in
     let k : c.in_ok-advance.field-0 ≡ false = search (rules, c.if-not-branch.true) in
-    a.turns_done c.args.c.now.job.now c.loop-spot.left c.args.variable c.args.direction (number_of (value_of c.args.last.now)) (statement_of c.args.body.now) (context_of c.args.c.now) (spot_of c.in_ok-spot.spot) c.in_ok-advance.field-0 (world_of c.loop-spot.world) (world_of c.act.new.world) (world_of c.advance.new.world) _ c.loop-spot.invariant c.in_ok-act.ensures c.if-left-eq0.false own c.in_ok-advance.ensures k
+    a.turns_done c.args.c.now.job.now c.loop-spot.left c.args.variable c.args.direction (number_of (value_of c.args.last.now)) (statement_of c.args.body.now) (context_of c.args.c.now) (spot_of c.in_ok-spot.spot) c.in_ok-advance.field-0 (world_of c.loop-spot.world) (world_of c.act.new.world) (world_of c.advance.new.world) _ c.loop-spot.invariant.same c.in_ok-act.ensures c.if-left-eq0.false own c.in_ok-advance.ensures k
 
-pub statements::turns-loop-spot-preserved : goal.statements::turns-loop-spot-preserved
-statements::turns-loop-spot-preserved t c =
+pub loops::turns-loop-spot-preserved : goal.loops::turns-loop-spot-preserved
+loops::turns-loop-spot-preserved t c =
     let own : spot_of c.in_ok-spot.spot ≡ own_spot c.args.variable (context_of c.args.c.now) = search (rules, c.in_ok-spot.ensures, c.deref.ensures) in
     let k : c.in_ok-advance.field-0 ≡ true = search (rules, c.if-not-branch.false) in
-    a.turns_next c.args.c.now.job.now c.loop-spot.left c.args.variable c.args.direction (number_of (value_of c.args.last.now)) (statement_of c.args.body.now) (context_of c.args.c.now) (spot_of c.in_ok-spot.spot) c.in_ok-advance.field-0 (world_of c.loop-spot.world) (world_of c.act.new.world) (world_of c.advance.new.world) _ c.loop-spot.invariant c.in_ok-act.ensures c.if-left-eq0.false own c.in_ok-advance.ensures k
+    record {
+      same = a.turns_next c.args.c.now.job.now c.loop-spot.left c.args.variable c.args.direction (number_of (value_of c.args.last.now)) (statement_of c.args.body.now) (context_of c.args.c.now) (spot_of c.in_ok-spot.spot) c.in_ok-advance.field-0 (world_of c.loop-spot.world) (world_of c.act.new.world) (world_of c.advance.new.world) _ c.loop-spot.invariant.same c.in_ok-act.ensures c.if-left-eq0.false own c.in_ok-advance.ensures k;
+      left = let le : c.loop-spot.left ≤ c.args.fuel = c.loop-spot.invariant.left in omega arith;
+    }
 
 pub statements::make-returns-in_err-v : goal.statements::make-returns-in_err-v
 statements::make-returns-in_err-v t c =

@@ -13,20 +13,25 @@ pub statements-returns-clause-ok : goal.statements-returns-clause-ok
 statements-returns-clause-ok t c =
     statements_end (context_at c.args.site) (regions_at c.args.site) c.args.list.now c.loop-x.x-index c.loop-x.typed.items c.loop-x-test.false c.loop-x.invariant
 
-pub case_statement-returns-in_err-elements-clause-err : goal.case_statement-returns-in_err-elements-clause-err
-case_statement-returns-in_err-elements-clause-err t c =
-    let p = err_from_is_err_and c.from_residual-in_err-elements.result c.from_residual-in_err-elements.ensures.1 in
-    let parts : IsFault c.in_err-elements.field-0.0 → spec.case_statement (context_at c.args.site) (regions_at c.args.site) c.args.at c.args.x.now (map (spec.element (context_at c.args.site)) c.args.list.now) ≡ None =
-    λ fault. case_fault (context_at c.args.site) (regions_at c.args.site) c.args.at c.args.x.now c.args.list.now (expr_of c.in_ok-index.index) c.in_ok-index.ordinal c.in_ok-index.ensures.ok (c.in_err-elements.ensures.err fault) in
+pub case_statement-returns-in_err-index-2-clause-err : goal.case_statement-returns-in_err-index-2-clause-err
+case_statement-returns-in_err-index-2-clause-err t c =
+    let p = err_from_is_err_and c.from_residual-in_err-index-2.result c.from_residual-in_err-index-2.ensures.1 in
+    let h = rw c.in_err-index-2.ensures.err at c.elements.ensures.err in
+    let parts : IsFault c.in_err-index-2.field-0.0 → spec.case_statement (context_at c.args.site) (regions_at c.args.site) c.args.at c.args.x.now (map (spec.element (context_at c.args.site)) c.args.list.now) ≡ None =
+    λ fault. case_fault (context_at c.args.site) (regions_at c.args.site) c.args.at c.args.x.now c.args.list.now (expr_of c.in_ok-index.index) c.in_ok-index.ordinal c.in_ok-index.ensures.ok (h fault) in
     rw (p.1, p.2) parts
 
 pub case_statement-returns-clause-ok : goal.case_statement-returns-clause-ok
 case_statement-returns-clause-ok t c =
-    rw (case_at (context_at c.args.site) (regions_at c.args.site) c.args.at c.args.x.now c.args.list.now (expr_of c.in_ok-index.index) c.in_ok-index.ordinal (map element_of c.in_ok-elements.elements.items) c.in_ok-index.ensures.ok c.in_ok-elements.ensures.ok) c.case_behind.ensures.ok
+    let h = rw c.in_ok-index-2.ensures.second at c.elements.ensures.ok in
+    let k = rw c.in_ok-index-2.ensures.first at c.in_ok-index.ensures.ok in
+    rw (case_at (context_at c.args.site) (regions_at c.args.site) c.args.at c.args.x.now c.args.list.now (expr_of c.in_ok-index-2.index) c.in_ok-index.ordinal (map element_of c.in_ok-index-2.elements.items) k h) c.case_behind.ensures.ok
 
 pub case_statement-returns-clause-err : goal.case_statement-returns-clause-err
 case_statement-returns-clause-err t c =
-    rw (case_at (context_at c.args.site) (regions_at c.args.site) c.args.at c.args.x.now c.args.list.now (expr_of c.in_ok-index.index) c.in_ok-index.ordinal (map element_of c.in_ok-elements.elements.items) c.in_ok-index.ensures.ok c.in_ok-elements.ensures.ok) c.case_behind.ensures.err
+    let h = rw c.in_ok-index-2.ensures.second at c.elements.ensures.ok in
+    let k = rw c.in_ok-index-2.ensures.first at c.in_ok-index.ensures.ok in
+    rw (case_at (context_at c.args.site) (regions_at c.args.site) c.args.at c.args.x.now c.args.list.now (expr_of c.in_ok-index-2.index) c.in_ok-index.ordinal (map element_of c.in_ok-index-2.elements.items) k h) c.case_behind.ensures.err
 
 pub with_statement-returns-in_err-places-in-len1-up-clause-err : goal.with_statement-returns-in_err-places-in-len1-up-clause-err
 with_statement-returns-in_err-places-in-len1-up-clause-err t c =
@@ -37,8 +42,8 @@ with_statement-returns-in_err-places-in-len1-up-clause-err t c =
 
 pub with_statement-returns-in_ok-places-in-len1-up-clause-ok : goal.with_statement-returns-in_ok-places-in-len1-up-clause-ok
 with_statement-returns-in_ok-places-in-len1-up-clause-ok t c =
-    rw (with_next (context_at c.args.site) (regions_at c.args.site) (map place_of c.args.opened.items) (spec.statement (context_at c.args.site) c.args.x.now) c.args.records.now c.first-item.result (map place_of c.in_ok-places-in-len1-up.places.items) (type_of c.in_ok-places-in-len1-up.ty) c.in-len1-up.len_at_least c.first-item.is c.in_ok-places-in-len1-up.ensures.ok) c.with_record.ensures.ok
+    rw (with_next (context_at c.args.site) (regions_at c.args.site) (map place_of c.args.opened.items) (spec.statement (context_at c.args.site) c.args.x.now) c.args.records.now c.first-item.result (map place_of c.in_ok-places-in-len1-up.places.items) (type_of c.in_ok-places-in-len1-up.ty) c.in-len1-up.len_at_least c.first-item.is c.in_ok-places-in-len1-up.ensures.ok) c.with_record-statement.ensures.ok
 
 pub with_statement-returns-in_ok-places-in-len1-up-clause-err : goal.with_statement-returns-in_ok-places-in-len1-up-clause-err
 with_statement-returns-in_ok-places-in-len1-up-clause-err t c =
-    rw (with_next (context_at c.args.site) (regions_at c.args.site) (map place_of c.args.opened.items) (spec.statement (context_at c.args.site) c.args.x.now) c.args.records.now c.first-item.result (map place_of c.in_ok-places-in-len1-up.places.items) (type_of c.in_ok-places-in-len1-up.ty) c.in-len1-up.len_at_least c.first-item.is c.in_ok-places-in-len1-up.ensures.ok) c.with_record.ensures.err
+    rw (with_next (context_at c.args.site) (regions_at c.args.site) (map place_of c.args.opened.items) (spec.statement (context_at c.args.site) c.args.x.now) c.args.records.now c.first-item.result (map place_of c.in_ok-places-in-len1-up.places.items) (type_of c.in_ok-places-in-len1-up.ty) c.in-len1-up.len_at_least c.first-item.is c.in_ok-places-in-len1-up.ensures.ok) c.with_record-statement.ensures.err

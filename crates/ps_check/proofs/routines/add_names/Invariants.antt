@@ -1,7 +1,0 @@
-use Rattle.std.proofs.Common.{map}
-use Rattle.ps_regions.proofs.Lists.{Stepped}
-use Rattle.ps_declare.specs.Points.{add_name}
-use Rattle.ps_check.proofs.routines.add_names.Given as goal
-
-abbrev pub invariant-loop-name : goal.invariant-loop-name
-invariant-loop-name l = Stepped add_name l.fn.names (map (λ name. name.items) l.more) l.name-index l.names

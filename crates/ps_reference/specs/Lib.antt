@@ -1,4 +1,0 @@
-pub mod View
-pub mod Worlds
-pub mod Procedures
-pub mod Blocks

@@ -1,0 +1,127 @@
+-- How deep the parts of a program lie in one another: a statement, an expression or a variable takes one level more than
+-- the highest of its parts.
+use Rattle.std.specs.Prelude.{ℕ, suc, max, List, [], ◌∷◌}
+use Rattle.ps_tree.specs.Tree.{Place, Entry, Opened, Element, Field, Target, Expr, Number, Nil, Load, Plus, Minus, Not, Arithmetic, Logic, Compare, ComparePointers, CompareSets, CompareStrings, In, Apply, Eof, Eoln, Call, CallFormal, SetExpr, LoadSet, Constructor, Combine, Member, One, Several, Members, no_member, member_before, Structure, Literal, Contents, Argument, ByValue, BySet, ByCopy, ByVariable, ByRoutine, ByFormal, Arguments, no_argument, argument_before, ReadVariable, ReadChar, ReadInteger, Width, DefaultWidth, GivenWidth, WriteParameter, WriteInteger, WriteChar, WriteBoolean, WriteText, Statement, Empty, Assign, AssignSet, AssignStructure, CallProcedure, CallFormalProcedure, Compound, If, IfElse, Case, While, Repeat, For, With, New, Pack, Unpack, Read, Readln, Write, Writeln, Statements, no_statement, statement_before, Elements, no_element, element_before, Routine, Program}
+
+abbrev mutual
+  pub place_height : Place → ℕ
+  place_height (Entry up index) = 1
+  place_height (Opened which type number) = 1
+  place_height (Element base type e line) = suc (max (place_height base) (expr_height e))
+  place_height (Field base type number) = suc (place_height base)
+  place_height (Target base pointer line) = suc (place_height base)
+
+  pub expr_height : Expr → ℕ
+  expr_height (Number n) = 1
+  expr_height Nil = 1
+  expr_height (Load p) = suc (place_height p)
+  expr_height (Plus e) = suc (expr_height e)
+  expr_height (Minus e line) = suc (expr_height e)
+  expr_height (Not e) = suc (expr_height e)
+  expr_height (Arithmetic operator a b line) = suc (max (expr_height a) (expr_height b))
+  expr_height (Logic operator a b) = suc (max (expr_height a) (expr_height b))
+  expr_height (Compare relation a b) = suc (max (expr_height a) (expr_height b))
+  expr_height (ComparePointers relation a b) = suc (max (expr_height a) (expr_height b))
+  expr_height (CompareSets relation a b) = suc (max (set_height a) (set_height b))
+  expr_height (CompareStrings relation a b) = suc (max (structure_height a) (structure_height b))
+  expr_height (In a b) = suc (max (expr_height a) (set_height b))
+  expr_height (Apply function e line) = suc (expr_height e)
+  expr_height Eof = 1
+  expr_height (Eoln line) = 1
+  expr_height (Call routine up arguments line) = suc (arguments_height arguments)
+  expr_height (CallFormal up index arguments line) = suc (arguments_height arguments)
+
+  pub set_height : SetExpr → ℕ
+  set_height (LoadSet p) = suc (place_height p)
+  set_height (Constructor members) = suc (members_height members)
+  set_height (Combine operator a b) = suc (max (set_height a) (set_height b))
+
+  pub member_height : Member → ℕ
+  member_height (One e line) = expr_height e
+  member_height (Several a b line) = max (expr_height a) (expr_height b)
+
+  pub members_height : Members → ℕ
+  members_height no_member = 0
+  members_height (member_before m rest) = max (member_height m) (members_height rest)
+
+  pub structure_height : Structure → ℕ
+  structure_height (Literal characters) = 0
+  structure_height (Contents p type) = place_height p
+
+  pub argument_height : Argument → ℕ
+  argument_height (ByValue e range line) = expr_height e
+  argument_height (BySet e low high line) = set_height e
+  argument_height (ByCopy e type) = structure_height e
+  argument_height (ByVariable p) = place_height p
+  argument_height (ByRoutine routine up) = 0
+  argument_height (ByFormal up index) = 0
+
+  pub arguments_height : Arguments → ℕ
+  arguments_height no_argument = 0
+  arguments_height (argument_before a rest) = max (argument_height a) (arguments_height rest)
+
+abbrev pub places_height : List Place → ℕ
+places_height [] = 0
+places_height (p ∷ rest) = max (place_height p) (places_height rest)
+
+abbrev pub read_height : ReadVariable → ℕ
+read_height (ReadChar p low high line) = place_height p
+read_height (ReadInteger p low high line) = place_height p
+
+abbrev pub reads_height : List ReadVariable → ℕ
+reads_height [] = 0
+reads_height (v ∷ rest) = max (read_height v) (reads_height rest)
+
+abbrev pub width_height : Width → ℕ
+width_height DefaultWidth = 0
+width_height (GivenWidth e line) = expr_height e
+
+abbrev pub write_height : WriteParameter → ℕ
+write_height (WriteInteger e width) = max (expr_height e) (width_height width)
+write_height (WriteChar e width) = max (expr_height e) (width_height width)
+write_height (WriteBoolean e width) = max (expr_height e) (width_height width)
+write_height (WriteText e width) = max (structure_height e) (width_height width)
+
+abbrev pub writes_height : List WriteParameter → ℕ
+writes_height [] = 0
+writes_height (p ∷ rest) = max (write_height p) (writes_height rest)
+
+abbrev mutual
+  pub statement_height : Statement → ℕ
+  statement_height Empty = 1
+  statement_height (Assign p range e line) = suc (max (place_height p) (expr_height e))
+  statement_height (AssignSet p low high e line) = suc (max (place_height p) (set_height e))
+  statement_height (AssignStructure p e) = suc (max (place_height p) (structure_height e))
+  statement_height (CallProcedure routine up arguments line) = suc (arguments_height arguments)
+  statement_height (CallFormalProcedure up index arguments line) = suc (arguments_height arguments)
+  statement_height (Compound body) = suc (statements_height body)
+  statement_height (If e s) = suc (max (expr_height e) (statement_height s))
+  statement_height (IfElse e s t) = suc (max (expr_height e) (max (statement_height s) (statement_height t)))
+  statement_height (Case e elements line) = suc (max (expr_height e) (elements_height elements))
+  statement_height (While e s) = suc (max (expr_height e) (statement_height s))
+  statement_height (Repeat body e) = suc (max (statements_height body) (expr_height e))
+  statement_height (For variable low high a from_line direction b to_line s) = suc (max (expr_height a) (max (expr_height b) (statement_height s)))
+  statement_height (With places s) = suc (max (places_height places) (statement_height s))
+  statement_height (New p pointer line) = suc (place_height p)
+  statement_height (Pack p from_type e line q to_type) = suc (max (place_height p) (max (expr_height e) (place_height q)))
+  statement_height (Unpack p from_type q to_type e line) = suc (max (place_height p) (max (place_height q) (expr_height e)))
+  statement_height (Read variables) = suc (reads_height variables)
+  statement_height (Readln variables line) = suc (reads_height variables)
+  statement_height (Write parameters) = suc (writes_height parameters)
+  statement_height (Writeln parameters) = suc (writes_height parameters)
+
+  pub statements_height : Statements → ℕ
+  statements_height no_statement = 0
+  statements_height (statement_before s rest) = max (statement_height s) (statements_height rest)
+
+  pub elements_height : Elements → ℕ
+  elements_height no_element = 0
+  elements_height (element_before constants s rest) = max (statement_height s) (elements_height rest)
+
+-- the highest body of a program's blocks
+abbrev pub highest_of : List Routine → ℕ
+highest_of [] = 0
+highest_of (r ∷ rest) = max (statements_height r.body) (highest_of rest)
+
+abbrev pub highest : Program → ℕ
+highest program = highest_of program.routines

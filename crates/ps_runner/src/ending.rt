@@ -1,0 +1,11 @@
+// How a run ends.
+
+/// How a run ends, with the line of the token that it is told at; `More` where the fuel was used up.
+#[derive(Clone, Copy, PartialEq, Eq, Debug)]
+pub enum Ending {
+    Normal,
+    Error { number: u16, line: u16 },
+    Stack { line: u16 },
+    Heap { line: u16 },
+    More,
+}

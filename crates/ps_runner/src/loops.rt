@@ -1,0 +1,235 @@
+// Loops.
+
+ghost use Rattle.std.specs.Prelude.{◌≡◌, max, IfOk, OnOk, IfErr};
+ghost use Rattle.ps_tree.specs.Tree as Tree;
+ghost use Rattle.ps_tree.specs.View.{expr_of, statement_of, statements_of};
+ghost use Rattle.ps_meaning.specs.Values.{number_of};
+ghost use Rattle.ps_meaning.specs.Operators.{is_equal};
+ghost use Rattle.ps_meaning.specs.Expressions.{fitting};
+ghost use Rattle.ps_meaning.specs.Statements as m;
+ghost use Rattle.ps_meaning.specs.Statements.{own_spot};
+ghost use Rattle.ps_meaning.specs.Worlds.{Gives, with_contents};
+ghost use Rattle.ps_runner.specs.View.{value_of, spot_of};
+ghost use Rattle.ps_runner.specs.Worlds as r;
+ghost use Rattle.ps_runner.specs.Worlds.{Stopped, context_of, world_of, done_of, acting, turning};
+ghost use Rattle.ps_runner.specs.Heights.{expr_height, statement_height, statements_height};
+ghost use Rattle.ps_runner.specs.Runs.{Runs, levels, advancing};
+
+use crate::calls::used_up;
+use crate::ending::Ending;
+use crate::expressions::{evaluate, evaluate_truth};
+use crate::operators::fits;
+use crate::statements::{act, act_all};
+use crate::stop::{Halt, Stop};
+use crate::value::{Spot, Value};
+use crate::world::{Context, World, spot_in};
+use ps_tree::tree::{Direction, Expr, Range, Statement};
+use std::alloc::AllocError;
+
+/// A for statement has no turn.
+fn is_past(direction: Direction, x: i32, y: i32) -> bool
+    ensures { result ≡ m.is_past direction x y }
+{
+    match direction {
+        Direction::To => y < x,
+        Direction::Downto => x < y,
+    }
+}
+
+/// The next value of a control variable; the same value where there is no next integer.
+fn succeeding(direction: Direction, x: i32) -> i32
+    ensures { result ≡ m.succeeding direction x }
+{
+    match direction {
+        Direction::To => { if x < i32::MAX { x + 1 } else { x } }
+        Direction::Downto => { if i32::MIN < x { x - 1 } else { x } }
+    }
+}
+
+/// A while statement.
+#[cycle(run)]
+pub fn repeat_while(
+    world: &mut World,
+    condition: &Expr,
+    body: &Statement,
+    c: &Context,
+    fuel: u64,
+    depth: u32,
+) -> Result<(), Halt>
+    ensures { Runs done_of (acting c.now.job.now fuel (Tree.While (expr_of condition.now) (statement_of body.now)) (context_of c.now) (world_of world.old)) depth (levels c.now.job.now fuel (max (expr_height (expr_of condition.now)) (statement_height (statement_of body.now)))) result world.new }
+{
+    let mut left = fuel;
+    loop {
+        if !evaluate_truth(world, condition, c, left, depth)? {
+            return Ok(());
+        }
+        act(world, body, c, left, depth)?;
+        if left == 0 {
+            return Err(Halt::Stopped(used_up(world, c)));
+        }
+        left -= 1;
+    }
+}
+
+/// A repeat statement.
+#[cycle(run)]
+pub fn repeat_until(
+    world: &mut World,
+    body: &[Statement],
+    condition: &Expr,
+    c: &Context,
+    fuel: u64,
+    depth: u32,
+) -> Result<(), Halt>
+    ensures { Runs done_of (acting c.now.job.now fuel (Tree.Repeat (statements_of body.now) (expr_of condition.now)) (context_of c.now) (world_of world.old)) depth (levels c.now.job.now fuel (max (statements_height (statements_of body.now)) (expr_height (expr_of condition.now)))) result world.new }
+{
+    let mut left = fuel;
+    loop {
+        act_all(world, body, c, left, depth)?;
+        if evaluate_truth(world, condition, c, left, depth)? {
+            return Ok(());
+        }
+        if left == 0 {
+            return Err(Halt::Stopped(used_up(world, c)));
+        }
+        left -= 1;
+    }
+}
+
+/// A for statement.
+#[cycle(run)]
+pub fn count(
+    world: &mut World,
+    variable: u32,
+    low: i32,
+    high: i32,
+    from: &Expr,
+    from_line: u16,
+    direction: Direction,
+    to: &Expr,
+    to_line: u16,
+    body: &Statement,
+    c: &Context,
+    fuel: u64,
+    depth: u32,
+) -> Result<(), Halt>
+    ensures { Runs done_of (acting c.now.job.now fuel (Tree.For variable low high (expr_of from.now) from_line direction (expr_of to.now) to_line (statement_of body.now)) (context_of c.now) (world_of world.old)) depth (levels c.now.job.now fuel (max (expr_height (expr_of from.now)) (max (expr_height (expr_of to.now)) (statement_height (statement_of body.now))))) result world.new }
+{
+    let x = evaluate(world, from, c, fuel, depth)?;
+    let y = evaluate(world, to, c, fuel, depth)?;
+    count_between(
+        world, variable, low, high, &x, from_line, direction, &y, to_line, body, c, fuel, depth,
+    )
+}
+
+/// A for statement whose bounds were evaluated.
+#[cycle(run)]
+#[tactic(auto, using(crate::proofs::Answers::stopped_then, crate::proofs::Answers::halted_then, crate::proofs::Answers::runs_deeper))]
+fn count_between(
+    world: &mut World,
+    variable: u32,
+    low: i32,
+    high: i32,
+    x: &Value,
+    from_line: u16,
+    direction: Direction,
+    y: &Value,
+    to_line: u16,
+    body: &Statement,
+    c: &Context,
+    fuel: u64,
+    depth: u32,
+) -> Result<(), Halt>
+    ensures { Runs done_of (r.counting c.now.job.now fuel variable low high (value_of x.now) from_line direction (value_of y.now) to_line (statement_of body.now) (context_of c.now) (world_of world.old)) depth (levels c.now.job.now fuel (statement_height (statement_of body.now))) result world.new }
+{
+    if is_past(direction, x.number(), y.number()) {
+        return Ok(());
+    }
+    let range = Range::Within { low, high };
+    check_bound(world, range, x, from_line, c)?;
+    check_bound(world, range, y, to_line, c)?;
+    set_own(world, variable, x, c)?;
+    turns(world, variable, direction, y, body, c, fuel, depth)
+}
+
+/// A bound of a for statement fits its control variable; error 4 where it does not.
+fn check_bound(
+    world: &World,
+    range: Range,
+    bound: &Value,
+    line: u16,
+    c: &Context,
+) -> Result<(), Stop>
+    ensures fits { OnOk result (fitting range (value_of bound.now) line (context_of c.now) (world_of world.now) ≡ Gives (value_of bound.now) (world_of world.now)) }
+    ensures stopped { IfErr result (λ stop. Stopped (fitting range (value_of bound.now) line (context_of c.now) (world_of world.now)) stop world.now) }
+{
+    if fits(range, bound) {
+        Ok(())
+    } else {
+        Err(Stop::Ended {
+            ending: Ending::Error { number: 4, line },
+            calls: c.calls.listed(c.job.alloc)?,
+        })
+    }
+}
+
+/// Assigns to a variable of the block itself.
+fn set_own(world: &mut World, variable: u32, value: &Value, c: &Context) -> Result<(), AllocError>
+    ensures { OnOk result (world_of world.new ≡ with_contents (world_of world.old) (own_spot variable (context_of c.now)) (value_of value.now)) }
+{
+    let spot = spot_in(c.job.alloc, &c.env, variable)?;
+    world.put(&spot, value.copy(c.job.alloc)?)
+}
+
+/// The turns of a for statement, from the one that begins.
+#[cycle(run)]
+fn turns(
+    world: &mut World,
+    variable: u32,
+    direction: Direction,
+    last: &Value,
+    body: &Statement,
+    c: &Context,
+    fuel: u64,
+    depth: u32,
+) -> Result<(), Halt>
+    ensures { Runs done_of (turning c.now.job.now fuel variable direction (number_of (value_of last.now)) (statement_of body.now) (context_of c.now) (world_of world.old)) depth (levels c.now.job.now fuel (statement_height (statement_of body.now))) result world.new }
+{
+    let spot = spot_in(c.job.alloc, &c.env, variable)?;
+    let mut left = fuel;
+    loop {
+        act(world, body, c, left, depth)?;
+        if left == 0 {
+            return Err(Halt::Stopped(used_up(world, c)));
+        }
+        left -= 1;
+        if !advance(world, &spot, direction, last, c)? {
+            return Ok(());
+        }
+    }
+}
+
+/// The control variable goes on to its next value; false where it has the last.
+#[tactic(auto, unfolding(crate::specs::View::value_of))]
+fn advance(
+    world: &mut World,
+    spot: &Spot,
+    direction: Direction,
+    last: &Value,
+    c: &Context,
+) -> Result<bool, AllocError>
+    ensures { IfOk result (λ k. advancing (spot_of spot.now) direction (number_of (value_of last.now)) (world_of world.old) ≡ Gives k (world_of world.new)) }
+{
+    let x = world.contents(c.job.alloc, spot)?.number();
+    if is_same(x, last.number()) {
+        return Ok(false);
+    }
+    world.put(spot, Value::Ordinal(succeeding(direction, x)))?;
+    Ok(true)
+}
+
+fn is_same(x: i32, y: i32) -> bool
+    ensures { result ≡ is_equal x y }
+{
+    x == y
+}

@@ -1,0 +1,276 @@
+// Reads and writes.
+
+ghost use Rattle.std.specs.Prelude.{◌≡◌, map, IfOk, OnOk, unwrap_or, length, [], ◌∷◌};
+ghost use Rattle.ps_tree.specs.Tree as Tree;
+ghost use Rattle.ps_tree.specs.View.{read_of, write_of, width_of};
+ghost use Rattle.ps_meaning.specs.Operators.{is_true};
+ghost use Rattle.ps_meaning.specs.Statements as m;
+ghost use Rattle.ps_meaning.specs.Text as text;
+ghost use Rattle.ps_meaning.specs.Values.{number_of};
+ghost use Rattle.ps_meaning.specs.Worlds.{says};
+ghost use Rattle.ps_runner.specs.View.{value_of, values_of};
+ghost use Rattle.ps_runner.specs.Worlds as r;
+ghost use Rattle.ps_runner.specs.Worlds.{Answers, acting, context_of, world_of, done_of, reading, reading_all, width_in, width_checked, writing, writing_all};
+ghost use Rattle.ps_runner.specs.Heights.{read_height, reads_height, width_height, write_height, writes_height};
+ghost use Rattle.ps_runner.specs.Runs.{Runs, levels};
+
+use crate::ending::Ending;
+use crate::expressions::{access, evaluate, take_operand};
+use crate::operators::is_true;
+use crate::stop::{Halt, Stop};
+use crate::text::{boolean_text, fitted, integer_text, right_aligned};
+use crate::value::Value;
+use crate::world::{Context, World};
+use ps_tree::tree::{ReadVariable, Width, WriteParameter};
+use std::alloc::{AllocError, Global};
+
+/// Reads variables.
+#[cycle(run)]
+pub fn read_all(
+    world: &mut World,
+    variables: &[ReadVariable],
+    c: &Context,
+    fuel: u64,
+    depth: u32,
+) -> Result<(), Halt>
+    ensures { Runs done_of (reading_all c.now.job.now fuel (map read_of variables.now) (context_of c.now) (world_of world.old)) depth (levels c.now.job.now fuel (reads_height (map read_of variables.now))) result world.new }
+{
+    for variable in variables {
+        read_one(world, variable, c, fuel, depth)?;
+    }
+    Ok(())
+}
+
+/// Reads a variable.
+#[cycle(run)]
+#[tactic(auto, using(crate::proofs::Answers::stopped_then, crate::proofs::Answers::halted_then, crate::proofs::Answers::runs_deeper), unfolding(ps_tree::specs::View::read_of))]
+fn read_one(
+    world: &mut World,
+    variable: &ReadVariable,
+    c: &Context,
+    fuel: u64,
+    depth: u32,
+) -> Result<(), Halt>
+    ensures { Runs done_of (reading c.now.job.now fuel (read_of variable.now) (context_of c.now) (world_of world.old)) depth (levels c.now.job.now fuel (read_height (read_of variable.now))) result world.new }
+{
+    match variable {
+        ReadVariable::Char {
+            place,
+            low,
+            high,
+            line,
+        } => {
+            let spot = access(world, place, c, fuel, depth)?;
+            Ok(world.read_character(&spot, *low, *high, line.number, c)?)
+        }
+        ReadVariable::Integer {
+            place,
+            low,
+            high,
+            line,
+        } => {
+            let spot = access(world, place, c, fuel, depth)?;
+            Ok(world.read_integer(&spot, *low, *high, line.number, c)?)
+        }
+    }
+}
+
+/// `readln`: reads variables, and then the rest of the line.
+#[cycle(run)]
+#[tactic(auto, using(crate::proofs::Answers::stopped_then, crate::proofs::Answers::halted_then, crate::proofs::Answers::runs_deeper))]
+pub fn read_line(
+    world: &mut World,
+    variables: &[ReadVariable],
+    line: u16,
+    c: &Context,
+    fuel: u64,
+    depth: u32,
+) -> Result<(), Halt>
+    ensures { Runs done_of (acting c.now.job.now fuel (Tree.Readln (map read_of variables.now) line) (context_of c.now) (world_of world.old)) depth (levels c.now.job.now fuel (reads_height (map read_of variables.now))) result world.new }
+{
+    read_all(world, variables, c, fuel, depth)?;
+    Ok(world.line_taken(line, c)?)
+}
+
+impl<'a> World<'a> {
+    /// The width of a parameter of write; error 11 for one below 1.
+    pub fn checked_width(&self, x: i32, line: u16, c: &Context) -> Result<Option<u32>, Stop>
+        ensures { Answers r.width_of (width_checked x line (context_of c.now) (world_of self.now)) result self.now }
+    {
+        if x < 1 {
+            Err(Stop::Ended {
+                ending: Ending::Error { number: 11, line },
+                calls: c.calls.listed(c.job.alloc)?,
+            })
+        } else {
+            Ok(Some(x.unsigned_abs()))
+        }
+    }
+}
+
+/// The width of a parameter of write; error 11 for one below 1.
+#[cycle(run)]
+#[tactic(auto, using(crate::proofs::Answers::stopped_then, crate::proofs::Answers::halted_then, crate::proofs::Answers::runs_deeper), unfolding(ps_tree::specs::View::width_of))]
+fn evaluate_width(
+    world: &mut World,
+    width: &Width,
+    c: &Context,
+    fuel: u64,
+    depth: u32,
+) -> Result<Option<u32>, Halt>
+    ensures { Runs r.width_of (width_in c.now.job.now fuel (width_of width.now) (context_of c.now) (world_of world.old)) depth (levels c.now.job.now fuel (width_height (width_of width.now))) result world.new }
+{
+    match width {
+        Width::Default => Ok(None),
+        Width::Given { value, line } => {
+            let x = evaluate(world, value, c, fuel, depth)?;
+            Ok(world.checked_width(x.number(), line.number, c)?)
+        }
+    }
+}
+
+/// Writes parameters.
+#[cycle(run)]
+pub fn write_all(
+    world: &mut World,
+    parameters: &[WriteParameter],
+    c: &Context,
+    fuel: u64,
+    depth: u32,
+) -> Result<(), Halt>
+    ensures { Runs done_of (writing_all c.now.job.now fuel (map write_of parameters.now) (context_of c.now) (world_of world.old)) depth (levels c.now.job.now fuel (writes_height (map write_of parameters.now))) result world.new }
+{
+    for parameter in parameters {
+        write_one(world, parameter, c, fuel, depth)?;
+    }
+    Ok(())
+}
+
+/// Writes a parameter.
+#[cycle(run)]
+#[tactic(auto, using(crate::proofs::Answers::stopped_then, crate::proofs::Answers::halted_then, crate::proofs::Answers::runs_deeper), unfolding(ps_tree::specs::View::write_of))]
+fn write_one(
+    world: &mut World,
+    parameter: &WriteParameter,
+    c: &Context,
+    fuel: u64,
+    depth: u32,
+) -> Result<(), Halt>
+    ensures { Runs done_of (writing c.now.job.now fuel (write_of parameter.now) (context_of c.now) (world_of world.old)) depth (levels c.now.job.now fuel (write_height (write_of parameter.now))) result world.new }
+{
+    match parameter {
+        WriteParameter::Integer { value, width } => {
+            let x = evaluate(world, value, c, fuel, depth)?;
+            let n = evaluate_width(world, width, c, fuel, depth)?;
+            Ok(write_integer(world, c.job.alloc, &x, n)?)
+        }
+        WriteParameter::Char { value, width } => {
+            let x = evaluate(world, value, c, fuel, depth)?;
+            let n = evaluate_width(world, width, c, fuel, depth)?;
+            Ok(write_character(world, c.job.alloc, &x, n)?)
+        }
+        WriteParameter::Boolean { value, width } => {
+            let x = evaluate(world, value, c, fuel, depth)?;
+            let n = evaluate_width(world, width, c, fuel, depth)?;
+            Ok(write_truth(world, c.job.alloc, &x, n)?)
+        }
+        WriteParameter::Text { value, width } => {
+            let held = take_operand(world, value, c, fuel, depth)?;
+            let n = evaluate_width(world, width, c, fuel, depth)?;
+            let text = world.contents_of(&held, c)?;
+            Ok(write_string(world, c.job.alloc, text.components(), n)?)
+        }
+    }
+}
+
+/// `writeln`: writes parameters, and then the end of the line.
+#[cycle(run)]
+#[tactic(auto, using(crate::proofs::Answers::stopped_then, crate::proofs::Answers::halted_then, crate::proofs::Answers::runs_deeper))]
+pub fn write_line(
+    world: &mut World,
+    parameters: &[WriteParameter],
+    c: &Context,
+    fuel: u64,
+    depth: u32,
+) -> Result<(), Halt>
+    ensures { Runs done_of (acting c.now.job.now fuel (Tree.Writeln (map write_of parameters.now)) (context_of c.now) (world_of world.old)) depth (levels c.now.job.now fuel (writes_height (map write_of parameters.now))) result world.new }
+{
+    write_all(world, parameters, c, fuel, depth)?;
+    Ok(world.write(&[10])?)
+}
+
+/// The byte of a character.
+fn character(value: &Value) -> u8
+    ensures { result ≡ m.character (value_of value.now) }
+{
+    (value.number().unsigned_abs() % 256) as u8
+}
+
+/// The characters of a string.
+#[tactic(auto, using(crate::proofs::Values::characters_next), unfolding(crate::specs::View::values_of))]
+fn characters(alloc: Global, values: &[Value]) -> Result<Vec<u8>, AllocError>
+    ensures { IfOk result (λ v. v.items ≡ m.characters (values_of values.now)) }
+{
+    let mut text = Vec::new(alloc);
+    for value in values {
+        text.push(character(value))?;
+    }
+    Ok(text)
+}
+
+/// Writes an integer, in a field of 11 characters where no width is given (6.9.3.2).
+fn write_integer(
+    world: &mut World,
+    alloc: Global,
+    x: &Value,
+    width: Option<u32>,
+) -> Result<(), AllocError>
+    ensures { OnOk result (world_of world.new ≡ says (world_of world.old) (text.right_aligned (unwrap_or (r.width_of width) 11) (text.integer_text (number_of (value_of x.now))))) }
+{
+    let text = integer_text(alloc, x.number())?;
+    let field = right_aligned(alloc, width.unwrap_or(11), text.as_slice())?;
+    world.write(field.as_slice())
+}
+
+/// Writes a character (6.9.3.2).
+fn write_character(
+    world: &mut World,
+    alloc: Global,
+    x: &Value,
+    width: Option<u32>,
+) -> Result<(), AllocError>
+    ensures { OnOk result (world_of world.new ≡ says (world_of world.old) (text.right_aligned (unwrap_or (r.width_of width) 1) (m.character (value_of x.now) ∷ []))) }
+{
+    let field = right_aligned(alloc, width.unwrap_or(1), &[character(x)])?;
+    world.write(field.as_slice())
+}
+
+/// Writes a Boolean, in a field of 5 characters where no width is given (6.9.3.5).
+fn write_truth(
+    world: &mut World,
+    alloc: Global,
+    x: &Value,
+    width: Option<u32>,
+) -> Result<(), AllocError>
+    ensures { OnOk result (world_of world.new ≡ says (world_of world.old) (text.fitted (unwrap_or (r.width_of width) 5) (text.boolean_text (is_true (number_of (value_of x.now)))))) }
+{
+    let field = fitted(alloc, width.unwrap_or(5), boolean_text(is_true(x.number())))?;
+    world.write(field.as_slice())
+}
+
+/// Writes a string, in a field of its length where no width is given (6.9.3.6).
+fn write_string(
+    world: &mut World,
+    alloc: Global,
+    values: &[Value],
+    width: Option<u32>,
+) -> Result<(), AllocError>
+    ensures { OnOk result (world_of world.new ≡ says (world_of world.old) (text.fitted (unwrap_or (r.width_of width) (length (m.characters (values_of values.now)))) (m.characters (values_of values.now)))) }
+{
+    let text = characters(alloc, values)?;
+    let Some(count) = width.or(u32::try_from(text.len()).ok()) else {
+        return Err(AllocError);
+    };
+    let field = fitted(alloc, count, text.as_slice())?;
+    world.write(field.as_slice())
+}
