@@ -114,7 +114,8 @@ class Expressions(Types):
         return Value(f"{left.at(TERM)} * {right.at(FACTOR)}", TERM, min(corners), max(corners))
 
     def hosted(self, value, host="integer"):
-        """Free Pascal takes what stands beside a value of a subrange to be of the subrange, so a function makes it one of the host type."""
+        """Free Pascal takes what stands beside a value of a subrange to be of the subrange, and `ord` of a Boolean to be a byte, so a function makes
+        it one of the host type."""
         return Value(f"host{host}({value.text})", FACTOR, value.low, value.high) if value.bare else value
 
     def mixed(self, left, right):
@@ -157,7 +158,7 @@ class Expressions(Types):
         if host.host == "integer":
             return None
         value = self.ordinal(host.host, host.low, host.high, depth)
-        return Value(f"ord({value.text})", FACTOR, value.low, value.high)
+        return Value(f"ord({value.text})", FACTOR, value.low, value.high, True)
 
     def pure_call(self, host, low, high):
         def fits(routine):

@@ -143,7 +143,8 @@ class Statements(Expressions):
         self.draw.shuffle(labels)
         elements = []
         while labels:
-            count = self.draw.randint(1, len(labels))
+            # Free Pascal evaluates no index where one element has both truth values
+            count = 1 if host.host == "Boolean" else self.draw.randint(1, len(labels))
             elements.append([f"{', '.join(labels[:count])}:", *indented(self.nested(size))])
             labels = labels[count:]
         return [f"case {index.text} of", *indented(sequence(elements)), "end"]
@@ -226,7 +227,8 @@ class Statements(Expressions):
 
     def make(self, _):
         found = self.assigned(Pointer)
-        if not found:
+        # an index that looks at pointers may be another one behind `new`, and Free Pascal has no first value for what is not filled then
+        if not found or any(mark in found.text.partition("[")[2] for mark in "=<>^"):
             return None
         node = found.type.node
         return compound([[f"new({found.text})"], [f"fill{node.name}({found.text}^, {self.draw.randint(0, 99)})"]])

@@ -31,10 +31,11 @@ pub fn boxed_answer<A: Drop>(alloc: Global, answer: Result<A, Fault>) -> Result<
     Ok(Box::new(alloc, answer?)?)
 }
 
-/// Adds what an answer holds to a list.
+/// Adds what an answer holds to a list, which stays as it was where that fails.
 pub fn push_answer<A: Drop>(list: &mut Vec<A>, answer: Result<A, Fault>) -> Result<(), Fault>
     ensures ok { IfOk result (λ _. IsOkAnd answer (λ part. list.new.items ≡ list.old.items ++ part ∷ [])) }
     ensures err { IfErr result (λ fault. IsFault fault → answer ≡ Err fault) }
+    ensures kept { IfErr result (λ _. list.new.items ≡ list.old.items) }
 {
     list.push(answer?)?;
     Ok(())

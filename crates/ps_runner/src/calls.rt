@@ -17,7 +17,7 @@ use crate::operands::Actual;
 use crate::statements::act_all;
 use crate::stop::{Halt, Stop};
 use crate::value::{Root, Spot, Value};
-use crate::world::{Context, Env, World, above, routine_in};
+use crate::world::{Context, Env, World, above, routine_above};
 use ps_tree::tree::{Argument, Statement};
 use std::rc::Rc;
 
@@ -108,8 +108,7 @@ pub fn call_formal_procedure(
     ensures { Runs done_of (acting c.now.job.now fuel (Tree.CallFormalProcedure up index (arguments_of arguments.now) line) (context_of c.now) (world_of world.old)) depth (levels c.now.job.now fuel (arguments_height (arguments_of arguments.now))) result world.new }
 {
     let actuals = take_actuals(world, arguments, c, fuel, depth)?;
-    let env = above(&c.env, up)?;
-    let (routine, parent) = routine_in(c.job.alloc, &env, index)?;
+    let (routine, parent) = routine_above(c, up, index)?;
     call(world, routine, parent, actuals, line, c, fuel, depth)
 }
 
@@ -149,8 +148,7 @@ pub fn call_formal_value(
     ensures { Runs value_of (e.value (caller c.now.job.now fuel) (Tree.CallFormal up index (arguments_of arguments.now) line) (context_of c.now) (world_of world.old)) depth (levels c.now.job.now fuel (arguments_height (arguments_of arguments.now))) result world.new }
 {
     let actuals = take_actuals(world, arguments, c, fuel, depth)?;
-    let env = above(&c.env, up)?;
-    let (routine, parent) = routine_in(c.job.alloc, &env, index)?;
+    let (routine, parent) = routine_above(c, up, index)?;
     function_value(world, routine, parent, actuals, line, c, fuel, depth)
 }
 

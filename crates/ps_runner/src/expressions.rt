@@ -1,7 +1,8 @@
 // Variables, expressions and actual parameters.
 
-ghost use Rattle.std.specs.Prelude.{◌≡◌, map};
-ghost use Rattle.ps_tree.specs.View.{place_of, expr_of, set_of, member_of, members_of, structure_of, argument_of, arguments_of};
+ghost use Rattle.std.specs.Prelude.{◌≡◌, max, map};
+ghost use Rattle.ps_tree.specs.Tree as Tree;
+ghost use Rattle.ps_tree.specs.View.{type_of, place_of, expr_of, set_of, member_of, members_of, structure_of, argument_of, arguments_of};
 ghost use Rattle.ps_meaning.specs.Expressions as m;
 ghost use Rattle.ps_runner.specs.View.{members_of_set, value_of, spot_of};
 ghost use Rattle.ps_runner.specs.Worlds.{caller, context_of, world_of, actual_of, actuals_in, held_of};
@@ -9,7 +10,7 @@ ghost use Rattle.ps_runner.specs.Heights.{place_height, expr_height, set_height,
 ghost use Rattle.ps_runner.specs.Runs.{Runs, levels, truth_in, truth_of};
 
 use crate::calls::{call_formal_value, call_value};
-use crate::operands::{Actual, Held, index_of, keep};
+use crate::operands::{Actual, Held, index_of, keep, passed_on};
 use crate::operations::{
     apply_required, calculate, combine, compare, compare_pointers, compare_sets, compare_strings,
     invert, load, negate, test_member,
@@ -17,8 +18,9 @@ use crate::operations::{
 use crate::operators::{combine_sets, is_true};
 use crate::stop::Halt;
 use crate::value::{Spot, Value};
-use crate::world::{Context, World, above, routine_in, spot_in};
-use ps_tree::tree::{Argument, Expr, Member, Place, SetExpr, SetOperator, Structure};
+use crate::world::{Context, World, above, spot_above};
+use ps_tree::tree::{Argument, Expr, Member, Place, Range, SetExpr, SetOperator, Structure};
+use ps_tree::types::Ty;
 
 /// Accesses a variable.
 #[cycle(run)]
@@ -36,10 +38,7 @@ pub fn access(
         return Err(Halt::TooDeep);
     }
     match place {
-        Place::Entry { up, index } => {
-            let env = above(&c.env, *up)?;
-            Ok(spot_in(c.job.alloc, &env, *index)?)
-        }
+        Place::Entry { up, index } => { Ok(spot_above(c, *up, *index)?) }
         Place::Opened { which, number, .. } => {
             let spot = world.opened(*which, c)?;
             Ok(spot.step(*number)?)
@@ -49,21 +48,36 @@ pub fn access(
             ty,
             index,
             line,
-        } => {
-            let spot = access(world, base, c, fuel, depth - 1)?;
-            let x = evaluate(world, index, c, fuel, depth - 1)?;
-            Ok(world.component_of(spot, index_of(ty), x.number(), line.number, c)?)
-        }
+        } => { access_component(world, base, ty, index, line.number, c, fuel, depth - 1) }
         Place::Field { base, number, .. } => {
             let spot = access(world, base, c, fuel, depth - 1)?;
             Ok(spot.step(*number)?)
         }
         Place::Target { base, line, .. } => {
             let spot = access(world, base, c, fuel, depth - 1)?;
-            let pointer = world.contents(c.job.alloc, &spot)?;
-            Ok(world.object_of(pointer, line.number, c)?)
+            Ok(world.target_of(&spot, line.number, c)?)
         }
     }
+}
+
+/// Accesses a component of an array, and then evaluates its index.
+#[cycle(run)]
+#[tactic(auto, using(crate::proofs::Answers::stopped_then, crate::proofs::Answers::halted_then, crate::proofs::Answers::runs_deeper))]
+fn access_component(
+    world: &mut World,
+    base: &Place,
+    ty: &Ty,
+    index: &Expr,
+    line: u16,
+    c: &Context,
+    fuel: u64,
+    depth: u32,
+) -> Result<Spot, Halt>
+    ensures { Runs spot_of (m.access (caller c.now.job.now fuel) (Tree.Element (place_of base.now) (type_of ty.now) (expr_of index.now) line) (context_of c.now) (world_of world.old)) depth (levels c.now.job.now fuel (max (place_height (place_of base.now)) (expr_height (expr_of index.now)))) result world.new }
+{
+    let spot = access(world, base, c, fuel, depth)?;
+    let x = evaluate(world, index, c, fuel, depth)?.number();
+    Ok(world.component_of(spot, index_of(ty), x, line, c)?)
 }
 
 /// Evaluates an expression of an ordinal or pointer type.
@@ -241,9 +255,9 @@ fn evaluate_member(
             Ok(world.set_between(x, x, line.number, c)?)
         }
         Member::Range { from, to, line } => {
-            let x = evaluate(world, from, c, fuel, depth)?;
-            let y = evaluate(world, to, c, fuel, depth)?;
-            Ok(world.set_between(x.number(), y.number(), line.number, c)?)
+            let x = evaluate(world, from, c, fuel, depth)?.number();
+            let y = evaluate(world, to, c, fuel, depth)?.number();
+            Ok(world.set_between(x, y, line.number, c)?)
         }
     }
 }
@@ -307,30 +321,73 @@ fn take_actual(
 {
     match argument {
         Argument::Value { value, range, line } => {
-            let x = evaluate(world, value, c, fuel, depth)?;
-            Ok(Actual::Value(world.fitting(*range, x, line.number, c)?))
+            take_value(world, value, *range, line.number, c, fuel, depth)
         }
         Argument::Set {
             value,
             low,
             high,
             line,
-        } => {
-            let s = evaluate_set(world, value, c, fuel, depth)?;
-            Ok(Actual::Value(world.fitting_set(*low, *high, s, line.number, c)?))
-        }
-        Argument::Copy { value, .. } => {
-            let held = take_operand(world, value, c, fuel, depth)?;
-            Ok(Actual::Value(world.contents_of(&held, c)?))
-        }
+        } => take_set(world, value, *low, *high, line.number, c, fuel, depth),
+        Argument::Copy { value, ty } => take_copy(world, value, ty, c, fuel, depth),
         Argument::Variable(place) => { Ok(Actual::Variable(access(world, place, c, fuel, depth)?)) }
         Argument::Routine { routine, up } => { Ok(Actual::Routine(*routine, above(&c.env, *up)?)) }
-        Argument::Formal { up, index } => {
-            let env = above(&c.env, *up)?;
-            let (routine, parent) = routine_in(c.job.alloc, &env, *index)?;
-            Ok(Actual::Routine(routine, parent))
-        }
+        Argument::Formal { up, index } => { Ok(passed_on(c, *up, *index)?) }
     }
+}
+
+/// The value of an expression, for a value parameter of this range.
+#[cycle(run)]
+#[tactic(auto, using(crate::proofs::Answers::stopped_then, crate::proofs::Answers::halted_then, crate::proofs::Answers::runs_deeper), unfolding(crate::specs::Worlds::actual_of))]
+fn take_value(
+    world: &mut World,
+    value: &Expr,
+    range: Range,
+    line: u16,
+    c: &Context,
+    fuel: u64,
+    depth: u32,
+) -> Result<Actual, Halt>
+    ensures { Runs actual_of (m.actual_of (caller c.now.job.now fuel) (Tree.ByValue (expr_of value.now) range line) (context_of c.now) (world_of world.old)) depth (levels c.now.job.now fuel (expr_height (expr_of value.now))) result world.new }
+{
+    let x = evaluate(world, value, c, fuel, depth)?;
+    Ok(Actual::Value(world.fitting(range, x, line, c)?))
+}
+
+/// The set of an expression, for a value parameter whose base type has these bounds.
+#[cycle(run)]
+#[tactic(auto, using(crate::proofs::Answers::stopped_then, crate::proofs::Answers::halted_then, crate::proofs::Answers::runs_deeper), unfolding(crate::specs::Worlds::actual_of))]
+fn take_set(
+    world: &mut World,
+    value: &SetExpr,
+    low: i32,
+    high: i32,
+    line: u16,
+    c: &Context,
+    fuel: u64,
+    depth: u32,
+) -> Result<Actual, Halt>
+    ensures { Runs actual_of (m.actual_of (caller c.now.job.now fuel) (Tree.BySet (set_of value.now) low high line) (context_of c.now) (world_of world.old)) depth (levels c.now.job.now fuel (set_height (set_of value.now))) result world.new }
+{
+    let s = evaluate_set(world, value, c, fuel, depth)?;
+    Ok(Actual::Value(world.fitting_set(low, high, s, line, c)?))
+}
+
+/// The contents of an operand, for a value parameter of an array or record type.
+#[cycle(run)]
+#[tactic(auto, using(crate::proofs::Answers::stopped_then, crate::proofs::Answers::halted_then, crate::proofs::Answers::runs_deeper), unfolding(crate::specs::Worlds::actual_of))]
+fn take_copy(
+    world: &mut World,
+    value: &Structure,
+    ty: &Ty,
+    c: &Context,
+    fuel: u64,
+    depth: u32,
+) -> Result<Actual, Halt>
+    ensures { Runs actual_of (m.actual_of (caller c.now.job.now fuel) (Tree.ByCopy (structure_of value.now) (type_of ty.now)) (context_of c.now) (world_of world.old)) depth (levels c.now.job.now fuel (structure_height (structure_of value.now))) result world.new }
+{
+    let held = take_operand(world, value, c, fuel, depth)?;
+    Ok(Actual::Value(world.contents_of(&held, c)?))
 }
 
 /// Takes the actual parameters, from left to right.

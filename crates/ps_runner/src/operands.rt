@@ -2,17 +2,17 @@
 
 ghost use Rattle.std.specs.Prelude.{◌≡◌, ◌++◌, ◌∷◌, [], map, get_or, IfOk, OnOk};
 ghost use Rattle.ps_tree.specs.View.{type_of};
-ghost use Rattle.ps_meaning.specs.Worlds.{settled, no_spot, Gives, done};
+ghost use Rattle.ps_meaning.specs.Worlds.{above, frame_of, routine_in, env_in, contents_in, settled, no_spot, Gives, done};
 ghost use Rattle.ps_meaning.specs.Expressions as m;
 ghost use Rattle.ps_meaning.specs.Statements.{index_place};
 ghost use Rattle.ps_runner.specs.View.{listed, members_of_set, number_of_place, value_of, spot_of, computed_of};
-ghost use Rattle.ps_runner.specs.Worlds.{Answers, context_of, world_of, actual_of, held_of, done_of, putting_fitting, putting_fitting_set, putting_contents, strings_compared};
+ghost use Rattle.ps_runner.specs.Worlds.{Answers, context_of, env_of, world_of, actual_of, held_of, done_of, putting_fitting, putting_fitting_set, putting_contents, strings_compared};
 
 use crate::ending::Ending;
 use crate::operators::{Computed, fits, interval, set_fits, strings_hold, truth};
 use crate::stop::Stop;
 use crate::value::{Root, Spot, Value, text_values};
-use crate::world::{Context, Env, World};
+use crate::world::{Context, Env, World, routine_above};
 use ps_tree::tree::{Range, Relation};
 use ps_tree::types::{Host, Ordinal, Ty};
 use std::alloc::AllocError;
@@ -53,6 +53,15 @@ pub fn index_of(ty: &Ty) -> Ordinal
             high: 0,
         },
     }
+}
+
+/// The actual parameter that passes on a procedural or functional parameter of the frame so many frames out.
+#[tactic(auto, unfolding(crate::specs::Worlds::actual_of))]
+pub fn passed_on(c: &Context, up: u32, index: u32) -> Result<Actual, AllocError>
+    ensures { IfOk result (λ a. actual_of a ≡ m.RoutineActual (routine_in (frame_of (above (env_of c.now.env.value) up)) index) (env_in (frame_of (above (env_of c.now.env.value) up)) index)) }
+{
+    let (routine, parent) = routine_above(c, up, index)?;
+    Ok(Actual::Routine(routine, parent))
 }
 
 impl<'a> World<'a> {
@@ -119,6 +128,14 @@ impl<'a> World<'a> {
                 })
             }
         }
+    }
+
+    /// The object that the pointer in a variable designates; error 6 for none.
+    pub fn target_of(&self, spot: &Spot, line: u16, c: &Context) -> Result<Spot, Stop>
+        ensures { Answers spot_of (m.object_of (contents_in (world_of self.now) (spot_of spot.now)) line (context_of c.now) (world_of self.now)) result self.now }
+    {
+        let pointer = self.contents(c.job.alloc, spot)?;
+        self.object_of(pointer, line, c)
     }
 
     /// The record that a `with` opened.

@@ -51,8 +51,8 @@ pub fn negate(
 ) -> Result<Value, Halt>
     ensures { Runs value_of (m.value (caller c.now.job.now fuel) (Tree.Minus (expr_of operand.now) line) (context_of c.now) (world_of world.old)) depth (levels c.now.job.now fuel (expr_height (expr_of operand.now))) result world.new }
 {
-    let x = evaluate(world, operand, c, fuel, depth)?;
-    Ok(world.settled(negated(x.number()), line, c)?)
+    let x = evaluate(world, operand, c, fuel, depth)?.number();
+    Ok(world.settled(negated(x), line, c)?)
 }
 
 /// `not`.
@@ -67,8 +67,8 @@ pub fn invert(
 ) -> Result<Value, Halt>
     ensures { Runs value_of (m.value (caller c.now.job.now fuel) (Tree.Not (expr_of operand.now)) (context_of c.now) (world_of world.old)) depth (levels c.now.job.now fuel (expr_height (expr_of operand.now))) result world.new }
 {
-    let x = evaluate(world, operand, c, fuel, depth)?;
-    Ok(Value::Ordinal(truth(!is_true(x.number()))))
+    let x = evaluate(world, operand, c, fuel, depth)?.number();
+    Ok(Value::Ordinal(truth(!is_true(x))))
 }
 
 /// An operator on two integers.
@@ -86,9 +86,9 @@ pub fn calculate(
 ) -> Result<Value, Halt>
     ensures { Runs value_of (m.value (caller c.now.job.now fuel) (Tree.Arithmetic operator (expr_of left.now) (expr_of right.now) line) (context_of c.now) (world_of world.old)) depth (levels c.now.job.now fuel (max (expr_height (expr_of left.now)) (expr_height (expr_of right.now)))) result world.new }
 {
-    let x = evaluate(world, left, c, fuel, depth)?;
-    let y = evaluate(world, right, c, fuel, depth)?;
-    Ok(world.settled(compute(operator, x.number(), y.number()), line, c)?)
+    let x = evaluate(world, left, c, fuel, depth)?.number();
+    let y = evaluate(world, right, c, fuel, depth)?.number();
+    Ok(world.settled(compute(operator, x, y), line, c)?)
 }
 
 /// `and` and `or`, of which both operands are evaluated.
@@ -105,9 +105,9 @@ pub fn combine(
 ) -> Result<Value, Halt>
     ensures { Runs value_of (m.value (caller c.now.job.now fuel) (Tree.Logic operator (expr_of left.now) (expr_of right.now)) (context_of c.now) (world_of world.old)) depth (levels c.now.job.now fuel (max (expr_height (expr_of left.now)) (expr_height (expr_of right.now)))) result world.new }
 {
-    let x = evaluate(world, left, c, fuel, depth)?;
-    let y = evaluate(world, right, c, fuel, depth)?;
-    let both = combine_truths(operator, is_true(x.number()), is_true(y.number()));
+    let x = evaluate(world, left, c, fuel, depth)?.number();
+    let y = evaluate(world, right, c, fuel, depth)?.number();
+    let both = combine_truths(operator, is_true(x), is_true(y));
     Ok(Value::Ordinal(truth(both)))
 }
 
@@ -125,9 +125,9 @@ pub fn compare(
 ) -> Result<Value, Halt>
     ensures { Runs value_of (m.value (caller c.now.job.now fuel) (Tree.Compare relation (expr_of left.now) (expr_of right.now)) (context_of c.now) (world_of world.old)) depth (levels c.now.job.now fuel (max (expr_height (expr_of left.now)) (expr_height (expr_of right.now)))) result world.new }
 {
-    let x = evaluate(world, left, c, fuel, depth)?;
-    let y = evaluate(world, right, c, fuel, depth)?;
-    Ok(Value::Ordinal(truth(holds(relation, x.number(), y.number()))))
+    let x = evaluate(world, left, c, fuel, depth)?.number();
+    let y = evaluate(world, right, c, fuel, depth)?.number();
+    Ok(Value::Ordinal(truth(holds(relation, x, y))))
 }
 
 /// A relation between two pointers.
@@ -200,9 +200,9 @@ pub fn test_member(
 ) -> Result<Value, Halt>
     ensures { Runs value_of (m.value (caller c.now.job.now fuel) (Tree.In (expr_of left.now) (set_of right.now)) (context_of c.now) (world_of world.old)) depth (levels c.now.job.now fuel (max (expr_height (expr_of left.now)) (set_height (set_of right.now)))) result world.new }
 {
-    let x = evaluate(world, left, c, fuel, depth)?;
+    let x = evaluate(world, left, c, fuel, depth)?.number();
     let s = evaluate_set(world, right, c, fuel, depth)?;
-    Ok(Value::Ordinal(truth(is_member(x.number(), s.as_slice()))))
+    Ok(Value::Ordinal(truth(is_member(x, s.as_slice()))))
 }
 
 /// A required function of an ordinal.
@@ -219,6 +219,6 @@ pub fn apply_required(
 ) -> Result<Value, Halt>
     ensures { Runs value_of (m.value (caller c.now.job.now fuel) (Tree.Apply function (expr_of operand.now) line) (context_of c.now) (world_of world.old)) depth (levels c.now.job.now fuel (expr_height (expr_of operand.now))) result world.new }
 {
-    let x = evaluate(world, operand, c, fuel, depth)?;
-    Ok(world.settled(apply(function, x.number()), line, c)?)
+    let x = evaluate(world, operand, c, fuel, depth)?.number();
+    Ok(world.settled(apply(function, x), line, c)?)
 }

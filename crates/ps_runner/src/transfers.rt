@@ -1,17 +1,15 @@
 // Reads and writes.
 
-ghost use Rattle.std.specs.Prelude.{◌≡◌, map, IfOk, OnOk, unwrap_or, length, [], ◌∷◌};
+ghost use Rattle.std.specs.Prelude.{◌≡◌, max, map, IfOk, OnOk, unwrap_or, length, [], ◌∷◌};
 ghost use Rattle.ps_tree.specs.Tree as Tree;
-ghost use Rattle.ps_tree.specs.View.{read_of, write_of, width_of};
-ghost use Rattle.ps_meaning.specs.Operators.{is_true};
+ghost use Rattle.ps_tree.specs.View.{read_of, structure_of, write_of, width_of};
 ghost use Rattle.ps_meaning.specs.Statements as m;
 ghost use Rattle.ps_meaning.specs.Text as text;
-ghost use Rattle.ps_meaning.specs.Values.{number_of};
 ghost use Rattle.ps_meaning.specs.Worlds.{says};
 ghost use Rattle.ps_runner.specs.View.{value_of, values_of};
 ghost use Rattle.ps_runner.specs.Worlds as r;
 ghost use Rattle.ps_runner.specs.Worlds.{Answers, acting, context_of, world_of, done_of, reading, reading_all, width_in, width_checked, writing, writing_all};
-ghost use Rattle.ps_runner.specs.Heights.{read_height, reads_height, width_height, write_height, writes_height};
+ghost use Rattle.ps_runner.specs.Heights.{structure_height, read_height, reads_height, width_height, write_height, writes_height};
 ghost use Rattle.ps_runner.specs.Runs.{Runs, levels};
 
 use crate::ending::Ending;
@@ -21,7 +19,7 @@ use crate::stop::{Halt, Stop};
 use crate::text::{boolean_text, fitted, integer_text, right_aligned};
 use crate::value::Value;
 use crate::world::{Context, World};
-use ps_tree::tree::{ReadVariable, Width, WriteParameter};
+use ps_tree::tree::{ReadVariable, Structure, Width, WriteParameter};
 use std::alloc::{AllocError, Global};
 
 /// Reads variables.
@@ -123,8 +121,8 @@ fn evaluate_width(
     match width {
         Width::Default => Ok(None),
         Width::Given { value, line } => {
-            let x = evaluate(world, value, c, fuel, depth)?;
-            Ok(world.checked_width(x.number(), line.number, c)?)
+            let x = evaluate(world, value, c, fuel, depth)?.number();
+            Ok(world.checked_width(x, line.number, c)?)
         }
     }
 }
@@ -160,27 +158,43 @@ fn write_one(
 {
     match parameter {
         WriteParameter::Integer { value, width } => {
-            let x = evaluate(world, value, c, fuel, depth)?;
+            let x = evaluate(world, value, c, fuel, depth)?.number();
             let n = evaluate_width(world, width, c, fuel, depth)?;
-            Ok(write_integer(world, c.job.alloc, &x, n)?)
+            Ok(write_integer(world, c.job.alloc, x, n)?)
         }
         WriteParameter::Char { value, width } => {
-            let x = evaluate(world, value, c, fuel, depth)?;
+            let x = character(&evaluate(world, value, c, fuel, depth)?);
             let n = evaluate_width(world, width, c, fuel, depth)?;
-            Ok(write_character(world, c.job.alloc, &x, n)?)
+            Ok(write_character(world, c.job.alloc, x, n)?)
         }
         WriteParameter::Boolean { value, width } => {
-            let x = evaluate(world, value, c, fuel, depth)?;
+            let x = evaluate(world, value, c, fuel, depth)?.number();
             let n = evaluate_width(world, width, c, fuel, depth)?;
-            Ok(write_truth(world, c.job.alloc, &x, n)?)
+            Ok(write_truth(world, c.job.alloc, is_true(x), n)?)
         }
         WriteParameter::Text { value, width } => {
-            let held = take_operand(world, value, c, fuel, depth)?;
-            let n = evaluate_width(world, width, c, fuel, depth)?;
-            let text = world.contents_of(&held, c)?;
-            Ok(write_string(world, c.job.alloc, text.components(), n)?)
+            write_contents(world, value, width, c, fuel, depth)
         }
     }
+}
+
+/// Writes the contents of an operand, which are taken when the width is evaluated.
+#[cycle(run)]
+#[tactic(auto, using(crate::proofs::Answers::stopped_then, crate::proofs::Answers::halted_then, crate::proofs::Answers::runs_deeper))]
+fn write_contents(
+    world: &mut World,
+    value: &Structure,
+    width: &Width,
+    c: &Context,
+    fuel: u64,
+    depth: u32,
+) -> Result<(), Halt>
+    ensures { Runs done_of (writing c.now.job.now fuel (Tree.WriteText (structure_of value.now) (width_of width.now)) (context_of c.now) (world_of world.old)) depth (levels c.now.job.now fuel (max (structure_height (structure_of value.now)) (width_height (width_of width.now)))) result world.new }
+{
+    let held = take_operand(world, value, c, fuel, depth)?;
+    let n = evaluate_width(world, width, c, fuel, depth)?;
+    let text = world.contents_of(&held, c)?;
+    Ok(write_string(world, c.job.alloc, text.components(), n)?)
 }
 
 /// `writeln`: writes parameters, and then the end of the line.
@@ -222,12 +236,12 @@ fn characters(alloc: Global, values: &[Value]) -> Result<Vec<u8>, AllocError>
 fn write_integer(
     world: &mut World,
     alloc: Global,
-    x: &Value,
+    x: i32,
     width: Option<u32>,
 ) -> Result<(), AllocError>
-    ensures { OnOk result (world_of world.new ≡ says (world_of world.old) (text.right_aligned (unwrap_or (r.width_of width) 11) (text.integer_text (number_of (value_of x.now))))) }
+    ensures { OnOk result (world_of world.new ≡ says (world_of world.old) (text.right_aligned (unwrap_or (r.width_of width) 11) (text.integer_text x))) }
 {
-    let text = integer_text(alloc, x.number())?;
+    let text = integer_text(alloc, x)?;
     let field = right_aligned(alloc, width.unwrap_or(11), text.as_slice())?;
     world.write(field.as_slice())
 }
@@ -236,12 +250,12 @@ fn write_integer(
 fn write_character(
     world: &mut World,
     alloc: Global,
-    x: &Value,
+    x: u8,
     width: Option<u32>,
 ) -> Result<(), AllocError>
-    ensures { OnOk result (world_of world.new ≡ says (world_of world.old) (text.right_aligned (unwrap_or (r.width_of width) 1) (m.character (value_of x.now) ∷ []))) }
+    ensures { OnOk result (world_of world.new ≡ says (world_of world.old) (text.right_aligned (unwrap_or (r.width_of width) 1) (x ∷ []))) }
 {
-    let field = right_aligned(alloc, width.unwrap_or(1), &[character(x)])?;
+    let field = right_aligned(alloc, width.unwrap_or(1), &[x])?;
     world.write(field.as_slice())
 }
 
@@ -249,12 +263,12 @@ fn write_character(
 fn write_truth(
     world: &mut World,
     alloc: Global,
-    x: &Value,
+    x: bool,
     width: Option<u32>,
 ) -> Result<(), AllocError>
-    ensures { OnOk result (world_of world.new ≡ says (world_of world.old) (text.fitted (unwrap_or (r.width_of width) 5) (text.boolean_text (is_true (number_of (value_of x.now)))))) }
+    ensures { OnOk result (world_of world.new ≡ says (world_of world.old) (text.fitted (unwrap_or (r.width_of width) 5) (text.boolean_text x))) }
 {
-    let field = fitted(alloc, width.unwrap_or(5), boolean_text(is_true(x.number())))?;
+    let field = fitted(alloc, width.unwrap_or(5), boolean_text(x))?;
     world.write(field.as_slice())
 }
 

@@ -125,9 +125,17 @@ pub fn spot_in(alloc: Global, env: &Env, index: u32) -> Result<Spot, AllocError>
     }
 }
 
+/// The spot that a name of the frame so many frames out stands for.
+pub fn spot_above(c: &Context, up: u32, index: u32) -> Result<Spot, AllocError>
+    ensures { IfOk result (λ s. spot_of s ≡ spot_in (frame_of (above (env_of c.now.env.value) up)) index) }
+{
+    let env = above(&c.env, up)?;
+    spot_in(c.job.alloc, &env, index)
+}
+
 /// The routine that a name of the innermost frame stands for, with its environment.
 #[tactic(auto, using(crate::proofs::Worlds::routine_of_Routine, crate::proofs::Worlds::env_of_Routine), unfolding(crate::specs::Worlds::env_of, crate::specs::Worlds::entry_routine, crate::specs::Worlds::entry_env))]
-pub fn routine_in(alloc: Global, env: &Env, index: u32) -> Result<(u32, Rc<Env>), AllocError>
+fn routine_in(alloc: Global, env: &Env, index: u32) -> Result<(u32, Rc<Env>), AllocError>
     ensures routine { IfOk result (λ r. r.0 ≡ routine_in (frame_of (env_of env.now)) index) }
     ensures env { IfOk result (λ r. env_of r.1.value ≡ env_in (frame_of (env_of env.now)) index) }
 {
@@ -135,6 +143,15 @@ pub fn routine_in(alloc: Global, env: &Env, index: u32) -> Result<(u32, Rc<Env>)
         Some(Entry::Routine { routine, env }) => Ok((*routine, env.clone()?)),
         Some(Entry::Variable(_)) | None => Ok((0, Rc::new(alloc, Env::Outside)?)),
     }
+}
+
+/// The routine that a name of the frame so many frames out stands for, with its environment.
+pub fn routine_above(c: &Context, up: u32, index: u32) -> Result<(u32, Rc<Env>), AllocError>
+    ensures routine { IfOk result (λ r. r.0 ≡ routine_in (frame_of (above (env_of c.now.env.value) up)) index) }
+    ensures env { IfOk result (λ r. env_of r.1.value ≡ env_in (frame_of (above (env_of c.now.env.value) up)) index) }
+{
+    let env = above(&c.env, up)?;
+    routine_in(c.job.alloc, &env, index)
 }
 
 impl Numbers {

@@ -77,8 +77,7 @@ fn opened_record(
 {
     let TypedPlace { place, ty, .. } = variable_place(x, site)?;
     let mut places = opened;
-    let added = push_answer(&mut places, Ok(place));
-    let (ty, ()) = beside(ty, added)?;
+    places.push(place)?;
     Ok((places, ty))
 }
 

@@ -28,10 +28,10 @@ abbrev pub decreases-expressions::evaluate_members : goal.decreases-expressions:
 decreases-expressions::evaluate_members l = 16 * l.depth + 2
 
 abbrev pub decreases-expressions::take_actual : goal.decreases-expressions::take_actual
-decreases-expressions::take_actual l = 16 * l.depth + 2
+decreases-expressions::take_actual l = 16 * l.depth + 3
 
 abbrev pub decreases-expressions::take_actuals : goal.decreases-expressions::take_actuals
-decreases-expressions::take_actuals l = 16 * l.depth + 3
+decreases-expressions::take_actuals l = 16 * l.depth + 4
 
 abbrev pub invariant-expressions::evaluate_members-loop-member : goal.invariant-expressions::evaluate_members-loop-member
 invariant-expressions::evaluate_members-loop-member l = members_left (caller l.c.job.now l.fuel) (context_of l.c) l.members l.member-index l.tests.items (world_of l.world) ≡ e.members_value (caller l.c.job.now l.fuel) (members_of l.members) (context_of l.c) (world_of l.fn.world)
@@ -121,10 +121,10 @@ abbrev pub decreases-transfers::evaluate_width : goal.decreases-transfers::evalu
 decreases-transfers::evaluate_width l = 16 * l.depth + 1
 
 abbrev pub decreases-transfers::write_all : goal.decreases-transfers::write_all
-decreases-transfers::write_all l = 16 * l.depth + 3
+decreases-transfers::write_all l = 16 * l.depth + 4
 
 abbrev pub decreases-transfers::write_one : goal.decreases-transfers::write_one
-decreases-transfers::write_one l = 16 * l.depth + 2
+decreases-transfers::write_one l = 16 * l.depth + 3
 
 abbrev pub decreases-calls::do_block : goal.decreases-calls::do_block
 decreases-calls::do_block l = 16 * l.depth + 2
@@ -203,10 +203,10 @@ abbrev pub decreases-statements::act_with : goal.decreases-statements::act_with
 decreases-statements::act_with l = 16 * l.depth + 2
 
 abbrev pub decreases-calls::call_procedure : goal.decreases-calls::call_procedure
-decreases-calls::call_procedure l = 16 * l.depth + 4
+decreases-calls::call_procedure l = 16 * l.depth + 5
 
 abbrev pub decreases-calls::call_formal_procedure : goal.decreases-calls::call_formal_procedure
-decreases-calls::call_formal_procedure l = 16 * l.depth + 4
+decreases-calls::call_formal_procedure l = 16 * l.depth + 5
 
 abbrev pub decreases-choices::act_if : goal.decreases-choices::act_if
 decreases-choices::act_if l = 16 * l.depth + 2
@@ -218,4 +218,19 @@ abbrev pub decreases-transfers::read_line : goal.decreases-transfers::read_line
 decreases-transfers::read_line l = 16 * l.depth + 3
 
 abbrev pub decreases-transfers::write_line : goal.decreases-transfers::write_line
-decreases-transfers::write_line l = 16 * l.depth + 4
+decreases-transfers::write_line l = 16 * l.depth + 5
+
+abbrev pub decreases-transfers::write_contents : goal.decreases-transfers::write_contents
+decreases-transfers::write_contents l = 16 * l.depth + 2
+
+abbrev pub decreases-expressions::access_component : goal.decreases-expressions::access_component
+decreases-expressions::access_component l = 16 * l.depth + 1
+
+abbrev pub decreases-expressions::take_value : goal.decreases-expressions::take_value
+decreases-expressions::take_value l = 16 * l.depth + 2
+
+abbrev pub decreases-expressions::take_set : goal.decreases-expressions::take_set
+decreases-expressions::take_set l = 16 * l.depth + 2
+
+abbrev pub decreases-expressions::take_copy : goal.decreases-expressions::take_copy
+decreases-expressions::take_copy l = 16 * l.depth + 2
