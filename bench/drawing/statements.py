@@ -227,7 +227,8 @@ class Statements(Expressions):
 
     def make(self, _):
         found = self.assigned(Pointer)
-        # an index that looks at pointers may be another one behind `new`, and Free Pascal has no first value for what is not filled then
+        # An index that looks at pointers may be another one behind `new`, and Free Pascal has no first value for what is not filled then.
+        # Pointers behind an index are left out with them.
         if not found or any(mark in found.text.partition("[")[2] for mark in "=<>^"):
             return None
         node = found.type.node

@@ -60,7 +60,7 @@ pub fn access(
     }
 }
 
-/// Accesses a component of an array, and then evaluates its index.
+/// Accesses an array, evaluates an index, and then accesses the component.
 #[cycle(run)]
 #[tactic(auto, using(crate::proofs::Answers::stopped_then, crate::proofs::Answers::halted_then, crate::proofs::Answers::runs_deeper))]
 fn access_component(

@@ -178,7 +178,7 @@ fn write_one(
     }
 }
 
-/// Writes the contents of an operand, which are taken when the width is evaluated.
+/// Writes the contents of an operand, which are taken after the width is evaluated.
 #[cycle(run)]
 #[tactic(auto, using(crate::proofs::Answers::stopped_then, crate::proofs::Answers::halted_then, crate::proofs::Answers::runs_deeper))]
 fn write_contents(
