@@ -1,42 +1,27 @@
 #!/usr/bin/env bash
-# Runs the proved program `pascal`, or the one that PASCAL_PROGRAM names, with the words given. Where it is missing, or older than its
-# sources, it is proved and built first.
+# Runs the proved program `pascal`, or the one that PASCAL_PROGRAM names, with the words given. It runs the first of these that there is:
+#
+#   the released program     released/NAME, where the sum beside it is that of the tree's sources
+#   the tree's own program   crates/NAME/out/NAME, where the sum beside it is that of the tree's sources
+#   a new one                which is proved and built first; that takes long, and standard error tells how far it is
+#
+# PASCAL_OWN=1 leaves out the released program. PASCAL_BUILT=FOLDER has FOLDER/NAME/out/NAME run as it is.
 set -u
 
 top=$(dirname "$(readlink -f "$0")")
 name=${PASCAL_PROGRAM:-pascal}
-program=$top/crates/$name/out/$name
+own=$top/crates/$name/out/$name
 log=$top/crates/$name/out/build.log
 
-# The libraries of this repository that a crate stands on, and the crate itself, lowest first.
-stands_on() {
-    awk -v crate="$1" '
-        { sub(/#.*/, "") }
-        /:/ { split($0, sides, ":"); split(sides[1], head, " "); deps[head[1]] = sides[2] }
-        function visit(name,   list, count, at) {
-            if (!(name in deps) || seen[name]++) return
-            count = split(deps[name], list, " ")
-            for (at = 1; at <= count; at++) visit(list[at])
-            print name
-        }
-        END { visit(crate) }
-    ' "$top/crates.txt"
-}
-
+# Whether a program lies there, and the sum beside it is that of the tree's sources.
 is_current() {
-    [ -x "$program" ] || return 1
-    local sources=("$top/crates.txt")
-    for crate in $crates; do
-        for part in src specs proofs; do
-            [ -d "$top/crates/$crate/$part" ] && sources+=("$top/crates/$crate/$part")
-        done
-    done
-    [ -z "$(find "${sources[@]}" -newer "$program" -print -quit)" ]
+    [ -x "$1" ] && [ "$(cat "$1.sum" 2>/dev/null)" = "$sum" ]
 }
 
 # Proves each crate in turn, telling how far it is.
 build() {
-    local total at=0
+    local crates total at=0
+    crates=$("$top/tools/stands_on" "$name")
     total=$(wc -w <<<"$crates")
     for crate in $crates; do
         at=$((at + 1))
@@ -47,17 +32,29 @@ build() {
             (cd "$top/crates/$crate" && rt lib) </dev/null >"$log" 2>&1
         fi || { echo "$name: $crate was not proved; $log tells why" >&2; exit 1; }
     done
-    touch "$program"
+    echo "$sum" >"$own.sum"
 }
 
-crates=$(stands_on "$name" | xargs)
-if ! is_current; then
+# Proves and builds the tree's own program, once however many ask for it.
+make_own() {
     command -v rt >/dev/null || { echo "$name: the command rt of the Rattle kit is not on the path" >&2; exit 1; }
     mkdir -p "$top/crates/$name/out"
     exec 9>"$top/crates/$name/out/build.lock"
     flock 9
-    is_current || build
+    is_current "$own" || build
     exec 9>&-
+}
+
+if [ -n "${PASCAL_BUILT:-}" ]; then
+    program=$PASCAL_BUILT/$name/out/$name
+else
+    sum=$("$top/tools/sources_sum" "$name")
+    if [ -z "${PASCAL_OWN:-}" ] && is_current "$top/released/$name"; then
+        program=$top/released/$name
+    else
+        program=$own
+        is_current "$own" || make_own
+    fi
 fi
 # a long sum is a deep tree, and takes the stack of the host
 ulimit -s unlimited 2>/dev/null || ulimit -s "$(ulimit -Hs)"

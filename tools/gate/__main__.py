@@ -1,0 +1,84 @@
+"""All that must hold of this repository; docs/GATE.md tells what is done, kept and trusted."""
+
+import argparse
+import os
+import sys
+import tempfile
+
+import edits
+import ends
+import kit
+import places
+import report
+import room
+import store
+import verdicts
+
+TOP = os.path.dirname(os.path.dirname(os.path.dirname(os.path.realpath(__file__))))
+
+
+class Tee:
+    """Standard output, with its last line known."""
+
+    def __init__(self, out):
+        self.out, self.said = out, ""
+
+    def write(self, text):
+        self.said = (self.said + text)[-200:]
+        return self.out.write(text)
+
+    def __getattr__(self, name):
+        return getattr(self.out, name)
+
+
+def prove(folder, progress):
+    """Does what `rt ci` does, with the gate's places, verdicts and edits, and returns how much passed and failed."""
+    rt = kit.rt()
+    rt.in_lanes = places.Places(folder, progress).run
+    rt.must_fail_all = edits.try_all
+    verdicts.replace_ci()
+    os.chdir(f"{folder}/tree")
+    sys.stdout = Tee(sys.__stdout__)
+    try:
+        with tempfile.TemporaryDirectory(prefix="aside-", dir=folder) as aside:
+            status = rt.ci_from_nothing(aside)
+        passed, failed = ends.count_in(sys.stdout.said)
+    finally:
+        sys.stdout = sys.__stdout__
+        os.chdir(TOP)
+    return passed, failed or int(bool(status))
+
+
+def look(folder, releases):
+    """Runs the whole gate in a room and returns how much passed and failed."""
+    tree = f"{folder}/tree"
+    progress = report.Report(tree)
+    passed, failed = prove(folder, progress)
+    more = ends.run_cases(tree)
+    passed, failed = passed + more[0], failed + more[1]
+    ends.hand_out(tree, TOP)
+    if releases and not failed:
+        ends.release(tree, TOP)
+        ends.release(tree, tree)
+    why = ends.look_at_release(tree)
+    if why:
+        print(f"FAILED: {why}")
+    progress.table(kit.rt().processors())
+    return passed + (not why), failed + bool(why)
+
+
+def main():
+    words = argparse.ArgumentParser(prog="./gate", description="Proves what this machine has not proved yet, tries its edits, runs all tests, programs and cases.")
+    words.add_argument("--from-nothing", action="store_true", help="take nothing from the store")
+    words.add_argument("--release", action="store_true", help="write released/pascal anew, where all else passes")
+    given = words.parse_args()
+    verdicts.store = store.Store.open(store.place(), reads=not given.from_nothing)
+    with room.opened(TOP, verdicts.store.at) as folder:
+        passed, failed = look(folder, given.release)
+    verdicts.store.tidy()
+    print(f"{passed} passed, {failed} failed")
+    return 1 if failed or not passed else 0
+
+
+if __name__ == "__main__":
+    sys.exit(main())

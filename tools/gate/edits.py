@@ -1,0 +1,235 @@
+"""The must-fail edits of a crate, tried together where they can stand side by side.
+
+A check tells of each function whether it is proved, so one check can try many edits, each of another function's body. Such an edit is refused where
+its own function is not proved, by an obligation of that function's own code: not because it calls what is not proved, and not because a text cannot be
+read. What a round does not settle is tried in a further round, and at last alone, by the rule of `rt ci`: edits of clauses and of what stands outside
+functions, edits of one function, and those that another hides.
+"""
+
+import os
+import re
+import shutil
+
+import kit
+import verdicts
+
+HEADER = re.compile(r"^( *)(?:pub(?:\([^)]*\))? )?(?:const )?(?:unsafe )?fn (\w+)")
+OWNER = re.compile(r"^impl\b(?:<[^>]*>)? (?:.* for )?(?:&'?\w* ?)?(\w+)")
+PLACE = re.compile(r"(?:(?:note|warning): )?(?:\./)?(src/\S+?\.rt):(\d+):\d+: (.*)")
+
+
+class Function:
+    """A function of a source file, and its type, if it is a method; of its lines, counted from 0: the first of its attributes and comments, its header, the
+    first of its body, and its last."""
+
+    def __init__(self, name, owner, top, header, body, last):
+        self.name, self.owner, self.top, self.header, self.body, self.last = name, owner, top, header, body, last
+
+
+def functions_of(text):
+    """The functions of a file in the layout of `rt fmt`, in which a body opens at the end of a header or on a line of its own, and closes below it."""
+    found, owner, lines = [], None, text.split("\n")
+    for at, line in enumerate(lines):
+        if OWNER.match(line):
+            owner = OWNER.match(line)[1]
+        header = HEADER.match(line)
+        if not header or len(header[1]) > 4:
+            continue
+        space = header[1]
+        closed = next((it for it in range(at, len(lines)) if lines[it] == f"{space}}}"), at)
+        opens = (f"{space}{{", f"{space})")
+        body = at if line.endswith("{") else next((it for it in range(at, closed) if lines[it].startswith(opens) and lines[it].endswith("{")), closed)
+        found.append(Function(header[2], owner if space else None, top_of(lines, at), at, body, closed))
+    return found
+
+
+def top_of(lines, at):
+    """The first line of what stands above a header and belongs to it: a blank line, or the opening of a block, ends it."""
+    while at and lines[at - 1].strip() and not lines[at - 1].endswith(("{", "}", ";")):
+        at -= 1
+    return at
+
+
+class Edit:
+    """A must-fail edit: the pairs of texts that it changes, with the file of each."""
+
+    def __init__(self, path, crate):
+        self.path, self.name = path, os.path.basename(path)
+        with open(path, encoding="utf-8", errors="replace") as file:
+            self.text = file.read()
+        self.pairs, at, old = [], "", None
+        for line in self.text.split("\n"):
+            if line.startswith("file: "):
+                at = line[6:].strip()
+            elif line.startswith("old: "):
+                old = line[5:]
+            elif line.startswith("new:"):
+                self.pairs.append((at, old, re.sub(r"\A ", "", line[4:])))
+        self.places = self.find(crate)
+
+    def find(self, crate):
+        """The functions whose bodies the edit changes, as (file, name, type), or None where it changes anything else."""
+        places = set()
+        for at, old, _ in self.pairs:
+            try:
+                with open(f"{crate.folder}/{at}", encoding="utf-8") as file:
+                    text = file.read()
+            except OSError:
+                return None
+            line = text[: text.find(old)].count("\n") if old and old in text else -1
+            inside = [it for it in functions_of(text) if it.body <= line <= it.last]
+            if not at.startswith("src/") or len(inside) != 1 or line == inside[0].header:
+                return None
+            places.add((at, inside[0].name, inside[0].owner))
+        return places
+
+    def apply(self, texts, crate):
+        """The texts with this edit made in them, or None where an old text is not there once."""
+        made = dict(texts)
+        for at, old, new in self.pairs:
+            if at not in made:
+                with open(f"{crate.folder}/{at}", encoding="utf-8") as file:
+                    made[at] = file.read()
+            if made[at].count(old) != 1:
+                return None
+            made[at] = made[at].replace(old, new)
+        return made
+
+
+def names_of(places, functions):
+    """The names by which a check tells of functions at these places, or None where one fits no name, or several."""
+    found = []
+    for at, name, owner in places:
+        wanted = "::".join([*module_of(at), *([owner] if owner else []), name])
+        alike = [it for it in functions if it == wanted]
+        if len(alike) != 1:
+            return None
+        found += alike
+    return found
+
+
+def side_by_side(edits, crate):
+    """As many of the edits as can stand in one copy, and that copy's texts: no two of one function, each text still there once."""
+    group, texts, taken = [], {}, set()
+    for edit in edits:
+        if edit.places is None or edit.places & taken:
+            continue
+        made = edit.apply(texts, crate)
+        if made is not None:
+            group.append(edit)
+            texts, taken = made, taken | edit.places
+    return group, texts
+
+
+def refused_at(said, texts, crate):
+    """The places of functions that a check refuses for themselves, with what it said, from its output."""
+    rt, found = kit.rt(), {}
+    spans = {at: functions_of(text) for at, text in texts.items()}
+    for line in said.split("\n"):
+        place = PLACE.match(line)
+        if not place or rt.unread(line, texts) or not re.search(r"not proved|error: ", place[3]):
+            continue
+        for it in spans.get(place[1], []):
+            if it.top <= int(place[2]) - 1 <= it.last:
+                found.setdefault((place[1], it.name, it.owner), line)
+    for name, of in by_proof_files(said, spans):
+        found.setdefault(of, f"the answers of {name} are refused")
+    return found
+
+
+def by_proof_files(said, spans):
+    """The functions whose own answers or lemmas in proofs/ are refused: those of a function lie in a folder of its path, and those of a cycle in a folder
+    of their own, each answer named by its function."""
+    refused = re.findall(r"(?m)^(?:\./)?proofs/(\S+)/[A-Z]\w+\.antt:\d+:\d+: error: (?!.*(?:is not in scope|has no))(?:`(\w+)-)?", said)
+    for path, member in dict.fromkeys(refused):
+        *above, last = path.split("/")
+        of = [(at, it) for at, functions in spans.items() for it in functions if names_match(at, it, above, last, member)]
+        if len(of) == 1:
+            yield path, (of[0][0], of[0][1].name, of[0][1].owner)
+
+
+def module_of(at):
+    """The names of the module that a file of src/ holds."""
+    return [it for it in at[4:-3].split("/") if it not in ("lib", "main", "mod")]
+
+
+def names_match(at, function, above, last, member):
+    """Whether a folder of proofs/ is a function's: by its whole path, or, in a cycle, by its type or module and the name before its answers' names."""
+    if last.startswith("+"):
+        return function.name == member and above[-1:] == [function.owner or module_of(at)[-1]]
+    return [*above, last] == [*module_of(at), *([function.owner] if function.owner else []), function.name]
+
+
+def round_of(crate, edits, flags):
+    """Tries edits together and returns those that are refused, each with what was said."""
+    group, texts = side_by_side(edits, crate)
+    if len(group) < 2:
+        return {}
+    known = verdicts.facts_of(crate).get("functions", [])
+    names = [names_of(it.places, known) for it in group]
+    only = [] if None in names else [word for it in names for name in it for word in ("--only", name)]
+    ran = kit.rt().checked(crate, texts, [*flags, *only], verdicts.kept_work(crate))
+    if ran.returncode != 1 or not re.search(r"^(logic=not-proved|only=\d+)", ran.stdout.rstrip("\n").split("\n")[-1]):
+        print(f"a round of {len(group)} edits told nothing: {ran.stdout[-400:]}", flush=True)
+        return {}
+    found = refused_at(ran.stdout, texts, crate)
+    done = {}
+    for edit in group:
+        at = next((it for it in edit.places if it in found), None)
+        if at:
+            done[edit] = f"must-fail {crate.name}/{edit.name}: refused, as it must be: {found[at][:160]}"
+    print(f"a round of {len(group)} edits refused {len(done)}", flush=True)
+    return done
+
+
+def alone(crate, edit, flags):
+    """Tries an edit by the rule of `rt ci`; where kept work seems to let it through, from nothing."""
+    told = kit.rt().must_fail(crate, edit.path, flags, verdicts.kept_work(crate))
+    return told if told[0] else kit.rt().must_fail(crate, edit.path, flags)
+
+
+def is_sound(crate, flags):
+    """Whether what is refused over the kept work is the edits' doing: this run has just proved the crate over it, or it is proved so now."""
+    if not verdicts.facts_of(crate).get("kept"):
+        return True
+    return not kit.rt().checked(crate, {}, flags, verdicts.kept_work(crate)).returncode
+
+
+def key_of(crate, edit):
+    return kit.sum_of("edit", verdicts.FORM, verdicts.facts_of(crate)["key"], edit.name, edit.text)
+
+
+def try_all(crate, paths, flags):
+    """What came of each edit of a crate: whether the prover refuses it, and what to say."""
+    told, left = {}, []
+    for edit in [Edit(it, crate) for it in paths]:
+        kept = verdicts.store.facts(key_of(crate, edit))
+        if kept:
+            told[edit.path] = (True, kept["facts"]["said"])
+        elif kit.rt().read_edit(edit.path, crate.folder)[1]:
+            told[edit.path] = kit.rt().must_fail(crate, edit.path, flags)
+        else:
+            left.append(edit)
+    verdicts.note(crate, False, {**verdicts.facts_of(crate), "tried": len(left)})
+    if left:
+        told.update(try_anew(crate, left, flags))
+    shutil.rmtree(verdicts.kept_work(crate), ignore_errors=True)
+    return [told[it] for it in paths]
+
+
+def try_anew(crate, edits, flags):
+    os.makedirs(verdicts.kept_work(crate), exist_ok=True)
+    told, left = {}, edits
+    while True:
+        done = round_of(crate, left, flags)
+        told.update({it.path: (True, said) for it, said in done.items()})
+        left = [it for it in left if it not in done]
+        if not done:
+            break
+    told.update({it.path: alone(crate, it, flags) for it in left})
+    if not is_sound(crate, flags):
+        told = {it.path: kit.rt().must_fail(crate, it.path, flags) for it in edits}
+    for it in edits:
+        if told[it.path][0]:
+            verdicts.store.put(key_of(crate, it), {"crate": crate.name, "said": told[it.path][1]}, None, [])
+    return told

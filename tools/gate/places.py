@@ -1,0 +1,135 @@
+"""Who works when: each task in a process of its own, as many side by side as there are processors and as memory holds.
+
+Proofs come first, those with the longest chain of others behind them before the rest, and none overtakes one that waits for memory, so none starves.
+Edits take a place only where no proof waits for one, and leave one free as long as there are proofs to come.
+"""
+
+import ctypes
+import os
+import pickle
+import signal
+import sys
+import time
+import traceback
+
+import kit
+
+PR_SET_PDEATHSIG = 1
+# (some checks take a fifth more than is reckoned)
+SHARE_OF_MEMORY = 0.85
+
+
+class Task:
+    """A task of `rt ci`: what it waits for, its size in lines, its memory, and a call that gets what was given and how many jobs it may use."""
+
+    def __init__(self, key, waits, lines, memory, call):
+        self.key, self.waits, self.lines, self.memory, self.call = key, waits, lines, memory, call
+        self.name, self.part = key
+        self.is_edits = self.part == "edits"
+        self.behind = 0
+        self.taken = self.jobs = self.began = 0
+
+
+def chained(tasks):
+    """Sets the work that waits for each task, its own included. A task comes after those that it waits for."""
+    for task in reversed([*tasks.values()]):
+        task.behind += task.lines
+        for it in task.waits:
+            tasks[it].behind = max(tasks[it].behind, task.behind)
+
+
+class Places:
+    def __init__(self, room, report):
+        self.logs, self.report = f"{room}/logs", report
+        os.makedirs(self.logs, exist_ok=True)
+        self.count = int(os.environ.get("RT_JOBS") or 0) or kit.rt().processors()
+        self.memory = SHARE_OF_MEMORY * kit.rt().free()
+        self.given, self.running = {}, {}
+
+    def run(self, table):
+        """Runs the tasks of a table by `rt ci` and returns what each gave."""
+        tasks = {key: Task(key, *it) for key, it in table.items()}
+        chained(tasks)
+        self.left = sorted(tasks.values(), key=lambda it: -it.behind)
+        self.report.begin([it for it in self.left if it.lines], self.count)
+        while self.left or self.running:
+            self.start_what_can()
+            if self.running:
+                self.wait_for_one()
+        return self.given
+
+    def start_what_can(self):
+        """Starts tasks in order until the places or the memory are taken. Those with nothing to do are done here and at once."""
+        while True:
+            ready = [it for it in self.left if all(below in self.given for below in it.waits)]
+            empty = next((it for it in ready if not it.lines), None)
+            if empty:
+                self.left.remove(empty)
+                self.given[empty.key] = empty.call(self.given, 1)
+                continue
+            proofs = [it for it in ready if not it.is_edits]
+            chosen = (proofs or ready)[:1]
+            if not chosen or not self.has_place(chosen[0]):
+                return
+            self.start(chosen[0], 1 if chosen[0].is_edits else max(1, self.idle() // len(ready)))
+
+    def idle(self):
+        return self.count - sum(it.jobs for it in self.running.values())
+
+    def has_place(self, task):
+        is_last = not any(not it.is_edits for it in [*self.left, *self.running.values()])
+        kept_free = 1 if task.is_edits and not is_last and self.count > 1 else 0
+        edits = sum(it.is_edits for it in self.running.values())
+        if self.idle() < 1 or task.is_edits and edits >= self.count - kept_free:
+            return False
+        return not self.running or task.memory <= self.memory - sum(it.taken for it in self.running.values())
+
+    def start(self, task, jobs):
+        self.left.remove(task)
+        free = self.memory - sum(it.taken for it in self.running.values())
+        task.jobs = min(4, jobs, max(1, 1 + int((free / task.memory - 1) / 0.6)))
+        task.taken = task.memory * (1 + 0.6 * (task.jobs - 1))
+        task.began = time.time()
+        sys.stdout.flush()
+        process = os.fork()
+        if process == 0:
+            self.work(task)
+        self.running[process] = task
+
+    def path(self, task, ending):
+        return f"{self.logs}/{task.name}.{task.part}.{ending}"
+
+    def work(self, task):
+        """In a process of its own: does the task, leaves what it gave in a file, and ends."""
+        status = 1
+        try:
+            ctypes.CDLL(None).prctl(PR_SET_PDEATHSIG, signal.SIGKILL)
+            log = os.open(self.path(task, "log"), os.O_WRONLY | os.O_CREAT | os.O_TRUNC)
+            os.dup2(log, 1)
+            os.dup2(log, 2)
+            given = task.call(self.given, task.jobs)
+            sys.stdout.flush()
+            with open(self.path(task, "given"), "wb") as file:
+                pickle.dump(given, file)
+            status = 0
+        except BaseException:
+            traceback.print_exc()
+            sys.stderr.flush()
+        finally:
+            os._exit(status)
+
+    def wait_for_one(self):
+        process, status, usage = os.wait4(-1, 0)
+        task = self.running.pop(process, None)
+        if task is None:
+            return
+        given = False
+        if status == 0:
+            with open(self.path(task, "given"), "rb") as file:
+                given = pickle.load(file)
+        elif task.is_edits:
+            given = ([], [f"{task.name}/must-fail"], [(False, f"{task.name}: trying its must-fail edits broke off")])
+        self.given[task.key] = given
+        with open(self.path(task, "log"), encoding="utf-8", errors="replace") as file:
+            said = file.read()
+        self.report.end(task, given, said, status, usage, len([it for it in self.left if it.lines]) + len(self.running))

@@ -1,0 +1,59 @@
+"""What a run tells: a line for each crate as it goes, and at its end where the processors' time went."""
+
+import json
+import re
+import time
+
+
+def seconds(usage):
+    return usage.ru_utime + usage.ru_stime
+
+
+class Report:
+    def __init__(self, tree):
+        self.tree, self.began, self.took, self.most = tree, time.time(), {}, {}
+
+    def say(self, text):
+        print(f"{time.time() - self.began:6.0f} s  {text}", flush=True)
+
+    def begin(self, tasks, places):
+        self.say(f"{len(tasks)} proofs, tests and sets of edits to look at, {places} side by side")
+
+    def facts(self, task, ending=""):
+        try:
+            with open(f"{self.tree}/crates/{task.name}/out/facts.json{ending}", encoding="utf-8") as file:
+                return json.load(file)
+        except OSError:
+            return {}
+
+    def end(self, task, given, said, status, usage, left):
+        """Tells how a task ended. What it wrote is shown where it failed."""
+        part = "edits" if task.is_edits else "proof"
+        self.took[task.name, part] = self.took.get((task.name, part), 0) + seconds(usage)
+        self.most[task.name] = max(self.most.get(task.name, 0), usage.ru_maxrss)
+        is_well = not status and (all(it[0] for it in given[2]) and not given[0] if task.is_edits else bool(given))
+        for it in re.findall("(?m)^gate: .*", said if is_well else ""):
+            self.say(f"{task.name}: {it[6:]}")
+        spent = f"{time.time() - task.began:.0f} s, {seconds(usage):.0f} of a processor, {usage.ru_maxrss // 1024} MB"
+        if not is_well:
+            print(said, end="" if said.endswith("\n") else "\n")
+            words = "FAILED"
+        elif task.is_edits:
+            tried = self.facts(task).get("tried", 0)
+            words = f"{len(given[1])} edits refused ({tried} tried, the rest kept) in {spent}" if tried else f"{len(given[1])} edits refused (kept)"
+        else:
+            facts = self.facts(task, ".tests" if task.part == "tests" else "")
+            what = "its tests are " if task.part == "tests" else ""
+            words = f"{what}kept" if facts.get("kept") else f"{what}proved in {spent}"
+        self.say(f"{task.name}: {words}; {left} left")
+
+    def table(self, processors):
+        """Processor seconds by crate, proof and edits apart, dearest first."""
+        names = {name for name, _ in self.took}
+        of = lambda name, part: self.took.get((name, part), 0)
+        print(f"\n{'processor seconds':24} {'proof':>7} {'edits':>7} {'MB':>6}")
+        for name in sorted(names, key=lambda it: -of(it, "proof") - of(it, "edits")):
+            print(f"{name:24} {of(name, 'proof'):7.0f} {of(name, 'edits'):7.0f} {self.most[name] // 1024:6}")
+        sums = [sum(of(name, part) for name in names) for part in ("proof", "edits")]
+        print(f"{'all':24} {sums[0]:7.0f} {sums[1]:7.0f}")
+        print(f"It took {(time.time() - self.began) / 60:.0f} minutes on {processors} processors.")

@@ -1,0 +1,53 @@
+"""The room: a copy of the tree in which a run works, so that the tree's own folders `out/` are neither read nor changed."""
+
+import contextlib
+import fcntl
+import os
+import shutil
+import subprocess
+import tempfile
+
+
+def files_of(top):
+    """The files of the tree: those that git tracks or would add, or all of them where it is no checkout."""
+    ran = subprocess.run(["git", "ls-files", "-z", "--cached", "--others", "--exclude-standard"], cwd=top, capture_output=True, text=True)
+    if ran.returncode == 0 and os.path.exists(f"{top}/.git"):
+        return [it for it in dict.fromkeys(ran.stdout.split("\0")) if it and os.path.lexists(f"{top}/{it}")]
+    found = []
+    for at, folders, files in os.walk(top):
+        folders[:] = [it for it in folders if it not in ("out", ".git", "__pycache__")]
+        found += [os.path.relpath(f"{at}/{it}", top) for it in files]
+    return found
+
+
+@contextlib.contextmanager
+def opened(top, at):
+    """A room below a folder, or where temporary files go if that is None. It is removed in the end, and so are those of runs that were killed."""
+    if at:
+        os.makedirs(f"{at}/rooms", exist_ok=True)
+        clear_left(f"{at}/rooms")
+    room = tempfile.mkdtemp(prefix="gate-", dir=at and f"{at}/rooms")
+    with open(f"{room}/lock", "w", encoding="utf-8") as held:
+        fcntl.flock(held, fcntl.LOCK_EX)
+        try:
+            lay(top, f"{room}/tree")
+            yield room
+        finally:
+            shutil.rmtree(room, ignore_errors=True)
+
+
+def clear_left(rooms):
+    """Removes the rooms whose runs no longer hold them."""
+    for it in os.listdir(rooms):
+        try:
+            with open(f"{rooms}/{it}/lock", encoding="utf-8") as held:
+                fcntl.flock(held, fcntl.LOCK_EX | fcntl.LOCK_NB)
+                shutil.rmtree(f"{rooms}/{it}", ignore_errors=True)
+        except OSError:
+            continue
+
+
+def lay(top, to):
+    for it in files_of(top):
+        os.makedirs(os.path.dirname(f"{to}/{it}"), exist_ok=True)
+        shutil.copy2(f"{top}/{it}", f"{to}/{it}", follow_symlinks=False)
