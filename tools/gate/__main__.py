@@ -60,11 +60,11 @@ def look(folder, releases):
     if releases and not failed:
         ends.release(tree, TOP)
         ends.release(tree, tree)
-    why = ends.look_at_release(tree)
-    if why:
+    faults = [ends.look_at_release(tree), ends.look_at_pages(tree)]
+    for why in filter(None, faults):
         print(f"FAILED: {why}")
     progress.table(kit.rt().processors())
-    return passed + (not why), failed + bool(why)
+    return passed + faults.count(None), failed + len(faults) - faults.count(None)
 
 
 def main():

@@ -1,4 +1,4 @@
-"""What follows the proofs: the end-to-end cases over the programs that were built, and the released program."""
+"""What follows the proofs: the end-to-end cases over the programs that were built, the released program, and the pages."""
 
 import filecmp
 import os
@@ -34,6 +34,12 @@ def run_cases(tree):
         print(f"tests/{folder} ({what}): {well} passed, {bad} failed", flush=True)
         passed, failed = passed + well, failed + bad
     return passed, failed
+
+
+def look_at_pages(tree):
+    """What is not true in the pages of a tree, as far as a program can tell."""
+    ran = subprocess.run([f"{tree}/tools/pages"], stdout=subprocess.PIPE, stderr=subprocess.STDOUT, text=True, errors="replace")
+    return ran.stdout.strip() or "tools/pages failed" if ran.returncode else None
 
 
 def sum_of_sources(tree, name):
