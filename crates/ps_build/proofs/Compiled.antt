@@ -2,7 +2,7 @@
 use Rattle.std.proofs.Common.{◌≡◌, ◌≢◌, inl, inr, ℕ, zero, suc, ◌+◌, ◌*◌, ◌/◌, ◌%◌, ◌<◌, ◌≤◌, Bool, true, false, cond, List, [], ◌∷◌, length, map, get_or, Some, None, refl, sym, ap, ◌∙◌, subst, arith, lit≤}
 use Rattle.std.specs.Prelude.{nat_lt}
 use Rattle.std.proofs.lemmas.List.Elements.{All-nil, All-cons}
-use Rattle.tac_code.specs.Same.{Same, more, normal, out_of_stack}
+use Rattle.ps_build.specs.Same.{Same, normal, out_of_stack}
 use Rattle.ps_tree.specs.Tree as Tree
 use Rattle.ps_tree.specs.Tree.{routine_at}
 use Rattle.ps_tree.specs.Counts.{routine_cells, routine_nodes}
@@ -15,7 +15,7 @@ use Rattle.ps_meaning.specs.Run.{Ran, run_within}
 use Rattle.ps_meaning.specs.Costs.{Bounded}
 use Rattle.ps_check.specs.Programs.{program}
 use Rattle.risc_word.specs.Words.{word_of}
-use Rattle.risc_machine.specs.Step.{start_state}
+use Rattle.risc_machine.specs.Step.{State, start_state}
 use Rattle.risc_machine.specs.Exec.{Stopped, fresh, exec, outcome_of}
 use Rattle.risc_view.specs.Start.{code_bytes, start_size}
 use Rattle.risc_image.specs.declared.rows.FrameRow.{FrameRow}
@@ -28,7 +28,7 @@ use Rattle.ps_scan.specs.Lexis.{IsTokens}
 use Rattle.ps_syntax.specs.declared.program.Program.{Program}
 use Rattle.ps_grammar.specs.Trees.{IsTreeOf}
 use Rattle.ps_text.specs.Lines.{IsSource}
-use Rattle.ps_build.specs.Strings.{only_block, compiled_of}
+use Rattle.ps_build.specs.Strings.{compiled_of}
 use Rattle.ps_build.specs.Code.{program_code, code_words, frame_bytes as block_bytes, entry_link, program_image}
 use Rattle.ps_parse.specs.declared.error.ParseRefusal.{ParseRefusal}
 use Rattle.ps_parse.specs.declared.error.ParseRefusal.TheVariants as p
@@ -37,7 +37,8 @@ use Rattle.ps_build.specs.declared.refusal.Refusal.TheVariants.{TooLong, TooMany
 use Rattle.ps_build.specs.Refusals.{of_parse, of_rule, of_check, OnlyNotYet, OnlyTooLarge}
 use Rattle.ps_build.specs.Accepts.{IsParsed, Accepts, IsProgramOf, HasNoTokens, HasNoTree, HasNoProgram, most_words, IsRefused, IsFaulty, IsNotAccepted}
 use Rattle.ps_build.proofs.Meant.{Only, only, shown_by, shown}
-use Rattle.ps_build.specs.Headline.{frame_bytes, object_bytes, trap_rows, image_shows, IsBudget, DoesAsMeant, Compiles}
+use Rattle.risc_load.specs.Shows.{frame_bytes, object_bytes, trap_rows, image_shows, IsBudget}
+use Rattle.ps_build.specs.Headline.{DoesAsMeant, Compiles}
 use Rattle.ps_build.proofs.Simulation.{AreBytes, outcome_bytes, outcome_word, length_program, program_writes}
 
 -- ---- the image is well formed
@@ -118,9 +119,9 @@ module _ (checked : Tree.Program) (line : ℕ) (bytes : List ℕ) (compiled : co
   abbrev end_shown : Bool → Ran
   end_shown small = cond small ([], out_of_stack line) (bytes, normal)
 
-  halted : (small : Bool) → outcome_of (trap_rows image) (outcome_bytes small bytes, Stopped (outcome_word small)) ≡ end_shown small
-  halted true = refl
-  halted false = refl
+  halted : (small : Bool) (at : State) → outcome_of (trap_rows image) (outcome_bytes small bytes, Stopped (outcome_word small) at) ≡ end_shown small
+  halted true at = refl
+  halted false at = refl
 
   module _ (heap stack : ℕ) (budget : IsBudget image heap stack) (input : List ℕ) where
     -- it comes to its end, however many steps are asked for
@@ -128,9 +129,10 @@ module _ (checked : Tree.Program) (line : ℕ) (bytes : List ℕ) (compiled : co
     ended k =
         let code = map word_of (program_code bytes) in
         let top : start_size code 0 heap stack ≤ 16777152 = budget.fits in
-        let x = (program_writes bytes 0 heap stack narrow top).by k (fresh input) in
+        let writes = program_writes bytes 0 heap stack narrow top in
+        let x = writes.by k (fresh input) in
         let e = ap (λ b. exec x.0 (start_state b 0 heap stack) (fresh input)) (sym (word_bytes_are code)) ∙ x.2 in
-        (x.0, omega (arith, x.1), ap (outcome_of (trap_rows image)) e ∙ halted (nat_lt stack 4))
+        (x.0, omega (arith, x.1), ap (outcome_of (trap_rows image)) e ∙ halted (nat_lt stack 4) writes.at)
 
     -- before any step it shows nothing, as the program does with no fuel
     reached : (small : Bool) → nat_lt stack 4 ≡ small → (n : ℕ) → (m : ℕ) × (n ≤ m) × (image_shows image heap stack input m ≡ cond small ([], out_of_stack line) (shown_by bytes n))

@@ -1,5 +1,5 @@
 -- What a program of strings means: it writes its bytes and ends, or is stopped for stack at once.
-use Rattle.std.proofs.Common.{◌≡◌, ℕ, ℤ, pos, negsuc, zero, suc, ◌+◌, ◌-◌, ◌%◌, ◌<◌, Bool, true, false, cond, List, [], ◌∷◌, ◌++◌, Option, Some, None, length, replicate, take, nat_lt, get_or, refl, sym, ap, ◌∙◌, arith, append_assoc}
+use Rattle.std.proofs.Common.{◌≡◌, ℕ, ℤ, pos, negsuc, zero, suc, ◌+◌, ◌-◌, ◌%◌, Bool, true, false, cond, List, [], ◌∷◌, ◌++◌, Option, Some, None, length, replicate, take, nat_lt, get_or, refl, sym, ap, ◌∙◌, arith, append_assoc}
 use Rattle.std.specs.Prelude.{option_and_then}
 use Rattle.std.proofs.lemmas.List.{append-nil}
 use Rattle.ps_tree.specs.Tree as Tree
@@ -7,8 +7,8 @@ use Rattle.ps_tree.specs.Tree.{routine_at}
 use Rattle.ps_meaning.specs.Text.{fitted, right_aligned}
 use Rattle.ps_meaning.specs.Values.{text_values}
 use Rattle.ps_tree.specs.Types.{DataType}
-use Rattle.tac_code.specs.Same.{more, normal, out_of_stack}
-use Rattle.ps_meaning.specs.Worlds.{Context, World, Outside, Within, Stack, Answer, Gives, Ends, Act, Done, done, and_then, stop, says}
+use Rattle.ps_build.specs.Same.{more, normal, out_of_stack}
+use Rattle.ps_meaning.specs.Worlds.{Context, World, Outside, Within, Stack, Answer, Gives, Act, Done, done, and_then, stop, says}
 use Rattle.ps_meaning.specs.Expressions.{Caller}
 use Rattle.ps_meaning.specs.Statements.{Costs, Next, Block, characters, write, writes, act, acts}
 use Rattle.ps_meaning.specs.Calls.{Bound, bind, call_routine, execute}

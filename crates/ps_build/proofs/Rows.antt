@@ -4,7 +4,7 @@ use Rattle.std.specs.Prelude.{nat_eq, option_map}
 use Rattle.risc_image.specs.declared.rows.TrapRow.{TrapRow}
 use Rattle.risc_image.specs.Table.{trap_at}
 use Rattle.risc_machine.specs.Exec.{row_at}
-use Rattle.ps_build.specs.Headline.{trap_row}
+use Rattle.risc_load.specs.Shows.{trap_row}
 
 -- a table's row is the first, or the row among the others
 with_row : (b : Bool) (row : TrapRow) (found : Option (ℕ × ℕ × ℕ)) (others : Option TrapRow) → found ≡ option_map trap_row others → cond b (Some (trap_row row)) found ≡ option_map trap_row (cond b (Some row) others)

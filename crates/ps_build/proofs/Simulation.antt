@@ -33,7 +33,8 @@ AreBytes (b ∷ bs) = (b < 256) × AreBytes bs
 
 -- The machine writes these bytes and stops with a word, however many steps are asked for.
 pub record Writes (m : State) (bytes : List ℕ) (word : ℕ) : Type 0 where
-  pub by : (k : ℕ) (p : Tape) → (j : ℕ) × (k < j) × (exec j m p ≡ (p.transcript ++ bytes, Stopped word))
+  pub at : State
+  pub by : (k : ℕ) (p : Tape) → (j : ℕ) × (k < j) × (exec j m p ≡ (p.transcript ++ bytes, Stopped word at))
 
 -- what the run writes, and the word that it stops with, by whether the stack is too small
 abbrev pub outcome_bytes : Bool → List ℕ → List ℕ
@@ -51,10 +52,11 @@ module _ (code : List ℕ) (size : ℕ) (fits : Fits code size) where
       let load = plain_to code size fits (Move 0 (Constant (pos 0))) m v shows tt has.0 in
       let stop = stop_at code size fits 0 6 load.to (after (Move 0 (Constant (pos 0))) v) load.shows has.1.0 at_device in
       record {
+        at = stop.at;
         by = λ k p.
             let x = stop.by k p in
             let y = load.runs x.0 p in
-            (y.0, omega (arith, x.1, y.1), y.2 ∙ x.2 ∙ ap (λ bytes. (bytes, Stopped 0)) (sym (append-nil p.transcript)));
+            (y.0, omega (arith, x.1, y.1), y.2 ∙ x.2 ∙ ap (λ bytes. (bytes, Stopped 0 stop.at)) (sym (append-nil p.transcript)));
       }
 
   -- the bytes, and then the end
@@ -67,12 +69,13 @@ module _ (code : List ℕ) (size : ℕ) (fits : Fits code size) where
       let rest = puts_write bytes put.to (at_view (v1.place + 1) v1) below.1 put.shows has.1.1 at_device in
       let same : word_of_int (pos b) % 256 ≡ b = byte b below.0 in
       record {
+        at = rest.at;
         by = λ k p.
             let q = told (word_of_int (pos b) % 256) p in
             let x = rest.by k q in
             let y = put.runs x.0 p in
             let z = load.runs y.0 p in
-            (z.0, omega (arith, x.1, y.1, z.1), z.2 ∙ y.2 ∙ x.2 ∙ ap (λ c. ((p.transcript ++ c ∷ []) ++ bytes, Stopped 0)) same ∙ ap (λ t. (t, Stopped 0)) (append_assoc p.transcript (b ∷ []) bytes));
+            (z.0, omega (arith, x.1, y.1, z.1), z.2 ∙ y.2 ∙ x.2 ∙ ap (λ c. ((p.transcript ++ c ∷ []) ++ bytes, Stopped 0 rest.at)) same ∙ ap (λ t. (t, Stopped 0 rest.at)) (append_assoc p.transcript (b ∷ []) bytes));
       }
     where
       byte : (n : ℕ) → n < 256 → word_of_int (pos n) % 256 ≡ n
@@ -89,10 +92,11 @@ module _ (code : List ℕ) (size : ℕ) (fits : Fits code size) where
       let there = subst (λ n. IsAt code n (Store Word 15 6 (pos 4))) (sym at_stop) has.1.1.0 in
       let stop = stop_at code size fits 15 6 gone.to v1 gone.shows there at_device in
       record {
+        at = stop.at;
         by = λ k p.
             let x = stop.by k p in
             let y = gone.runs x.0 p in
-            (y.0, omega (arith, x.1, y.1), y.2 ∙ x.2 ∙ ap (λ n. (p.transcript, Stopped (4 * (n + 1)))) place ∙ ap (λ t. (t, Stopped entry_link)) (sym (append-nil p.transcript)));
+            (y.0, omega (arith, x.1, y.1), y.2 ∙ x.2 ∙ ap (λ n. (p.transcript, Stopped (4 * (n + 1)) stop.at)) place ∙ ap (λ t. (t, Stopped entry_link stop.at)) (sym (append-nil p.transcript)));
       }
   tested false bytes m v below shows has place at_device flag =
       let to = Relative (pos 1) in
@@ -106,6 +110,7 @@ module _ (code : List ℕ) (size : ℕ) (fits : Fits code size) where
       let at_puts : v2.place ≡ 6 = ap (λ n. (n + 1 + word_of_int (pos 1)) % 4194304) at_jump in
       let rest = puts_write bytes gone.to v2 below gone.shows (subst (λ n. HasAt code n (put_code bytes ++ end_code)) (sym at_puts) has.1.1.1) at_device in
       record {
+        at = rest.at;
         by = λ k p.
             let x = rest.by k p in
             let y = gone.runs x.0 p in
@@ -159,7 +164,7 @@ length_program bytes = omega (arith, length_puts bytes)
 -- steps before a run that writes
 after_steps : (m to : State) {bytes : List ℕ} {word : ℕ} → ((k : ℕ) (p : Tape) → (j : ℕ) × (k < j) × (exec j m p ≡ exec k to p)) → Writes to bytes word → Writes m bytes word
 after_steps m to runs rest =
-    record { by = λ k p. let x = rest.by k p in let y = runs x.0 p in (y.0, omega (arith, x.1, y.1), y.2 ∙ x.2) }
+    record { at = rest.at; by = λ k p. let x = rest.by k p in let y = runs x.0 p in (y.0, omega (arith, x.1, y.1), y.2 ∙ x.2) }
 
 -- ---- from the loaded state
 pub program_writes : (bytes : List ℕ) (global heap stack : ℕ) → AreBytes bytes → start_size (map word_of (program_code bytes)) global heap stack ≤ 16777152 → Writes (start_state (code_bytes (map word_of (program_code bytes))) global heap stack) (outcome_bytes (nat_lt stack 4) bytes) (outcome_word (nat_lt stack 4))

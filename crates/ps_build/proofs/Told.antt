@@ -3,7 +3,7 @@ use Rattle.std.proofs.Common.{◌≡◌, ℕ, zero, suc, ◌+◌, ◌*◌, ◌%�
 use Rattle.std.specs.Prelude.{nat_lt, nat_eq, ◌==◌, ◌||◌, not}
 use Rattle.risc_load.specs.Refusal.{budget_fault}
 use Rattle.risc_load.specs.declared.budget.LoadRefusal.TheVariants.{BudgetUneven, BudgetTooLarge}
-use Rattle.tac_code.specs.Same.{Ending, Shown, output, more, normal, fault}
+use Rattle.ps_build.specs.Same.{Ending, Shown, output, more, normal, fault}
 use Rattle.risc_machine.specs.declared.stop.Stop.{Stop}
 use Rattle.risc_machine.specs.declared.stop.Stop.TheVariants as m
 use Rattle.risc_machine.specs.Console.{World}
@@ -15,7 +15,7 @@ use Rattle.risc_load.specs.declared.budget.Budget.{Budget}
 use Rattle.risc_load.specs.Loaded.{loaded_state}
 use Rattle.ps_build.specs.declared.outcome.Outcome.{Outcome}
 use Rattle.ps_build.specs.declared.outcome.Outcome.TheVariants.{Normal, Error, Stack, Heap, Steps, InputFault, OutputFault, Fault}
-use Rattle.ps_build.specs.Headline.{trap_rows, image_shows, IsBudget}
+use Rattle.risc_load.specs.Shows.{trap_rows, image_shows, IsBudget}
 use Rattle.ps_build.specs.Runs.{ending_told, IsToldBy, Ends, Breaks, Tells, CountsFaults, Runs}
 
 -- the bytes of a transcript, in the words of both layers
@@ -26,8 +26,8 @@ output_is (n ∷ rest) = ap (λ r. cond (nat_lt n 256) (n ∷ r) r) (output_is r
 -- the outcome of the stop that a halt is has the halt's ending
 told_by : (traps : List (ℕ × ℕ × ℕ)) (h : Halt) (outcome : Outcome) → IsToldBy traps (stop_at h) outcome → ending_told outcome ≡ Some (ending_of traps h)
 told_by traps Running outcome e = ap ending_told e
-told_by traps (Stopped zero) outcome e = ap ending_told e
-told_by traps (Stopped (suc k)) outcome e = e
+told_by traps (Stopped zero at) outcome e = ap ending_told e
+told_by traps (Stopped (suc k) at) outcome e = e
 told_by traps (Faulted kind) outcome e = e
 
 -- an outcome that has an ending tells of a run that no device disturbed
@@ -55,8 +55,8 @@ counts_end OutputFault ending old new e same = absurd (cc e)
 abbrev loaded : Image → Budget → State
 loaded image budget = loaded_state image budget
 
-module _ (image : Image) (budget : Budget) (n : ℕ) (old new : World) (outcome : Outcome) (fits : IsBudget image budget.heap budget.stack) where
-  ended : (stop : Stop) (input before : List ℕ) → IsToldBy (trap_rows image) stop outcome → Ended n (loaded image budget) (fresh input) before new stop → Tells outcome (image_shows image budget.heap budget.stack input) n before new
+module _ (image : Image) (budget : Budget) (n : ℕ) (left : State) (old new : World) (outcome : Outcome) (fits : IsBudget image budget.heap budget.stack) where
+  ended : (stop : Stop) (input before : List ℕ) → IsToldBy (trap_rows image) stop outcome → Ended n (loaded image budget) left (fresh input) before new stop → Tells outcome (image_shows image budget.heap budget.stack input) n before new
   ended stop input before told e =
       let h = (exec n (loaded image budget) (fresh input)).1 in
       let ending = told_by (trap_rows image) h outcome (subst (λ s. IsToldBy (trap_rows image) s outcome) e.ending told) in
@@ -75,7 +75,7 @@ module _ (image : Image) (budget : Budget) (n : ℕ) (old new : World) (outcome 
       }
 
   -- a run that follows the run over plain lists is the image's
-  pub runs_of : (stop : Stop) → FollowsExec n (loaded image budget) old new stop → Counts stop old new → IsToldBy (trap_rows image) stop outcome → Runs image budget n old new outcome
+  pub runs_of : (stop : Stop) → FollowsExec n (loaded image budget) old left new stop → Counts stop old new → IsToldBy (trap_rows image) stop outcome → Runs image budget n old new outcome
   runs_of m.Normal follows counts told =
       record {
         loaded = fits;

@@ -1,3 +1,4 @@
+pub mod Same
 pub mod Strings
 pub mod Code
 pub mod Refusals

@@ -1,6 +1,6 @@
 -- What a run of an image over a console comes to.
 use Rattle.std.specs.Prelude.{◌≡◌, ℕ, ◌<◌, List, ◌++◌, Option, Some, None}
-use Rattle.tac_code.specs.Same.{Ending, more, normal, fault, Shown, output}
+use Rattle.ps_build.specs.Same.{Ending, more, normal, fault, Shown, output}
 use Rattle.risc_machine.specs.Console.{World, one_more}
 use Rattle.risc_machine.specs.declared.stop.Stop.{Stop}
 use Rattle.risc_machine.specs.declared.stop.Stop.TheVariants as m
@@ -17,7 +17,7 @@ use Rattle.ps_build.specs.declared.refusal.Refusal.TheVariants.{OutOfMemory, Mag
 use Rattle.ps_build.specs.declared.outcome.Outcome.{Outcome}
 use Rattle.ps_build.specs.declared.outcome.Outcome.TheVariants.{Normal, Error, Stack, Heap, Steps, InputFault, OutputFault, Fault}
 use Rattle.ps_build.specs.Faults.{fault_number}
-use Rattle.ps_build.specs.Headline.{image_shows, IsBudget}
+use Rattle.risc_load.specs.Shows.{image_shows, IsBudget}
 
 -- the ending that an outcome tells; where a device failed there is none
 abbrev pub ending_told : Outcome → Option Ending

@@ -2,7 +2,7 @@
 
 ghost use Rattle.std.specs.Prelude.{◌≡◌, Some, option_map, IfOk, IfErr, OnErr};
 ghost use Rattle.risc_machine.specs.Exec.{trap_ending};
-ghost use Rattle.ps_build.specs.Headline.{trap_row, trap_rows};
+ghost use Rattle.risc_load.specs.Shows.{trap_row, trap_rows};
 ghost use Rattle.ps_build.specs.Runs.{ending_told, IsToldBy, Runs, RunsImage, IsLoadRefused, IsRunRefused};
 ghost use Rattle.ps_build.specs.Goes.{Goes, IsGoRefused};
 

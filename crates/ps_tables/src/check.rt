@@ -1,72 +1,75 @@
-//! What the checker says of each program text of the second table, which tells its own form. The wanted answers were written
-//! from the rules of the language before the program first ran: `answers` makes the wanted lines from the verdicts that stand
-//! before the texts.
+//! What the checker says of program texts.
 
-use crate::text::append;
+use crate::words::put;
+use crate::{front, tokens};
 use ps_check::check;
 use ps_parse::parse;
+use ps_regions::refusal::CheckRefusal;
 use ps_scan::scan;
 use ps_text::Source;
+use ps_tree::program::Checked;
 use std::alloc::{AllocError, Global};
-use std::io;
 
-fn refused(
-    alloc: Global,
-    phase: &str,
-    number: u32,
-    line: Option<u32>,
-) -> Result<String, AllocError> {
-    let line = line.unwrap_or(0);
-    format!(in alloc; "{phase}{number} at line {line}")
+fn refused(alloc: Global, refusal: CheckRefusal) -> Result<String, AllocError> {
+    let number = refusal.number();
+    let line = refusal.line().unwrap_or(0);
+    format!(in alloc; "{number} {refusal} at line {line}")
 }
 
-/// What the front says of a text. A refusal of an earlier phase than the checker's is a slip of the table, and its phase is told.
-fn verdict(alloc: Global, source: &Source) -> Result<String, AllocError> {
+/// What is said of a text. A refusal of an earlier phase than the checker's is a slip of the table, and its phase is told.
+fn said(alloc: Global, source: &Source) -> Result<String, AllocError> {
     let tokens = match scan(alloc, source) {
         Ok(tokens) => tokens,
-        Err(refusal) => return refused(alloc, "scan: ", refusal.number(), Some(refusal.line())),
+        Err(refusal) => {
+            let said = tokens::refused(alloc, refusal)?;
+            return format!(in alloc; "scan: {said}");
+        }
     };
     let program = match parse(alloc, source, &tokens) {
         Ok(program) => program,
-        Err(refusal) => return refused(alloc, "parse: ", refusal.number(), refusal.line()),
+        Err(refusal) => {
+            let said = front::refused(alloc, refusal)?;
+            return format!(in alloc; "parse: {said}");
+        }
     };
     match check(alloc, source, &program) {
         Ok(_) => String::from_str(alloc, "accepted"),
-        Err(refusal) => refused(alloc, "", refusal.number(), refusal.line()),
+        Err(refusal) => refused(alloc, refusal),
     }
 }
 
-/// What stands behind the wanted verdict of a line.
-fn behind_verdict(line: &str) -> &str {
-    match line.split_once(' ') {
-        Some((_, text)) => text,
-        None => "",
-    }
-}
-
-/// Shows what is said of a text; of no text nothing is shown.
-pub(crate) fn show(rt: &HostRuntime, text: &[u8]) -> io::Result<()> {
-    if text.is_empty() {
-        return Ok(());
-    }
+/// Whether the checker accepts a text, or its refusal.
+pub(crate) fn verdict(alloc: Global, text: &[u8]) -> Result<String, AllocError> {
     match Source::new(text) {
-        Ok(source) => rt.println(verdict(rt.alloc(), &source)?),
-        Err(_) => rt.println("no source"),
+        Ok(source) => said(alloc, &source),
+        Err(_) => String::from_str(alloc, "no source"),
     }
 }
 
-/// Takes a line of the table: one that goes on with the text before it, a remark, or one that begins a text.
-pub(crate) fn take(rt: &HostRuntime, text: &mut Vec<u8>, line: &str) -> io::Result<()> {
-    if line.starts_with(" ") {
-        append(text, line)?;
-        return Ok(());
+/// The checked program of a text that is known to have one; a text that has none is a slip of its table.
+pub(crate) fn checked(alloc: Global, text: &[u8]) -> Option<Checked> {
+    let source = Source::new(text).ok()?;
+    let program = front::program(alloc, &source)?;
+    check(alloc, &source, &program).ok()
+}
+
+fn counts_of(alloc: Global, program: &Checked) -> Result<String, AllocError> {
+    let mut shown = String::new(alloc);
+    let count = u32::try_from(program.routines().len()).unwrap_or(0);
+    for routine in 0..count {
+        let nodes = program.nodes(routine);
+        let cells = program.cells(routine);
+        let word = format!(in alloc; "{nodes}/{cells}")?;
+        put(&mut shown, word.as_str())?;
     }
-    show(rt, text)?;
-    *text = Vec::new(rt.alloc());
-    if line.starts_with("#") {
-        rt.println(line)?;
-    } else {
-        append(text, behind_verdict(line))?;
+    let domains = program.domains().len();
+    format!(in alloc; "{shown}, domains {domains}")
+}
+
+/// The nodes and the cells of each routine of a program, and how many domain types it has.
+pub(crate) fn counts(alloc: Global, text: &[u8]) -> Result<String, AllocError> {
+    match checked(alloc, text) {
+        Some(program) => counts_of(alloc, &program),
+        None => String::from_str(alloc, "refused"),
     }
-    Ok(())
 }

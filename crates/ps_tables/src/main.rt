@@ -1,66 +1,114 @@
-//! What the front of the compiler and the slow runner say of the texts of three tables, which stand one behind the other on
-//! standard input; a line of the form `== NAME` begins each: `front`, `check`, `runs`.
+//! What the front of the compiler, the checker's layers and the slow runner say of the texts of their tables.
 #![tactic(auto)]
 
+mod blocks;
+mod changes;
 mod check;
 mod front;
+mod regions;
 mod runs;
 mod shown;
-mod text;
+mod texts;
+mod tokens;
+mod types;
+mod words;
 
-use runs::{Wanted, empty_run};
-use std::io::{self, BufRead, BufReader};
+use blocks::Asked;
+use runs::{Job, untold};
+use std::alloc::{AllocError, Global};
+use std::io;
+use tables::{Answers, answer_rows};
 
-/// The table that the lines are of.
-#[derive(Clone, Copy, PartialEq, Eq)]
+/// What is asked of a row's text, by the name of its table.
+#[derive(Clone, Copy)]
 enum Table {
-    Front,
+    Unknown,
+    Lengths,
+    Lines,
+    Slices,
+    Kinds,
+    Spans,
+    Values,
+    Parse,
+    Trees,
+    Regions,
+    Block(Asked),
     Check,
+    Programs,
+    Changes,
     Runs,
+    Trails,
+    Outputs,
 }
 
-/// What is told so far of the text or the run to which a line belongs.
+/// The table that the rows are of, and what is told of the next run.
 #[derive(Drop)]
-struct Told {
+struct Pascal {
     table: Table,
-    text: Vec<u8>,
-    run: Wanted,
+    job: Job,
 }
 
-/// The table that a line begins.
-fn table_begun(line: &str) -> Option<Table> {
-    match line {
-        "== front" => Some(Table::Front),
-        "== check" => Some(Table::Check),
-        "== runs" => Some(Table::Runs),
-        _ => None,
+impl Answers for Pascal {
+    fn begin(&mut self, table: &str) {
+        self.table = match table {
+            "lengths" => Table::Lengths,
+            "lines" => Table::Lines,
+            "slices" => Table::Slices,
+            "kinds" => Table::Kinds,
+            "spans" => Table::Spans,
+            "values" => Table::Values,
+            "parse" => Table::Parse,
+            "trees" => Table::Trees,
+            "regions" => Table::Regions,
+            "declarations" => Table::Block(Asked::Declarations),
+            "sizes" => Table::Block(Asked::Sizes),
+            "fields" => Table::Block(Asked::Fields),
+            "types" => Table::Block(Asked::Types),
+            "expressions" => Table::Block(Asked::Expressions),
+            "statements" => Table::Block(Asked::Statements),
+            "check" => Table::Check,
+            "programs" => Table::Programs,
+            "changes" => Table::Changes,
+            "runs" => Table::Runs,
+            "trails" => Table::Trails,
+            "outputs" => Table::Outputs,
+            _ => Table::Unknown,
+        };
     }
-}
 
-fn take(rt: &HostRuntime, told: &mut Told, line: &str) -> io::Result<()> {
-    if let Some(table) = table_begun(line) {
-        told.table = table;
-        // the last text of the table before
-        check::show(rt, &told.text)?;
-        told.text = Vec::new(rt.alloc());
-        return rt.println(line);
+    fn tell(&mut self, word: &str, rest: &str, text: Vec<u8>) -> Result<(), AllocError> {
+        self.job.tell(word, rest, text)
     }
-    match told.table {
-        Table::Front => front::show(rt, line),
-        Table::Check => check::take(rt, &mut told.text, line),
-        Table::Runs => runs::take(rt, &mut told.run, line),
+
+    fn answer(&mut self, alloc: Global, text: &[u8]) -> Result<String, AllocError> {
+        let answer = match self.table {
+            Table::Unknown => String::from_str(alloc, "no such table"),
+            Table::Lengths => texts::length(alloc, text),
+            Table::Lines => texts::lines(alloc, text),
+            Table::Slices => texts::slice(alloc, text),
+            Table::Kinds => tokens::kinds(alloc, text),
+            Table::Spans => tokens::spans(alloc, text),
+            Table::Values => tokens::value(alloc, text),
+            Table::Parse => front::height_of(alloc, text),
+            Table::Trees => front::tree(alloc, text),
+            Table::Regions => regions::found(alloc, text),
+            Table::Block(asked) => blocks::answer(alloc, text, asked),
+            Table::Check => check::verdict(alloc, text),
+            Table::Programs => check::counts(alloc, text),
+            Table::Changes => changes::changes(alloc, text),
+            Table::Runs => runs::ran(alloc, text, &self.job),
+            Table::Trails => runs::trail_of(alloc, text, &self.job),
+            Table::Outputs => runs::output_of(alloc, text, &self.job),
+        };
+        self.job = untold(alloc);
+        answer
     }
 }
 
 fn main(rt: HostRuntime) -> io::Result<()> {
-    let alloc = rt.alloc();
-    let mut told = Told {
-        table: Table::Front,
-        text: Vec::new(alloc),
-        run: empty_run(alloc),
+    let mut answers = Pascal {
+        table: Table::Unknown,
+        job: untold(rt.alloc()),
     };
-    for line in BufReader::new(alloc, rt.reader())?.lines(alloc) {
-        take(&rt, &mut told, line?.as_str())?;
-    }
-    Ok(())
+    answer_rows(&rt, &mut answers)
 }

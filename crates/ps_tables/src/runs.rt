@@ -1,81 +1,88 @@
-//! What the slow runner shows of the runs of the third table, which tells its own form. The wanted answers were written from the
-//! rules of the language before the program first ran: `answers` makes the wanted lines from them.
+//! What the slow runner shows of runs, and how they end.
 
-use crate::text::append;
-use ps_check::check;
-use ps_parse::parse;
+use crate::check::checked;
+use crate::words::{number, or_none, put, put_bytes};
 use ps_runner::ending::Ending;
-use ps_runner::run::{Budget, Ran, reference_within};
-use ps_scan::scan;
-use ps_text::Source;
+use ps_runner::run::{
+    Budget, Ran, Refusal, output, reference, reference_to_depth, reference_within, trail,
+};
 use ps_tree::program::Checked;
 use std::alloc::{AllocError, Global};
-use std::io;
 
-/// A run that is told so far.
+/// What is told of a run: its input, its fuel, the levels that it may take, and its costs and budget if it has any.
 #[derive(Drop)]
-pub(crate) struct Wanted {
+pub(crate) struct Job {
     fuel: u64,
+    levels: Option<u32>,
+    is_within: bool,
     stack: u64,
     heap: u64,
     frames: Vec<u32>,
     objects: Vec<u32>,
     input: Vec<u8>,
-    text: Vec<u8>,
 }
 
-pub(crate) fn empty_run(alloc: Global) -> Wanted {
-    Wanted {
+/// A run of which nothing is told.
+pub(crate) fn untold(alloc: Global) -> Job {
+    Job {
         fuel: 1_000_000,
+        levels: None,
+        is_within: false,
         stack: 0,
         heap: 0,
         frames: Vec::new(alloc),
         objects: Vec::new(alloc),
         input: Vec::new(alloc),
-        text: Vec::new(alloc),
     }
 }
 
-fn number(word: Option<&str>) -> u64 {
-    word.unwrap_or("").parse::<u64>().unwrap_or(0)
-}
-
-/// The costs of a word: numbers with commas between them, or `-` for none.
-fn costs(alloc: Global, word: Option<&str>) -> Result<Vec<u32>, AllocError> {
-    let mut costs = Vec::new(alloc);
+/// Puts the costs of a word behind others: numbers with commas between them, or `-` for none.
+fn add_costs(costs: &mut Vec<u32>, word: Option<&str>) -> Result<(), AllocError> {
     for cost in word.unwrap_or("-").split(',') {
         if let Ok(bytes) = cost.parse::<u32>() {
             costs.push(bytes)?;
         }
     }
-    Ok(costs)
-}
-
-/// Takes a line into what is told of a run.
-fn take_part(alloc: Global, run: &mut Wanted, line: &str) -> Result<(), AllocError> {
-    if let Some(rest) = line.strip_prefix("within ") {
-        let mut words = rest.split(' ');
-        run.fuel = number(words.next());
-        run.stack = number(words.next());
-        run.heap = number(words.next());
-        run.frames = costs(alloc, words.next())?;
-        run.objects = costs(alloc, words.next())?;
-    } else if let Some(rest) = line.strip_prefix("input ") {
-        append(&mut run.input, rest)?;
-    } else if let Some(rest) = line.strip_prefix("text ") {
-        append(&mut run.text, rest)?;
-    } else if line.starts_with(" ") {
-        append(&mut run.text, line)?;
-    }
     Ok(())
 }
 
-/// The checked program of a text; a text that has none is a slip of the table.
-fn checked(alloc: Global, text: &[u8]) -> Option<Checked> {
-    let source = Source::new(text).ok()?;
-    let tokens = scan(alloc, &source).ok()?;
-    let program = parse(alloc, &source, &tokens).ok()?;
-    check(alloc, &source, &program).ok()
+impl Job {
+    /// Takes what a line tells of the run.
+    pub(crate) fn tell(&mut self, word: &str, rest: &str, text: Vec<u8>) -> Result<(), AllocError> {
+        match word {
+            "input" => self.input = text,
+            "fuel" => self.fuel = number(Some(rest)),
+            "levels" => self.levels = rest.parse::<u32>().ok(),
+            "within" => return self.tell_budget(rest),
+            _ => {}
+        }
+        Ok(())
+    }
+
+    fn tell_budget(&mut self, rest: &str) -> Result<(), AllocError> {
+        let mut words = rest.split(' ');
+        self.is_within = true;
+        self.stack = number(words.next());
+        self.heap = number(words.next());
+        add_costs(&mut self.frames, words.next())?;
+        add_costs(&mut self.objects, words.next())
+    }
+}
+
+fn run(alloc: Global, program: &Checked, job: &Job) -> Result<Ran, Refusal> {
+    if !job.is_within && job.levels.is_none() {
+        return reference(alloc, program, &job.input, job.fuel);
+    }
+    let budget = Budget {
+        frames: &job.frames,
+        objects: &job.objects,
+        stack: job.stack,
+        heap: job.heap,
+    };
+    match job.levels {
+        None => reference_within(alloc, program, &budget, &job.input, job.fuel),
+        Some(levels) => reference_to_depth(alloc, program, &budget, &job.input, job.fuel, levels),
+    }
 }
 
 fn ending(alloc: Global, ran: &Ran) -> Result<String, AllocError> {
@@ -88,65 +95,97 @@ fn ending(alloc: Global, ran: &Ran) -> Result<String, AllocError> {
     }
 }
 
-/// The lines of the calls that are open at an error, up to 16.
-fn push_calls(alloc: Global, line: &mut String, ran: &Ran) -> Result<(), AllocError> {
-    if !matches!(ran.ending, Ending::Error { .. }) || ran.calls.is_empty() {
-        return Ok(());
-    }
-    line.push_str(", called at")?;
-    for call in ran.calls.iter().take(16) {
-        let call = *call;
-        let word = format!(in alloc; " {call}")?;
-        line.push_str(word.as_str())?;
+fn put_lines(alloc: Global, shown: &mut String, lines: &[u32]) -> Result<(), AllocError> {
+    for line in lines.iter().take(16) {
+        let line = *line;
+        let word = format!(in alloc; "{line}")?;
+        put(shown, word.as_str())?;
     }
     Ok(())
 }
 
-fn push_transcript(line: &mut String, transcript: &[u16]) -> Result<(), AllocError> {
-    for item in transcript {
-        line.push(match *item {
-            10 => '~',
+/// The lines of the calls that are open at an error, up to 16.
+fn calls(alloc: Global, ran: &Ran) -> Result<String, AllocError> {
+    let mut shown = String::new(alloc);
+    if matches!(ran.ending, Ending::Error { .. }) && !ran.calls.is_empty() {
+        shown.push_str(", called at")?;
+        put_lines(alloc, &mut shown, &ran.calls)?;
+    }
+    Ok(shown)
+}
+
+/// A transcript, with `^` for a mark at a first look at a byte of the input, or at its end.
+fn transcript(alloc: Global, ran: &Ran) -> Result<String, AllocError> {
+    let mut shown = String::new(alloc);
+    for item in &ran.transcript {
+        shown.push(match *item {
             256 => '^',
             byte => char::from((byte % 256) as u8),
         })?;
     }
-    Ok(())
+    Ok(shown)
+}
+
+fn refused(alloc: Global, refusal: Refusal) -> Result<String, AllocError> {
+    match refusal {
+        Refusal::OutOfMemory => Err(AllocError),
+        Refusal::TooDeep => String::from_str(alloc, "given up as too deep"),
+    }
+}
+
+fn told(alloc: Global, ran: &Ran) -> Result<String, AllocError> {
+    let ending = ending(alloc, ran)?;
+    let calls = calls(alloc, ran)?;
+    let transcript = transcript(alloc, ran)?;
+    let space = if transcript.is_empty() { "" } else { " " };
+    format!(in alloc; "{ending}{calls}:{space}{transcript}")
+}
+
+/// The output of a run, in brackets.
+fn written(alloc: Global, ran: &Ran) -> Result<String, AllocError> {
+    let Ok(bytes) = output(alloc, &ran.transcript) else {
+        return String::from_str(alloc, "no output");
+    };
+    let mut shown = String::new(alloc);
+    shown.push('[')?;
+    put_bytes(&mut shown, &bytes)?;
+    shown.push(']')?;
+    Ok(shown)
 }
 
 /// How the run of a program ends, the calls that are open there, and what it shows.
-fn shown(alloc: Global, run: &Wanted) -> Result<String, AllocError> {
-    let Some(program) = checked(alloc, &run.text) else {
+pub(crate) fn ran(alloc: Global, text: &[u8], job: &Job) -> Result<String, AllocError> {
+    let Some(program) = checked(alloc, text) else {
         return String::from_str(alloc, "refused");
     };
-    let budget = Budget {
-        frames: &run.frames,
-        objects: &run.objects,
-        stack: run.stack,
-        heap: run.heap,
-    };
-    let Ok(ran) = reference_within(alloc, &program, &budget, &run.input, run.fuel) else {
-        return String::from_str(alloc, "given up");
-    };
-    let mut line = ending(alloc, &ran)?;
-    push_calls(alloc, &mut line, &ran)?;
-    line.push(':')?;
-    if !ran.transcript.is_empty() {
-        line.push(' ')?;
+    match run(alloc, &program, job) {
+        Ok(ran) => told(alloc, &ran),
+        Err(refusal) => refused(alloc, refusal),
     }
-    push_transcript(&mut line, &ran.transcript)?;
-    Ok(line)
 }
 
-/// Takes a line of the table: a remark, one that ends the telling of a run, or one that tells of it.
-pub(crate) fn take(rt: &HostRuntime, run: &mut Wanted, line: &str) -> io::Result<()> {
-    let alloc = rt.alloc();
-    if line.starts_with("#") {
-        rt.println(line)?;
-    } else if line.starts_with("gives ") {
-        rt.println(shown(alloc, run)?)?;
-        *run = empty_run(alloc);
-    } else {
-        take_part(alloc, run, line)?;
+/// The lines that `trail` tells of a run.
+pub(crate) fn trail_of(alloc: Global, text: &[u8], job: &Job) -> Result<String, AllocError> {
+    let Some(program) = checked(alloc, text) else {
+        return String::from_str(alloc, "refused");
+    };
+    match trail(alloc, &program, &job.input, job.fuel) {
+        Ok(lines) => {
+            let mut shown = String::new(alloc);
+            put_lines(alloc, &mut shown, &lines)?;
+            or_none(alloc, shown)
+        }
+        Err(refusal) => refused(alloc, refusal),
     }
-    Ok(())
+}
+
+/// The bytes that `output` makes of a run's transcript.
+pub(crate) fn output_of(alloc: Global, text: &[u8], job: &Job) -> Result<String, AllocError> {
+    let Some(program) = checked(alloc, text) else {
+        return String::from_str(alloc, "refused");
+    };
+    match run(alloc, &program, job) {
+        Ok(ran) => written(alloc, &ran),
+        Err(refusal) => refused(alloc, refusal),
+    }
 }

@@ -5,3 +5,7 @@ pub mod Following
 pub mod Counting
 pub mod Examples
 pub mod Sums
+pub mod Memory
+pub mod Tables
+pub mod Quick
+pub mod Entries

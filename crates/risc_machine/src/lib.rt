@@ -3,6 +3,7 @@
 
 mod arithmetic;
 pub mod console;
+mod decoded;
 pub mod fused;
 pub mod laws;
 pub mod machine;

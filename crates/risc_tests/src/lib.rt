@@ -4,6 +4,8 @@
 #![tactic(auto)]
 
 #[cfg(test)]
+mod changes;
+#[cfg(test)]
 mod images;
 #[cfg(test)]
 mod loading;

@@ -2,12 +2,15 @@
 use Rattle.std.proofs.Common.{◌≡◌, ◌+◌, Bool, true, false, cond, refl}
 use Rattle.risc_view.specs.View.{at_view, link_view, holds_view, target_view}
 use Rattle.risc_view.specs.Runs.{To, same_tape}
-use Rattle.risc_view.specs.Laws.{StraightLinesRun, BranchesRun, PutsRun, TakesRun, StopsRun, LoadedStateShows}
-use Rattle.risc_view.proofs.Runs.{line_to, branch_taken, branch_passed, put_to, take_to, stop_at}
+use Rattle.risc_view.specs.Laws.{StraightLinesRun, AnyLinesRun, BranchesRun, PutsRun, TakesRun, StopsRun, LoadedStateShows}
+use Rattle.risc_view.proofs.Runs.{line_to, way_line, branch_taken, branch_passed, put_to, take_to, stop_at}
 use Rattle.risc_view.proofs.Start.{shows_start}
 
 pub straight_lines_run : StraightLinesRun
 straight_lines_run code size i is m v fits s at p = line_to code size fits i is m v s p at
+
+pub any_lines_run : AnyLinesRun
+any_lines_run code size is m v fits s at p = way_line code size fits is m v s p at
 
 pub branches_run : BranchesRun
 branches_run code size c link t m v fits s at = go (holds_view v c) refl

@@ -4,7 +4,7 @@ use Rattle.risc_word.specs.declared.instr.Operation.{Operation}
 use Rattle.risc_word.specs.declared.instr.Operation.TheVariants.{Lsl}
 use Rattle.risc_word.specs.declared.instr.Condition.{Condition}
 use Rattle.risc_word.specs.declared.instr.Condition.TheVariants.{Minus, Equal, CarrySet, OverflowSet, Less, LessEqual, Always, Plus, NotEqual, CarryClear, OverflowClear, GreaterEqual, Greater, Never}
-use Rattle.risc_word.specs.declared.instr.Width.TheVariants.{Word}
+use Rattle.risc_word.specs.declared.instr.Width.TheVariants.{Word, Byte}
 use Rattle.risc_word.specs.declared.instr.Target.{Target}
 use Rattle.risc_word.specs.declared.instr.Target.TheVariants.{Relative, Absolute}
 use Rattle.risc_word.specs.declared.instr.Instr.{Instr}
@@ -13,7 +13,7 @@ use Rattle.risc_word.specs.Words.{IsTarget}
 use Rattle.risc_machine.specs.Step.{State, Goes, Takes, Puts, Stops, word_of_int, next, with_result, holds, target_of, goes_to, linked, address, load_word, store_word, taken, act}
 use Rattle.risc_machine.specs.Exec.{Tape, told, take_end, take_tape, perform, exec}
 use Rattle.risc_view.specs.View.{View, Fits, IsAt, HasAt, Shows, result_view, at_view, operand_view, operated_view, after, line, Plain, AllPlain, holds_view, target_view, link_view}
-use Rattle.risc_view.specs.Runs.{To, StopsWith, Ends, TakesTo, same_tape}
+use Rattle.risc_view.specs.Runs.{To, Way, StopsWith, Ends, TakesTo, same_tape}
 use Rattle.risc_view.proofs.View.{Steps, step_plain, act_here, place_within, shows_result}
 
 module _ (code : List ℕ) (size : ℕ) where
@@ -36,18 +36,18 @@ module _ (code : List ℕ) (size : ℕ) where
         runs = λ k p. let x = c.runs k (f p) in let y = a.runs x.0 p in (y.0, omega (arith, x.1, y.1), y.2 ∙ x.2);
       }
 
-  pub to_stop : (m : State) (v : View) (w : ℕ) → To code size m same_tape v → ((n : State) → Shows code size n v → StopsWith n w) → StopsWith m w
-  to_stop m v w a b =
+  pub to_stop : (m : State) (v : View) (w : ℕ) (u : View) → To code size m same_tape v → ((n : State) → Shows code size n v → StopsWith code size n w u) → StopsWith code size m w u
+  to_stop m v w u a b =
       let c = b a.to a.shows in
-      record { by = λ k p. let x = c.by k p in let y = a.runs x.0 p in (y.0, omega (arith, x.1, y.1), y.2 ∙ x.2) }
+      record { at = c.at; shows = c.shows; by = λ k p. let x = c.by k p in let y = a.runs x.0 p in (y.0, omega (arith, x.1, y.1), y.2 ∙ x.2) }
 
   -- what is written until the machine stops
-  pub stop_ends : (m : State) (w : ℕ) → StopsWith m w → Ends m same_tape w
-  stop_ends m w s = record { by = s.by }
+  pub stop_ends : (m : State) (w : ℕ) (u : View) → StopsWith code size m w u → Ends code size m same_tape w u
+  stop_ends m w u s = record { at = s.at; shows = s.shows; by = s.by }
 
-  pub ends_after : (m : State) (f g : Tape → Tape) (v : View) (w : ℕ) (a : To code size m f v) → Ends a.to g w → Ends m (λ p. g (f p)) w
-  ends_after m f g v w a e =
-      record { by = λ k p. let x = e.by k (f p) in let y = a.runs x.0 p in (y.0, omega (arith, x.1, y.1), y.2 ∙ x.2) }
+  pub ends_after : (m : State) (f g : Tape → Tape) (v : View) (w : ℕ) (u : View) (a : To code size m f v) → Ends code size a.to g w u → Ends code size m (λ p. g (f p)) w u
+  ends_after m f g v w u a e =
+      record { at = e.at; shows = e.shows; by = λ k p. let x = e.by k (f p) in let y = a.runs x.0 p in (y.0, omega (arith, x.1, y.1), y.2 ∙ x.2) }
 
   -- a statement on states that holds of each state from which the machine comes to one where it holds
   abbrev pub IsBackward : (State → Type 0) → Type 0
@@ -64,9 +64,72 @@ module _ (code : List ℕ) (size : ℕ) where
         runs = λ k p. let x = c.runs k p in let y = runs x.0 p in (y.0, omega (arith, x.1, y.1), y.2 ∙ x.2);
       }
 
-  pub stop_backward : (w : ℕ) → IsBackward (λ m. StopsWith m w)
-  stop_backward w m n runs c =
-      record { by = λ k p. let x = c.by k p in let y = runs x.0 p in (y.0, omega (arith, x.1, y.1), y.2 ∙ x.2) }
+  pub stop_backward : (w : ℕ) (u : View) → IsBackward (λ m. StopsWith code size m w u)
+  stop_backward w u m n runs c =
+      record { at = c.at; shows = c.shows; by = λ k p. let x = c.by k p in let y = runs x.0 p in (y.0, omega (arith, x.1, y.1), y.2 ∙ x.2) }
+
+  -- ---- runs of no step or more
+
+  -- the machine as it stands
+  pub way_here : (m : State) (v : View) → Shows code size m v → Way code size m same_tape v
+  way_here m v s = record { to = m; shows = s; runs = λ k p. (k, omega arith, refl) }
+
+  pub way_of : (m : State) (f : Tape → Tape) (v : View) → To code size m f v → Way code size m f v
+  way_of m f v a =
+      record { to = a.to; shows = a.shows; runs = λ k p. let x = a.runs k p in (x.0, omega (arith, x.1), x.2) }
+
+  -- a way that goes on where another came to, and one that takes a step before or after it
+  pub way_then : (m : State) (f g : Tape → Tape) (v w : View) (a : Way code size m f v) → Way code size a.to g w → Way code size m (λ p. g (f p)) w
+  way_then m f g v w a c =
+      record {
+        to = c.to;
+        shows = c.shows;
+        runs = λ k p. let x = c.runs k (f p) in let y = a.runs x.0 p in (y.0, omega (arith, x.1, y.1), y.2 ∙ x.2);
+      }
+
+  pub way_to : (m : State) (f g : Tape → Tape) (v w : View) (a : Way code size m f v) → To code size a.to g w → To code size m (λ p. g (f p)) w
+  way_to m f g v w a c =
+      record {
+        to = c.to;
+        shows = c.shows;
+        runs = λ k p. let x = c.runs k (f p) in let y = a.runs x.0 p in (y.0, omega (arith, x.1, y.1), y.2 ∙ x.2);
+      }
+
+  pub to_way : (m : State) (f g : Tape → Tape) (v w : View) (a : To code size m f v) → Way code size a.to g w → To code size m (λ p. g (f p)) w
+  to_way m f g v w a c =
+      record {
+        to = c.to;
+        shows = c.shows;
+        runs = λ k p. let x = c.runs k (f p) in let y = a.runs x.0 p in (y.0, omega (arith, x.1, y.1), y.2 ∙ x.2);
+      }
+
+  -- a statement on states that holds of each state with a way to one where it holds
+  abbrev pub IsBackwardByWay : (State → Type 0) → Type 0
+  IsBackwardByWay P = (m n : State) → ((k : ℕ) (p : Tape) → (j : ℕ) × (k ≤ j) × (exec j m p ≡ exec k n p)) → P n → P m
+
+  pub way_backward : (f : Tape → Tape) (v : View) → IsBackwardByWay (λ m. Way code size m f v)
+  way_backward f v m n runs c =
+      record {
+        to = c.to;
+        shows = c.shows;
+        runs = λ k p. let x = c.runs k p in let y = runs x.0 p in (y.0, omega (arith, x.1, y.1), y.2 ∙ x.2);
+      }
+
+  pub to_backward_by_way : (f : Tape → Tape) (v : View) → IsBackwardByWay (λ m. To code size m f v)
+  to_backward_by_way f v m n runs c =
+      record {
+        to = c.to;
+        shows = c.shows;
+        runs = λ k p. let x = c.runs k p in let y = runs x.0 p in (y.0, omega (arith, x.1, y.1), y.2 ∙ x.2);
+      }
+
+  pub stop_backward_by_way : (w : ℕ) (u : View) → IsBackwardByWay (λ m. StopsWith code size m w u)
+  stop_backward_by_way w u m n runs c =
+      record { at = c.at; shows = c.shows; by = λ k p. let x = c.by k p in let y = runs x.0 p in (y.0, omega (arith, x.1, y.1), y.2 ∙ x.2) }
+
+  pub ends_backward_by_way : (f : Tape → Tape) (w : ℕ) (u : View) → IsBackwardByWay (λ m. Ends code size m f w u)
+  ends_backward_by_way f w u m n runs c =
+      record { at = c.at; shows = c.shows; by = λ k p. let x = c.by k p in let y = runs x.0 p in (y.0, omega (arith, x.1, y.1), y.2 ∙ x.2) }
 
   -- a step
   pub to_step : (m : State) (v : View) → Steps code size m v → To code size m same_tape v
@@ -107,8 +170,10 @@ module _ (code : List ℕ) (size : ℕ) (fits : Fits code size) where
       operated_place : (op : Operation) → (operated_view op a (v.registers b) (operand_view v n) v).place ≡ v.place + 1
       operated_place Lsl = refl
       operated_place _ = refl
-  after_place (Load w a b off) v p = refl
-  after_place (Store w a b off) v p = refl
+  after_place (Load Word a b off) v p = refl
+  after_place (Load Byte a b off) v p = refl
+  after_place (Store Word a b off) v p = refl
+  after_place (Store Byte a b off) v p = refl
   after_place (Branch condition link target) v p = absurd p
 
   -- a straight line of one plain instruction or more
@@ -116,6 +181,11 @@ module _ (code : List ℕ) (size : ℕ) (fits : Fits code size) where
   line_to i [] m v s p at = plain_to i m v s p.0 at.0
   line_to i (j ∷ js) m v s p at =
       to_then code size m same_tape (after i v) (line (i ∷ j ∷ js) v) (plain_to i m v s p.0 at.0) (λ n sn. line_to j js n (after i v) sn p.1 (subst (λ x. HasAt code x (j ∷ js)) (sym (after_place i v p.0)) at.1))
+
+  -- a straight line of any number of plain instructions
+  pub way_line : (is : List Instr) (m : State) (v : View) → Shows code size m v → AllPlain code size is v → HasAt code v.place is → Way code size m same_tape (line is v)
+  way_line [] m v s p at = way_here code size m v s
+  way_line (i ∷ is) m v s p at = way_of code size m same_tape (line (i ∷ is) v) (line_to i is m v s p at)
 
   holds_is : (m : State) (v : View) (c : Condition) → Shows code size m v → holds m c ≡ holds_view v c
   holds_is m v Minus s = s.negative
@@ -236,12 +306,13 @@ module _ (code : List ℕ) (size : ℕ) (fits : Fits code size) where
       }
 
   -- the end of a run: R b holds the base of the device page
-  pub stop_at : (a b : ℕ) (m : State) (v : View) → Shows code size m v → IsAt code v.place (Store Word a b (pos 4)) → v.registers b ≡ 4294967232 → StopsWith m (v.registers a)
+  pub stop_at : (a b : ℕ) (m : State) (v : View) → Shows code size m v → IsAt code v.place (Store Word a b (pos 4)) → v.registers b ≡ 4294967232 → StopsWith code size m (v.registers a) (at_view (v.place + 1) v)
   stop_at a b m v s at e =
       let r = at.ranges in
-      let goes : act m ≡ Stops (v.registers a) (next m) =
+      let goes : act m ≡ Stops (v.registers a) (goes_to (v.place + 1) m) =
       act_here code size fits m v _ s at
       ∙ ap (λ w. store_word w (address m b (pos 4)) m) (s.registers a r.0)
       ∙ ap (λ w. store_word (v.registers a) ((w + 4) % 16777216) m) (s.registers b r.1 ∙ e)
-      ∙ stops_device (v.registers a) m (short m v s) in
-      record { by = λ k q. (suc k, omega arith, ap (λ x. perform x (exec k) q) goes) }
+      ∙ stops_device (v.registers a) m (short m v s)
+      ∙ ap (λ q. Stops (v.registers a) (goes_to q m)) (next_place m v _ s at) in
+      record { at = goes_to (v.place + 1) m; shows = shows_at m v (v.place + 1) s; by = λ k q. (suc k, omega arith, ap (λ x. perform x (exec k) q) goes) }

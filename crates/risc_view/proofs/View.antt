@@ -1,5 +1,5 @@
 -- One step of the machine at a plain instruction: the state after it shows the view after it.
-use Rattle.std.proofs.Common.{◌≡◌, ◌≢◌, ℕ, ◌+◌, ◌-◌, ◌*◌, ◌/◌, ◌%◌, ◌^◌, ◌<◌, ◌≤◌, ⊎_elim, Bool, true, false, cond, eqb, leb, List, length, get_or, set, Some, ℤ, pos, negsuc, ◌+ℤ◌, ◌-ℤ◌, refl, sym, ap, ◌∙◌, subst, arith, lit<, get_or-set_other, get_or-set_same}
+use Rattle.std.proofs.Common.{◌≡◌, ◌≢◌, ℕ, zero, suc, ◌+◌, ◌-◌, ◌*◌, ◌/◌, ◌%◌, ◌^◌, ◌<◌, ◌≤◌, ⊎_elim, Bool, true, false, cond, eqb, leb, List, length, get_or, set, Some, ℤ, pos, negsuc, ◌+ℤ◌, ◌-ℤ◌, refl, sym, ap, ◌∙◌, subst, arith, lit<, get_or-set_other, get_or-set_same}
 use Rattle.std.specs.Prelude.{nat_le, nat_lt, slice_get, int_lt, bit_and, unsigned_abs, FitsSigned, ◌*ℤ◌, ◌≤ℤ◌}
 use Rattle.std.specs.Int.{cast_unsigned, w32, w64, int_shr, rotate_right, int_div_euclid, int_rem_euclid, from_bool}
 use Rattle.std.proofs.Math.ListN.{length-set}
@@ -16,10 +16,11 @@ use Rattle.risc_word.specs.declared.instr.Instr.{Instr}
 use Rattle.risc_word.specs.declared.instr.Instr.TheVariants.{Move, MoveTop, MoveHigh, Operate, Load, Store, Branch}
 use Rattle.risc_word.specs.Words.{word_of, instr_at, IsOperand}
 use Rattle.risc_word.proofs.Laws.{instr_back}
-use Rattle.risc_machine.specs.Step.{State, Act, Goes, Faults, word_at, put_word, signed, word_of_int, next, with_result, with_carries, with_high, overflows, added, subtracted, product, multiplied, divided, operated, operand_value, address, load_word, store_word, act_at, act}
+use Rattle.risc_machine.specs.Step.{State, Act, Goes, Faults, word_at, put_word, signed, word_of_int, next, with_result, with_carries, with_high, overflows, added, subtracted, product, multiplied, divided, operated, operand_value, address, load_word, store_word, load_byte, store_byte, act_at, act}
 use Rattle.risc_machine.specs.declared.stop.Fault.TheVariants.{BadDivisor}
-use Rattle.risc_view.specs.View.{View, Fits, IsAt, IsWritable, Shows, update, result_view, carries_view, high_view, store_view, operand_view, added_view, subtracted_view, operated_view, after, IsPlainOperation, Plain}
-use Rattle.risc_view.proofs.Memory.{length_put, word_same, word_other, put_bytes, word_below}
+use Rattle.risc_view.specs.View.{View, Fits, IsAt, IsWritable, Shows, update, result_view, carries_view, high_view, store_view, word_place, byte_in, with_byte, byte_at, operand_view, added_view, subtracted_view, operated_view, after, IsPlainOperation, Plain}
+use Rattle.risc_machine.proofs.Memory.{length_put, word_same, word_other, put_bytes, word_below}
+use Rattle.risc_view.proofs.Memory.{byte_is, byte_put}
 
 pub eqb_same : (a : ℕ) → eqb a a ≡ true
 eqb_same a = grind arith
@@ -29,6 +30,16 @@ eqb_other a b ne = grind arith
 
 pub is_at_most : (n m : ℕ) → n ≤ m → leb n m ≡ true
 is_at_most n m h = grind arith
+
+is_below : (n m : ℕ) → n < m → nat_lt n m ≡ true
+is_below n m h = grind arith
+
+-- a byte lies in its word
+in_word : (x : ℕ) → word_place x + x % 4 ≡ x
+in_word x = omega arith
+
+below_four : (x : ℕ) → x % 4 < 4
+below_four x = omega arith
 
 -- look-ups in a function with one value changed
 pub update_same : (f : ℕ → ℕ) (a w : ℕ) → update a w f a ≡ w
@@ -99,6 +110,13 @@ remainder_narrow (negsuc a) (negsuc b) h p = absurd (cc p)
 
 signed_below : (x : ℕ) → x < 4294967296 → signed x ≤ℤ pos 4294967295
 signed_below x h = omega (arith, ints)
+
+with_byte_below : (w k b : ℕ) → k < 4 → w < 4294967296 → b < 256 → with_byte w k b < 4294967296
+with_byte_below w zero b h hw hb = omega arith
+with_byte_below w (suc zero) b h hw hb = omega arith
+with_byte_below w (suc (suc zero)) b h hw hb = omega arith
+with_byte_below w (suc (suc (suc zero))) b h hw hb = omega arith
+with_byte_below w (suc (suc (suc (suc k)))) b h hw hb = absurd (omega (arith, h))
 
 -- ---- a step that goes on to a state that shows a view
 pub record Steps (code : List ℕ) (size : ℕ) (m : State) (v : View) : Type 0 where
@@ -228,7 +246,13 @@ module _ (code : List ℕ) (size : ℕ) (fits : Fits code size) where
   store_goes : (w at : ℕ) (m : State) → at % 4 ≡ 0 → at + 4 ≤ length m.memory → store_word w at m ≡ Goes (next (record m { memory = put_word m.memory at w }))
   store_goes w at m al within = rw (al, is_at_most (at + 4) (length m.memory) within)
 
-  address_is : (m : State) (v : View) (b n : ℕ) → Shows code size m v → b < 16 → v.registers b + n + 4 ≤ size → address m b (pos n) ≡ v.registers b + n
+  load_byte_goes : (a at : ℕ) (m : State) → at < length m.memory → load_byte a at m ≡ Goes (next (with_result a (get_or m.memory at 0) m))
+  load_byte_goes a at m within = rw (is_below at (length m.memory) within)
+
+  store_byte_goes : (w at : ℕ) (m : State) → at < length m.memory → store_byte w at m ≡ Goes (next (record m { memory = set m.memory at (w % 256) }))
+  store_byte_goes w at m within = rw (is_below at (length m.memory) within)
+
+  address_is : (m : State) (v : View) (b n : ℕ) → Shows code size m v → b < 16 → v.registers b + n < size → address m b (pos n) ≡ v.registers b + n
   address_is m v b n s hb high =
       let e : get_or m.registers b 0 ≡ v.registers b = s.registers b hb in
       omega (arith, high, fits.top)
@@ -298,25 +322,54 @@ module _ (code : List ℕ) (size : ℕ) (fits : Fits code size) where
       }
   step_plain (Load Word a b (pos n)) m v s p at =
       let x = v.registers b + n in
-      let d = p.2 in
+      let d = p.1 in
       let r = at.ranges in
       let e : word_at m.memory x ≡ v.words x = s.words x d.aligned d.high in
       record {
         to = next (with_result a (v.words x) m);
-        goes = act_here m v _ s at ∙ ap (λ z. load_word a z m) (address_is m v b n s r.1 d.high) ∙ load_goes a x m d.aligned (omega (arith, d.high, s.extent)) ∙ ap (λ w. Goes (next (with_result a w m))) e;
+        goes = act_here m v _ s at ∙ ap (λ z. load_word a z m) (address_is m v b n s r.1 (omega (arith, d.high))) ∙ load_goes a x m d.aligned (omega (arith, d.high, s.extent)) ∙ ap (λ w. Goes (next (with_result a w m))) e;
         shows = shows_result m v a (v.words x) s r.0 (subst (λ w. w < 4294967296) e (word_below m.memory x s.bytes)) (place_within v _ at);
       }
-  step_plain (Load Word a b (negsuc n)) m v s p at = absurd p.1
-  step_plain (Load Byte a b off) m v s p at = absurd p.0
+  step_plain (Load Word a b (negsuc n)) m v s p at = absurd p.0
+  step_plain (Load Byte a b (pos n)) m v s p at =
+      let x = v.registers b + n in
+      let d = p.1 in
+      let r = at.ranges in
+      let y = word_place x in
+      let high : x < size = omega (arith, d.high) in
+      let e : get_or m.memory x 0 ≡ byte_at v x =
+      ap (λ j. get_or m.memory j 0) (sym (in_word x)) ∙ byte_is m.memory y (x % 4) (below_four x) s.bytes ∙ ap (λ w. byte_in w (x % 4)) (s.words y d.aligned d.high) in
+      record {
+        to = next (with_result a (byte_at v x) m);
+        goes = act_here m v _ s at ∙ ap (λ z. load_byte a z m) (address_is m v b n s r.1 high) ∙ load_byte_goes a x m (omega (arith, high, s.extent)) ∙ ap (λ w. Goes (next (with_result a w m))) e;
+        shows = shows_result m v a (byte_at v x) s r.0 (subst (λ w. w < 4294967296) e (let b = s.bytes x in omega (arith, b))) (place_within v _ at);
+      }
+  step_plain (Load Byte a b (negsuc n)) m v s p at = absurd p.0
   step_plain (Store Word a b (pos n)) m v s p at =
       let x = v.registers b + n in
-      let d = p.2 in
+      let d = p.1 in
       let r = at.ranges in
       record {
         to = next (record m { memory = put_word m.memory x (v.registers a) });
-        goes = act_here m v _ s at ∙ ap (λ w. store_word w (address m b (pos n)) m) (s.registers a r.0) ∙ ap (λ z. store_word (v.registers a) z m) (address_is m v b n s r.1 d.high) ∙ store_goes (v.registers a) x m d.aligned (omega (arith, d.high, s.extent));
+        goes = act_here m v _ s at ∙ ap (λ w. store_word w (address m b (pos n)) m) (s.registers a r.0) ∙ ap (λ z. store_word (v.registers a) z m) (address_is m v b n s r.1 (omega (arith, d.high))) ∙ store_goes (v.registers a) x m d.aligned (omega (arith, d.high, s.extent));
         shows = shows_store m v x (v.registers a) s d (s.narrow a r.0) (place_within v _ at);
       }
-  step_plain (Store Word a b (negsuc n)) m v s p at = absurd p.1
-  step_plain (Store Byte a b off) m v s p at = absurd p.0
+  step_plain (Store Word a b (negsuc n)) m v s p at = absurd p.0
+  step_plain (Store Byte a b (pos n)) m v s p at =
+      let x = v.registers b + n in
+      let d = p.1 in
+      let r = at.ranges in
+      let y = word_place x in
+      let byte = v.registers a % 256 in
+      let w = with_byte (v.words y) (x % 4) byte in
+      let high : x < size = omega (arith, d.high) in
+      let narrow : v.words y < 4294967296 = subst (λ w. w < 4294967296) (s.words y d.aligned d.high) (word_below m.memory y s.bytes) in
+      let put : set m.memory x byte ≡ put_word m.memory y w =
+      ap (λ j. set m.memory j byte) (sym (in_word x)) ∙ byte_put m.memory y (x % 4) byte (below_four x) (omega arith) s.bytes ∙ ap (λ z. put_word m.memory y (with_byte z (x % 4) byte)) (s.words y d.aligned d.high) in
+      record {
+        to = next (record m { memory = put_word m.memory y w });
+        goes = act_here m v _ s at ∙ ap (λ w. store_byte w (address m b (pos n)) m) (s.registers a r.0) ∙ ap (λ z. store_byte (v.registers a) z m) (address_is m v b n s r.1 high) ∙ store_byte_goes (v.registers a) x m (omega (arith, high, s.extent)) ∙ ap (λ u. Goes (next (record m { memory = u }))) put;
+        shows = shows_store m v y w s d (with_byte_below (v.words y) (x % 4) byte (below_four x) narrow (omega arith)) (place_within v _ at);
+      }
+  step_plain (Store Byte a b (negsuc n)) m v s p at = absurd p.0
   step_plain (Branch condition link target) m v s p at = absurd p

@@ -8,7 +8,7 @@ use Rattle.risc_word.specs.declared.instr.Instr.TheVariants.{Load, Store, Branch
 use Rattle.risc_machine.specs.Step.{State, start_state}
 use Rattle.risc_machine.specs.Exec.{told}
 use Rattle.risc_view.specs.View.{View, Fits, IsAt, HasAt, Shows, AllPlain, line, at_view, link_view, holds_view, target_view}
-use Rattle.risc_view.specs.Runs.{To, StopsWith, TakesTo, same_tape}
+use Rattle.risc_view.specs.Runs.{To, Way, StopsWith, TakesTo, same_tape}
 use Rattle.risc_view.specs.Start.{code_bytes, AreWords, start_size, start_view}
 
 -- a straight line of plain instructions, which ends at the view that evaluates it
@@ -17,6 +17,13 @@ StraightLinesRun =
     (code : List ℕ) (size : ℕ) (i : Instr) (is : List Instr) (m : State) (v : View)
     → Fits code size → Shows code size m v → HasAt code v.place (i ∷ is) → AllPlain code size (i ∷ is) v
     → To code size m same_tape (line (i ∷ is) v)
+
+-- the same of a line that may have no instruction
+abbrev pub AnyLinesRun : Type 0
+AnyLinesRun =
+    (code : List ℕ) (size : ℕ) (is : List Instr) (m : State) (v : View)
+    → Fits code size → Shows code size m v → HasAt code v.place is → AllPlain code size is v
+    → Way code size m same_tape (line is v)
 
 -- a branch goes to its target, with a link in R15 if it asks for one, or on to the next instruction
 abbrev pub branch_view : Condition → Bool → Target → View → View
@@ -46,7 +53,7 @@ abbrev pub StopsRun : Type 0
 StopsRun =
     (code : List ℕ) (size a b : ℕ) (m : State) (v : View)
     → Fits code size → Shows code size m v → v.registers b ≡ 4294967232 → IsAt code v.place (Store Word a b (pos 4))
-    → StopsWith m (v.registers a)
+    → StopsWith code size m (v.registers a) (at_view (v.place + 1) v)
 
 -- the loaded state shows the view of the start
 abbrev pub LoadedStateShows : Type 0

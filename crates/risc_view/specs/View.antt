@@ -6,7 +6,6 @@ use Rattle.risc_word.specs.declared.instr.Operation.{Operation}
 use Rattle.risc_word.specs.declared.instr.Operation.TheVariants.{Lsl, Asr, Ror, And, Ann, Ior, Xor, Add, Sub, Mul, Div, Adc, Sbc}
 use Rattle.risc_word.specs.declared.instr.Operand.{Operand}
 use Rattle.risc_word.specs.declared.instr.Operand.TheVariants.{Content, Constant}
-use Rattle.risc_word.specs.declared.instr.Width.{Width}
 use Rattle.risc_word.specs.declared.instr.Width.TheVariants.{Word, Byte}
 use Rattle.risc_word.specs.declared.instr.Condition.{Condition}
 use Rattle.risc_word.specs.declared.instr.Condition.TheVariants.{Minus, Equal, CarrySet, OverflowSet, Less, LessEqual, Always, Plus, NotEqual, CarryClear, OverflowClear, GreaterEqual, Greater, Never}
@@ -142,25 +141,42 @@ operated_view Div a x n v =
 operated_view Adc a x n v = added_view a x n (from_bool v.carry) v
 operated_view Sbc a x n v = subtracted_view a x n (from_bool v.carry) v
 
+-- the place of the word in which a byte lies
+abbrev pub word_place : ℕ → ℕ
+word_place at = at - at % 4
+
+-- a byte of a word, counted from the lowest, and the word with another one there
+abbrev pub byte_in : ℕ → ℕ → ℕ
+byte_in w k = w / 256 ^ k % 256
+
+abbrev pub with_byte : ℕ → ℕ → ℕ → ℕ
+with_byte w k byte = w % 256 ^ k + byte * 256 ^ k + w / 256 ^ (k + 1) * 256 ^ (k + 1)
+
+-- the byte at an address
+abbrev pub byte_at : View → ℕ → ℕ
+byte_at v at = byte_in (v.words (word_place at)) (at % 4)
+
+abbrev pub store_byte_view : ℕ → ℕ → View → View
+store_byte_view at byte v = store_view (word_place at) (with_byte (v.words (word_place at)) (at % 4) byte) v
+
 -- the view after an instruction that goes on to the next one; a branch is left to `branch_view`
 abbrev pub after : Instr → View → View
 after (Move a n) v = result_view a (operand_view v n) v
 after (MoveTop a n) v = result_view a (n * 65536) v
 after (MoveHigh a) v = result_view a v.high v
 after (Operate op a b n) v = operated_view op a (v.registers b) (operand_view v n) v
-after (Load w a b off) v = result_view a (v.words (v.registers b + offset_of off)) v
-after (Store w a b off) v = store_view (v.registers b + offset_of off) (v.registers a) v
+after (Load Word a b off) v = result_view a (v.words (v.registers b + offset_of off)) v
+after (Load Byte a b off) v = result_view a (byte_at v (v.registers b + offset_of off)) v
+after (Store Word a b off) v = store_view (v.registers b + offset_of off) (v.registers a) v
+after (Store Byte a b off) v = store_byte_view (v.registers b + offset_of off) (v.registers a % 256) v
 after (Branch condition link target) v = v
 
 abbrev pub line : List Instr → View → View
 line [] v = v
 line (i ∷ is) v = line is (after i v)
 
--- ---- the instructions that `after` describes: no branch, no access to the device page or of a byte, no negative offset
-
-abbrev pub IsWord : Width → Type 0
-IsWord Word = Unit {0}
-IsWord Byte = ⊥
+-- ---- the instructions that `after` describes: no branch, no access to the device page, no negative offset; a byte is
+-- stored past the code, as a word is
 
 abbrev pub IsPlainOffset : ℤ → Type 0
 IsPlainOffset (pos n) = Unit {0}
@@ -176,9 +192,11 @@ Plain code size (Move a n) v = Unit {0}
 Plain code size (MoveTop a n) v = Unit {0}
 Plain code size (MoveHigh a) v = Unit {0}
 Plain code size (Operate op a b n) v = IsPlainOperation op (operand_view v n)
-Plain code size (Load w a b off) v = IsWord w × IsPlainOffset off × IsReadable size (v.registers b + offset_of off)
-Plain code size (Store w a b off) v =
-    IsWord w × IsPlainOffset off × IsWritable code size (v.registers b + offset_of off)
+Plain code size (Load Word a b off) v = IsPlainOffset off × IsReadable size (v.registers b + offset_of off)
+Plain code size (Load Byte a b off) v = IsPlainOffset off × IsReadable size (word_place (v.registers b + offset_of off))
+Plain code size (Store Word a b off) v = IsPlainOffset off × IsWritable code size (v.registers b + offset_of off)
+Plain code size (Store Byte a b off) v =
+    IsPlainOffset off × IsWritable code size (word_place (v.registers b + offset_of off))
 Plain code size (Branch condition link target) v = ⊥
 
 abbrev pub AllPlain : List ℕ → ℕ → List Instr → View → Type 0

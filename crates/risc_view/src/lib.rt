@@ -1,14 +1,19 @@
 // Views of the processor's state, on which straight lines of instructions are evaluated: the laws for those who emit
 // code. The functions do nothing when they run; each stands for its contract. proofs/Example.antt shows how the laws are
-// used: the lemmas behind them, such as `line_to`, `put_to` and `shows_start`, are public in proofs/.
+// used: the lemmas behind them, such as `line_to`, `way_line`, `put_to` and `shows_start`, are public in proofs/.
 #![tactic(auto)]
 
-ghost use Rattle.risc_view.specs.Laws.{StraightLinesRun, BranchesRun, PutsRun, TakesRun, StopsRun, LoadedStateShows};
+ghost use Rattle.risc_view.specs.Laws.{StraightLinesRun, AnyLinesRun, BranchesRun, PutsRun, TakesRun, StopsRun, LoadedStateShows};
 ghost use Rattle.risc_view.specs.Numbers.{NumberLaws};
 
 /// A straight line of plain instructions comes to the view that evaluates it.
 pub fn straight_lines_run()
     ensures { StraightLinesRun }
+{}
+
+/// A straight line of any number of plain instructions, none too, comes to the view that evaluates it.
+pub fn any_lines_run()
+    ensures { AnyLinesRun }
 {}
 
 /// A branch goes to its target where its condition holds, and else to the next instruction.
@@ -26,7 +31,7 @@ pub fn takes_run()
     ensures { TakesRun }
 {}
 
-/// A word stored at the device page's second word stops the machine with that word.
+/// A word stored at the device page's second word stops the machine with that word, one place further on.
 pub fn stops_run()
     ensures { StopsRun }
 {}

@@ -5,8 +5,7 @@ use std::marker::Model;
 /// The number of a register, at most 15.
 #[derive(Clone, Copy, PartialEq, Eq, Debug)]
 pub struct Register {
-    // a word, not a byte: the emulator is faster where an instruction's fields aren't packed
-    number: u32,
+    number: u8,
 }
 
 impl Model for Register {
@@ -29,9 +28,7 @@ impl Register {
         requires { number < 16 }
         ensures { result ≡ number }
     {
-        Register {
-            number: u32::from(number),
-        }
+        Register { number }
     }
 
     /// Its number, at most 15.
@@ -39,7 +36,7 @@ impl Register {
         ensures value { result ≡ self }
         ensures range { result < 16 }
     {
-        self.number as u8
+        self.number
     }
 }
 

@@ -1,21 +1,27 @@
 -- What three-address code does, one instruction after another.
-use Rattle.std.specs.Prelude.{ℕ, suc, ◌+◌, ◌-◌, ◌*◌, ◌/◌, Bool, true, false, ◌&&◌, ◌||◌, not, nat_eq, nat_lt, int_lt, if◌then◌else◌, List, [], ◌∷◌, ◌++◌, length, replicate, slice_get, Option, Some, None, ℤ, pos, negsuc, ◌-ℤ◌}
+use Rattle.std.specs.Prelude.{ℕ, suc, ◌+◌, ◌-◌, ◌*◌, ◌/◌, Bool, true, false, ◌&&◌, not, nat_eq, nat_lt, if◌then◌else◌, List, [], ◌∷◌, ◌++◌, length, replicate, slice_get, Option, Some, None, ℤ, pos, negsuc}
+use Rattle.behavior.specs.Endings.{Ending, Normal, Stack, Heap, Stuck, ending_by}
+use Rattle.behavior.specs.Transcripts.{mark}
 use Rattle.tac_code.specs.declared.code.Block.{Block}
 use Rattle.tac_code.specs.declared.code.Block.TheVariants.{Frame, Scratch, Object, Constant}
 use Rattle.tac_code.specs.declared.code.Value.{Value}
 use Rattle.tac_code.specs.declared.code.Value.TheVariants.{Number, Address, Routine}
+use Rattle.tac_code.specs.declared.code.Operand.{Operand}
+use Rattle.tac_code.specs.declared.code.Operand.TheVariants as operand
+use Rattle.tac_code.specs.declared.code.Base.{Base}
+use Rattle.tac_code.specs.declared.code.Base.TheVariants as base
+use Rattle.tac_code.specs.declared.code.Relation.{Relation}
+use Rattle.tac_code.specs.declared.code.Relation.TheVariants.{Equal, NotEqual}
 use Rattle.tac_code.specs.declared.code.Instruction.{Instruction}
-use Rattle.tac_code.specs.declared.code.Instruction.TheVariants.{Literal, Copy, Arithmetic, Bits, Compare, SamePointer, CheckRange, CheckPointer, FrameAddress, ScratchAddress, ConstantAddress, Offset, Index, RoutineValue, Load, Store, LoadByte, StoreByte, Jump, JumpBack, Branch, Call, CallValue, Return, Trap, Take, Put, New, End}
+use Rattle.tac_code.specs.declared.code.Instruction.TheVariants.{Literal, Copy, Arithmetic, Bits, Compare, CheckRange, CheckPointer, Text, Offset, Index, RoutineValue, Load, Store, LoadByte, StoreByte, Jump, JumpBack, Branch, BranchBack, Call, CallValue, Return, Trap, Take, Put, New, End}
 use Rattle.tac_code.specs.declared.code.TacRoutine.{TacRoutine}
-use Rattle.tac_code.specs.Same.{Ending, normal, ending_by, out_of_stack, out_of_heap, stuck, mark}
-use Rattle.tac_code.specs.Numbers.{is_zero, truth, Computed, Gives, Fails, computed, bits, compared}
+use Rattle.tac_code.specs.Numbers.{is_zero, truth, Computed, Gives, Fails, computed, bits, compared, is_in_range, steps_above}
 use Rattle.tac_code.specs.Memory.{Words, Living, Memory, load, load_byte, store, store_byte}
 
 -- The parts of the code. Routines are numbered through both lists, the program's first; routine 0 is the program block.
 pub record Code : Type 0 where
   pub program : List TacRoutine
   pub run_time : List TacRoutine
-  pub constants : List (List ℕ)
   pub objects : List ℕ
 
 abbrev pub routines : Code → List TacRoutine
@@ -28,6 +34,14 @@ body_at (Some routine) place = slice_get routine.body place
 -- the instruction at a place of a routine; none past its end
 abbrev pub fetch : Code → ℕ → ℕ → Option Instruction
 fetch code r place = body_at (slice_get (routines code) r) place
+
+abbrev pub text_of : Option Instruction → Option (List ℕ)
+text_of (Some (Text t bytes)) = Some bytes
+text_of _ = None
+
+-- the bytes of a constant, which is named by the place of its instruction
+abbrev pub text_at : Code → ℕ → ℕ → Option (List ℕ)
+text_at code r place = text_of (fetch code r place)
 
 -- the bytes of a routine's blocks, and 4 for each temporary
 abbrev pub size : TacRoutine → ℕ
@@ -74,43 +88,38 @@ pub data Step : Type 0 where
 -- ---- operands: without a value of the kind that is asked for, the run is stuck
 
 abbrev pub with_some : {A : Type 0} → Option A → (A → Step) → Step
-with_some None go = Over stuck
+with_some None go = Over Stuck
 with_some (Some x) go = go x
 
 abbrev pub with_number : Option Value → (ℤ → Step) → Step
-with_number None go = Over stuck
+with_number None go = Over Stuck
 with_number (Some (Number z)) go = go z
-with_number (Some (Address block offset)) go = Over stuck
-with_number (Some (Routine r)) go = Over stuck
+with_number (Some (Address block offset)) go = Over Stuck
+with_number (Some (Routine r)) go = Over Stuck
 
 abbrev pub with_address : Option Value → (Block → ℕ → Step) → Step
-with_address None go = Over stuck
-with_address (Some (Number z)) go = Over stuck
+with_address None go = Over Stuck
+with_address (Some (Number z)) go = Over Stuck
 with_address (Some (Address block offset)) go = go block offset
-with_address (Some (Routine r)) go = Over stuck
+with_address (Some (Routine r)) go = Over Stuck
 
 abbrev pub with_routine : Option Value → (ℕ → Step) → Step
-with_routine None go = Over stuck
-with_routine (Some (Number z)) go = Over stuck
-with_routine (Some (Address block offset)) go = Over stuck
+with_routine None go = Over Stuck
+with_routine (Some (Number z)) go = Over Stuck
+with_routine (Some (Address block offset)) go = Over Stuck
 with_routine (Some (Routine r)) go = go r
 
 -- 0 to 255
 abbrev pub with_byte_value : ℤ → (ℕ → Step) → Step
-with_byte_value (pos n) go = if nat_lt n 256 then go n else Over stuck
-with_byte_value (negsuc n) go = Over stuck
-
--- 0 or more
-abbrev pub with_natural : ℤ → (ℕ → Step) → Step
-with_natural (pos n) go = go n
-with_natural (negsuc n) go = Over stuck
+with_byte_value (pos n) go = if nat_lt n 256 then go n else Over Stuck
+with_byte_value (negsuc n) go = Over Stuck
 
 -- a pointer: nil, or the object that it points to
 abbrev pub object_of : Block → ℕ → Option (Option ℕ)
 object_of (Frame a) offset = None
 object_of (Scratch a) offset = None
 object_of (Object n) offset = if nat_eq offset 0 then Some (Some n) else None
-object_of (Constant c) offset = None
+object_of (Constant r place) offset = None
 
 abbrev pub pointer_of : Option Value → Option (Option ℕ)
 pointer_of None = None
@@ -127,6 +136,29 @@ same_pointer (Some m) (Some n) = nat_eq m n
 abbrev pub is_nil : Option ℕ → Bool
 is_nil None = true
 is_nil (Some n) = false
+
+-- whether two pointers are as a relation says, of which only two are asked of pointers
+abbrev pub pointers_related : Relation → Option (Option ℕ) → Option (Option ℕ) → Option Bool
+pointers_related Equal (Some p) (Some q) = Some (same_pointer p q)
+pointers_related NotEqual (Some p) (Some q) = Some (not (same_pointer p q))
+pointers_related _ _ _ = None
+
+-- whether two numbers, or two pointers, are as a relation says
+abbrev pub related : Relation → Option Value → Option Value → Option Bool
+related relation (Some (Number x)) (Some (Number y)) = Some (compared relation x y)
+related relation v w = pointers_related relation (pointer_of v) (pointer_of w)
+
+-- what a right operand is
+abbrev pub operand_value : Temporaries → Operand → Option Value
+operand_value temporaries (operand.Temporary t) = temporaries t
+operand_value temporaries (operand.Number z) = Some (Number z)
+
+-- The address that a base stands for. The program block is the first activation.
+abbrev pub base_value : Activation → Base → Option Value
+base_value a base.Frame = Some (Address (Frame a.number) 0)
+base_value a base.Scratch = Some (Address (Scratch a.number) 0)
+base_value a base.Program = Some (Address (Frame 0) 0)
+base_value a (base.Temporary t) = a.temporaries t
 
 abbrev pub and_more : Option Value → Option (List Value) → Option (List Value)
 and_more None rest = None
@@ -163,15 +195,7 @@ stores m s = Goes (record s { current = onward s.current; memory = m })
 -- An offset is below 2147483648, as the bytes of each block are.
 abbrev pub gives_address : ℕ → Block → ℕ → State → Step
 gives_address t block offset s =
-    if nat_lt offset 2147483648 then gives t (Address block offset) s else Over stuck
-
-abbrev pub gives_computed : ℕ → Computed → ℕ → State → Step
-gives_computed t (Gives z) line s = gives t (Number z) s
-gives_computed t (Fails number) line s = Over (ending_by number line)
-
-abbrev pub checks : Bool → Ending → State → Step
-checks true e s = goes_on s
-checks false e s = Over e
+    if nat_lt offset 2147483648 then gives t (Address block offset) s else Over Stuck
 
 -- ---- input and output
 
@@ -203,7 +227,7 @@ without_first (b ∷ bs) = bs
 
 -- back to the caller, with a result
 abbrev pub leave : Value → List Activation → State → Step
-leave v [] s = Over stuck
+leave v [] s = Over Stuck
 leave v (c ∷ cs) s =
     Goes (record s { current = record c { temporaries = put c.temporaries s.current.result v }; callers = cs; memory = record s.memory { frames = without_first s.memory.frames; scratch = without_first s.memory.scratch } })
 
@@ -212,6 +236,28 @@ abbrev pub open_calls : ℕ → Activation → List Activation → List ℕ
 open_calls program a [] = []
 open_calls program a (c ∷ cs) =
     if nat_lt a.routine program then a.line ∷ open_calls program c cs else open_calls program c cs
+
+-- ---- errors
+
+module _ (code : Code) where
+  -- the ending that the number of an error stands for, with the calls that are open
+  abbrev pub fails : ℕ → ℕ → State → Step
+  fails number line s = Over (ending_by number line (open_calls (length code.program) s.current s.callers))
+
+  abbrev pub gives_computed : ℕ → Computed → ℕ → State → Step
+  gives_computed t (Gives z) line s = gives t (Number z) s
+  gives_computed t (Fails number) line s = fails number line s
+
+  abbrev pub checks : Bool → ℕ → ℕ → State → Step
+  checks true number line s = goes_on s
+  checks false number line s = fails number line s
+
+  -- the address of a component, whose index was found to lie in its range or not
+  abbrev pub gives_component : Bool → ℕ → Block → ℕ → ℕ → ℕ → State → Step
+  gives_component true t block offset number line s = gives_address t block offset s
+  gives_component false t block offset number line s = fails number line s
+
+-- ---- costs
 
 module _ (code : Code) (F : ℕ → ℕ) where
   -- The frame bytes of the open activations. Run-time routines count nothing.
@@ -235,8 +281,8 @@ module _ (code : Code) (F G : ℕ → ℕ) (S H : ℕ) where
   abbrev pub enter : ℕ → List Value → ℕ → ℕ → List Activation → State → Step
   enter r values result line callers s =
       with_some (slice_get (routines code) r) (λ routine.
-      if not (nat_eq (length values) routine.parameters) then Over stuck
-      else if is_full r callers then Over (out_of_stack routine.line)
+      if not (nat_eq (length values) routine.parameters) then Over Stuck
+      else if is_full r callers then Over (Stack routine.line)
       else Goes (entered routine r values result line callers s))
 
   abbrev pub calls : ℕ → ℕ → List ℕ → ℕ → State → Step
@@ -250,54 +296,52 @@ module _ (code : Code) (F G : ℕ → ℕ) (S H : ℕ) where
 
   abbrev pub makes : ℕ → ℕ → ℕ → ℕ → State → Step
   makes t object_type bytes line s =
-      if nat_lt H (s.heap + G object_type) then Over (out_of_heap line) else Goes (made t object_type bytes s)
+      if nat_lt H (s.heap + G object_type) then Over (Heap line) else Goes (made t object_type bytes s)
 
   -- One instruction; at a routine's end there is none. Only the program's own routines are called as values.
   abbrev pub act : Option Instruction → State → Step
-  act None s = Over stuck
+  act None s = Over Stuck
   act (Some (Literal t z)) s = gives t (Number z) s
   act (Some (Copy t a)) s = with_some (s.current.temporaries a) (λ v. gives t v s)
   act (Some (Arithmetic operator t a b number line)) s =
-      with_number (s.current.temporaries a) (λ x. with_number (s.current.temporaries b) (λ y. gives_computed t (computed operator number x y) line s))
+      with_number (s.current.temporaries a) (λ x. with_number (operand_value s.current.temporaries b) (λ y. gives_computed code t (computed operator number x y) line s))
   act (Some (Bits operator t a b)) s =
-      with_number (s.current.temporaries a) (λ x. with_number (s.current.temporaries b) (λ y. gives t (Number (bits operator x y)) s))
+      with_number (s.current.temporaries a) (λ x. with_number (operand_value s.current.temporaries b) (λ y. gives t (Number (bits operator x y)) s))
   act (Some (Compare relation t a b)) s =
-      with_number (s.current.temporaries a) (λ x. with_number (s.current.temporaries b) (λ y. gives t (Number (truth (compared relation x y))) s))
-  act (Some (SamePointer t a b)) s =
-      with_some (pointer_of (s.current.temporaries a)) (λ p. with_some (pointer_of (s.current.temporaries b)) (λ q. gives t (Number (truth (same_pointer p q))) s))
+      with_some (related relation (s.current.temporaries a) (operand_value s.current.temporaries b)) (λ holds. gives t (Number (truth holds)) s)
   act (Some (CheckRange a low high number line)) s =
-      with_number (s.current.temporaries a) (λ x. checks (not (int_lt x low) && not (int_lt high x)) (ending_by number line) s)
+      with_number (s.current.temporaries a) (λ x. checks code (is_in_range low high x) number line s)
   act (Some (CheckPointer a number line)) s =
-      with_some (pointer_of (s.current.temporaries a)) (λ p. checks (not (is_nil p)) (ending_by number line) s)
-  act (Some (FrameAddress t offset)) s = gives_address t (Frame s.current.number) offset s
-  act (Some (ScratchAddress t offset)) s = gives_address t (Scratch s.current.number) offset s
-  act (Some (ConstantAddress t c)) s = gives t (Address (Constant c) 0) s
-  act (Some (Offset t a n)) s =
-      with_address (s.current.temporaries a) (λ block offset. gives_address t block (offset + n) s)
-  act (Some (Index t a i low width)) s =
-      with_address (s.current.temporaries a) (λ block offset. with_number (s.current.temporaries i) (λ x. with_natural (x -ℤ low) (λ n. gives_address t block (offset + n * width) s)))
+      with_some (pointer_of (s.current.temporaries a)) (λ p. checks code (not (is_nil p)) number line s)
+  act (Some (Text t bytes)) s = gives t (Address (Constant s.current.routine s.current.place) 0) s
+  act (Some (Offset t a n extent)) s =
+      with_address (base_value s.current a) (λ block offset. gives_address t block (offset + n) s)
+  act (Some (Index t a i low high width number line)) s =
+      with_address (base_value s.current a) (λ block offset. with_number (s.current.temporaries i) (λ x. gives_component code (is_in_range low high x) t block (offset + steps_above low x * width) number line s))
   act (Some (RoutineValue t r)) s = gives t (Routine r) s
   act (Some (Load t a n)) s =
-      with_address (s.current.temporaries a) (λ block offset. with_some (load code.constants s.memory block (offset + n)) (λ v. gives t v s))
+      with_address (base_value s.current a) (λ block offset. with_some (load (text_at code) s.memory block (offset + n)) (λ v. gives t v s))
   act (Some (Store a n b)) s =
-      with_address (s.current.temporaries a) (λ block offset. with_some (s.current.temporaries b) (λ v. with_some (store s.memory block (offset + n) v) (λ m. stores m s)))
+      with_address (base_value s.current a) (λ block offset. with_some (s.current.temporaries b) (λ v. with_some (store s.memory block (offset + n) v) (λ m. stores m s)))
   act (Some (LoadByte t a n)) s =
-      with_address (s.current.temporaries a) (λ block offset. with_some (load_byte code.constants s.memory block (offset + n)) (λ byte. gives t (Number (pos byte)) s))
+      with_address (base_value s.current a) (λ block offset. with_some (load_byte (text_at code) s.memory block (offset + n)) (λ byte. gives t (Number (pos byte)) s))
   act (Some (StoreByte a n b)) s =
-      with_address (s.current.temporaries a) (λ block offset. with_number (s.current.temporaries b) (λ x. with_byte_value x (λ byte. with_some (store_byte s.memory block (offset + n) byte) (λ m. stores m s))))
+      with_address (base_value s.current a) (λ block offset. with_number (s.current.temporaries b) (λ x. with_byte_value x (λ byte. with_some (store_byte s.memory block (offset + n) byte) (λ m. stores m s))))
   act (Some (Jump n)) s = goes_to (suc s.current.place + n) s
   act (Some (JumpBack n)) s = goes_to (s.current.place - n) s
-  act (Some (Branch a on n)) s =
-      with_number (s.current.temporaries a) (λ x. if not (is_zero x) && on || is_zero x && not on then goes_to (suc s.current.place + n) s else goes_on s)
+  act (Some (Branch relation a b n)) s =
+      with_some (related relation (s.current.temporaries a) (operand_value s.current.temporaries b)) (λ holds. if holds then goes_to (suc s.current.place + n) s else goes_on s)
+  act (Some (BranchBack relation a b n)) s =
+      with_some (related relation (s.current.temporaries a) (operand_value s.current.temporaries b)) (λ holds. if holds then goes_to (s.current.place - n) s else goes_on s)
   act (Some (Call t r operands line)) s = calls t r operands line s
-  act (Some (CallValue t a operands line)) s = with_routine (s.current.temporaries a) (λ r. if nat_lt r (length code.program) then calls t r operands line s else Over stuck)
+  act (Some (CallValue t a operands line)) s = with_routine (s.current.temporaries a) (λ r. if nat_lt r (length code.program) then calls t r operands line s else Over Stuck)
   act (Some (Return a)) s = with_some (s.current.temporaries a) (λ v. leave v s.callers s)
-  act (Some (Trap number line)) s = Over (ending_by number line)
+  act (Some (Trap number line)) s = fails code number line s
   act (Some (Take t)) s = takes t s.tape.input s
   act (Some (Put a)) s = with_number (s.current.temporaries a) (λ x. with_byte_value x (λ byte. puts byte s))
   act (Some (New t object_type line)) s =
       with_some (slice_get code.objects object_type) (λ bytes. makes t object_type bytes line s)
-  act (Some End) s = Over normal
+  act (Some End) s = Over Normal
 
   abbrev pub step : State → Step
   step s = act (fetch code s.current.routine s.current.place) s

@@ -107,13 +107,17 @@ abbrev pub constant_at : Option (List ℕ) → Option Words
 constant_at None = None
 constant_at (Some bytes) = Some (constant_words bytes)
 
-module _ (constants : List (List ℕ)) (m : Memory) where
+-- The bytes of the constants, by the routine and the place of their instructions; the code has them.
+abbrev pub Constants : Type 0
+Constants = ℕ → ℕ → Option (List ℕ)
+
+module _ (constants : Constants) (m : Memory) where
   -- the words of a block that lives
   abbrev pub words_in : Block → Option Words
   words_in (Frame a) = living m.frames a
   words_in (Scratch a) = living m.scratch a
   words_in (Object n) = slice_get m.objects n
-  words_in (Constant c) = constant_at (slice_get constants c)
+  words_in (Constant r place) = constant_at (constants r place)
 
 abbrev pub with_frames : Memory → Option (List Living) → Option Memory
 with_frames m None = None
@@ -132,7 +136,7 @@ abbrev pub changed_in : Memory → Block → (Words → Option Words) → Option
 changed_in m (Frame a) change = with_frames m (changed m.frames a change)
 changed_in m (Scratch a) change = with_scratch m (changed m.scratch a change)
 changed_in m (Object n) change = with_objects m (changed_object m.objects n change)
-changed_in m (Constant c) change = None
+changed_in m (Constant r place) change = None
 
 abbrev pub value_in : Option Words → ℕ → Option Value
 value_in None offset = None
@@ -143,10 +147,10 @@ byte_value_in None offset = None
 byte_value_in (Some words) offset = byte_at words offset
 
 -- reads and writes by address
-abbrev pub load : List (List ℕ) → Memory → Block → ℕ → Option Value
+abbrev pub load : Constants → Memory → Block → ℕ → Option Value
 load constants m block offset = value_in (words_in constants m block) offset
 
-abbrev pub load_byte : List (List ℕ) → Memory → Block → ℕ → Option ℕ
+abbrev pub load_byte : Constants → Memory → Block → ℕ → Option ℕ
 load_byte constants m block offset = byte_value_in (words_in constants m block) offset
 
 abbrev pub store : Memory → Block → ℕ → Value → Option Memory

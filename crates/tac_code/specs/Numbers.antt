@@ -1,10 +1,10 @@
 -- Numbers of 32 bits: what the operators give.
-use Rattle.std.specs.Prelude.{ℕ, zero, suc, ◌+◌, ◌-◌, ◌*◌, ◌/◌, ◌%◌, ◌^◌, Bool, true, false, not, nat_eq, nat_lt, if◌then◌else◌, ℤ, pos, negsuc, ◌+ℤ◌, ◌-ℤ◌, ◌*ℤ◌, int_div, int_lt, bit_and, bit_or}
+use Rattle.std.specs.Prelude.{ℕ, zero, suc, ◌+◌, ◌-◌, ◌*◌, ◌/◌, ◌%◌, ◌^◌, Bool, true, false, not, ◌&&◌, nat_eq, nat_lt, if◌then◌else◌, ℤ, pos, negsuc, ◌+ℤ◌, ◌-ℤ◌, ◌*ℤ◌, int_div, int_lt, bit_and, bit_or}
 use Rattle.std.specs.Int.{w32, cast_unsigned, cast_signed, int_rem_euclid}
 use Rattle.tac_code.specs.declared.code.Operator.{Operator}
 use Rattle.tac_code.specs.declared.code.Operator.TheVariants.{Add, Subtract, Multiply, Divide, Modulo}
 use Rattle.tac_code.specs.declared.code.BitOperator.{BitOperator}
-use Rattle.tac_code.specs.declared.code.BitOperator.TheVariants.{And, Or, AndNot, ShiftLeft}
+use Rattle.tac_code.specs.declared.code.BitOperator.TheVariants.{And, Or, AndNot, ShiftLeft, Plus}
 use Rattle.tac_code.specs.declared.code.Relation.{Relation}
 use Rattle.tac_code.specs.declared.code.Relation.TheVariants.{Equal, NotEqual, Less, LessEqual, Greater, GreaterEqual}
 
@@ -56,6 +56,7 @@ combined And x y = bit_and x y
 combined Or x y = bit_or x y
 combined AndNot x y = bit_and x (2 ^ 32 - 1 - y)
 combined ShiftLeft x y = (x * 2 ^ (y % 32)) % 2 ^ 32
+combined Plus x y = (x + y) % 2 ^ 32
 
 abbrev pub bits : BitOperator → ℤ → ℤ → ℤ
 bits operator x y = number_of (combined operator (word_of x) (word_of y))
@@ -68,6 +69,17 @@ compared Less x y = int_lt x y
 compared LessEqual x y = not (int_lt y x)
 compared Greater x y = int_lt y x
 compared GreaterEqual x y = not (int_lt x y)
+
+abbrev pub is_in_range : (low high : ℤ) → ℤ → Bool
+is_in_range low high x = not (int_lt x low) && not (int_lt high x)
+
+-- how far a number lies above the lowest one
+abbrev pub natural : ℤ → ℕ
+natural (pos n) = n
+natural (negsuc n) = 0
+
+abbrev pub steps_above : ℤ → ℤ → ℕ
+steps_above low x = natural (x -ℤ low)
 
 -- byte k of a number's word, 0 the lowest, and the number with that byte changed
 abbrev pub byte_of : ℤ → ℕ → ℕ

@@ -1,14 +1,18 @@
 -- The printed form of the code, as bytes: a line for each instruction. The forms are this project's own.
-use Rattle.std.specs.Prelude.{ℕ, suc, Bool, true, false, List, [], ◌∷◌, ◌++◌, length, codes, decimal, flat_map}
+use Rattle.std.specs.Prelude.{ℕ, suc, List, [], ◌∷◌, ◌++◌, length, codes, decimal, flat_map}
 use Rattle.std.specs.Fmt.{signed_decimal}
 use Rattle.tac_code.specs.declared.code.Operator.{Operator}
 use Rattle.tac_code.specs.declared.code.Operator.TheVariants.{Add, Subtract, Multiply, Divide, Modulo}
 use Rattle.tac_code.specs.declared.code.BitOperator.{BitOperator}
-use Rattle.tac_code.specs.declared.code.BitOperator.TheVariants.{And, Or, AndNot, ShiftLeft}
+use Rattle.tac_code.specs.declared.code.BitOperator.TheVariants.{And, Or, AndNot, ShiftLeft, Plus}
 use Rattle.tac_code.specs.declared.code.Relation.{Relation}
 use Rattle.tac_code.specs.declared.code.Relation.TheVariants.{Equal, NotEqual, Less, LessEqual, Greater, GreaterEqual}
+use Rattle.tac_code.specs.declared.code.Operand.{Operand}
+use Rattle.tac_code.specs.declared.code.Operand.TheVariants as operand
+use Rattle.tac_code.specs.declared.code.Base.{Base}
+use Rattle.tac_code.specs.declared.code.Base.TheVariants as base
 use Rattle.tac_code.specs.declared.code.Instruction.{Instruction}
-use Rattle.tac_code.specs.declared.code.Instruction.TheVariants.{Literal, Copy, Arithmetic, Bits, Compare, SamePointer, CheckRange, CheckPointer, FrameAddress, ScratchAddress, ConstantAddress, Offset, Index, RoutineValue, Load, Store, LoadByte, StoreByte, Jump, JumpBack, Branch, Call, CallValue, Return, Trap, Take, Put, New, End}
+use Rattle.tac_code.specs.declared.code.Instruction.TheVariants.{Literal, Copy, Arithmetic, Bits, Compare, CheckRange, CheckPointer, Text, Offset, Index, RoutineValue, Load, Store, LoadByte, StoreByte, Jump, JumpBack, Branch, BranchBack, Call, CallValue, Return, Trap, Take, Put, New, End}
 use Rattle.tac_code.specs.declared.code.TacRoutine.{TacRoutine}
 use Rattle.tac_code.specs.Meaning.{Code}
 
@@ -24,6 +28,7 @@ bit_operator_sign And = codes "and"
 bit_operator_sign Or = codes "or"
 bit_operator_sign AndNot = codes "and not"
 bit_operator_sign ShiftLeft = codes "shift left"
+bit_operator_sign Plus = codes "plus"
 
 abbrev pub relation_sign : Relation → List ℕ
 relation_sign Equal = codes "="
@@ -37,10 +42,18 @@ relation_sign GreaterEqual = codes ">="
 abbrev pub printed_operands : List ℕ → List ℕ
 printed_operands ts = flat_map (λ t. codes " t" ++ decimal t) ts
 
--- a branch on a number that is not 0, or is 0
-abbrev pub branch_word : Bool → List ℕ
-branch_word true = codes " if t"
-branch_word false = codes " unless t"
+abbrev pub printed_operand : Operand → List ℕ
+printed_operand (operand.Temporary t) = codes "t" ++ decimal t
+printed_operand (operand.Number z) = signed_decimal z
+
+abbrev pub printed_base : Base → List ℕ
+printed_base base.Frame = codes "frame"
+printed_base base.Scratch = codes "scratch"
+printed_base base.Program = codes "program"
+printed_base (base.Temporary t) = codes "t" ++ decimal t
+
+abbrev pub printed_bytes : List ℕ → List ℕ
+printed_bytes bytes = flat_map (λ b. codes " " ++ decimal b) bytes
 
 -- the error that an instruction may end with
 unfoldable pub or_error : ℕ → ℕ → List ℕ
@@ -50,25 +63,23 @@ or_error number line = codes ", else error " ++ decimal number ++ codes " at lin
 abbrev pub printed : Instruction → List ℕ
 printed (Literal t z) = signed_decimal z ++ codes " -> t" ++ decimal t
 printed (Copy t a) = codes "t" ++ decimal a ++ codes " -> t" ++ decimal t
-printed (Arithmetic operator t a b number line) = codes "t" ++ decimal a ++ codes " " ++ operator_sign operator ++ codes " t" ++ decimal b ++ codes " -> t" ++ decimal t ++ or_error number line
-printed (Bits operator t a b) = codes "t" ++ decimal a ++ codes " " ++ bit_operator_sign operator ++ codes " t" ++ decimal b ++ codes " -> t" ++ decimal t
-printed (Compare relation t a b) = codes "t" ++ decimal a ++ codes " " ++ relation_sign relation ++ codes " t" ++ decimal b ++ codes " -> t" ++ decimal t
-printed (SamePointer t a b) = codes "t" ++ decimal a ++ codes " is t" ++ decimal b ++ codes " -> t" ++ decimal t
+printed (Arithmetic operator t a b number line) = codes "t" ++ decimal a ++ codes " " ++ operator_sign operator ++ codes " " ++ printed_operand b ++ codes " -> t" ++ decimal t ++ or_error number line
+printed (Bits operator t a b) = codes "t" ++ decimal a ++ codes " " ++ bit_operator_sign operator ++ codes " " ++ printed_operand b ++ codes " -> t" ++ decimal t
+printed (Compare relation t a b) = codes "t" ++ decimal a ++ codes " " ++ relation_sign relation ++ codes " " ++ printed_operand b ++ codes " -> t" ++ decimal t
 printed (CheckRange a low high number line) = codes "check t" ++ decimal a ++ codes " in " ++ signed_decimal low ++ codes ".." ++ signed_decimal high ++ or_error number line
 printed (CheckPointer a number line) = codes "check t" ++ decimal a ++ codes " <> nil" ++ or_error number line
-printed (FrameAddress t offset) = codes "frame + " ++ decimal offset ++ codes " -> t" ++ decimal t
-printed (ScratchAddress t offset) = codes "scratch + " ++ decimal offset ++ codes " -> t" ++ decimal t
-printed (ConstantAddress t c) = codes "constant " ++ decimal c ++ codes " -> t" ++ decimal t
-printed (Offset t a n) = codes "t" ++ decimal a ++ codes " + " ++ decimal n ++ codes " -> t" ++ decimal t
-printed (Index t a i low width) = codes "t" ++ decimal a ++ codes " + (t" ++ decimal i ++ codes " - " ++ signed_decimal low ++ codes ") * " ++ decimal width ++ codes " -> t" ++ decimal t
+printed (Text t bytes) = codes "text" ++ printed_bytes bytes ++ codes " -> t" ++ decimal t
+printed (Offset t a n extent) = printed_base a ++ codes " + " ++ decimal n ++ codes " -> t" ++ decimal t ++ codes ", " ++ decimal extent ++ codes " bytes"
+printed (Index t a i low high width number line) = printed_base a ++ codes " + (t" ++ decimal i ++ codes " in " ++ signed_decimal low ++ codes ".." ++ signed_decimal high ++ codes ") * " ++ decimal width ++ codes " -> t" ++ decimal t ++ or_error number line
 printed (RoutineValue t r) = codes "routine " ++ decimal r ++ codes " -> t" ++ decimal t
-printed (Load t a n) = codes "word t" ++ decimal a ++ codes " + " ++ decimal n ++ codes " -> t" ++ decimal t
-printed (Store a n b) = codes "t" ++ decimal b ++ codes " -> word t" ++ decimal a ++ codes " + " ++ decimal n
-printed (LoadByte t a n) = codes "byte t" ++ decimal a ++ codes " + " ++ decimal n ++ codes " -> t" ++ decimal t
-printed (StoreByte a n b) = codes "t" ++ decimal b ++ codes " -> byte t" ++ decimal a ++ codes " + " ++ decimal n
+printed (Load t a n) = codes "word " ++ printed_base a ++ codes " + " ++ decimal n ++ codes " -> t" ++ decimal t
+printed (Store a n b) = codes "t" ++ decimal b ++ codes " -> word " ++ printed_base a ++ codes " + " ++ decimal n
+printed (LoadByte t a n) = codes "byte " ++ printed_base a ++ codes " + " ++ decimal n ++ codes " -> t" ++ decimal t
+printed (StoreByte a n b) = codes "t" ++ decimal b ++ codes " -> byte " ++ printed_base a ++ codes " + " ++ decimal n
 printed (Jump n) = codes "jump forward " ++ decimal n
 printed (JumpBack n) = codes "jump back " ++ decimal n
-printed (Branch a on n) = codes "jump forward " ++ decimal n ++ branch_word on ++ decimal a
+printed (Branch relation a b n) = codes "jump forward " ++ decimal n ++ codes " if t" ++ decimal a ++ codes " " ++ relation_sign relation ++ codes " " ++ printed_operand b
+printed (BranchBack relation a b n) = codes "jump back " ++ decimal n ++ codes " if t" ++ decimal a ++ codes " " ++ relation_sign relation ++ codes " " ++ printed_operand b
 printed (Call t r operands line) = codes "call " ++ decimal r ++ codes " at line " ++ decimal line ++ codes " (" ++ printed_operands operands ++ codes " ) -> t" ++ decimal t
 printed (CallValue t a operands line) = codes "call t" ++ decimal a ++ codes " at line " ++ decimal line ++ codes " (" ++ printed_operands operands ++ codes " ) -> t" ++ decimal t
 printed (Return a) = codes "return t" ++ decimal a
@@ -106,19 +117,12 @@ printed_routine number r =
     ++ (count_line (codes "line") r.line
     ++ numbered instruction_line 0 r.body)))))
 
-abbrev pub printed_bytes : List ℕ → List ℕ
-printed_bytes bytes = flat_map (λ b. codes " " ++ decimal b) bytes
-
-abbrev pub constant_line : ℕ → List ℕ → List ℕ
-constant_line number bytes = codes "constant " ++ (decimal number ++ (codes ":" ++ (printed_bytes bytes ++ newline)))
-
 abbrev pub type_line : ℕ → ℕ → List ℕ
 type_line number bytes = codes "type " ++ (decimal number ++ (codes ": " ++ (decimal bytes ++ (codes " bytes" ++ newline))))
 
--- the routines by their numbers, the program's and then those of the run-time list, the bytes of the constants, and the bytes of an object of each type
+-- the routines by their numbers, the program's and then those of the run-time list, and the bytes of an object of each type
 abbrev pub printed_code : Code → List ℕ
 printed_code code =
     numbered printed_routine 0 code.program
     ++ (numbered printed_routine (length code.program) code.run_time
-    ++ (numbered constant_line 0 code.constants
-    ++ numbered type_line 0 code.objects))
+    ++ numbered type_line 0 code.objects)

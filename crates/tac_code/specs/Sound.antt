@@ -1,11 +1,16 @@
 -- The invariant of the code: each target and each operand exists, and numbers lie in their ranges.
-use Rattle.std.specs.Prelude.{◌≡◌, ℕ, suc, ◌+◌, ◌<◌, ◌≤◌, ◌%◌, List, length, slice_get, Some}
+use Rattle.std.specs.Prelude.{◌≡◌, ℕ, suc, ◌+◌, ◌<◌, ◌≤◌, ◌%◌, IsTrue, ℤ, List, length, slice_get, Some}
 use Rattle.std.specs.List.{All}
+use Rattle.tac_code.specs.declared.code.Operand.{Operand}
+use Rattle.tac_code.specs.declared.code.Operand.TheVariants as operand
+use Rattle.tac_code.specs.declared.code.Base.{Base}
+use Rattle.tac_code.specs.declared.code.Base.TheVariants as base
 use Rattle.tac_code.specs.declared.code.Instruction.{Instruction}
-use Rattle.tac_code.specs.declared.code.Instruction.TheVariants.{Literal, Copy, Arithmetic, Bits, Compare, SamePointer, CheckRange, CheckPointer, FrameAddress, ScratchAddress, ConstantAddress, Offset, Index, RoutineValue, Load, Store, LoadByte, StoreByte, Jump, JumpBack, Branch, Call, CallValue, Return, Trap, Take, Put, New, End}
+use Rattle.tac_code.specs.declared.code.Instruction.TheVariants.{Literal, Copy, Arithmetic, Bits, Compare, CheckRange, CheckPointer, Text, Offset, Index, RoutineValue, Load, Store, LoadByte, StoreByte, Jump, JumpBack, Branch, BranchBack, Call, CallValue, Return, Trap, Take, Put, New, End}
 use Rattle.tac_code.specs.declared.code.TacRoutine.{TacRoutine}
 use Rattle.tac_code.specs.declared.code.TacRaw.{TacRaw}
 use Rattle.tac_code.specs.declared.check.Limits.{Limits}
+use Rattle.tac_code.specs.Numbers.{is_integer}
 use Rattle.tac_code.specs.Meaning.{Code, size}
 
 -- each element, at its place, keeps a fact
@@ -15,7 +20,7 @@ Each {X} P xs = (i : ℕ) (x : X) → slice_get xs i ≡ Some x → P i x
 -- what the parts of a `TacRaw` are as code
 abbrev pub code_of : TacRaw → Code
 code_of raw =
-    record { program = raw.program.items; run_time = raw.run_time.items; constants = raw.constants.items; objects = raw.objects.items }
+    record { program = raw.program.items; run_time = raw.run_time.items; objects = raw.objects.items }
 
 -- 12 and 13 are the stops for stack and heap
 abbrev pub IsErrorNumber : ℕ → Type 0
@@ -28,30 +33,46 @@ IsLine n = (1 ≤ n) × (n ≤ 65535)
 abbrev pub AreOperands : ℕ → List ℕ → Type 0
 AreOperands temporaries list = (length list ≤ 65) × All (λ t. t < temporaries) list
 
+-- what every number of the code is
+abbrev pub IsInteger : ℤ → Type 0
+IsInteger z = IsTrue (is_integer z)
+
+abbrev pub IsOperand : ℕ → Operand → Type 0
+IsOperand temporaries (operand.Temporary t) = t < temporaries
+IsOperand temporaries (operand.Number z) = IsInteger z
+
+-- A base, of which so many bytes are meant from an offset on: of the scratch block they lie within it.
+abbrev pub IsBase : Limits → Base → (offset bytes : ℕ) → Type 0
+IsBase l base.Frame offset bytes = Unit {0}
+IsBase l base.Scratch offset bytes = offset + bytes ≤ l.scratch
+IsBase l base.Program offset bytes = Unit {0}
+IsBase l (base.Temporary t) offset bytes = t < l.temporaries
+
 -- what an instruction at a place asks
 abbrev pub IsSoundAt : Limits → ℕ → Instruction → Type 0
-IsSoundAt l place (Literal t z) = t < l.temporaries
+IsSoundAt l place (Literal t z) = (t < l.temporaries) × IsInteger z
 IsSoundAt l place (Copy t a) = (t < l.temporaries) × (a < l.temporaries)
 IsSoundAt l place (Arithmetic operator t a b error line) =
-    (t < l.temporaries) × (a < l.temporaries) × (b < l.temporaries) × IsErrorNumber error × IsLine line
-IsSoundAt l place (Bits operator t a b) = (t < l.temporaries) × (a < l.temporaries) × (b < l.temporaries)
-IsSoundAt l place (Compare relation t a b) = (t < l.temporaries) × (a < l.temporaries) × (b < l.temporaries)
-IsSoundAt l place (SamePointer t a b) = (t < l.temporaries) × (a < l.temporaries) × (b < l.temporaries)
-IsSoundAt l place (CheckRange a low high error line) = (a < l.temporaries) × IsErrorNumber error × IsLine line
+    (t < l.temporaries) × (a < l.temporaries) × IsOperand l.temporaries b × IsErrorNumber error × IsLine line
+IsSoundAt l place (Bits operator t a b) = (t < l.temporaries) × (a < l.temporaries) × IsOperand l.temporaries b
+IsSoundAt l place (Compare relation t a b) = (t < l.temporaries) × (a < l.temporaries) × IsOperand l.temporaries b
+IsSoundAt l place (CheckRange a low high error line) =
+    (a < l.temporaries) × IsInteger low × IsInteger high × IsErrorNumber error × IsLine line
 IsSoundAt l place (CheckPointer a error line) = (a < l.temporaries) × IsErrorNumber error × IsLine line
-IsSoundAt l place (FrameAddress t offset) = t < l.temporaries
-IsSoundAt l place (ScratchAddress t offset) = t < l.temporaries
-IsSoundAt l place (ConstantAddress t c) = (t < l.temporaries) × (c < l.constants)
-IsSoundAt l place (Offset t a bytes) = (t < l.temporaries) × (a < l.temporaries)
-IsSoundAt l place (Index t a i low width) = (t < l.temporaries) × (a < l.temporaries) × (i < l.temporaries)
+IsSoundAt l place (Text t bytes) = (t < l.temporaries) × (length bytes % 4 ≡ 0)
+IsSoundAt l place (Offset t a n extent) = (t < l.temporaries) × IsBase l a n extent
+IsSoundAt l place (Index t a i low high width error line) =
+    (t < l.temporaries) × IsBase l a 0 0 × (i < l.temporaries) × IsInteger low × IsInteger high × IsErrorNumber error × IsLine line
 IsSoundAt l place (RoutineValue t r) = (t < l.temporaries) × (r < l.routines)
-IsSoundAt l place (Load t a offset) = (t < l.temporaries) × (a < l.temporaries)
-IsSoundAt l place (Store a offset b) = (a < l.temporaries) × (b < l.temporaries)
-IsSoundAt l place (LoadByte t a offset) = (t < l.temporaries) × (a < l.temporaries)
-IsSoundAt l place (StoreByte a offset b) = (a < l.temporaries) × (b < l.temporaries)
+IsSoundAt l place (Load t a offset) = (t < l.temporaries) × IsBase l a offset 4
+IsSoundAt l place (Store a offset b) = IsBase l a offset 4 × (b < l.temporaries)
+IsSoundAt l place (LoadByte t a offset) = (t < l.temporaries) × IsBase l a offset 1
+IsSoundAt l place (StoreByte a offset b) = IsBase l a offset 1 × (b < l.temporaries)
 IsSoundAt l place (Jump n) = suc place + n < l.places
 IsSoundAt l place (JumpBack n) = n ≤ place
-IsSoundAt l place (Branch a on n) = (a < l.temporaries) × (suc place + n < l.places)
+IsSoundAt l place (Branch relation a b n) =
+    (a < l.temporaries) × IsOperand l.temporaries b × (suc place + n < l.places)
+IsSoundAt l place (BranchBack relation a b n) = (a < l.temporaries) × IsOperand l.temporaries b × (n ≤ place)
 IsSoundAt l place (Call t r list line) =
     (t < l.temporaries) × (r < l.routines) × AreOperands l.temporaries list × IsLine line
 IsSoundAt l place (CallValue t a list line) =
@@ -69,7 +90,7 @@ IsSoundBody l body = Each (IsSoundAt l) body
 -- what there is: for a routine of the code
 abbrev pub limits_of : Code → TacRoutine → Limits
 limits_of code routine =
-    record { temporaries = routine.temporaries; places = length routine.body; routines = length code.program + length code.run_time; constants = length code.constants; object_types = length code.objects }
+    record { temporaries = routine.temporaries; places = length routine.body; routines = length code.program + length code.run_time; object_types = length code.objects; scratch = routine.scratch }
 
 pub record IsSoundRoutine (l : Limits) (routine : TacRoutine) : Type 0 where
   pub parameters : routine.parameters ≤ routine.temporaries
@@ -101,16 +122,14 @@ AreSoundRoutines code list = Each (λ _ routine. IsSoundRoutine (limits_of code 
 abbrev pub AreLeaves : List TacRoutine → Type 0
 AreLeaves list = Each (λ _ routine. IsLeaf routine) list
 
-abbrev pub AreSoundConstants : List (List ℕ) → Type 0
-AreSoundConstants list = Each (λ _ bytes. length bytes % 4 ≡ 0) list
-
 abbrev pub AreObjectSizes : List ℕ → Type 0
 AreObjectSizes list = Each (λ _ bytes. IsObjectSize bytes) list
 
+-- There is a program block, in which a run begins.
 pub record IsSound (code : Code) : Type 0 where
+  pub begins : 0 < length code.program
   pub program : AreSoundRoutines code code.program
   pub run_time : AreSoundRoutines code code.run_time
   pub leaves : AreLeaves code.run_time
-  pub constants : AreSoundConstants code.constants
   pub objects : AreObjectSizes code.objects
   pub types : length code.objects ≤ 1048576

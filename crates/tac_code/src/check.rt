@@ -1,10 +1,10 @@
 // The test of the code's invariant.
 
-ghost use Rattle.std.specs.Prelude.{◌≡◌, ℕ, ◌<◌, ◌≤◌, ◌%◌, ◌↔◌, IsTrue, length};
+ghost use Rattle.std.specs.Prelude.{◌≡◌, ℕ, suc, ◌+◌, ◌<◌, ◌≤◌, ◌%◌, ◌↔◌, IsTrue, length};
 ghost use Rattle.tac_code.specs.Meaning.{size};
-ghost use Rattle.tac_code.specs.Sound.{AreOperands, IsSoundAt, IsSoundBody, IsSoundRoutine, IsLeaf, Each, CallsNone, IsErrorNumber, IsLine};
+ghost use Rattle.tac_code.specs.Sound.{AreOperands, IsInteger, IsOperand, IsBase, IsSoundAt, IsSoundBody, IsSoundRoutine, IsLeaf, Each, CallsNone, IsErrorNumber, IsLine};
 
-use crate::code::{Instruction, Operands, TacRoutine};
+use crate::code::{Base, Instruction, Operand, Operands, TacRoutine};
 
 /// How many there are of what an instruction of a routine may name.
 #[derive(Clone, Copy)]
@@ -12,8 +12,9 @@ pub struct Limits {
     pub temporaries: u32,
     pub places: usize,
     pub routines: usize,
-    pub constants: usize,
     pub object_types: usize,
+    /// The bytes of its scratch block.
+    pub scratch: u32,
 }
 
 fn is_error_number(error: u8) -> bool
@@ -28,6 +29,21 @@ fn is_line(line: u16) -> bool
     1 <= line
 }
 
+// Every number of this type is one, which what is proved of the code wants to know.
+fn is_integer(number: i32) -> bool
+    ensures { IsTrue result ↔ IsInteger number }
+{
+    let _ = number;
+    true
+}
+
+// The same of both ends of a range.
+fn are_integers(low: i32, high: i32) -> bool
+    ensures { IsTrue result ↔ (IsInteger low × IsInteger high) }
+{
+    is_integer(low) && is_integer(high)
+}
+
 fn are_operands(temporaries: u32, operands: &Operands) -> bool
     ensures { IsTrue result ↔ AreOperands temporaries operands.now }
 {
@@ -35,13 +51,46 @@ fn are_operands(temporaries: u32, operands: &Operands) -> bool
     list.len() <= 65 && list.iter().all(|t| *t < temporaries)
 }
 
-// An instruction that computes, and goes on to the next.
+fn is_operand(temporaries: u32, operand: Operand) -> bool
+    ensures { IsTrue result ↔ IsOperand temporaries operand }
+{
+    match operand {
+        Operand::Temporary(t) => t < temporaries,
+        Operand::Number(_) => true,
+    }
+}
+
+// A base, of which so many bytes are meant from an offset on.
+fn is_base(l: Limits, base: Base, offset: u32, bytes: u32) -> bool
+    ensures { IsTrue result ↔ IsBase l base offset bytes }
+{
+    match base {
+        Base::Frame | Base::Program => true,
+        Base::Scratch => u64::from(offset) + u64::from(bytes) <= u64::from(l.scratch),
+        Base::Temporary(t) => t < l.temporaries,
+    }
+}
+
+// A place so many instructions behind the next one.
+fn is_forward(l: Limits, place: usize, forward: u64) -> bool
+    requires { place < l.places }
+    ensures { IsTrue result ↔ suc place + forward < l.places }
+{
+    forward < (l.places - 1 - place) as u64
+}
+
+fn is_back(place: usize, back: u64) -> bool
+    ensures { IsTrue result ↔ back ≤ place }
+{
+    back <= place as u64
+}
+
 fn is_sound_at(l: Limits, place: usize, instruction: &Instruction) -> bool
     requires { place < l.places }
     ensures { IsTrue result ↔ IsSoundAt l place instruction.now }
 {
     match instruction {
-        Instruction::Literal { to, value: _ } => *to < l.temporaries,
+        Instruction::Literal { to, value } => *to < l.temporaries && is_integer(*value),
         Instruction::Copy { to, from } => *to < l.temporaries && *from < l.temporaries,
         Instruction::Arithmetic {
             operator: _,
@@ -53,7 +102,7 @@ fn is_sound_at(l: Limits, place: usize, instruction: &Instruction) -> bool
         } => {
             *to < l.temporaries
                 && *left < l.temporaries
-                && *right < l.temporaries
+                && is_operand(l.temporaries, *right)
                 && is_error_number(*error)
                 && is_line(*line)
         }
@@ -62,71 +111,89 @@ fn is_sound_at(l: Limits, place: usize, instruction: &Instruction) -> bool
             to,
             left,
             right,
-        } => { *to < l.temporaries && *left < l.temporaries && *right < l.temporaries }
+        } => { *to < l.temporaries && *left < l.temporaries && is_operand(l.temporaries, *right) }
         Instruction::Compare {
             relation: _,
             to,
             left,
             right,
-        } => { *to < l.temporaries && *left < l.temporaries && *right < l.temporaries }
-        Instruction::SamePointer { to, left, right } => {
-            *to < l.temporaries && *left < l.temporaries && *right < l.temporaries
-        }
+        } => { *to < l.temporaries && *left < l.temporaries && is_operand(l.temporaries, *right) }
         Instruction::CheckRange {
             value,
-            low: _,
-            high: _,
+            low,
+            high,
             error,
             line,
-        } => { *value < l.temporaries && is_error_number(*error) && is_line(*line) }
+        } => {
+            *value < l.temporaries
+                && are_integers(*low, *high)
+                && is_error_number(*error)
+                && is_line(*line)
+        }
         Instruction::CheckPointer {
             pointer,
             error,
             line,
         } => { *pointer < l.temporaries && is_error_number(*error) && is_line(*line) }
-        Instruction::FrameAddress { to, offset: _ } => *to < l.temporaries,
-        Instruction::ScratchAddress { to, offset: _ } => *to < l.temporaries,
-        Instruction::ConstantAddress { to, constant } => {
-            *to < l.temporaries && (*constant as usize) < l.constants
+        Instruction::Text { to, bytes } => {
+            *to < l.temporaries && bytes.as_slice().len() % 4 == 0
         }
-        Instruction::Offset { to, base, bytes: _ } => *to < l.temporaries && *base < l.temporaries,
+        Instruction::Offset {
+            to,
+            base,
+            bytes,
+            extent,
+        } => { *to < l.temporaries && is_base(l, *base, *bytes, *extent) }
         Instruction::Index {
             to,
             base,
             index,
-            low: _,
+            low,
+            high,
             width: _,
-        } => { *to < l.temporaries && *base < l.temporaries && *index < l.temporaries }
+            error,
+            line,
+        } => {
+            *to < l.temporaries
+                && is_base(l, *base, 0, 0)
+                && *index < l.temporaries
+                && are_integers(*low, *high)
+                && is_error_number(*error)
+                && is_line(*line)
+        }
         Instruction::RoutineValue { to, routine } => {
             *to < l.temporaries && (*routine as usize) < l.routines
         }
-        Instruction::Load {
-            to,
-            base,
-            offset: _,
-        } => *to < l.temporaries && *base < l.temporaries,
-        Instruction::Store {
-            base,
-            offset: _,
-            from,
-        } => *base < l.temporaries && *from < l.temporaries,
-        Instruction::LoadByte {
-            to,
-            base,
-            offset: _,
-        } => *to < l.temporaries && *base < l.temporaries,
-        Instruction::StoreByte {
-            base,
-            offset: _,
-            from,
-        } => { *base < l.temporaries && *from < l.temporaries }
-        Instruction::Jump { forward } => (*forward as usize) < l.places - 1 - place,
-        Instruction::JumpBack { back } => (*back as usize) <= place,
+        Instruction::Load { to, base, offset } => {
+            *to < l.temporaries && is_base(l, *base, *offset, 4)
+        }
+        Instruction::Store { base, offset, from } => {
+            is_base(l, *base, *offset, 4) && *from < l.temporaries
+        }
+        Instruction::LoadByte { to, base, offset } => {
+            *to < l.temporaries && is_base(l, *base, *offset, 1)
+        }
+        Instruction::StoreByte { base, offset, from } => {
+            is_base(l, *base, *offset, 1) && *from < l.temporaries
+        }
+        Instruction::Jump { forward } => is_forward(l, place, *forward),
+        Instruction::JumpBack { back } => is_back(place, *back),
         Instruction::Branch {
-            test,
-            on: _,
+            relation: _,
+            left,
+            right,
             forward,
-        } => { *test < l.temporaries && (*forward as usize) < l.places - 1 - place }
+        } => {
+            *left < l.temporaries
+                && is_operand(l.temporaries, *right)
+                && is_forward(l, place, *forward)
+        }
+        Instruction::BranchBack {
+            relation: _,
+            left,
+            right,
+            back,
+        } => { *left < l.temporaries && is_operand(l.temporaries, *right) && is_back(place, *back) }
         Instruction::Call {
             to,
             routine,

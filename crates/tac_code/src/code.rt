@@ -62,7 +62,7 @@ pub enum Operator {
     Modulo,
 }
 
-/// Operators on the bits of words, which never fail.
+/// Operators on words, which never fail.
 #[derive(Clone, Copy, PartialEq, Eq, Debug)]
 pub enum BitOperator {
     And,
@@ -71,9 +71,11 @@ pub enum BitOperator {
     AndNot,
     /// By the right number modulo 32; what leaves the word is lost.
     ShiftLeft,
+    /// The sum modulo 2^32.
+    Plus,
 }
 
-/// A relation between two numbers.
+/// A relation between two numbers; two pointers are only equal or not.
 #[derive(Clone, Copy, PartialEq, Eq, Debug)]
 pub enum Relation {
     Equal,
@@ -92,8 +94,8 @@ pub enum Block {
     /// Room of an activation for copied structures and sets between their turn and their use.
     Scratch(u64),
     Object(u64),
-    /// A constant of the code, which is only read.
-    Constant(u32),
+    /// The bytes of the `Text` at this place of this routine, which are only read.
+    Constant(u32, u64),
 }
 
 /// What a temporary or a word of memory holds. A truth value is 1 or 0, and nil is 0.
@@ -103,6 +105,56 @@ pub enum Value {
     /// A block and an offset in bytes.
     Address(Block, u32),
     Routine(u32),
+}
+
+/// A right operand: what a temporary holds, or a number.
+#[derive(Clone, Copy, PartialEq, Eq, Debug)]
+pub enum Operand {
+    Temporary(u32),
+    Number(i32),
+}
+
+/// What an address is counted from.
+#[derive(Clone, Copy, PartialEq, Eq, Debug)]
+pub enum Base {
+    /// The frame block of the activation itself.
+    Frame,
+    /// The scratch block of the activation itself.
+    Scratch,
+    /// The frame block of the program block.
+    Program,
+    /// The address that a temporary holds.
+    Temporary(u32),
+}
+
+/// The bytes of a constant, as those of a string.
+#[derive(Drop)]
+pub struct Constant {
+    list: Vec<u8>,
+}
+
+impl Model for Constant {
+    ghost use Rattle.std.specs.Prelude.{ℕ, List};
+
+    ghost Value = { List ℕ };
+
+    ghost view = { λ c. c.list.items };
+}
+
+impl Constant {
+    /// A constant of these bytes.
+    pub fn new(bytes: Vec<u8>) -> Constant
+        ensures { result ≡ bytes.items }
+    {
+        Constant { list: bytes }
+    }
+
+    /// Its bytes, in order.
+    pub fn as_slice(&self) -> &[u8]
+        ensures { result.now ≡ self.now }
+    {
+        self.list.as_slice()
+    }
 }
 
 /// One instruction. Offsets and widths are in bytes, jumps in instructions; `to` is the temporary that is written.
@@ -120,7 +172,7 @@ pub enum Instruction {
         operator: Operator,
         to: u32,
         left: u32,
-        right: u32,
+        right: Operand,
         error: u8,
         line: u16,
     },
@@ -128,20 +180,14 @@ pub enum Instruction {
         operator: BitOperator,
         to: u32,
         left: u32,
-        right: u32,
+        right: Operand,
     },
-    /// Compares numbers, and gives 1 or 0.
+    /// 1 where the relation holds, else 0. A pointer is nil or the address of an object.
     Compare {
         relation: Relation,
         to: u32,
         left: u32,
-        right: u32,
-    },
-    /// Whether two pointers are the same. A pointer is nil or the address of an object.
-    SamePointer {
-        to: u32,
-        left: u32,
-        right: u32,
+        right: Operand,
     },
     /// The error unless the number lies in `low`..`high`.
     CheckRange {
@@ -157,33 +203,28 @@ pub enum Instruction {
         error: u8,
         line: u16,
     },
-    /// An address in the frame block of the activation itself.
-    FrameAddress {
+    /// The address of these bytes.
+    Text {
         to: u32,
-        offset: u32,
+        bytes: Constant,
     },
-    /// An address in the scratch block of the activation itself.
-    ScratchAddress {
-        to: u32,
-        offset: u32,
-    },
-    ConstantAddress {
-        to: u32,
-        constant: u32,
-    },
-    /// An address in the same block, so many bytes on.
+    /// The address so many bytes on, where `extent` bytes are meant.
     Offset {
         to: u32,
-        base: u32,
+        base: Base,
         bytes: u32,
+        extent: u32,
     },
-    /// The address of a component: `index - low` widths on.
+    /// The address of a component, `index - low` widths on; the error unless the index lies in `low`..`high`.
     Index {
         to: u32,
-        base: u32,
+        base: Base,
         index: u32,
         low: i32,
+        high: i32,
         width: u32,
+        error: u8,
+        line: u16,
     },
     RoutineValue {
         to: u32,
@@ -191,37 +232,45 @@ pub enum Instruction {
     },
     Load {
         to: u32,
-        base: u32,
+        base: Base,
         offset: u32,
     },
     Store {
-        base: u32,
+        base: Base,
         offset: u32,
         from: u32,
     },
     LoadByte {
         to: u32,
-        base: u32,
+        base: Base,
         offset: u32,
     },
     StoreByte {
-        base: u32,
+        base: Base,
         offset: u32,
         from: u32,
     },
     /// Passes so many instructions.
     Jump {
-        forward: u32,
+        forward: u64,
     },
     /// Goes back so many instructions, counted from the jump itself.
     JumpBack {
-        back: u32,
+        back: u64,
     },
-    /// Passes so many instructions where the number is not 0 (`on`), or is 0 (not `on`).
+    /// Passes so many instructions where the relation holds, as `Compare` tells it.
     Branch {
-        test: u32,
-        on: bool,
-        forward: u32,
+        relation: Relation,
+        left: u32,
+        right: Operand,
+        forward: u64,
+    },
+    /// Goes back so many instructions, counted from the branch itself, where the relation holds.
+    BranchBack {
+        relation: Relation,
+        left: u32,
+        right: Operand,
+        back: u64,
     },
     /// The line is that of the called name.
     Call {
@@ -292,36 +341,6 @@ impl Body {
     }
 }
 
-/// A constant's bytes, as those of a string.
-#[derive(Drop)]
-pub struct Constant {
-    list: Vec<u8>,
-}
-
-impl Model for Constant {
-    ghost use Rattle.std.specs.Prelude.{ℕ, List};
-
-    ghost Value = { List ℕ };
-
-    ghost view = { λ c. c.list.items };
-}
-
-impl Constant {
-    /// A constant of these bytes.
-    pub fn new(bytes: Vec<u8>) -> Constant
-        ensures { result ≡ bytes.items }
-    {
-        Constant { list: bytes }
-    }
-
-    /// Its bytes, in order.
-    pub fn as_slice(&self) -> &[u8]
-        ensures { result.now ≡ self.now }
-    {
-        self.list.as_slice()
-    }
-}
-
 /// A routine. Its parameters arrive in its first temporaries.
 #[derive(Drop)]
 pub struct TacRoutine {
@@ -343,7 +362,6 @@ pub struct TacRaw {
     pub program: Vec<TacRoutine>,
     /// The routines of the run-time library, which call none.
     pub run_time: Vec<TacRoutine>,
-    pub constants: Vec<Constant>,
     /// The bytes of an object of each type.
     pub objects: Vec<u32>,
 }

@@ -2,10 +2,11 @@
 
 ghost use Rattle.std.specs.Prelude.{◌≡◌, ◌+◌, ◌<◌, ◌^◌, ◌++◌, length, Some, IfOk, OnOk};
 ghost use Rattle.std.specs.String.{string_bytes};
-ghost use Rattle.tac_code.specs.Printed.{operator_sign, bit_operator_sign, relation_sign, printed_operands, or_error, printed, numbered, instruction_line, count_line, printed_routine, printed_bytes, constant_line, type_line, printed_code};
+ghost use Rattle.tac_code.specs.Printed.{operator_sign, bit_operator_sign, relation_sign, printed_operand, printed_base, printed_operands, printed_bytes, or_error, printed, numbered, instruction_line, count_line, printed_routine, type_line, printed_code};
 
 use crate::code::{
-    BitOperator, Constant, Instruction, Operands, Operator, OutOfMemory, Relation, TacRoutine,
+    Base, BitOperator, Constant, Instruction, Operand, Operands, Operator, OutOfMemory, Relation,
+    TacRoutine,
 };
 use crate::tac::Tac;
 use std::alloc::Global;
@@ -34,6 +35,7 @@ impl fmt::Display for BitOperator {
             BitOperator::Or => "or",
             BitOperator::AndNot => "and not",
             BitOperator::ShiftLeft => "shift left",
+            BitOperator::Plus => "plus",
         })
     }
 }
@@ -59,6 +61,41 @@ impl fmt::Display for Operands {
     fn fmt<W: fmt::Write>(&self, f: &mut fmt::Formatter<W>) -> fmt::Result {
         for temporary in self.as_slice() {
             write!(f, " t{temporary}")?;
+        }
+        Ok(())
+    }
+}
+
+impl fmt::Display for Operand {
+    ghost output = { λ o. Some (printed_operand o) };
+
+    fn fmt<W: fmt::Write>(&self, f: &mut fmt::Formatter<W>) -> fmt::Result {
+        match self {
+            Operand::Temporary(temporary) => write!(f, "t{temporary}"),
+            Operand::Number(number) => write!(f, "{number}"),
+        }
+    }
+}
+
+impl fmt::Display for Base {
+    ghost output = { λ b. Some (printed_base b) };
+
+    fn fmt<W: fmt::Write>(&self, f: &mut fmt::Formatter<W>) -> fmt::Result {
+        match self {
+            Base::Frame => f.write_str("frame"),
+            Base::Scratch => f.write_str("scratch"),
+            Base::Program => f.write_str("program"),
+            Base::Temporary(temporary) => write!(f, "t{temporary}"),
+        }
+    }
+}
+
+impl fmt::Display for Constant {
+    ghost output = { λ c. Some (printed_bytes c) };
+
+    fn fmt<W: fmt::Write>(&self, f: &mut fmt::Formatter<W>) -> fmt::Result {
+        for byte in self.as_slice() {
+            write!(f, " {byte}")?;
         }
         Ok(())
     }
@@ -103,23 +140,20 @@ impl fmt::Display for Instruction {
                 line,
             } => {
                 let or_error = error_at(*error, *line);
-                write!(f, "t{left} {operator} t{right} -> t{to}{or_error}")
+                write!(f, "t{left} {operator} {right} -> t{to}{or_error}")
             }
             Instruction::Bits {
                 operator,
                 to,
                 left,
                 right,
-            } => { write!(f, "t{left} {operator} t{right} -> t{to}") }
+            } => { write!(f, "t{left} {operator} {right} -> t{to}") }
             Instruction::Compare {
                 relation,
                 to,
                 left,
                 right,
-            } => { write!(f, "t{left} {relation} t{right} -> t{to}") }
-            Instruction::SamePointer { to, left, right } => {
-                write!(f, "t{left} is t{right} -> t{to}")
-            }
+            } => { write!(f, "t{left} {relation} {right} -> t{to}") }
             Instruction::CheckRange {
                 value,
                 low,
@@ -138,43 +172,54 @@ impl fmt::Display for Instruction {
                 let or_error = error_at(*error, *line);
                 write!(f, "check t{pointer} <> nil{or_error}")
             }
-            Instruction::FrameAddress { to, offset } => write!(f, "frame + {offset} -> t{to}"),
-            Instruction::ScratchAddress { to, offset } => write!(f, "scratch + {offset} -> t{to}"),
-            Instruction::ConstantAddress { to, constant } => write!(
-                f,
-                "constant {constant} -> t{to}"
-            ),
-            Instruction::Offset { to, base, bytes } => write!(f, "t{base} + {bytes} -> t{to}"),
+            Instruction::Text { to, bytes } => write!(f, "text{bytes} -> t{to}"),
+            Instruction::Offset {
+                to,
+                base,
+                bytes,
+                extent,
+            } => write!(f, "{base} + {bytes} -> t{to}, {extent} bytes"),
             Instruction::Index {
                 to,
                 base,
                 index,
                 low,
+                high,
                 width,
-            } => { write!(f, "t{base} + (t{index} - {low}) * {width} -> t{to}") }
+                error,
+                line,
+            } => {
+                let or_error = error_at(*error, *line);
+                write!(
+                    f,
+                    "{base} + (t{index} in {low}..{high}) * {width} -> t{to}{or_error}"
+                )
+            }
             Instruction::RoutineValue { to, routine } => write!(f, "routine {routine} -> t{to}"),
-            Instruction::Load { to, base, offset } => write!(f, "word t{base} + {offset} -> t{to}"),
-            Instruction::Store { base, offset, from } => write!(
-                f,
-                "t{from} -> word t{base} + {offset}"
-            ),
-            Instruction::LoadByte { to, base, offset } => write!(
-                f,
-                "byte t{base} + {offset} -> t{to}"
-            ),
-            Instruction::StoreByte { base, offset, from } => write!(
-                f,
-                "t{from} -> byte t{base} + {offset}"
-            ),
+            Instruction::Load { to, base, offset } => write!(f, "word {base} + {offset} -> t{to}"),
+            Instruction::Store { base, offset, from } => {
+                write!(f, "t{from} -> word {base} + {offset}")
+            }
+            Instruction::LoadByte { to, base, offset } => {
+                write!(f, "byte {base} + {offset} -> t{to}")
+            }
+            Instruction::StoreByte { base, offset, from } => {
+                write!(f, "t{from} -> byte {base} + {offset}")
+            }
             Instruction::Jump { forward } => write!(f, "jump forward {forward}"),
             Instruction::JumpBack { back } => write!(f, "jump back {back}"),
-            Instruction::Branch { test, on, forward } => {
-                if *on {
-                    write!(f, "jump forward {forward} if t{test}")
-                } else {
-                    write!(f, "jump forward {forward} unless t{test}")
-                }
-            }
+            Instruction::Branch {
+                relation,
+                left,
+                right,
+                forward,
+            } => { write!(f, "jump forward {forward} if t{left} {relation} {right}") }
+            Instruction::BranchBack {
+                relation,
+                left,
+                right,
+                back,
+            } => { write!(f, "jump back {back} if t{left} {relation} {right}") }
             Instruction::Call {
                 to,
                 routine,
@@ -198,17 +243,6 @@ impl fmt::Display for Instruction {
             } => { write!(f, "new {object_type} at line {line} -> t{to}") }
             Instruction::End => f.write_str("end"),
         }
-    }
-}
-
-impl fmt::Display for Constant {
-    ghost output = { λ c. Some (printed_bytes c) };
-
-    fn fmt<W: fmt::Write>(&self, f: &mut fmt::Formatter<W>) -> fmt::Result {
-        for byte in self.as_slice() {
-            write!(f, " {byte}")?;
-        }
-        Ok(())
     }
 }
 
@@ -271,20 +305,6 @@ fn add_routines(
     Ok(())
 }
 
-fn add_constants(
-    alloc: Global,
-    text: &mut String,
-    constants: &[Constant],
-) -> Result<(), OutOfMemory>
-    ensures { OnOk result (string_bytes text.new ≡ string_bytes text.old ++ numbered constant_line 0 constants.now) }
-{
-    for (number, constant) in constants.iter().enumerate() {
-        let line = format!(in alloc; "constant {number}:{constant}\n")?;
-        text.push_str(line.as_str())?;
-    }
-    Ok(())
-}
-
 fn add_types(alloc: Global, text: &mut String, objects: &[u32]) -> Result<(), OutOfMemory>
     ensures { OnOk result (string_bytes text.new ≡ string_bytes text.old ++ numbered type_line 0 objects.now) }
 {
@@ -295,7 +315,7 @@ fn add_types(alloc: Global, text: &mut String, objects: &[u32]) -> Result<(), Ou
     Ok(())
 }
 
-/// The whole code as text: its routines with numbered instructions, the bytes of its constants, and the bytes of its object types.
+/// The whole code as text: its routines with numbered instructions, and the bytes of its object types.
 pub fn print(alloc: Global, tac: &Tac) -> Result<String, OutOfMemory>
     ensures { IfOk result (λ text. string_bytes text ≡ printed_code tac.now) }
 {
@@ -303,7 +323,6 @@ pub fn print(alloc: Global, tac: &Tac) -> Result<String, OutOfMemory>
     let program = tac.program();
     add_routines(alloc, &mut text, 0, program)?;
     add_routines(alloc, &mut text, program.len(), tac.run_time())?;
-    add_constants(alloc, &mut text, tac.constants())?;
     add_types(alloc, &mut text, tac.objects())?;
     Ok(text)
 }

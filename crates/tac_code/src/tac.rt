@@ -1,7 +1,7 @@
 // The tested code.
 
 use crate::check::{Limits, is_leaf, is_sound_routine};
-use crate::code::{Constant, TacRaw, TacRoutine};
+use crate::code::{TacRaw, TacRoutine};
 use std::marker::Model;
 
 /// Three-address code that keeps its invariant: each target and operand exists, and numbers lie in their ranges.
@@ -23,7 +23,7 @@ impl Model for Tac {
 
 ghost use Rattle.std.specs.Prelude.{◌≡◌, ◌<◌, ◌↔◌, IsTrue, IsSome, IfSome, length, slice_get, Option, Some};
 ghost use Rattle.tac_code.specs.Meaning.{routines};
-ghost use Rattle.tac_code.specs.Sound.{code_of, limits_of, IsSound, IsObjectSize, AreSoundRoutines, AreLeaves, AreSoundConstants, AreObjectSizes};
+ghost use Rattle.tac_code.specs.Sound.{code_of, limits_of, IsSound, IsObjectSize, AreSoundRoutines, AreLeaves, AreObjectSizes};
 
 impl Tac {
     /// The code with these parts, where they keep the invariant.
@@ -72,13 +72,6 @@ impl Tac {
         }
     }
 
-    /// The constants, by their numbers.
-    pub fn constants(&self) -> &[Constant]
-        ensures { result.now ≡ self.now.constants }
-    {
-        self.raw.constants.as_slice()
-    }
-
     /// The bytes of an object of each type.
     pub fn objects(&self) -> &[u32]
         ensures { result.now ≡ self.now.objects }
@@ -90,6 +83,9 @@ impl Tac {
 fn is_sound(raw: &TacRaw) -> bool
     ensures { IsTrue result ↔ IsSound (code_of raw.now) }
 {
+    if raw.program.len() == 0 {
+        return false;
+    }
     if !are_sound_routines(raw, raw.program.as_slice()) {
         return false;
     }
@@ -97,9 +93,6 @@ fn is_sound(raw: &TacRaw) -> bool
         return false;
     }
     if !are_leaves(raw.run_time.as_slice()) {
-        return false;
-    }
-    if !are_sound_constants(raw.constants.as_slice()) {
         return false;
     }
     let objects = raw.objects.as_slice();
@@ -113,8 +106,8 @@ fn limits(raw: &TacRaw, routine: &TacRoutine) -> Limits
         temporaries: routine.temporaries,
         places: routine.body.as_slice().len(),
         routines: raw.program.len() + raw.run_time.len(),
-        constants: raw.constants.len(),
         object_types: raw.objects.len(),
+        scratch: routine.scratch,
     }
 }
 
@@ -134,17 +127,6 @@ fn are_leaves(routines: &[TacRoutine]) -> bool
 {
     for routine in routines {
         if !is_leaf(routine) {
-            return false;
-        }
-    }
-    true
-}
-
-fn are_sound_constants(constants: &[Constant]) -> bool
-    ensures { IsTrue result ↔ AreSoundConstants constants.now }
-{
-    for constant in constants {
-        if constant.as_slice().len() % 4 != 0 {
             return false;
         }
     }

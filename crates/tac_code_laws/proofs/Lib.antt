@@ -1,3 +1,2 @@
-pub mod Sameness
 pub mod Growth
 mod Examples

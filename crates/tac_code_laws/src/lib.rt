@@ -1,4 +1,4 @@
-// Laws of what runs show: that two are the same, that one goes on from another, and that runs of three-address code grow.
+// A law of three-address code, that its runs grow, and programs run by its definitions.
 #![tactic(auto)]
 
 pub mod laws;

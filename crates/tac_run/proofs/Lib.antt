@@ -1,4 +1,5 @@
 pub mod Places
 pub mod Temps
 pub mod Performs
+pub mod Jumps
 pub mod Widened

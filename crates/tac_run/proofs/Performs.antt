@@ -1,27 +1,28 @@
 -- An instruction does what its effect does.
-use Rattle.std.proofs.Common.{◌≡◌, ℕ, suc, ◌+◌, ◌*◌, Bool, true, false, not, ◌&&◌, ◌||◌, nat_lt, nat_eq, int_lt, if◌then◌else◌, List, [], ◌∷◌, length, slice_get, Option, Some, None, ℤ, pos, negsuc, ◌-ℤ◌, refl, sym, ap, ◌∙◌}
+use Rattle.std.proofs.Common.{◌≡◌, ℕ, suc, ◌+◌, ◌-◌, ◌*◌, Bool, true, false, not, nat_lt, nat_eq, if◌then◌else◌, List, [], ◌∷◌, length, slice_get, Option, Some, None, ℤ, pos, negsuc, refl, sym, ap, ◌∙◌}
 use Rattle.std.proofs.lemmas.Bool.{eq-eqb}
+use Rattle.behavior.specs.Endings as ending
+use Rattle.behavior.specs.Endings.{failed, ending_by}
 use Rattle.tac_code.specs.declared.code.Block.{Block}
-use Rattle.tac_code.specs.declared.code.Block.TheVariants.{Frame, Scratch}
 use Rattle.tac_code.specs.declared.code.Value.{Value}
 use Rattle.tac_code.specs.declared.code.Value.TheVariants.{Number, Address, Routine}
 use Rattle.tac_code.specs.declared.code.Instruction.{Instruction}
-use Rattle.tac_code.specs.declared.code.Instruction.TheVariants.{Literal, Copy, Arithmetic, Bits, Compare, SamePointer, CheckRange, CheckPointer, FrameAddress, ScratchAddress, ConstantAddress, Offset, Index, RoutineValue, Load, Store, LoadByte, StoreByte, Jump, JumpBack, Branch, Call, CallValue, Return, Trap, Take, Put, New, End}
+use Rattle.tac_code.specs.declared.code.Instruction.TheVariants.{Literal, Copy, Arithmetic, Bits, Compare, CheckRange, CheckPointer, Text, Offset, Index, RoutineValue, Load, Store, LoadByte, StoreByte, Jump, JumpBack, Branch, BranchBack, Call, CallValue, Return, Trap, Take, Put, New, End}
 use Rattle.tac_code.specs.declared.code.TacRoutine.{TacRoutine}
+use Rattle.tac_run.specs.declared.effect.Ending.{Ending}
 use Rattle.tac_run.specs.declared.effect.Ending.TheVariants.{Error, OutOfStack, OutOfHeap, Stuck}
 use Rattle.tac_run.specs.declared.effect.Effect.{Effect}
 use Rattle.tac_run.specs.declared.effect.Effect.TheVariants.{Stop, Proceed, GoTo, Give, Enter}
-use Rattle.tac_code.specs.Same.{Ending, ending_by, out_of_stack, out_of_heap, error, stuck}
-use Rattle.tac_code.specs.Numbers.{is_zero, truth, Computed, Gives, Fails, computed}
+use Rattle.tac_code.specs.Numbers.{Computed, Gives, Fails, computed, is_in_range, steps_above}
 use Rattle.tac_code.specs.Memory.{load, load_byte}
-use Rattle.tac_code.specs.Meaning.{Code, Activation, Tape, State, Step, Goes, Over, with_some, with_number, with_address, with_routine, with_byte_value, with_natural, pointer_of, same_pointer, is_nil, gives_address, gives_computed, gives, checks, goes_on, goes_to, routines, is_full, values_of, onward, entered, enter, calls, open_calls, fetch, act, step}
-use Rattle.tac_run.specs.Effect.{ending_of, ended_by, if_some, if_number, if_address, if_routine, if_byte, if_natural, given_address, given_computed, checked_by, operands_in, effect_of, perform, values_after, with_activation, KeepsShown, ended_at}
-use Rattle.tac_code.specs.Run.{Outcome, after, run}
+use Rattle.tac_code.specs.Meaning.{Code, Tape, State, Step, Goes, Over, with_some, with_number, with_address, with_routine, with_byte_value, text_at, pointer_of, related, operand_value, base_value, is_nil, gives_address, gives_computed, gives_component, gives, checks, fails, goes_on, goes_to, routines, is_full, values_of, onward, entered, enter, calls, open_calls, fetch, act, step}
+use Rattle.tac_code.specs.Run.{after, run}
+use Rattle.tac_run.specs.Effect.{ending_of, ended_by, if_some, if_number, if_address, if_routine, if_byte, given_address, given_computed, given_component, checked_by, operands_in, effect_of, perform, values_after, with_activation, KeepsShown, ended_at}
 
-pub ending_of-ended_by : (number line : ℕ) → ending_of (ended_by number line) ≡ ending_by number line
-ending_of-ended_by number line = split (nat_eq number 12) (nat_eq number 13)
+pub ending_of-ended_by : (number line : ℕ) (lines : List ℕ) → ending_of (ended_by number line) lines ≡ ending_by number line lines
+ending_of-ended_by number line lines = split (nat_eq number 12) (nat_eq number 13)
   where
-    split : (a b : Bool) → ending_of (if a then OutOfStack line else if b then OutOfHeap line else Error number line) ≡ (if a then out_of_stack line else if b then out_of_heap line else error number line)
+    split : (a b : Bool) → ending_of (if a then OutOfStack line else if b then OutOfHeap line else Error number line) lines ≡ (if a then ending.Stack line else if b then ending.Heap line else failed number line lines)
     split true b = refl
     split false true = refl
     split false false = refl
@@ -57,75 +58,73 @@ module _ (code : Code) (F G : ℕ → ℕ) (S H : ℕ) (operands : List ℕ) (s 
   if_does false x y d e p q = q
 
   byte_does : (z : ℤ) (go : ℕ → Step) (eff : ℕ → Effect) → ((n : ℕ) → go n ≡ does (eff n)) → with_byte_value z go ≡ does (if_byte z eff)
-  byte_does (pos n) go eff h = if_does (nat_lt n 256) (go n) (Over stuck) (eff n) (Stop Stuck) (h n) refl
+  byte_does (pos n) go eff h = if_does (nat_lt n 256) (go n) (Over ending.Stuck) (eff n) (Stop Stuck) (h n) refl
   byte_does (negsuc n) go eff h = refl
-
-  natural_does : (z : ℤ) (go : ℕ → Step) (eff : ℕ → Effect) → ((n : ℕ) → go n ≡ does (eff n)) → with_natural z go ≡ does (if_natural z eff)
-  natural_does (pos n) go eff h = h n
-  natural_does (negsuc n) go eff h = refl
 
   address_given : (t : ℕ) (block : Block) (offset : ℕ) → gives_address t block offset s ≡ does (given_address t block offset)
   address_given t block offset =
-      if_does (nat_lt offset 2147483648) (gives t (Address block offset) s) (Over stuck) (Give t (Address block offset)) (Stop Stuck) refl refl
+      if_does (nat_lt offset 2147483648) (gives t (Address block offset) s) (Over ending.Stuck) (Give t (Address block offset)) (Stop Stuck) refl refl
 
-  computed_given : (t : ℕ) (x : Computed) (line : ℕ) → gives_computed t x line s ≡ does (given_computed t x line)
+  failed_so : (number line : ℕ) → fails code number line s ≡ does (Stop (ended_by number line))
+  failed_so number line =
+      ap Over (sym (ending_of-ended_by number line (open_calls (length code.program) s.current s.callers)))
+
+  computed_given : (t : ℕ) (x : Computed) (line : ℕ) → gives_computed code t x line s ≡ does (given_computed t x line)
   computed_given t (Gives z) line = refl
-  computed_given t (Fails number) line = ap Over (sym (ending_of-ended_by number line))
+  computed_given t (Fails number) line = failed_so number line
 
-  checked : (b : Bool) (number line : ℕ) → checks b (ending_by number line) s ≡ does (checked_by b number line)
+  checked : (b : Bool) (number line : ℕ) → checks code b number line s ≡ does (checked_by b number line)
   checked true number line = refl
-  checked false number line = ap Over (sym (ending_of-ended_by number line))
+  checked false number line = failed_so number line
+
+  component_given : (b : Bool) (t : ℕ) (block : Block) (offset number line : ℕ) → gives_component code b t block offset number line s ≡ does (given_component b t block offset number line)
+  component_given true t block offset number line = address_given t block offset
+  component_given false t block offset number line = failed_so number line
 
 module _ (code : Code) (F G : ℕ → ℕ) (S H : ℕ) where
   pub act_performs : (i : Instruction) (s : State) → act code F G S H (Some i) s ≡ perform code F G S H (operands_in i) (effect_of code i s) s
   act_performs (Literal t z) s = refl
   act_performs (Copy t a) s = some_does code F G S H [] s (s.current.temporaries a) _ _ (λ v. refl)
   act_performs (Arithmetic operator t a b number line) s =
-      number_does code F G S H [] s (s.current.temporaries a) _ _ (λ x. number_does code F G S H [] s (s.current.temporaries b) _ _ (λ y. computed_given code F G S H [] s t (computed operator number x y) line))
+      number_does code F G S H [] s (s.current.temporaries a) _ _ (λ x. number_does code F G S H [] s (operand_value s.current.temporaries b) _ _ (λ y. computed_given code F G S H [] s t (computed operator number x y) line))
   act_performs (Bits operator t a b) s =
-      number_does code F G S H [] s (s.current.temporaries a) _ _ (λ x. number_does code F G S H [] s (s.current.temporaries b) _ _ (λ y. refl))
+      number_does code F G S H [] s (s.current.temporaries a) _ _ (λ x. number_does code F G S H [] s (operand_value s.current.temporaries b) _ _ (λ y. refl))
   act_performs (Compare relation t a b) s =
-      number_does code F G S H [] s (s.current.temporaries a) _ _ (λ x. number_does code F G S H [] s (s.current.temporaries b) _ _ (λ y. refl))
-  act_performs (SamePointer t a b) s =
-      some_does code F G S H [] s (pointer_of (s.current.temporaries a)) _ _ (λ p. some_does code F G S H [] s (pointer_of (s.current.temporaries b)) _ _ (λ q. refl))
+      some_does code F G S H [] s (related relation (s.current.temporaries a) (operand_value s.current.temporaries b)) _ _ (λ holds. refl)
   act_performs (CheckRange a low high number line) s =
-      number_does code F G S H [] s (s.current.temporaries a) _ _ (λ x. checked code F G S H [] s (not (int_lt x low) && not (int_lt high x)) number line)
+      number_does code F G S H [] s (s.current.temporaries a) _ _ (λ x. checked code F G S H [] s (is_in_range low high x) number line)
   act_performs (CheckPointer a number line) s =
       some_does code F G S H [] s (pointer_of (s.current.temporaries a)) _ _ (λ p. checked code F G S H [] s (not (is_nil p)) number line)
-  act_performs (FrameAddress t offset) s = address_given code F G S H [] s t (Frame s.current.number) offset
-  act_performs (ScratchAddress t offset) s = address_given code F G S H [] s t (Scratch s.current.number) offset
-  act_performs (ConstantAddress t c) s = refl
-  act_performs (Offset t a n) s =
-      address_does code F G S H [] s (s.current.temporaries a) _ _ (λ block offset. address_given code F G S H [] s t block (offset + n))
-  act_performs (Index t a i low width) s =
-      address_does code F G S H [] s (s.current.temporaries a) _ _ (λ block offset. number_does code F G S H [] s (s.current.temporaries i) _ _ (λ x. natural_does code F G S H [] s (x -ℤ low) _ _ (λ n. address_given code F G S H [] s t block (offset + n * width))))
+  act_performs (Text t bytes) s = refl
+  act_performs (Offset t a n extent) s =
+      address_does code F G S H [] s (base_value s.current a) _ _ (λ block offset. address_given code F G S H [] s t block (offset + n))
+  act_performs (Index t a i low high width number line) s =
+      address_does code F G S H [] s (base_value s.current a) _ _ (λ block offset. number_does code F G S H [] s (s.current.temporaries i) _ _ (λ x. component_given code F G S H [] s (is_in_range low high x) t block (offset + steps_above low x * width) number line))
   act_performs (RoutineValue t r) s = refl
   act_performs (Load t a n) s =
-      address_does code F G S H [] s (s.current.temporaries a) _ _ (λ block offset. some_does code F G S H [] s (load code.constants s.memory block (offset + n)) _ _ (λ v. refl))
+      address_does code F G S H [] s (base_value s.current a) _ _ (λ block offset. some_does code F G S H [] s (load (text_at code) s.memory block (offset + n)) _ _ (λ v. refl))
   act_performs (Store a n b) s =
-      address_does code F G S H [] s (s.current.temporaries a) _ _ (λ block offset. some_does code F G S H [] s (s.current.temporaries b) _ _ (λ v. refl))
+      address_does code F G S H [] s (base_value s.current a) _ _ (λ block offset. some_does code F G S H [] s (s.current.temporaries b) _ _ (λ v. refl))
   act_performs (LoadByte t a n) s =
-      address_does code F G S H [] s (s.current.temporaries a) _ _ (λ block offset. some_does code F G S H [] s (load_byte code.constants s.memory block (offset + n)) _ _ (λ v. refl))
+      address_does code F G S H [] s (base_value s.current a) _ _ (λ block offset. some_does code F G S H [] s (load_byte (text_at code) s.memory block (offset + n)) _ _ (λ v. refl))
   act_performs (StoreByte a n b) s =
-      address_does code F G S H [] s (s.current.temporaries a) _ _ (λ block offset. number_does code F G S H [] s (s.current.temporaries b) _ _ (λ x. byte_does code F G S H [] s x _ _ (λ byte. refl)))
+      address_does code F G S H [] s (base_value s.current a) _ _ (λ block offset. number_does code F G S H [] s (s.current.temporaries b) _ _ (λ x. byte_does code F G S H [] s x _ _ (λ byte. refl)))
   act_performs (Jump n) s = refl
   act_performs (JumpBack n) s = refl
-  act_performs (Branch a on n) s =
-      number_does code F G S H [] s (s.current.temporaries a) _ _ (λ x. if_does code F G S H [] s (not (is_zero x) && on || is_zero x && not on) (goes_to (suc s.current.place + n) s) (goes_on s) (GoTo (suc s.current.place + n)) Proceed refl refl)
+  act_performs (Branch relation a b n) s =
+      some_does code F G S H [] s (related relation (s.current.temporaries a) (operand_value s.current.temporaries b)) _ _ (λ holds. if_does code F G S H [] s holds (goes_to (suc s.current.place + n) s) (goes_on s) (GoTo (suc s.current.place + n)) Proceed refl refl)
+  act_performs (BranchBack relation a b n) s =
+      some_does code F G S H [] s (related relation (s.current.temporaries a) (operand_value s.current.temporaries b)) _ _ (λ holds. if_does code F G S H [] s holds (goes_to (s.current.place - n) s) (goes_on s) (GoTo (s.current.place - n)) Proceed refl refl)
   act_performs (Call t r operands line) s = refl
   act_performs (CallValue t a operands line) s =
-      routine_does code F G S H operands s (s.current.temporaries a) _ _ (λ r. if_does code F G S H operands s (nat_lt r (length code.program)) (calls code F G S H t r operands line s) (Over stuck) (Enter t r line) (Stop Stuck) refl refl)
+      routine_does code F G S H operands s (s.current.temporaries a) _ _ (λ r. if_does code F G S H operands s (nat_lt r (length code.program)) (calls code F G S H t r operands line s) (Over ending.Stuck) (Enter t r line) (Stop Stuck) refl refl)
   act_performs (Return a) s = some_does code F G S H [] s (s.current.temporaries a) _ _ (λ v. refl)
-  act_performs (Trap number line) s = ap Over (sym (ending_of-ended_by number line))
+  act_performs (Trap number line) s = failed_so code F G S H [] s number line
   act_performs (Take t) s = refl
   act_performs (Put a) s =
       number_does code F G S H [] s (s.current.temporaries a) _ _ (λ x. byte_does code F G S H [] s x _ _ (λ byte. refl))
   act_performs (New t object_type line) s = refl
   act_performs End s = refl
-
-pub pointer_effect : (t : ℕ) (u u' v v' : Option Value) → u ≡ u' → v ≡ v' → if_some (pointer_of u) (λ p. if_some (pointer_of v) (λ q. Give t (Number (truth (same_pointer p q))))) ≡ if_some (pointer_of u') (λ p. if_some (pointer_of v') (λ q. Give t (Number (truth (same_pointer p q)))))
-pointer_effect t u u' v v' e f =
-    let with : Option Value → Option Value → Effect = λ a b. if_some (pointer_of a) (λ p. if_some (pointer_of b) (λ q. Give t (Number (truth (same_pointer p q))))) in ap (λ (a : Option Value). with a v) e ∙ ap (λ (b : Option Value). with u' b) f
 
 -- ---- a call
 
@@ -133,15 +132,15 @@ module _ (code : Code) (F G : ℕ → ℕ) (S H : ℕ) (t r : ℕ) (operands : L
   abbrev full : Bool
   full = is_full code F G S H r (onward s.current ∷ s.callers)
 
-  decided : (b : Bool) → nat_eq (length values) routine.parameters ≡ true → full ≡ b → (if not (nat_eq (length values) routine.parameters) then Over stuck else if full then Over (out_of_stack routine.line) else Goes (entered code F G S H routine r values t line (onward s.current ∷ s.callers) s)) ≡ (if b then Over (out_of_stack routine.line) else Goes (entered code F G S H routine r values t line (onward s.current ∷ s.callers) s))
+  decided : (b : Bool) → nat_eq (length values) routine.parameters ≡ true → full ≡ b → (if not (nat_eq (length values) routine.parameters) then Over ending.Stuck else if full then Over (ending.Stack routine.line) else Goes (entered code F G S H routine r values t line (onward s.current ∷ s.callers) s)) ≡ (if b then Over (ending.Stack routine.line) else Goes (entered code F G S H routine r values t line (onward s.current ∷ s.callers) s))
   decided b same e =
-      ap (λ (x : Bool). if not x then Over stuck else if full then Over (out_of_stack routine.line) else Goes (entered code F G S H routine r values t line (onward s.current ∷ s.callers) s)) same
-      ∙ ap (λ (x : Bool). if x then Over (out_of_stack routine.line) else Goes (entered code F G S H routine r values t line (onward s.current ∷ s.callers) s)) e
+      ap (λ (x : Bool). if not x then Over ending.Stuck else if full then Over (ending.Stack routine.line) else Goes (entered code F G S H routine r values t line (onward s.current ∷ s.callers) s)) same
+      ∙ ap (λ (x : Bool). if x then Over (ending.Stack routine.line) else Goes (entered code F G S H routine r values t line (onward s.current ∷ s.callers) s)) e
 
-  pub call_decided : (b : Bool) → values_of s.current.temporaries operands ≡ Some values → slice_get (routines code) r ≡ Some routine → length values ≡ routine.parameters → full ≡ b → calls code F G S H t r operands line s ≡ (if b then Over (out_of_stack routine.line) else Goes (with_activation routine r values t line s))
+  pub call_decided : (b : Bool) → values_of s.current.temporaries operands ≡ Some values → slice_get (routines code) r ≡ Some routine → length values ≡ routine.parameters → full ≡ b → calls code F G S H t r operands line s ≡ (if b then Over (ending.Stack routine.line) else Goes (with_activation routine r values t line s))
   call_decided b given found same e =
       ap (λ (o : Option (List Value)). with_some o (λ vs. enter code F G S H r vs t line (onward s.current ∷ s.callers) s)) given
-      ∙ (ap (λ (o : Option TacRoutine). with_some o (λ x. if not (nat_eq (length values) x.parameters) then Over stuck else if full then Over (out_of_stack x.line) else Goes (entered code F G S H x r values t line (onward s.current ∷ s.callers) s))) found
+      ∙ (ap (λ (o : Option TacRoutine). with_some o (λ x. if not (nat_eq (length values) x.parameters) then Over ending.Stuck else if full then Over (ending.Stack x.line) else Goes (entered code F G S H x r values t line (onward s.current ∷ s.callers) s))) found
       ∙ decided b (eq-eqb (length values) routine.parameters same) e)
 
 pub values_after_none : (o : Option (List Value)) → values_after [] o ≡ o
@@ -160,12 +159,10 @@ step_led code F G S H s i operands e found same comes =
 
 pub run_went : (code : Code) (F G : ℕ → ℕ) (S H j k : ℕ) (s t : State) → j ≡ suc k → step code F G S H s ≡ Goes t → run code F G S H k t ≡ run code F G S H j s
 run_went code F G S H j k s t more goes =
-    sym (ap (λ (n : ℕ). run code F G S H n s) more ∙ ap (λ (x : Step). after code F G S H x s (run code F G S H k)) goes)
+    sym (ap (λ (n : ℕ). run code F G S H n s) more ∙ ap (λ (x : Step). after x s (run code F G S H k)) goes)
 
-same_end : (program : ℕ) (e : Ending) (s t : State) → KeepsShown s t → ended_at program e t ≡ ended_at program e s
-same_end program e s t h =
-    let with : Activation → List Activation → Tape → Outcome = λ a cs tape. ((tape.transcript, e), (if nat_eq e.0 2 then open_calls program a cs else [])) in ap (λ (a : Activation). with a t.callers t.tape) h.current ∙ (ap (λ (cs : List Activation). with s.current cs t.tape) h.callers ∙ ap (λ (tape : Tape). with s.current s.callers tape) h.tape)
-
-pub run_ended : (code : Code) (F G : ℕ → ℕ) (S H j k : ℕ) (s t : State) (e : Ending) → j ≡ suc k → step code F G S H s ≡ Over e → KeepsShown s t → ended_at (length code.program) e t ≡ run code F G S H j s
+pub run_ended : (code : Code) (F G : ℕ → ℕ) (S H j k : ℕ) (s t : State) (e : Ending) → j ≡ suc k → step code F G S H s ≡ Over (ending_of e (open_calls (length code.program) t.current t.callers)) → KeepsShown s t → ended_at (length code.program) e t ≡ run code F G S H j s
 run_ended code F G S H j k s t e more over h =
-    same_end (length code.program) e s t h ∙ sym (ap (λ (n : ℕ). run code F G S H n s) more ∙ ap (λ (x : Step). after code F G S H x s (run code F G S H k)) over)
+    let told = ending_of e (open_calls (length code.program) t.current t.callers) in
+    ap (λ (tape : Tape). (tape.transcript, told)) h.tape
+    ∙ sym (ap (λ (n : ℕ). run code F G S H n s) more ∙ ap (λ (x : Step). after x s (run code F G S H k)) over)

@@ -1,35 +1,36 @@
 -- The runner takes an instruction in two parts: its operands come to an effect, and the effect is done.
-use Rattle.std.specs.Prelude.{ℕ, suc, ◌+◌, ◌-◌, ◌*◌, Bool, true, false, not, ◌&&◌, ◌||◌, nat_eq, nat_lt, int_lt, ◌≡◌, if◌then◌else◌, List, [], ◌∷◌, ◌++◌, length, map, slice_get, Option, Some, None, Result, Ok, Err, ℤ, pos, negsuc, ◌-ℤ◌}
+use Rattle.std.specs.Prelude.{ℕ, suc, ◌+◌, ◌-◌, ◌*◌, Bool, true, false, not, nat_eq, nat_lt, ◌≡◌, if◌then◌else◌, List, [], ◌∷◌, ◌++◌, length, map, slice_get, Option, Some, None, Result, Ok, Err, ℤ, pos, negsuc}
+use Rattle.behavior.specs.Endings as ending
+use Rattle.behavior.specs.Endings.{failed}
+use Rattle.behavior.specs.Transcripts.{Shown}
 use Rattle.tac_code.specs.declared.code.Block.{Block}
-use Rattle.tac_code.specs.declared.code.Block.TheVariants.{Frame, Scratch, Object, Constant}
+use Rattle.tac_code.specs.declared.code.Block.TheVariants.{Object, Constant}
 use Rattle.tac_code.specs.declared.code.Value.{Value}
 use Rattle.tac_code.specs.declared.code.Value.TheVariants.{Number, Address, Routine}
 use Rattle.tac_code.specs.declared.code.Instruction.{Instruction}
-use Rattle.tac_code.specs.declared.code.Instruction.TheVariants.{Literal, Copy, Arithmetic, Bits, Compare, SamePointer, CheckRange, CheckPointer, FrameAddress, ScratchAddress, ConstantAddress, Offset, Index, RoutineValue, Load, Store, LoadByte, StoreByte, Jump, JumpBack, Branch, Call, CallValue, Return, Trap, Take, Put, New, End}
-use Rattle.tac_run.specs.declared.effect.Ending.{Ending as End'}
+use Rattle.tac_code.specs.declared.code.Instruction.TheVariants.{Literal, Copy, Arithmetic, Bits, Compare, CheckRange, CheckPointer, Text, Offset, Index, RoutineValue, Load, Store, LoadByte, StoreByte, Jump, JumpBack, Branch, BranchBack, Call, CallValue, Return, Trap, Take, Put, New, End}
+use Rattle.tac_run.specs.declared.effect.Ending.{Ending}
 use Rattle.tac_run.specs.declared.effect.Ending.TheVariants.{More, Normal, Error, OutOfStack, OutOfHeap, Stuck}
 use Rattle.tac_run.specs.declared.effect.Effect.{Effect}
 use Rattle.tac_run.specs.declared.effect.Effect.TheVariants.{Stop, Proceed, GoTo, Give, Write, WriteByte, Enter, Leave, TakeByte, PutByte, Make}
 use Rattle.tac_run.specs.declared.machine.Activation.{Activation as Activation'}
 use Rattle.tac_run.specs.declared.machine.Machine.{Machine}
 use Rattle.tac_run.specs.declared.runner.Report.{Report}
-use Rattle.tac_code.specs.Run.{Outcome}
 use Rattle.tac_code.specs.declared.code.TacRoutine.{TacRoutine}
-use Rattle.tac_code.specs.Same.{Ending, more, normal, error, out_of_stack, out_of_heap, stuck}
-use Rattle.tac_code.specs.Numbers.{is_zero, truth, Computed, Gives, Fails, computed, bits, compared}
+use Rattle.tac_code.specs.Numbers.{truth, Computed, Gives, Fails, computed, bits, is_in_range, steps_above}
 use Rattle.tac_code.specs.Memory.{known, load, load_byte, store, store_byte}
-use Rattle.tac_code.specs.Meaning.{Code, Temporaries, Activation, State, Step, Goes, Over, pointer_of, same_pointer, is_nil, with_some, goes_on, goes_to, gives, stores, takes, puts, leave, open_calls, calls, makes, onward, giving, unwritten}
+use Rattle.tac_code.specs.Meaning.{Code, Temporaries, Activation, State, Step, Goes, Over, text_at, pointer_of, related, operand_value, base_value, is_nil, with_some, goes_on, goes_to, gives, stores, takes, puts, leave, open_calls, calls, makes, onward, giving, unwritten}
 
--- an ending as the plain numbers that all layers share
-abbrev pub ending_of : End' → Ending
-ending_of More = more
-ending_of Normal = normal
-ending_of (Error number line) = error number line
-ending_of (OutOfStack line) = out_of_stack line
-ending_of (OutOfHeap line) = out_of_heap line
-ending_of Stuck = stuck
+-- an ending as that of all layers, where these calls are open
+abbrev pub ending_of : Ending → List ℕ → ending.Ending
+ending_of More lines = ending.More
+ending_of Normal lines = ending.Normal
+ending_of (Error number line) lines = failed number line lines
+ending_of (OutOfStack line) lines = ending.Stack line
+ending_of (OutOfHeap line) lines = ending.Heap line
+ending_of Stuck lines = ending.Stuck
 
-abbrev pub ended_by : ℕ → ℕ → End'
+abbrev pub ended_by : ℕ → ℕ → Ending
 ended_by number line =
     if nat_eq number 12 then OutOfStack line else if nat_eq number 13 then OutOfHeap line else Error number line
 
@@ -61,10 +62,6 @@ abbrev pub if_byte : ℤ → (ℕ → Effect) → Effect
 if_byte (pos n) go = if nat_lt n 256 then go n else Stop Stuck
 if_byte (negsuc n) go = Stop Stuck
 
-abbrev pub if_natural : ℤ → (ℕ → Effect) → Effect
-if_natural (pos n) go = go n
-if_natural (negsuc n) go = Stop Stuck
-
 abbrev pub given_address : ℕ → Block → ℕ → Effect
 given_address t block offset =
     if nat_lt offset 2147483648 then Give t (Address block offset) else Stop Stuck
@@ -77,6 +74,16 @@ abbrev pub checked_by : Bool → ℕ → ℕ → Effect
 checked_by true number line = Proceed
 checked_by false number line = Stop (ended_by number line)
 
+abbrev pub given_component : Bool → ℕ → Block → ℕ → ℕ → ℕ → Effect
+given_component true t block offset number line = given_address t block offset
+given_component false t block offset number line = Stop (ended_by number line)
+
+-- how far on a jump leads
+abbrev pub forward_of : Instruction → ℕ
+forward_of (Jump n) = n
+forward_of (Branch relation a b n) = n
+forward_of _ = 0
+
 -- the temporaries that a call passes
 abbrev pub operands_in : Instruction → List ℕ
 operands_in (Call t r operands line) = operands
@@ -88,37 +95,35 @@ abbrev pub effect_of : Code → Instruction → State → Effect
 effect_of code (Literal t z) s = Give t (Number z)
 effect_of code (Copy t a) s = if_some (s.current.temporaries a) (λ v. Give t v)
 effect_of code (Arithmetic operator t a b number line) s =
-    if_number (s.current.temporaries a) (λ x. if_number (s.current.temporaries b) (λ y. given_computed t (computed operator number x y) line))
+    if_number (s.current.temporaries a) (λ x. if_number (operand_value s.current.temporaries b) (λ y. given_computed t (computed operator number x y) line))
 effect_of code (Bits operator t a b) s =
-    if_number (s.current.temporaries a) (λ x. if_number (s.current.temporaries b) (λ y. Give t (Number (bits operator x y))))
+    if_number (s.current.temporaries a) (λ x. if_number (operand_value s.current.temporaries b) (λ y. Give t (Number (bits operator x y))))
 effect_of code (Compare relation t a b) s =
-    if_number (s.current.temporaries a) (λ x. if_number (s.current.temporaries b) (λ y. Give t (Number (truth (compared relation x y)))))
-effect_of code (SamePointer t a b) s =
-    if_some (pointer_of (s.current.temporaries a)) (λ p. if_some (pointer_of (s.current.temporaries b)) (λ q. Give t (Number (truth (same_pointer p q)))))
+    if_some (related relation (s.current.temporaries a) (operand_value s.current.temporaries b)) (λ holds. Give t (Number (truth holds)))
 effect_of code (CheckRange a low high number line) s =
-    if_number (s.current.temporaries a) (λ x. checked_by (not (int_lt x low) && not (int_lt high x)) number line)
+    if_number (s.current.temporaries a) (λ x. checked_by (is_in_range low high x) number line)
 effect_of code (CheckPointer a number line) s =
     if_some (pointer_of (s.current.temporaries a)) (λ p. checked_by (not (is_nil p)) number line)
-effect_of code (FrameAddress t offset) s = given_address t (Frame s.current.number) offset
-effect_of code (ScratchAddress t offset) s = given_address t (Scratch s.current.number) offset
-effect_of code (ConstantAddress t c) s = Give t (Address (Constant c) 0)
-effect_of code (Offset t a n) s =
-    if_address (s.current.temporaries a) (λ block offset. given_address t block (offset + n))
-effect_of code (Index t a i low width) s =
-    if_address (s.current.temporaries a) (λ block offset. if_number (s.current.temporaries i) (λ x. if_natural (x -ℤ low) (λ n. given_address t block (offset + n * width))))
+effect_of code (Text t bytes) s = Give t (Address (Constant s.current.routine s.current.place) 0)
+effect_of code (Offset t a n extent) s =
+    if_address (base_value s.current a) (λ block offset. given_address t block (offset + n))
+effect_of code (Index t a i low high width number line) s =
+    if_address (base_value s.current a) (λ block offset. if_number (s.current.temporaries i) (λ x. given_component (is_in_range low high x) t block (offset + steps_above low x * width) number line))
 effect_of code (RoutineValue t r) s = Give t (Routine r)
 effect_of code (Load t a n) s =
-    if_address (s.current.temporaries a) (λ block offset. if_some (load code.constants s.memory block (offset + n)) (λ v. Give t v))
+    if_address (base_value s.current a) (λ block offset. if_some (load (text_at code) s.memory block (offset + n)) (λ v. Give t v))
 effect_of code (Store a n b) s =
-    if_address (s.current.temporaries a) (λ block offset. if_some (s.current.temporaries b) (λ v. Write block (offset + n) v))
+    if_address (base_value s.current a) (λ block offset. if_some (s.current.temporaries b) (λ v. Write block (offset + n) v))
 effect_of code (LoadByte t a n) s =
-    if_address (s.current.temporaries a) (λ block offset. if_some (load_byte code.constants s.memory block (offset + n)) (λ byte. Give t (Number (pos byte))))
+    if_address (base_value s.current a) (λ block offset. if_some (load_byte (text_at code) s.memory block (offset + n)) (λ byte. Give t (Number (pos byte))))
 effect_of code (StoreByte a n b) s =
-    if_address (s.current.temporaries a) (λ block offset. if_number (s.current.temporaries b) (λ x. if_byte x (λ byte. WriteByte block (offset + n) byte)))
+    if_address (base_value s.current a) (λ block offset. if_number (s.current.temporaries b) (λ x. if_byte x (λ byte. WriteByte block (offset + n) byte)))
 effect_of code (Jump n) s = GoTo (suc s.current.place + n)
 effect_of code (JumpBack n) s = GoTo (s.current.place - n)
-effect_of code (Branch a on n) s =
-    if_number (s.current.temporaries a) (λ x. if not (is_zero x) && on || is_zero x && not on then GoTo (suc s.current.place + n) else Proceed)
+effect_of code (Branch relation a b n) s =
+    if_some (related relation (s.current.temporaries a) (operand_value s.current.temporaries b)) (λ holds. if holds then GoTo (suc s.current.place + n) else Proceed)
+effect_of code (BranchBack relation a b n) s =
+    if_some (related relation (s.current.temporaries a) (operand_value s.current.temporaries b)) (λ holds. if holds then GoTo (s.current.place - n) else Proceed)
 effect_of code (Call t r operands line) s = Enter t r line
 effect_of code (CallValue t a operands line) s =
     if_routine (s.current.temporaries a) (λ r. if nat_lt r (length code.program) then Enter t r line else Stop Stuck)
@@ -132,7 +137,7 @@ effect_of code End s = Stop Normal
 module _ (code : Code) (F G : ℕ → ℕ) (S H : ℕ) where
   -- what an effect does
   abbrev pub perform : List ℕ → Effect → State → Step
-  perform operands (Stop e) s = Over (ending_of e)
+  perform operands (Stop e) s = Over (ending_of e (open_calls (length code.program) s.current s.callers))
   perform operands Proceed s = goes_on s
   perform operands (GoTo place) s = goes_to place s
   perform operands (Give t v) s = gives t v s
@@ -158,10 +163,14 @@ abbrev pub state_of : Machine → State
 state_of m =
     record { current = activation_of m.current; callers = map activation_of m.callers.items; memory = m.memory; count = m.count; heap = m.heap; tape = record { input = m.input.now; ended = m.ended; transcript = m.transcript.items } }
 
--- what an answer of the runner says: it goes on, or the run is over
-abbrev pub led : Option End' → State → Step
-led None s = Goes s
-led (Some e) s = Over (ending_of e)
+-- what an answer of the runner says, where the program has so many routines: it goes on, or the run is over
+abbrev pub led : ℕ → Option Ending → State → Step
+led program None s = Goes s
+led program (Some e) s = Over (ending_of e (open_calls program s.current s.callers))
+
+-- the same of a step that ends in no error, so that no open calls are told
+abbrev pub Leads : Step → Option Ending → State → Type 0
+Leads step over s = (program : ℕ) → step ≡ led program over s
 
 -- values in front of others
 abbrev pub values_after : List Value → Option (List Value) → Option (List Value)
@@ -198,15 +207,14 @@ pub record SameCounters (m n : Machine) : Type 0 where
   pub count : n.count ≡ m.count
   pub heap : n.heap ≡ m.heap
 
--- what the runner's answer shows, and the open calls
-abbrev pub outcome_of : Report → Outcome
-outcome_of r = ((r.transcript.items, ending_of r.ending), r.calls.items)
+-- what the runner's answer shows
+abbrev pub shown_of : Report → Shown
+shown_of r = (r.transcript.items, ending_of r.ending r.calls.items)
 
-abbrev pub begun : Result Machine End' → Step
+abbrev pub begun : Result Machine Ending → Step
 begun (Ok m) = Goes (state_of m)
-begun (Err e) = Over (ending_of e)
+begun (Err e) = Over (ending_of e [])
 
 -- what a run shows that ends in a state
-abbrev pub ended_at : ℕ → Ending → State → Outcome
-ended_at program e s =
-    ((s.tape.transcript, e), (if nat_eq e.0 2 then open_calls program s.current s.callers else []))
+abbrev pub ended_at : ℕ → Ending → State → Shown
+ended_at program e s = (s.tape.transcript, ending_of e (open_calls program s.current s.callers))

@@ -16,7 +16,7 @@ pub struct Budget<'b> {
     pub heap: u32,
 }
 
-ghost use Rattle.std.specs.Prelude.{◌≡◌, ◌+◌, ◌<◌, ◌≤◌, ◌^◌, ◌∷◌, map, nat_le, slice_index, IfOk, OnSome};
+ghost use Rattle.std.specs.Prelude.{◌≡◌, ◌+◌, ◌<◌, ◌≤◌, ◌^◌, ◌∷◌, map, length, nat_le, slice_index, IfOk, OnSome};
 ghost use Rattle.tac_code.specs.Meaning.{onward, is_full, calls, frame_cost, open_bytes};
 ghost use Rattle.tac_run.specs.Effect.{state_of, activation_of, led, KeepsShown};
 
@@ -78,7 +78,7 @@ impl<'a> Machine<'a> {
     ) -> Result<Option<Ending>, OutOfMemory>
         requires place { self.old.current.place + 1 < 2 ^ 64 }
         requires count { self.old.count + 1 < 2 ^ 64 }
-        ensures led { IfOk result (λ over. calls tac.now (λ r. slice_index budget.entry.frames.now r) (λ t. slice_index budget.entry.objects.now t) budget.entry.stack budget.entry.heap to routine operands.now line (state_of self.old) ≡ led over (state_of self.new)) }
+        ensures led { IfOk result (λ over. calls tac.now (λ r. slice_index budget.entry.frames.now r) (λ t. slice_index budget.entry.objects.now t) budget.entry.stack budget.entry.heap to routine operands.now line (state_of self.old) ≡ led (length tac.now.program) over (state_of self.new)) }
         ensures kept { IfOk result (λ over. OnSome over (KeepsShown (state_of self.old) (state_of self.new))) }
         ensures count { IfOk result (λ over. self.new.count ≤ self.old.count + 1) }
         ensures heap { IfOk result (λ over. self.new.heap ≡ self.old.heap) }

@@ -37,10 +37,10 @@ pub enum Effect {
     },
 }
 
-ghost use Rattle.std.specs.Prelude.{◌≡◌, MatchResult, MatchOption, MatchBool, IsTrue, ◌↔◌, ◌≤◌, if◌then◌else◌, FitsSigned, unsigned_abs, Some, None, ℤ, pos, ◌-ℤ◌, ◌+◌, ◌*◌, nat_lt, int_lt, false, not, ◌&&◌, ◌||◌, length, List, ℕ};
-ghost use Rattle.tac_code.specs.Numbers.{computed, Gives, Fails, bits, compared, truth, is_zero, is_integer};
-ghost use Rattle.tac_code.specs.Meaning.{pointer_of, same_pointer, is_nil};
-ghost use Rattle.tac_run.specs.Effect.{ended_by, if_some, if_number, if_address, if_routine, if_byte, if_natural, checked_by, given_address, given_computed};
+ghost use Rattle.std.specs.Prelude.{◌≡◌, ◌<◌, MatchResult, MatchOption, MatchBool, IsTrue, ◌↔◌, ◌≤◌, if◌then◌else◌, FitsSigned, unsigned_abs, Some, None, ℤ, pos, ◌-ℤ◌, ◌+◌, ◌*◌, nat_lt, int_lt, false, not, ◌&&◌, ◌||◌, length, List, ℕ};
+ghost use Rattle.tac_code.specs.Numbers.{computed, Gives, Fails, bits, compared, truth, is_integer, is_in_range, steps_above};
+ghost use Rattle.tac_code.specs.Meaning.{pointer_of, same_pointer, pointers_related, related, is_nil};
+ghost use Rattle.tac_run.specs.Effect.{ended_by, if_some, if_number, if_address, if_routine, if_byte, checked_by, given_address, given_component, given_computed};
 
 /// The ending that the number of an error stands for.
 pub(crate) fn ending_by_number(number: u8, line: u16) -> Ending
@@ -99,6 +99,7 @@ fn combine(operator: BitOperator, x: i32, y: i32) -> i32
         BitOperator::Or => left | right,
         BitOperator::AndNot => left & !right,
         BitOperator::ShiftLeft => left.wrapping_shl(right),
+        BitOperator::Plus => left.wrapping_add(right),
     };
     word.cast_signed()
 }
@@ -157,20 +158,6 @@ pub(crate) fn bitwise(
     Effect::Give(to, Value::Number(combine(operator, x, y)))
 }
 
-pub(crate) fn comparison(
-    relation: Relation,
-    to: u32,
-    left: Option<Value>,
-    right: Option<Value>,
-) -> Effect
-    ensures { result ≡ if_number left (λ x. if_number right (λ y. Effect.Give to (Value.Number (truth (compared relation x y))))) }
-{
-    let (Some(Value::Number(x)), Some(Value::Number(y))) = (left, right) else {
-        return STUCK;
-    };
-    Effect::Give(to, number_of_truth(compare(relation, x, y)))
-}
-
 // A pointer: nil, or the object that it points to.
 fn pointer(value: Option<Value>) -> Option<Option<u64>>
     ensures { result ≡ pointer_of value }
@@ -182,18 +169,47 @@ fn pointer(value: Option<Value>) -> Option<Option<u64>>
     }
 }
 
-pub(crate) fn pointer_comparison(to: u32, left: Option<Value>, right: Option<Value>) -> Effect
-    ensures { result ≡ if_some (pointer_of left) (λ p. if_some (pointer_of right) (λ q. Effect.Give to (Value.Number (truth (same_pointer p q))))) }
+fn same_pointer(p: Option<u64>, q: Option<u64>) -> bool
+    ensures { result ≡ same_pointer p q }
 {
-    let (Some(p), Some(q)) = (pointer(left), pointer(right)) else {
-        return STUCK;
-    };
-    let same = match (p, q) {
+    match (p, q) {
         (None, None) => true,
         (Some(m), Some(n)) => m == n,
         _ => false,
+    }
+}
+
+// Whether two pointers are as a relation says, where it is asked of pointers.
+fn pointers_related(relation: Relation, left: Option<Value>, right: Option<Value>) -> Option<bool>
+    ensures { result ≡ pointers_related relation (pointer_of left) (pointer_of right) }
+{
+    let (Some(p), Some(q)) = (pointer(left), pointer(right)) else {
+        return None;
     };
-    Effect::Give(to, number_of_truth(same))
+    match relation {
+        Relation::Equal => Some(same_pointer(p, q)),
+        Relation::NotEqual => Some(!same_pointer(p, q)),
+        _ => None,
+    }
+}
+
+// Whether two numbers, or two pointers, are as a relation says.
+pub(crate) fn related(relation: Relation, left: Option<Value>, right: Option<Value>) -> Option<bool>
+    ensures { result ≡ related relation left right }
+{
+    match (left, right) {
+        (Some(Value::Number(x)), Some(Value::Number(y))) => Some(compare(relation, x, y)),
+        _ => pointers_related(relation, left, right),
+    }
+}
+
+pub(crate) fn comparison(to: u32, holds: Option<bool>) -> Effect
+    ensures { result ≡ if_some holds (λ b. Effect.Give to (Value.Number (truth b))) }
+{
+    match holds {
+        Some(holds) => Effect::Give(to, number_of_truth(holds)),
+        None => STUCK,
+    }
 }
 
 fn check(holds: bool, error: u8, line: u16) -> Effect
@@ -206,11 +222,17 @@ fn check(holds: bool, error: u8, line: u16) -> Effect
     }
 }
 
+fn is_in_range(low: i32, high: i32, x: i32) -> bool
+    ensures { result ≡ is_in_range low high x }
+{
+    low <= x && x <= high
+}
+
 pub(crate) fn range_check(value: Option<Value>, low: i32, high: i32, error: u8, line: u16) -> Effect
-    ensures { result ≡ if_number value (λ x. checked_by (not (int_lt x low) && not (int_lt high x)) error line) }
+    ensures { result ≡ if_number value (λ x. checked_by (is_in_range low high x) error line) }
 {
     match value {
-        Some(Value::Number(x)) => check(low <= x && x <= high, error, line),
+        Some(Value::Number(x)) => check(is_in_range(low, high, x), error, line),
         _ => STUCK,
     }
 }
@@ -247,27 +269,41 @@ pub(crate) fn offset_address(to: u32, base: Option<Value>, bytes: u32) -> Effect
     }
 }
 
+fn steps_above(low: i32, x: i32) -> u64
+    ensures value { result ≡ steps_above low x }
+    ensures small { result < 4294967296 }
+{
+    let above = widened(x) - widened(low);
+    if above < 0 { 0 } else { above as u64 }
+}
+
+fn component(to: u32, block: Block, offset: u32, above: u64, width: u32) -> Effect
+    requires { above < 4294967296 }
+    ensures { result ≡ given_address to block (offset + above * width) }
+{
+    address(to, block, u64::from(offset) + above * u64::from(width))
+}
+
 pub(crate) fn index_address(
     to: u32,
     base: Option<Value>,
     index: Option<Value>,
-    low: i32,
+    range: (i32, i32),
     width: u32,
+    error: u8,
+    line: u16,
 ) -> Effect
-    ensures { result ≡ if_address base (λ block offset. if_number index (λ x. if_natural (x -ℤ low) (λ n. given_address to block (offset + n * width)))) }
+    ensures { result ≡ if_address base (λ block offset. if_number index (λ x. given_component (is_in_range range.0 range.1 x) to block (offset + steps_above range.0 x * width) error line)) }
 {
     let (Some(Value::Address(block, offset)), Some(Value::Number(x))) = (base, index) else {
         return STUCK;
     };
-    let components = widened(x) - widened(low);
-    if components < 0 {
-        return STUCK;
+    let (low, high) = range;
+    if is_in_range(low, high, x) {
+        component(to, block, offset, steps_above(low, x), width)
+    } else {
+        Effect::Stop(ending_by_number(error, line))
     }
-    address(
-        to,
-        block,
-        u64::from(offset) + components as u64 * u64::from(width),
-    )
 }
 
 pub(crate) fn word_write(base: Option<Value>, offset: u32, value: Option<Value>) -> Effect
@@ -307,24 +343,12 @@ pub(crate) fn output(value: Option<Value>) -> Effect
     }
 }
 
-// Whether a branch on this number is taken.
-fn is_taken(x: i32, on: bool) -> bool
-    ensures { result ≡ (not (is_zero x) && on || is_zero x && not on) }
+pub(crate) fn branch(holds: Option<bool>, place: usize) -> Effect
+    ensures { result ≡ if_some holds (λ b. if b then Effect.GoTo place else Effect.Proceed) }
 {
-    (x != 0) == on
-}
-
-pub(crate) fn branch(value: Option<Value>, on: bool, place: usize) -> Effect
-    ensures { result ≡ if_number value (λ x. if not (is_zero x) && on || is_zero x && not on then Effect.GoTo place else Effect.Proceed) }
-{
-    match value {
-        Some(Value::Number(x)) => {
-            if is_taken(x, on) {
-                Effect::GoTo(place)
-            } else {
-                Effect::Proceed
-            }
-        }
-        _ => STUCK,
+    match holds {
+        Some(true) => Effect::GoTo(place),
+        Some(false) => Effect::Proceed,
+        None => STUCK,
     }
 }

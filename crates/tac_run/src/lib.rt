@@ -4,6 +4,7 @@
 mod blocks;
 mod calls;
 mod effect;
+mod instructions;
 mod machine;
 mod memory;
 mod runner;

@@ -37,9 +37,9 @@ pub struct Machine<'a> {
 
 ghost use Rattle.std.specs.Prelude.{◌≡◌, ◌+◌, ◌<◌, ◌≤◌, ◌^◌, ◌∷◌, map, nat_lt, if◌then◌else◌, IfOk, OnOk, OnSome};
 ghost use Rattle.tac_code.specs.Memory.{store, store_byte};
-ghost use Rattle.tac_code.specs.Same.{out_of_heap};
+ghost use Rattle.behavior.specs.Endings.{Heap};
 ghost use Rattle.tac_code.specs.Meaning.{with_some, Over, Goes, gives, goes_on, goes_to, stores, puts, takes, leave, onward};
-ghost use Rattle.tac_run.specs.Effect.{state_of, activation_of, led, made_object, with_activation, with_blocks, first_of, KeepsShown, SameCounters};
+ghost use Rattle.tac_run.specs.Effect.{state_of, activation_of, Leads, made_object, with_activation, with_blocks, first_of, KeepsShown, SameCounters};
 
 impl<'a> Machine<'a> {
     // On to the next instruction.
@@ -70,7 +70,7 @@ impl<'a> Machine<'a> {
 
     pub(crate) fn write(&mut self, block: Block, offset: usize, value: Value) -> Option<Ending>
         requires { self.old.current.place + 1 < 2 ^ 64 }
-        ensures led { with_some (store self.old.memory block offset value) (λ m. stores m (state_of self.old)) ≡ led result (state_of self.new) }
+        ensures led { Leads (with_some (store self.old.memory block offset value) (λ m. stores m (state_of self.old))) result (state_of self.new) }
         ensures kept { OnSome result (KeepsShown (state_of self.old) (state_of self.new)) }
         ensures same { SameCounters self.old self.new }
     {
@@ -84,7 +84,7 @@ impl<'a> Machine<'a> {
 
     pub(crate) fn write_byte(&mut self, block: Block, offset: usize, byte: u8) -> Option<Ending>
         requires { self.old.current.place + 1 < 2 ^ 64 }
-        ensures led { with_some (store_byte self.old.memory block offset byte) (λ m. stores m (state_of self.old)) ≡ led result (state_of self.new) }
+        ensures led { Leads (with_some (store_byte self.old.memory block offset byte) (λ m. stores m (state_of self.old))) result (state_of self.new) }
         ensures kept { OnSome result (KeepsShown (state_of self.old) (state_of self.new)) }
         ensures same { SameCounters self.old self.new }
     {
@@ -129,7 +129,7 @@ impl<'a> Machine<'a> {
 
     // Back to the caller, with a result.
     pub(crate) fn leave(&mut self, value: Value) -> Result<Option<Ending>, OutOfMemory>
-        ensures led { IfOk result (λ over. leave value (map activation_of self.old.callers.items) (state_of self.old) ≡ led over (state_of self.new)) }
+        ensures led { IfOk result (λ over. Leads (leave value (map activation_of self.old.callers.items) (state_of self.old)) over (state_of self.new)) }
         ensures kept { IfOk result (λ over. OnSome over (KeepsShown (state_of self.old) (state_of self.new))) }
         ensures same { IfOk result (λ over. SameCounters self.old self.new) }
     {
@@ -155,7 +155,7 @@ impl<'a> Machine<'a> {
     ) -> Result<Option<Ending>, OutOfMemory>
         requires place { self.old.current.place + 1 < 2 ^ 64 }
         requires heap { self.old.heap ≤ budget }
-        ensures led { IfOk result (λ over. (if nat_lt budget (self.old.heap + cost) then Over (out_of_heap line) else Goes (made_object to bytes cost (state_of self.old))) ≡ led over (state_of self.new)) }
+        ensures led { IfOk result (λ over. Leads (if nat_lt budget (self.old.heap + cost) then Over (Heap line) else Goes (made_object to bytes cost (state_of self.old))) over (state_of self.new)) }
         ensures kept { IfOk result (λ over. OnSome over (KeepsShown (state_of self.old) (state_of self.new))) }
         ensures heap { IfOk result (λ over. self.new.heap ≤ budget) }
         ensures count { IfOk result (λ over. self.new.count ≡ self.old.count) }

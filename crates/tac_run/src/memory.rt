@@ -1,10 +1,12 @@
 // Memory as the runner keeps it: the blocks of the open activations, and objects. The constants stand in the code.
 
 use crate::blocks::Blocks;
+use crate::instructions::text_at;
 use crate::words::{Words, byte_of_number};
 use std::alloc::Global;
 use std::marker::Model;
-use tac_code::code::{Block, Constant, OutOfMemory, Value};
+use tac_code::code::{Block, OutOfMemory, Value};
+use tac_code::tac::Tac;
 
 /// The objects, in the order in which they were made.
 #[derive(Drop)]
@@ -40,7 +42,7 @@ impl Model for Memory {
 ghost use Rattle.std.specs.Prelude.{◌≡◌, if◌then◌else◌, slice_get, [], ◌∷◌, ◌++◌, length, Some, None, OnOk};
 ghost use Rattle.tac_code.specs.Memory.{known, with_word, with_byte_at, constant_words, changed_object, value_in, byte_value_in, constant_at};
 ghost use Rattle.tac_code.specs.Memory.{load, load_byte, store, store_byte};
-ghost use Rattle.tac_code.specs.Meaning.{without_first};
+ghost use Rattle.tac_code.specs.Meaning.{text_at, without_first};
 
 fn constant_word(bytes: &[u8], index: usize) -> Option<Value>
     ensures { result ≡ known (slice_get (constant_words bytes.now) index) }
@@ -123,10 +125,10 @@ impl Objects {
     }
 }
 
-fn load_constant(constants: &[Constant], number: u32, offset: usize) -> Option<Value>
-    ensures { result ≡ value_in (constant_at (slice_get constants.now number)) offset }
+fn load_constant(tac: &Tac, routine: u32, place: u64, offset: usize) -> Option<Value>
+    ensures { result ≡ value_in (constant_at (text_at tac.now routine place)) offset }
 {
-    match constants.get(number as usize) {
+    match text_at(tac, routine, place) {
         Some(constant) => {
             if offset % 4 == 0 {
                 constant_word(constant.as_slice(), offset / 4)
@@ -138,10 +140,10 @@ fn load_constant(constants: &[Constant], number: u32, offset: usize) -> Option<V
     }
 }
 
-fn load_constant_byte(constants: &[Constant], number: u32, offset: usize) -> Option<u8>
-    ensures { result ≡ byte_value_in (constant_at (slice_get constants.now number)) offset }
+fn load_constant_byte(tac: &Tac, routine: u32, place: u64, offset: usize) -> Option<u8>
+    ensures { result ≡ byte_value_in (constant_at (text_at tac.now routine place)) offset }
 {
-    match constants.get(number as usize) {
+    match text_at(tac, routine, place) {
         Some(constant) => match constant_word(constant.as_slice(), offset / 4) {
             Some(Value::Number(z)) => Some(byte_of_number(z, offset % 4)),
             _ => None,
@@ -193,25 +195,25 @@ impl Memory {
     }
 
     /// The value at an address, if one was written there.
-    pub fn load(&self, constants: &[Constant], block: Block, offset: usize) -> Option<Value>
-        ensures { result ≡ load constants.now self.now block offset }
+    pub fn load(&self, tac: &Tac, block: Block, offset: usize) -> Option<Value>
+        ensures { result ≡ load (text_at tac.now) self.now block offset }
     {
         match block {
             Block::Frame(a) => self.frames.load(a, offset),
             Block::Scratch(a) => self.scratch.load(a, offset),
             Block::Object(n) => self.objects.load(n as usize, offset),
-            Block::Constant(c) => load_constant(constants, c, offset),
+            Block::Constant(routine, place) => load_constant(tac, routine, place, offset),
         }
     }
 
-    pub fn load_byte(&self, constants: &[Constant], block: Block, offset: usize) -> Option<u8>
-        ensures { result ≡ load_byte constants.now self.now block offset }
+    pub fn load_byte(&self, tac: &Tac, block: Block, offset: usize) -> Option<u8>
+        ensures { result ≡ load_byte (text_at tac.now) self.now block offset }
     {
         match block {
             Block::Frame(a) => self.frames.load_byte(a, offset),
             Block::Scratch(a) => self.scratch.load_byte(a, offset),
             Block::Object(n) => self.objects.load_byte(n as usize, offset),
-            Block::Constant(c) => load_constant_byte(constants, c, offset),
+            Block::Constant(routine, place) => load_constant_byte(tac, routine, place, offset),
         }
     }
 
@@ -224,7 +226,7 @@ impl Memory {
             Block::Scratch(a) => self.scratch.store(a, offset, value),
             Block::Object(n) => self.objects.store(n as usize, offset, value),
             // A constant is only read.
-            Block::Constant(_) => false,
+            Block::Constant(_, _) => false,
         }
     }
 
@@ -236,7 +238,7 @@ impl Memory {
             Block::Frame(a) => self.frames.store_byte(a, offset, byte),
             Block::Scratch(a) => self.scratch.store_byte(a, offset, byte),
             Block::Object(n) => self.objects.store_byte(n as usize, offset, byte),
-            Block::Constant(_) => false,
+            Block::Constant(_, _) => false,
         }
     }
 }

@@ -8,7 +8,8 @@ use std::alloc::Global;
 use tac_code::code::OutOfMemory;
 use tac_code::tac::Tac;
 
-/// What a run showed: its transcript, where 256 marks a first look at the input, how it ended, and at an error the lines of the open calls.
+/// What a run showed: its transcript, where 256 marks a first look at the input, how it ended, and the lines of the calls that were open there,
+/// innermost first, of which an error tells 16.
 #[derive(Drop)]
 pub struct Report {
     pub transcript: Vec<u16>,
@@ -17,14 +18,14 @@ pub struct Report {
 }
 
 ghost use Rattle.std.specs.Prelude.{◌≡◌, ◌+◌, ◌<◌, ◌≤◌, ◌^◌, ◌++◌, [], map, length, slice_index, IfOk, OnOk};
-ghost use Rattle.tac_code.specs.Run.{before, run, tac_outcome};
+ghost use Rattle.tac_code.specs.Run.{before, run, tac_run};
 ghost use Rattle.tac_code.specs.Meaning.{open_calls, enter};
-ghost use Rattle.tac_run.specs.Effect.{state_of, activation_of, outcome_of, begun, ended_at, ending_of};
+ghost use Rattle.tac_run.specs.Effect.{state_of, activation_of, shown_of, begun, ended_at, ending_of};
 
 impl<'a> Machine<'a> {
     // What the run showed.
     fn finish(self, alloc: Global, tac: &Tac, ending: Ending) -> Result<Report, OutOfMemory>
-        ensures { IfOk result (λ r. outcome_of r ≡ ended_at (length tac.now.program) (ending_of ending) (state_of self.entry)) }
+        ensures { IfOk result (λ r. shown_of r ≡ ended_at (length tac.now.program) ending (state_of self.entry)) }
     {
         let Machine {
             current,
@@ -33,14 +34,12 @@ impl<'a> Machine<'a> {
             ..
         } = self;
         let mut calls = Vec::new(alloc);
-        if matches!(ending, Ending::Error { .. }) {
-            add_open_calls(
-                &mut calls,
-                tac.program().len(),
-                &current,
-                callers.as_slice(),
-            )?;
-        }
+        add_open_calls(
+            &mut calls,
+            tac.program().len(),
+            &current,
+            callers.as_slice(),
+        )?;
         Ok(Report {
             transcript,
             ending,
@@ -114,7 +113,7 @@ fn go(
     requires count { machine.count ≤ 1 }
     requires heap { machine.heap ≤ budget.heap }
     requires steps { steps + 1 < 2 ^ 64 }
-    ensures { IfOk result (λ r. outcome_of r ≡ run tac.now (λ r. slice_index budget.entry.frames.now r) (λ t. slice_index budget.entry.objects.now t) budget.entry.stack budget.entry.heap steps (state_of machine.entry)) }
+    ensures { IfOk result (λ r. shown_of r ≡ run tac.now (λ r. slice_index budget.entry.frames.now r) (λ t. slice_index budget.entry.objects.now t) budget.entry.stack budget.entry.heap steps (state_of machine.entry)) }
 {
     let mut machine = machine;
     for made in 0..steps {
@@ -134,7 +133,7 @@ pub fn run(
     input: &[u8],
     steps: u64,
 ) -> Result<Report, OutOfMemory>
-    ensures { IfOk result (λ r. outcome_of r ≡ tac_outcome tac.now (λ r. slice_index budget.entry.frames.now r) (λ t. slice_index budget.entry.objects.now t) budget.entry.stack budget.entry.heap input.now steps) }
+    ensures { IfOk result (λ r. shown_of r ≡ tac_run tac.now (λ r. slice_index budget.entry.frames.now r) (λ t. slice_index budget.entry.objects.now t) budget.entry.stack budget.entry.heap input.now steps) }
 {
     if steps == 0 {
         return Ok(nothing_shown(alloc, Ending::More));
@@ -146,7 +145,7 @@ pub fn run(
 }
 
 fn nothing_shown(alloc: Global, ending: Ending) -> Report
-    ensures { outcome_of result ≡ (([], ending_of ending), []) }
+    ensures { shown_of result ≡ ([], ending_of ending []) }
 {
     Report {
         transcript: Vec::new(alloc),

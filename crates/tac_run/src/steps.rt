@@ -1,44 +1,20 @@
 // Steps: what an instruction comes to, and doing it.
 
-ghost use Rattle.std.specs.Prelude.{◌≡◌, ◌+◌, ◌<◌, ◌≤◌, ◌^◌, nat_lt, if◌then◌else◌, IfOk, OnSome, length, slice_index, pos};
-ghost use Rattle.std.specs.Option.{option_copied};
+ghost use Rattle.std.specs.Prelude.{◌≡◌, ◌+◌, ◌-◌, ◌<◌, ◌≤◌, ◌^◌, nat_lt, if◌then◌else◌, IfOk, OnSome, length, slice_index, pos};
 ghost use Rattle.tac_code.specs.Memory.{load, load_byte};
-ghost use Rattle.tac_code.specs.Meaning.{step, fetch};
-ghost use Rattle.tac_run.specs.Effect.{reads, effect_of, operands_in, state_of, led, if_some, if_address, if_routine, KeepsShown, perform};
+ghost use Rattle.tac_code.specs.Meaning.{text_at, related, operand_value, base_value, step};
+ghost use Rattle.tac_run.specs.Effect.{reads, effect_of, forward_of, activation_of, state_of, led, if_some, if_address, if_routine, KeepsShown, perform};
 
 use crate::calls::Budget;
 use crate::effect::{
-    Effect, Ending, address, arithmetic, bitwise, branch, byte_write, comparison, ending_by_number,
-    index_address, offset_address, output, pointer_check, pointer_comparison, range_check,
-    word_write,
+    Effect, Ending, arithmetic, bitwise, branch, byte_write, comparison, ending_by_number,
+    index_address, offset_address, output, pointer_check, range_check, related, word_write,
 };
+use crate::instructions::{fetch, operands_in};
 use crate::machine::Machine;
 use std::alloc::Global;
-use tac_code::code::{Block, Instruction, OutOfMemory, Value};
+use tac_code::code::{Base, Block, Instruction, Operand, OutOfMemory, Relation, Value};
 use tac_code::tac::Tac;
-
-// The instruction at a place of a routine.
-fn fetch(tac: &Tac, routine: u32, place: usize) -> Option<&Instruction>
-    ensures found { option_copied result ≡ fetch tac.now routine place }
-    ensures place { OnSome result (place + 1 < 2 ^ 63) }
-{
-    let number = routine as usize;
-    if number < tac.program().len() + tac.run_time().len() {
-        tac.routine(number).body.as_slice().get(place)
-    } else {
-        None
-    }
-}
-
-fn operands_in(instruction: &Instruction) -> &[u32]
-    ensures { result.now ≡ operands_in instruction.now }
-{
-    match instruction {
-        Instruction::Call { operands, .. } | Instruction::CallValue { operands, .. } =>
-            operands.as_slice(),
-        _ => &[],
-    }
-}
 
 impl<'a> Machine<'a> {
     fn value(&self, temporary: u32) -> Option<Value>
@@ -47,9 +23,35 @@ impl<'a> Machine<'a> {
         self.current.temporaries.get(temporary)
     }
 
+    fn operand(&self, operand: Operand) -> Option<Value>
+        ensures { result ≡ operand_value (reads self.now.current.temporaries) operand }
+    {
+        match operand {
+            Operand::Temporary(temporary) => self.value(temporary),
+            Operand::Number(number) => Some(Value::Number(number)),
+        }
+    }
+
+    fn base(&self, base: Base) -> Option<Value>
+        ensures { result ≡ base_value (activation_of self.now.current) base }
+    {
+        match base {
+            Base::Frame => Some(Value::Address(Block::Frame(self.current.number), 0)),
+            Base::Scratch => Some(Value::Address(Block::Scratch(self.current.number), 0)),
+            Base::Program => Some(Value::Address(Block::Frame(0), 0)),
+            Base::Temporary(temporary) => self.value(temporary),
+        }
+    }
+
+    fn related(&self, relation: Relation, left: u32, right: Operand) -> Option<bool>
+        ensures { result ≡ related relation (reads self.now.current.temporaries left) (operand_value (reads self.now.current.temporaries) right) }
+    {
+        related(relation, self.value(left), self.operand(right))
+    }
+
     // What an instruction comes to.
     fn effect(&self, tac: &Tac, instruction: &Instruction) -> Effect
-        requires { self.now.current.place + 1 < 2 ^ 63 }
+        requires { self.now.current.place + 1 + forward_of instruction.now < 2 ^ 64 }
         ensures { result ≡ effect_of tac.now instruction.now (state_of self.now) }
     {
         let next = self.current.place + 1;
@@ -68,7 +70,7 @@ impl<'a> Machine<'a> {
                     *operator,
                     *to,
                     self.value(*left),
-                    self.value(*right),
+                    self.operand(*right),
                     *error,
                     *line,
                 )
@@ -78,16 +80,13 @@ impl<'a> Machine<'a> {
                 to,
                 left,
                 right,
-            } => { bitwise(*operator, *to, self.value(*left), self.value(*right)) }
+            } => { bitwise(*operator, *to, self.value(*left), self.operand(*right)) }
             Instruction::Compare {
                 relation,
                 to,
                 left,
                 right,
-            } => { comparison(*relation, *to, self.value(*left), self.value(*right)) }
-            Instruction::SamePointer { to, left, right } => {
-                pointer_comparison(*to, self.value(*left), self.value(*right))
-            }
+            } => { comparison(*to, self.related(*relation, *left, *right)) }
             Instruction::CheckRange {
                 value,
                 low,
@@ -100,48 +99,66 @@ impl<'a> Machine<'a> {
                 error,
                 line,
             } => { pointer_check(self.value(*pointer), *error, *line) }
-            Instruction::FrameAddress { to, offset } => {
-                address(*to, Block::Frame(self.current.number), u64::from(*offset))
-            }
-            Instruction::ScratchAddress { to, offset } => {
-                address(*to, Block::Scratch(self.current.number), u64::from(*offset))
-            }
-            Instruction::ConstantAddress { to, constant } => {
-                Effect::Give(*to, Value::Address(Block::Constant(*constant), 0))
-            }
-            Instruction::Offset { to, base, bytes } => offset_address(
-                *to,
-                self.value(*base),
-                *bytes,
-            ),
+            Instruction::Text { to, bytes: _ } => self.text_address(*to),
+            Instruction::Offset {
+                to,
+                base,
+                bytes,
+                extent: _,
+            } => { offset_address(*to, self.base(*base), *bytes) }
             Instruction::Index {
                 to,
                 base,
                 index,
                 low,
+                high,
                 width,
-            } => { index_address(*to, self.value(*base), self.value(*index), *low, *width) }
+                error,
+                line,
+            } => {
+                index_address(
+                    *to,
+                    self.base(*base),
+                    self.value(*index),
+                    (*low, *high),
+                    *width,
+                    *error,
+                    *line,
+                )
+            }
             Instruction::RoutineValue { to, routine } => Effect::Give(
                 *to,
                 Value::Routine(*routine),
             ),
             Instruction::Load { to, base, offset } => self.loaded(tac, *to, *base, *offset),
             Instruction::Store { base, offset, from } => {
-                word_write(self.value(*base), *offset, self.value(*from))
+                word_write(self.base(*base), *offset, self.value(*from))
             }
             Instruction::LoadByte { to, base, offset } => self.loaded_byte(
                 tac, *to, *base, *offset,
             ),
             Instruction::StoreByte { base, offset, from } => {
-                byte_write(self.value(*base), *offset, self.value(*from))
+                byte_write(self.base(*base), *offset, self.value(*from))
             }
             Instruction::Jump { forward } => Effect::GoTo(next + *forward as usize),
-            Instruction::JumpBack { back } => {
-                Effect::GoTo(self.current.place.saturating_sub(*back as usize))
+            Instruction::JumpBack { back } => { Effect::GoTo(self.back(*back)) }
+            Instruction::Branch {
+                relation,
+                left,
+                right,
+                forward,
+            } => {
+                branch(
+                    self.related(*relation, *left, *right),
+                    next + *forward as usize,
+                )
             }
-            Instruction::Branch { test, on, forward } => {
-                branch(self.value(*test), *on, next + *forward as usize)
-            }
+            Instruction::BranchBack {
+                relation,
+                left,
+                right,
+                back,
+            } => { branch(self.related(*relation, *left, *right), self.back(*back)) }
             Instruction::Call {
                 to,
                 routine,
@@ -179,29 +196,44 @@ impl<'a> Machine<'a> {
         }
     }
 
-    fn loaded(&self, tac: &Tac, to: u32, base: u32, offset: u32) -> Effect
-        ensures { result ≡ if_address (reads self.now.current.temporaries base) (λ block start. if_some (load tac.now.constants self.now.memory block (start + offset)) (λ v. Effect.Give to v)) }
+    // The place so many instructions back.
+    fn back(&self, back: u64) -> usize
+        ensures { result ≡ self.now.current.place - back }
     {
-        match self.value(base) {
+        self.current.place.saturating_sub(back as usize)
+    }
+
+    // The address of the constant of the instruction itself.
+    fn text_address(&self, to: u32) -> Effect
+        ensures { result ≡ Effect.Give to (Value.Address (Block.Constant self.now.current.routine self.now.current.place) 0) }
+    {
+        let constant = Block::Constant(self.current.routine, self.current.place as u64);
+        Effect::Give(to, Value::Address(constant, 0))
+    }
+
+    fn loaded(&self, tac: &Tac, to: u32, base: Base, offset: u32) -> Effect
+        ensures { result ≡ if_address (base_value (activation_of self.now.current) base) (λ block start. if_some (load (text_at tac.now) self.now.memory block (start + offset)) (λ v. Effect.Give to v)) }
+    {
+        match self.base(base) {
             Some(Value::Address(block, start)) => {
                 give_value(
                     to,
                     self.memory
-                        .load(tac.constants(), block, start as usize + offset as usize),
+                        .load(tac, block, start as usize + offset as usize),
                 )
             }
             _ => Effect::Stop(Ending::Stuck),
         }
     }
 
-    fn loaded_byte(&self, tac: &Tac, to: u32, base: u32, offset: u32) -> Effect
-        ensures { result ≡ if_address (reads self.now.current.temporaries base) (λ block start. if_some (load_byte tac.now.constants self.now.memory block (start + offset)) (λ byte. Effect.Give to (Value.Number (pos byte)))) }
+    fn loaded_byte(&self, tac: &Tac, to: u32, base: Base, offset: u32) -> Effect
+        ensures { result ≡ if_address (base_value (activation_of self.now.current) base) (λ block start. if_some (load_byte (text_at tac.now) self.now.memory block (start + offset)) (λ byte. Effect.Give to (Value.Number (pos byte)))) }
     {
-        match self.value(base) {
+        match self.base(base) {
             Some(Value::Address(block, start)) => {
                 match self
                     .memory
-                    .load_byte(tac.constants(), block, start as usize + offset as usize)
+                    .load_byte(tac, block, start as usize + offset as usize)
                 {
                     Some(byte) => Effect::Give(to, Value::Number(i32::from(byte))),
                     None => Effect::Stop(Ending::Stuck),
@@ -266,7 +298,7 @@ impl<'a> Machine<'a> {
         requires place { self.old.current.place + 1 < 2 ^ 64 }
         requires count { self.old.count + 1 < 2 ^ 64 }
         requires heap { self.old.heap ≤ budget.heap }
-        ensures led { IfOk result (λ over. perform tac.now (λ r. slice_index budget.entry.frames.now r) (λ t. slice_index budget.entry.objects.now t) budget.entry.stack budget.entry.heap operands.now effect (state_of self.old) ≡ led over (state_of self.new)) }
+        ensures led { IfOk result (λ over. perform tac.now (λ r. slice_index budget.entry.frames.now r) (λ t. slice_index budget.entry.objects.now t) budget.entry.stack budget.entry.heap operands.now effect (state_of self.old) ≡ led (length tac.now.program) over (state_of self.new)) }
         ensures kept { IfOk result (λ over. OnSome over (KeepsShown (state_of self.old) (state_of self.new))) }
         ensures count { IfOk result (λ over. self.new.count ≤ self.old.count + 1) }
         ensures heap { IfOk result (λ over. self.new.heap ≤ budget.entry.heap) }
@@ -322,7 +354,7 @@ impl<'a> Machine<'a> {
     ) -> Result<Option<Ending>, OutOfMemory>
         requires count { self.old.count + 1 < 2 ^ 64 }
         requires heap { self.old.heap ≤ budget.heap }
-        ensures led { IfOk result (λ over. step tac.now (λ r. slice_index budget.entry.frames.now r) (λ t. slice_index budget.entry.objects.now t) budget.entry.stack budget.entry.heap (state_of self.old) ≡ led over (state_of self.new)) }
+        ensures led { IfOk result (λ over. step tac.now (λ r. slice_index budget.entry.frames.now r) (λ t. slice_index budget.entry.objects.now t) budget.entry.stack budget.entry.heap (state_of self.old) ≡ led (length tac.now.program) over (state_of self.new)) }
         ensures kept { IfOk result (λ over. OnSome over (KeepsShown (state_of self.old) (state_of self.new))) }
         ensures count { IfOk result (λ over. self.new.count ≤ self.old.count + 1) }
         ensures heap { IfOk result (λ over. self.new.heap ≤ budget.entry.heap) }

@@ -1,7 +1,7 @@
-use Rattle.std.proofs.Common.{ℕ, List, length, ◌≤◌, sym, subst}
+use Rattle.std.proofs.Common.{ℕ, List, length, ◌≤◌, sym, subst, arith}
 use Rattle.std.proofs.lemmas.Bool.{leb-true, le-leb}
 use Rattle.tac_code.specs.declared.code.TacRoutine.{TacRoutine}
-use Rattle.tac_code.specs.Sound.{code_of, IsSound, AreSoundRoutines, AreLeaves, AreSoundConstants, AreObjectSizes}
+use Rattle.tac_code.specs.Sound.{code_of, IsSound, AreSoundRoutines, AreLeaves, AreObjectSizes}
 use Rattle.tac_code.proofs.Each.{refuted, refuted_by}
 use Rattle.tac_code.proofs.tac.is_sound.Goals as goal
 
@@ -19,10 +19,10 @@ pub returns-then-are_sound_objects : goal.returns-then-are_sound_objects
 returns-then-are_sound_objects c = (
   λ t.
       record {
+        begins = omega (arith, c.len.ensures, c.if-len-eq0.false);
         program = subst (λ (xs : List TacRoutine). AreSoundRoutines (code_of c.args.raw.now) xs) c.as_slice.ensures.value (c.are_sound_routines.ensures.0 c.if-not-are_sound_routines.false);
         run_time = subst (λ (xs : List TacRoutine). AreSoundRoutines (code_of c.args.raw.now) xs) c.as_slice-2.ensures.value (c.are_sound_routines-2.ensures.0 c.if-not-are_sound_routines-2.false);
         leaves = subst (λ (xs : List TacRoutine). AreLeaves xs) c.as_slice-3.ensures.value (c.are_leaves.ensures.0 c.if-not-are_leaves.false);
-        constants = subst (λ (xs : List (List ℕ)). AreSoundConstants xs) c.as_slice-4.ensures.value (c.are_sound_constants.ensures.0 c.if-not-are_sound_constants.false);
         objects = subst (λ (xs : List ℕ). AreObjectSizes xs) c.as_slice-objects.ensures.value (c.are_sound_objects.ensures.0 c.if-are_sound_objects.true);
         types = subst (λ (xs : List ℕ). length xs ≤ 1048576) c.as_slice-objects.ensures.value (leb-true (length c.as_slice-objects.result.now) 1048576 t);
       },

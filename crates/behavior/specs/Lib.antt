@@ -1,0 +1,4 @@
+pub mod Endings
+pub mod Transcripts
+pub mod Same
+pub mod Laws

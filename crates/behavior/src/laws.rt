@@ -1,0 +1,42 @@
+// Laws of the definitions. Each is the contract of a function that does nothing when it runs.
+
+ghost use Rattle.behavior.specs.Laws.{OutputAppends, SameReflexive, SameComposes, SameIsWritten, SameHasConverse, SameEndsAlike, StopsCarryOver};
+
+/// What is written by two transcripts, one after the other, is what each writes.
+pub fn output_appends()
+    ensures { OutputAppends }
+{}
+
+/// A family is the same as itself.
+#[tactic(auto, using(crate::proofs::Sameness::same_reflexive))]
+pub fn same_is_reflexive()
+    ensures { SameReflexive }
+{}
+
+/// Sameness composes: this is how one layer of the compiler is put on another.
+pub fn same_composes()
+    ensures { SameComposes }
+{}
+
+/// Runs that show the same write the same and end alike.
+#[tactic(auto, using(crate::proofs::Sameness::same_is_written))]
+pub fn same_is_written()
+    ensures { SameIsWritten }
+{}
+
+/// Where b grows and is the same as a, nothing that b shows is missing in a.
+#[tactic(auto, using(crate::proofs::Sameness::same_has_converse))]
+pub fn same_has_converse()
+    ensures { SameHasConverse }
+{}
+
+/// Where b grows and is the same as a, each ending of b is one of a.
+#[tactic(auto, using(crate::proofs::Sameness::same_ends_alike))]
+pub fn same_ends_alike()
+    ensures { SameEndsAlike }
+{}
+
+/// Where the first of two runs that are the same is a third one that may be stopped, so is the second.
+pub fn stops_carry_over()
+    ensures { StopsCarryOver }
+{}

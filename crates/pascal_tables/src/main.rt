@@ -1,0 +1,86 @@
+//! What the public calls of ps_build and of the command say of the rows of their tables.
+#![tactic(auto)]
+
+mod command_line;
+mod devices;
+mod programs;
+mod reports;
+mod transfers;
+
+use programs::{Job, untold};
+use std::alloc::{AllocError, Global};
+use std::io;
+use tables::{Answers, answer_rows};
+
+/// What is asked of a row, by the name of its table.
+#[derive(Clone, Copy)]
+enum Table {
+    Unknown,
+    Build,
+    Go,
+    Built,
+    Writers,
+    Images,
+    Reports,
+    Words,
+    Puts,
+    Reads,
+    Texts,
+}
+
+/// The table that the rows are of, and what is told of the next run.
+#[derive(Drop)]
+struct Command {
+    table: Table,
+    job: Job,
+}
+
+impl Answers for Command {
+    fn begin(&mut self, table: &str) {
+        self.table = match table {
+            "build" => Table::Build,
+            "go" => Table::Go,
+            "built" => Table::Built,
+            "writers" => Table::Writers,
+            "images" => Table::Images,
+            "reports" => Table::Reports,
+            "words" => Table::Words,
+            "puts" => Table::Puts,
+            "reads" => Table::Reads,
+            "texts" => Table::Texts,
+            _ => Table::Unknown,
+        };
+    }
+
+    fn tell(&mut self, word: &str, rest: &str, _text: Vec<u8>) -> Result<(), AllocError> {
+        self.job.tell(word, rest);
+        Ok(())
+    }
+
+    fn answer(&mut self, alloc: Global, text: &[u8]) -> Result<String, AllocError> {
+        let job = self.job;
+        self.job = untold();
+        let words = str::from_utf8(text).unwrap_or("");
+        match self.table {
+            Table::Unknown => String::from_str(alloc, "no such table"),
+            Table::Build => programs::built(alloc, text),
+            Table::Go => programs::went(alloc, text, job),
+            Table::Built => programs::ran_as_built(alloc, text, job),
+            Table::Writers => programs::wrote(alloc, text, job),
+            Table::Images => programs::ran(alloc, text, job),
+            Table::Reports => reports::report(alloc, words),
+            Table::Words => command_line::asked(alloc, words),
+            Table::Puts => transfers::put(alloc, words),
+            Table::Reads => transfers::read(alloc, words),
+            Table::Texts => transfers::went(alloc, words),
+        }
+    }
+}
+
+fn main(rt: HostRuntime) -> io::Result<()> {
+    let mut answers = Command {
+        table: Table::Unknown,
+        job: untold(),
+    };
+    answer_rows(&rt, &mut answers)
+}

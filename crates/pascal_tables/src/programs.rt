@@ -1,0 +1,90 @@
+//! Programs that are built and run, and images that are run.
+
+use ps_build::{Budget, Outcome, Refusal, build, go, run_image};
+use risc_machine::{Fused, Streams};
+use std::alloc::{AllocError, Global};
+
+/// What is told of a run: its budget, its steps, and the put that fails.
+#[derive(Clone, Copy)]
+pub(crate) struct Job {
+    budget: Budget,
+    steps: u64,
+    failing_put: u64,
+}
+
+/// A run of which nothing is told: with the default budget, and no put fails.
+pub(crate) fn untold() -> Job {
+    Job {
+        budget: Budget {
+            stack: 4_194_304,
+            heap: 1_048_576,
+        },
+        steps: 1000,
+        failing_put: 0,
+    }
+}
+
+impl Job {
+    /// Takes what a line tells of the run.
+    pub(crate) fn tell(&mut self, word: &str, rest: &str) {
+        match word {
+            "stack" => self.budget.stack = rest.parse::<u32>().unwrap_or(0),
+            "heap" => self.budget.heap = rest.parse::<u32>().unwrap_or(0),
+            "steps" => self.steps = rest.parse::<u64>().unwrap_or(0),
+            "put" => self.failing_put = rest.parse::<u64>().unwrap_or(0),
+            _ => {}
+        }
+    }
+}
+
+/// How a run ended, and what it wrote, in brackets.
+fn told(alloc: Global, end: Result<Outcome, Refusal>, output: &[u8]) -> Result<String, AllocError> {
+    let mut shown = match end {
+        Ok(outcome) => format!(in alloc; "{outcome:?} [")?,
+        Err(refusal) => format!(in alloc; "refused: {refusal:?} [")?,
+    };
+    for byte in output {
+        shown.push(char::from(*byte))?;
+    }
+    shown.push(']')?;
+    Ok(shown)
+}
+
+/// Whether a text is built, or its refusal.
+pub(crate) fn built(alloc: Global, text: &[u8]) -> Result<String, AllocError> {
+    match build(alloc, text) {
+        Ok(_) => String::from_str(alloc, "built"),
+        Err(refusal) => format!(in alloc; "{refusal:?}"),
+    }
+}
+
+/// How a text goes.
+pub(crate) fn went(alloc: Global, text: &[u8], job: Job) -> Result<String, AllocError> {
+    let mut console = Fused::new(alloc, b"", 100, 0, job.failing_put)?;
+    let end = go(alloc, text, job.budget, &mut console, job.steps);
+    told(alloc, end, console.output())
+}
+
+/// How an image runs.
+pub(crate) fn ran(alloc: Global, image: &[u8], job: Job) -> Result<String, AllocError> {
+    let mut console = Fused::new(alloc, b"", 100, 0, job.failing_put)?;
+    let end = run_image(alloc, image, job.budget, &mut console, job.steps);
+    told(alloc, end, console.output())
+}
+
+/// How the image that is built of a text runs.
+pub(crate) fn ran_as_built(alloc: Global, text: &[u8], job: Job) -> Result<String, AllocError> {
+    match build(alloc, text) {
+        Ok(built) => ran(alloc, built.bytes(), job),
+        Err(refusal) => format!(in alloc; "{refusal:?}"),
+    }
+}
+
+/// How a text goes whose output is written by a writer.
+pub(crate) fn wrote(alloc: Global, text: &[u8], job: Job) -> Result<String, AllocError> {
+    let input: &[u8] = b"";
+    let mut console = Streams::new(input, Vec::new(alloc));
+    let end = go(alloc, text, job.budget, &mut console, job.steps);
+    let (_, output) = console.into_parts();
+    told(alloc, end, &output)
+}

@@ -1,0 +1,53 @@
+//! Statuses and messages.
+
+use pascal_cli::{message, status};
+use ps_build::{FaultKind, Outcome, Refusal};
+use std::alloc::{AllocError, Global};
+
+fn number(word: Option<&str>) -> u32 {
+    word.unwrap_or("").parse::<u32>().unwrap_or(0)
+}
+
+fn refusal(name: &str, line: u32) -> Refusal {
+    match name {
+        "WrongType" => Refusal::WrongType { line },
+        "Truncated" => Refusal::Truncated,
+        _ => Refusal::NotYet,
+    }
+}
+
+/// The end that a row tells: a word, and numbers.
+fn end_of(row: &str) -> Result<Outcome, Refusal> {
+    let mut words = row.split(' ');
+    let kind = words.next().unwrap_or("");
+    let first = words.next();
+    let line = number(words.next());
+    match kind {
+        "normal" => Ok(Outcome::Normal),
+        "error" => Ok(Outcome::Error {
+            number: number(first),
+            line,
+        }),
+        "stack" => Ok(Outcome::Stack {
+            number: number(first),
+            line,
+        }),
+        "heap" => Ok(Outcome::Heap {
+            number: number(first),
+            line,
+        }),
+        "steps" => Ok(Outcome::Steps),
+        "input-fault" => Ok(Outcome::InputFault),
+        "output-fault" => Ok(Outcome::OutputFault),
+        "bad-word" => Ok(Outcome::Fault(FaultKind::BadWord)),
+        _ => Err(refusal(first.unwrap_or(""), line)),
+    }
+}
+
+/// The status and the message of an end.
+pub(crate) fn report(alloc: Global, row: &str) -> Result<String, AllocError> {
+    let end = end_of(row);
+    let status = status(&end);
+    let message = message(alloc, &end)?;
+    format!(in alloc; "{status} [{message}]")
+}

@@ -1,0 +1,84 @@
+//! Whole texts and images, read and written.
+
+use crate::devices::{Broken, Drip, Narrow};
+use pascal_cli::{ReadFault, put_all, read_up_to};
+use ps_build::{Budget, go};
+use risc_machine::Streams;
+use std::alloc::{AllocError, Global};
+use std::io;
+
+fn number(word: Option<&str>) -> u16 {
+    word.unwrap_or("").parse::<u16>().unwrap_or(0)
+}
+
+/// What a writer takes of ten digits. The row has the room that it has, and whether it fails then or takes no byte.
+pub(crate) fn put(alloc: Global, row: &str) -> Result<String, AllocError> {
+    let mut words = row.split(' ');
+    let mut writer = Narrow {
+        taken: Vec::new(alloc),
+        room: usize::from(number(words.next())),
+        fails: words.next() == Some("fails"),
+    };
+    let end = put_all(&mut writer, b"0123456789");
+    let mut shown = match end {
+        Ok(()) => String::from_str(alloc, "all [")?,
+        Err(count) => format!(in alloc; "{count} [")?,
+    };
+    for byte in &writer.taken {
+        shown.push(char::from(*byte))?;
+    }
+    shown.push(']')?;
+    Ok(shown)
+}
+
+fn read_told(
+    alloc: Global,
+    read: Result<Vec<u8>, ReadFault>,
+    turns: usize,
+) -> Result<String, AllocError> {
+    match read {
+        Ok(bytes) => {
+            let count = bytes.len();
+            format!(in alloc; "{count} bytes in {turns} turns")
+        }
+        Err(ReadFault::Device) => String::from_str(alloc, "device fault"),
+        Err(ReadFault::OutOfMemory) => Err(AllocError),
+    }
+}
+
+/// What is read of a reader that gives a byte in each turn. The row has how many bytes it gives, the limit, and whether the
+/// reader fails then or is at its end.
+pub(crate) fn read(alloc: Global, row: &str) -> Result<String, AllocError> {
+    let mut words = row.split(' ');
+    let left = usize::from(number(words.next()));
+    let limit = usize::from(number(words.next()));
+    if words.next() == Some("fails") {
+        let mut reader = Broken { left };
+        return read_told(alloc, read_up_to(alloc, &mut reader, limit), 0);
+    }
+    let mut reader = Drip { left, turns: 0 };
+    let read = read_up_to(alloc, &mut reader, limit);
+    read_told(alloc, read, reader.turns)
+}
+
+/// How a text of so many spaces goes that is read byte by byte, up to one byte more than the longest text.
+pub(crate) fn went(alloc: Global, row: &str) -> Result<String, AllocError> {
+    let left = row.parse::<u32>().unwrap_or(0) as usize;
+    let mut reader = Drip { left, turns: 0 };
+    let Ok(text) = read_up_to(alloc, &mut reader, 1_048_577) else {
+        return String::from_str(alloc, "not read");
+    };
+    let writer = Narrow {
+        taken: Vec::new(alloc),
+        room: 0,
+        fails: true,
+    };
+    let mut streams = Streams::new(io::empty(), writer);
+    let budget = Budget { stack: 0, heap: 0 };
+    let end = go(alloc, &text, budget, &mut streams, 1);
+    let count = text.len();
+    match end {
+        Ok(outcome) => format!(in alloc; "{count} bytes: {outcome:?}"),
+        Err(refusal) => format!(in alloc; "{count} bytes: refused: {refusal:?}"),
+    }
+}

@@ -1,0 +1,59 @@
+//! Texts as tables write them.
+
+use std::alloc::{AllocError, Global};
+
+/// Puts a piece without `\` behind a text.
+fn append_plain(text: &mut Vec<u8>, piece: &str) -> Result<(), AllocError> {
+    for byte in piece.as_bytes() {
+        text.push(if *byte == b'~' { b'\n' } else { *byte })?;
+    }
+    Ok(())
+}
+
+/// Puts a piece that stands behind `\`, and begins with two hexadecimal digits, behind a text.
+fn append_coded(text: &mut Vec<u8>, piece: &str) -> Result<(), AllocError> {
+    match piece.split_at_checked(2) {
+        None => append_plain(text, piece),
+        Some((digits, rest)) => {
+            text.push(u8::from_str_radix(digits, 16).unwrap_or(b'?'))?;
+            append_plain(text, rest)
+        }
+    }
+}
+
+fn append(text: &mut Vec<u8>, line: &str) -> Result<(), AllocError> {
+    let mut pieces = line.split('\\');
+    if let Some(first) = pieces.next() {
+        append_plain(text, first)?;
+    }
+    for piece in pieces {
+        append_coded(text, piece)?;
+    }
+    Ok(())
+}
+
+/// The text that is written on some lines.
+pub(crate) fn text_of(alloc: Global, written: &str) -> Result<Vec<u8>, AllocError> {
+    let mut text = Vec::new(alloc);
+    for line in written.split('\n') {
+        append(&mut text, line)?;
+    }
+    Ok(text)
+}
+
+/// An answer, whose letters are bytes, as tables write it.
+pub(crate) fn escaped(alloc: Global, answer: &str) -> Result<String, AllocError> {
+    let mut shown = String::new(alloc);
+    for letter in answer.chars() {
+        match letter {
+            '\n' => shown.push('~')?,
+            ' '..='}' => shown.push(letter)?,
+            _ => {
+                let code = u32::from(letter);
+                let word = format!(in alloc; "\\{code:02X}")?;
+                shown.push_str(word.as_str())?;
+            }
+        }
+    }
+    Ok(shown)
+}

@@ -1,5 +1,0 @@
-use Rattle.tac_code_laws.proofs.Sameness.{same_converse}
-use Rattle.tac_code_laws.proofs.laws.same_ends_alike.Goals as goal
-
-pub returns : goal.returns
-returns c = λ a b g h m ne. (m, (same_converse a b g h m).stays ne)
