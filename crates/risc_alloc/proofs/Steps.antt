@@ -1,0 +1,62 @@
+-- What the parts of a step back tell of the step.
+use Rattle.std.proofs.Common.{◌≡◌, ◌≢◌, ℕ, true, false, List, Option, Some, None, IfSome, sym, ◌∙◌, subst}
+use Rattle.std.proofs.lemmas.Bool.{eq-eqb}
+use Rattle.tac_code.specs.declared.code.Instruction.{Instruction}
+use Rattle.risc_alloc.specs.declared.flow.Exit.{Exit}
+use Rattle.risc_alloc.specs.declared.claims.Claims.{Claims}
+use Rattle.risc_alloc.specs.Flow.{written_by, is_it, writes}
+use Rattle.risc_alloc.specs.Parts.{read_first, read_second, read_passed, is_call, IsExit}
+use Rattle.risc_alloc.specs.Seats.{Held, Keeps, KeepsBut, IsIn, IsFreeFor, HasSlotsBut}
+use Rattle.risc_alloc.specs.Walk.{IsClaimHeld, Flows, Writes, Reads, Step}
+use Rattle.risc_alloc.proofs.Reading.{ReadAs, First, Second, Passed, read_as, written_is, calls_of}
+
+some_of : (P : ℕ → Type 0) (o : Option ℕ) (t : ℕ) → o ≡ Some t → IfSome o P → P t
+some_of P None t e h = absurd (cc)
+some_of P (Some x) t e h = let same : x ≡ t = cc in subst P same h
+
+pub flows_of : (seats : List ℕ) (claims : Claims) (i : Instruction) (place : ℕ) (exit : Exit) (next fallen out : List ℕ) → IsExit i place exit → (exit.falls ≡ true → fallen ≡ next) → Keeps seats fallen out → IfSome exit.target (IsClaimHeld seats claims out) → Flows seats claims i place next out
+flows_of seats claims i place exit next fallen out is same kept claimed = record {
+  falls = λ e u h. kept u (subst (λ (l : List ℕ). Held seats l u) (sym (same (is.falls ∙ e))) h);
+  jumps = λ target e. some_of (IsClaimHeld seats claims out) exit.target target (is.target ∙ e) claimed;
+}
+
+pub writes_none : (seats : List ℕ) (i : Instruction) (out : List ℕ) → written_by i ≡ None → Writes seats i out out
+writes_none seats i out none = record {
+  free = λ t e. absurd (no t e);
+  called = λ t e. absurd (no t (calls_of i t e).writes);
+  kept = λ u e h. h;
+}
+  where
+    no : (t : ℕ) → writes (Some i) t ≡ true → ⊥
+    no t e = let some : written_by i ≡ Some t = written_is i t e in cc
+
+pub writes_some : (seats : List ℕ) (i : Instruction) (to : ℕ) (out left : List ℕ) → written_by i ≡ Some to → (is_call i ≡ true → HasSlotsBut seats out to) → IsFreeFor seats out to → KeepsBut seats to out left → Writes seats i out left
+writes_some seats i to out left is slots free kept = record {
+  free = λ t e. subst (IsFreeFor seats out) (it t e) free;
+  called = λ t e. subst (HasSlotsBut seats out) (it t (calls_of i t e).writes) (slots (calls_of i t e).call);
+  kept = λ u e h. kept u (other u e) h;
+}
+  where
+    it : (t : ℕ) → writes (Some i) t ≡ true → to ≡ t
+    it t e = let some : written_by i ≡ Some t = written_is i t e in cc
+
+    other : (u : ℕ) → writes (Some i) u ≡ false → u ≢ to
+    other u e same =
+        let yes : is_it u (written_by i) ≡ true = subst (λ (o : Option ℕ). is_it u o ≡ true) (sym is) (eq-eqb u to same) in let bad : true ≡ false = sym yes ∙ e in cc
+
+pub reads_of : (seats : List ℕ) (i : Instruction) (first second : Option ℕ) (passed a b c d : List ℕ) → first ≡ read_first i → second ≡ read_second i → passed ≡ read_passed i → Keeps seats a b → IfSome first (Held seats b) → Keeps seats b c → IfSome second (Held seats c) → Keeps seats c d → ((u : ℕ) → IsIn passed u → Held seats d u) → Reads seats i a d
+reads_of seats i first second passed a b c d is_first is_second is_passed ab in_b bc in_c cd in_d = record {
+  read = λ u e. go u (read_as i u e);
+  kept = λ u h. cd u (bc u (ab u h));
+}
+  where
+    go : (u : ℕ) → ReadAs i u → Held seats d u
+    go u (First e) = cd u (bc u (some_of (Held seats b) first u (is_first ∙ e) in_b))
+    go u (Second e) = cd u (some_of (Held seats c) second u (is_second ∙ e) in_c)
+    go u (Passed h) = in_d u (subst (λ (l : List ℕ). IsIn l u) (sym is_passed) h)
+
+pub step_of : (seats : List ℕ) (claims : Claims) (i : Instruction) (place : ℕ) (next out left table : List ℕ) → Flows seats claims i place next out → Writes seats i out left → Reads seats i left table → Step seats claims i place next table
+step_of seats claims i place next out left table f w r = record { out = out; left = left; flows = f; writes = w; reads = r }
+
+pub some_is : (P : ℕ → Type 0) (o : Option ℕ) (t : ℕ) → o ≡ Some t → P t → IfSome o P
+some_is P o t e h = subst (λ (x : Option ℕ). IfSome x P) (sym e) h

@@ -1,0 +1,9 @@
+pub mod Flow
+pub mod Alive
+pub mod Homes
+pub mod Valid
+pub mod Parts
+pub mod Seats
+pub mod Walk
+pub mod Fits
+pub mod Slots

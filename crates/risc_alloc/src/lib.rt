@@ -1,0 +1,14 @@
+// Placement: a home for each temporary of three-address code, and the test that what is alive keeps its home to itself.
+#![tactic(auto)]
+
+mod claims;
+mod flow;
+pub mod homes;
+mod lives;
+pub mod placement;
+pub mod placer;
+mod routine;
+pub mod scan;
+mod seats;
+mod table;
+mod walk;

@@ -1,0 +1,13 @@
+pub mod Basics
+pub mod Grown
+pub mod Frames
+pub mod Found
+pub mod Stores
+pub mod Kept
+pub mod Steps
+pub mod Calls
+pub mod Heap
+pub mod Walk
+pub mod Start
+pub mod Example
+pub mod Laws

@@ -1,0 +1,190 @@
+-- Branches and comparisons followed by their words.
+use Rattle.std.proofs.Common.{◌≡◌, ℕ, suc, ◌+◌, ◌-◌, ◌≤◌, Bool, true, false, cond, List, [], ◌∷◌, ◌++◌, Option, Some, None, pos, refl, sym, ap, ◌∙◌, subst, arith, length-append, append_assoc}
+use Rattle.risc_word.specs.declared.instr.Operation.TheVariants as op
+use Rattle.risc_word.specs.declared.instr.Operand.TheVariants as instr_operand
+use Rattle.risc_word.specs.declared.instr.Condition.TheVariants as on
+use Rattle.risc_word.specs.declared.instr.Instr.TheVariants as word
+use Rattle.risc_machine.specs.Step as machine
+use Rattle.risc_view.specs.View.{View, Shows, after, at_view, holds_view}
+use Rattle.risc_view.specs.Runs.{To, Way, same_tape}
+use Rattle.tac_code.specs.declared.code.Relation.{Relation}
+use Rattle.tac_code.specs.declared.code.Relation.TheVariants.{Equal, NotEqual, Less, LessEqual, Greater, GreaterEqual}
+use Rattle.tac_code.specs.declared.code.Operand.{Operand}
+use Rattle.tac_code.specs.declared.code.Operand.TheVariants as operand
+use Rattle.tac_code.specs.declared.code.Value.{Value}
+use Rattle.tac_code.specs.declared.code.Value.TheVariants.{Number, Address, Routine}
+use Rattle.tac_code.specs.declared.code.Instruction.{Instruction}
+use Rattle.tac_code.specs.declared.code.Instruction.TheVariants.{Compare, Branch, BranchBack}
+use Rattle.tac_code.specs.Numbers.{truth}
+use Rattle.tac_code.specs.Sound.{IsOperand}
+use Rattle.tac_code.specs.Meaning.{fetch, State, giving, operand_value, pointer_of, pointers_related, related}
+use Rattle.risc_alloc.specs.Flow.{in_operand, is_among}
+use Rattle.risc_related.specs.Context.{Context, home, reads, Places, Passes, IsNumber}
+use Rattle.risc_related.specs.Changes.{Near}
+use Rattle.risc_related.proofs.Basics.{get_within, update_same, update_other}
+use Rattle.risc_steps.specs.Pieces.{AtPlace, Piece, Plain, Goes, Left}
+use Rattle.risc_steps.specs.Forms as form
+use Rattle.risc_steps.specs.Forms.{fetched, right, right_operand, both, target, save, condition, skip, difference}
+use Rattle.risc_steps.specs.Follows.{machine_of, Built, Belongs, Comes}
+use Rattle.risc_steps.proofs.Basics.{left_after, left_next, left_at, is_read, passes, writes_it, among_first, among_rest, integer_is}
+use Rattle.risc_steps.proofs.Runs.{IsRight, step_to}
+use Rattle.risc_steps.proofs.Comes.{framed, fetched_is, come_to, come_way, arrive_to, goes_run, goes_not, skip_run, skip_not, goes_end, gives_end}
+use Rattle.risc_steps.proofs.Operands.{code, two_run}
+use Rattle.risc_steps.proofs.Compares.{related_flags}
+
+-- ---- both values are there
+
+pub record Both (v w : Option Value) : Type 0 where
+  pub first : Value
+  pub second : Value
+  pub is : v ≡ Some first
+  pub is_second : w ≡ Some second
+
+no_left : (relation : Relation) (r : Option (Option ℕ)) (h : Bool) → pointers_related relation None r ≡ Some h → ⊥
+no_left Equal r h e = cc e
+no_left NotEqual r h e = cc e
+no_left Less r h e = cc e
+no_left LessEqual r h e = cc e
+no_left Greater r h e = cc e
+no_left GreaterEqual r h e = cc e
+
+no_right : (relation : Relation) (q : Option (Option ℕ)) (h : Bool) → pointers_related relation q None ≡ Some h → ⊥
+no_right relation None h e = no_left relation None h e
+no_right Equal (Some q) h e = cc e
+no_right NotEqual (Some q) h e = cc e
+no_right Less (Some q) h e = cc e
+no_right LessEqual (Some q) h e = cc e
+no_right Greater (Some q) h e = cc e
+no_right GreaterEqual (Some q) h e = cc e
+
+pub both_there : (relation : Relation) (v w : Option Value) (h : Bool) → related relation v w ≡ Some h → Both v w
+both_there relation None w h e = absurd (no_left relation (pointer_of w) h e)
+both_there relation (Some (Number x)) None h e = absurd (no_right relation (pointer_of (Some (Number x))) h e)
+both_there relation (Some (Address b o)) None h e = absurd (no_right relation (pointer_of (Some (Address b o))) h e)
+both_there relation (Some (Routine r)) None h e = absurd (no_right relation None h e)
+both_there relation (Some x) (Some y) h e = record { first = x; second = y; is = refl; is_second = refl }
+
+module _ (c : Context) (words : List ℕ) (b : Built c words) (p : Places) (s : State) (f : ℕ) (m : machine.State) (v : View) (sh : Shows words c.size m v) (be : Belongs c words p s v f) where
+  pub right_sound : (temporaries : ℕ) (o : Operand) → IsOperand temporaries o → IsRight c words b.stood b.laid b.placed s.current.routine f (framed c words b p s (machine_of v) f be.related) o
+  right_sound n (operand.Temporary t) h = tt
+  right_sound n (operand.Number z) h = integer_is z h
+
+  -- the difference of two operands, whose flags tell the relation
+  pub record Told (relation : Relation) (a : ℕ) (o : Operand) (holds : Bool) (ps : List Piece) (next : ℕ) : Type 0 where
+    pub view : View
+    pub way : Way words c.size m same_tape view
+    pub near : Near (machine_of v) (machine_of view)
+    pub flag : holds_view view (condition relation) ≡ holds
+    pub left : Left c words view.place ps next
+
+  pub told_run : (relation : Relation) (a : ℕ) (o : Operand) (holds : Bool) (ps : List Piece) (next temporaries : ℕ) → IsOperand temporaries o → reads c s.current.routine s.current.place a ≡ true → ((t : ℕ) → is_among t (in_operand o) ≡ true → reads c s.current.routine s.current.place t ≡ true) → related relation (s.current.temporaries a) (operand_value s.current.temporaries o) ≡ Some holds → Left c words v.place (both c s.current.routine a o (difference c s.current.routine a o ∷ ps)) next → Told relation a o holds ps next
+  told_run relation a o holds ps next temporaries so ra ro e l =
+      let r = s.current.routine in
+      let xs = both_there relation (s.current.temporaries a) (operand_value s.current.temporaries o) holds e in
+      let x = xs.first in
+      let y = xs.second in
+      let e' : related relation (Some x) (Some y) ≡ Some holds = ap (λ z. related relation (Some x) z) (sym xs.is_second) ∙ ap (λ z. related relation z (operand_value s.current.temporaries o)) (sym xs.is) ∙ e in
+      let i = word.Operate op.Sub 12 (fetched c r 12 (home c r a)) (right_operand c r o) in
+      let g = two_run c words b p s f m v sh be a o x y (Plain i ∷ ps) next (right_sound temporaries o so) ra ro xs.is xs.is_second l in
+      let v1 = g.view in
+      let l0 = subst (λ q. Left c words v.place q next) (sym (append_assoc (form.fetch c r 12 (home c r a)) (right c r o) (Plain i ∷ ps))) l in
+      let len = length-append (form.fetch c r 12 (home c r a)) (right c r o) in
+      let l1 = left_after c words v.place v1.place next (form.fetch c r 12 (home c r a) ++ right c r o) (Plain i ∷ ps) l0 (omega (arith, g.place, len)) in
+      let t2 = step_to c words b.stood i g.way.to v1 g.way.shows l1.stands.0 tt in
+      let v2 = after i v1 in
+      record {
+        view = v2;
+        way = way_to_way g.way t2;
+        near = record { registers = λ q n12 n15. update_other v1.registers 12 _ q n12 ∙ g.near.registers q n12 n15; words = g.near.words };
+        flag = related_flags c b.laid p s v.words f be.related.held relation x y holds 12 (fetched c r 12 (home c r a)) (right_operand c r o) v1 g.good g.good_right g.left g.right e';
+        left = left_next c words v1.place next (Plain i) ps l1;
+      }
+    where
+      way_to_way : {v1 v2 : View} (g : Way words c.size m same_tape v1) → To words c.size g.to same_tape v2 → Way words c.size m same_tape v2
+      way_to_way g t =
+          record { to = t.to; shows = t.shows; runs = λ k q. let x = t.runs k q in let y = g.runs x.0 q in (y.0, omega (arith, x.1, y.1), y.2 ∙ x.2) }
+
+  -- a branch goes to its target where the relation holds, and else on
+  branch_follows : (i : Instruction) (relation : Relation) (a : ℕ) (o : Operand) (k' temporaries : ℕ) (holds : Bool) → Passes c s.current.routine s.current.place k' → Passes c s.current.routine s.current.place (suc s.current.place) → c.site s.current.routine k' ≤ 1048576 → IsOperand temporaries o → reads c s.current.routine s.current.place a ≡ true → ((t : ℕ) → is_among t (in_operand o) ≡ true → reads c s.current.routine s.current.place t ≡ true) → related relation (s.current.temporaries a) (operand_value s.current.temporaries o) ≡ Some holds → Left c words v.place (form.branch_form c s.current.routine relation a o (AtPlace s.current.routine k')) (c.site s.current.routine (suc s.current.place)) → Comes c words s (record s { current = record s.current { place = cond holds k' (suc s.current.place) } }) m
+  branch_follows i relation a o k' temporaries holds there next low so ra ro e l = go holds (told_run relation a o holds (Goes (condition relation) (AtPlace s.current.routine k') ∷ []) _ temporaries so ra ro e l)
+    where
+      go : (h : Bool) → Told relation a o h (Goes (condition relation) (AtPlace s.current.routine k') ∷ []) (c.site s.current.routine (suc s.current.place)) → Comes c words s (record s { current = record s.current { place = cond h k' (suc s.current.place) } }) m
+      go true d =
+          let r = s.current.routine in
+          let s' = record s { current = record s.current { place = k' } } in
+          let t2 = goes_run c words b (condition relation) (AtPlace r k') [] _ d.way.to d.view d.way.shows d.left d.flag low in
+          let v2 = at_view (c.site r k') d.view in
+          come_way c words b s s' m d.view d.way (come_to c words b s s' d.way.to same_tape v2 t2 refl (goes_end c words b p s (machine_of v) f k' t2.to v2 be.related be.input there t2.shows (record { registers = d.near.registers; words = d.near.words }) refl))
+      go false d =
+          let r = s.current.routine in
+          let s' = record s { current = record s.current { place = suc s.current.place } } in
+          let t2 = goes_not c words b (condition relation) (AtPlace r k') [] _ d.way.to d.view d.way.shows d.left d.flag in
+          let v2 = at_view (d.view.place + 1) d.view in
+          come_way c words b s s' m d.view d.way (come_to c words b s s' d.way.to same_tape v2 t2 refl (goes_end c words b p s (machine_of v) f (suc s.current.place) t2.to v2 be.related be.input next t2.shows (record { registers = d.near.registers; words = d.near.words }) (sym d.left.ends)))
+
+  pub forward_branch_follows : (relation : Relation) (a : ℕ) (o : Operand) (n : ℕ) (holds : Bool) → fetch c.code s.current.routine s.current.place ≡ Some (Branch relation a o n) → related relation (s.current.temporaries a) (operand_value s.current.temporaries o) ≡ Some holds → Comes c words s (record s { current = record s.current { place = cond holds (suc s.current.place + n) (suc s.current.place) } }) m
+  forward_branch_follows relation a o n holds here e =
+      let r = s.current.routine in
+      let k = s.current.place in
+      let i = Branch relation a o n in
+      let so = fetched_is c words b r k i here in
+      branch_follows i relation a o (suc k + n) _ holds (passes c r k i here (suc k + n) refl (among_rest (suc k + n) (suc k) ((suc k + n) ∷ []) (among_first (suc k + n) []))) (passes c r k i here (suc k) refl (among_first (suc k) ((suc k + n) ∷ []))) (b.stood.within r (suc k + n) so.routine so.is so.sound.2) so.sound.1 (is_read c r k i here a (among_first a (in_operand o))) (λ t et. is_read c r k i here t (among_rest t a (in_operand o) et)) e (code c words b p s f m v sh be i here)
+
+  pub back_branch_follows : (relation : Relation) (a : ℕ) (o : Operand) (n : ℕ) (holds : Bool) → fetch c.code s.current.routine s.current.place ≡ Some (BranchBack relation a o n) → related relation (s.current.temporaries a) (operand_value s.current.temporaries o) ≡ Some holds → Comes c words s (record s { current = record s.current { place = cond holds (s.current.place - n) (suc s.current.place) } }) m
+  back_branch_follows relation a o n holds here e =
+      let r = s.current.routine in
+      let k = s.current.place in
+      let i = BranchBack relation a o n in
+      let so = fetched_is c words b r k i here in
+      let lt = get_within so.routine.body k i so.body in
+      branch_follows i relation a o (k - n) _ holds (passes c r k i here (k - n) refl (among_rest (k - n) (suc k) ((k - n) ∷ []) (among_first (k - n) []))) (passes c r k i here (suc k) refl (among_first (suc k) ((k - n) ∷ []))) (b.stood.within r (k - n) so.routine so.is (omega (arith, lt))) so.sound.1 (is_read c r k i here a (among_first a (in_operand o))) (λ t et. is_read c r k i here t (among_rest t a (in_operand o) et)) e (code c words b p s f m v sh be i here)
+
+  -- ---- the relation as a value
+
+  abbrev rest : Relation → ℕ → List Piece
+  rest relation t =
+      skip (condition relation) 2 ∷ Plain (word.Move (target c s.current.routine (home c s.current.routine t)) (instr_operand.Constant (pos 0))) ∷ skip on.Always 1 ∷ Plain (word.Move (target c s.current.routine (home c s.current.routine t)) (instr_operand.Constant (pos 1))) ∷ save c s.current.routine (home c s.current.routine t)
+
+  pub compare_follows : (relation : Relation) (t a : ℕ) (o : Operand) (holds : Bool) → fetch c.code s.current.routine s.current.place ≡ Some (Compare relation t a o) → related relation (s.current.temporaries a) (operand_value s.current.temporaries o) ≡ Some holds → Comes c words s (record s { current = giving t (Number (truth holds)) s.current }) m
+  compare_follows relation t a o holds here e =
+      let r = s.current.routine in
+      let k = s.current.place in
+      let i = Compare relation t a o in
+      let so = fetched_is c words b r k i here in
+      go holds (told_run relation a o holds (rest relation t) _ _ so.sound.2 (is_read c r k i here a (among_first a (in_operand o))) (λ t et. is_read c r k i here t (among_rest t a (in_operand o) et)) e (code c words b p s f m v sh be i here))
+    where
+      number_is : (h : Bool) → IsNumber (truth h)
+      number_is true = (omega arith, omega arith)
+      number_is false = (omega arith, omega arith)
+
+      go : (h : Bool) → Told relation a o h (rest relation t) (c.site s.current.routine (suc s.current.place)) → Comes c words s (record s { current = giving t (Number (truth h)) s.current }) m
+      go true w =
+          let r = s.current.routine in
+          let hd = target c r (home c r t) in
+          let s' = record s { current = giving t (Number (pos 1)) s.current } in
+          let v1 = w.view in
+          let t2 = skip_run c words b (condition relation) 2 _ _ w.way.to v1 w.way.shows w.left w.flag (omega arith) in
+          let v2 = at_view (v1.place + 1 + 2) v1 in
+          let l4 = left_next c words (v1.place + 1 + 1) _ _ _ (left_next c words (v1.place + 1) _ _ _ (left_next c words v1.place _ _ _ w.left)) in
+          let l4' = left_at c words _ v2.place _ _ l4 (omega arith) in
+          let i3 = word.Move hd (instr_operand.Constant (pos 1)) in
+          let t3 = step_to c words b.stood i3 t2.to v2 t2.shows l4'.stands.0 tt in
+          let v3 = after i3 v2 in
+          let l5 = left_next c words v2.place _ _ _ l4' in
+          come_way c words b s s' m v1 w.way (come_to c words b s s' w.way.to same_tape v2 t2 refl (arrive_to c words b s' t2.to v3 t3 (gives_end c words b p s (machine_of v) f t (Number (pos 1)) t3.to v3 be.related be.input (writes_it c r s.current.place (Compare relation t a o) here t refl refl) (number_is true) t3.shows (record { here = update_same v2.registers hd _; registers = λ q n12 n15 nd. update_other v2.registers hd _ q nd ∙ w.near.registers q n12 n15; words = w.near.words }) l5)))
+      go false w =
+          let r = s.current.routine in
+          let hd = target c r (home c r t) in
+          let s' = record s { current = giving t (Number (pos 0)) s.current } in
+          let v1 = w.view in
+          let t2 = skip_not c words b (condition relation) 2 _ _ w.way.to v1 w.way.shows w.left w.flag in
+          let v2 = at_view (v1.place + 1) v1 in
+          let l2 = left_next c words v1.place _ _ _ w.left in
+          let i3 = word.Move hd (instr_operand.Constant (pos 0)) in
+          let t3 = step_to c words b.stood i3 t2.to v2 t2.shows l2.stands.0 tt in
+          let v3 = after i3 v2 in
+          let l3 = left_next c words v2.place _ _ _ l2 in
+          let t4 = skip_run c words b on.Always 1 _ _ t3.to v3 t3.shows l3 refl (omega arith) in
+          let v4 = at_view (v3.place + 1 + 1) v3 in
+          let l5 = left_next c words (v3.place + 1) _ _ _ (left_next c words v3.place _ _ _ l3) in
+          come_way c words b s s' m v1 w.way (come_to c words b s s' w.way.to same_tape v2 t2 refl (arrive_to c words b s' t2.to v3 t3 (arrive_to c words b s' t3.to v4 t4 (gives_end c words b p s (machine_of v) f t (Number (pos 0)) t4.to v4 be.related be.input (writes_it c r s.current.place (Compare relation t a o) here t refl refl) (number_is false) t4.shows (record { here = update_same v2.registers hd _; registers = λ q n12 n15 nd. update_other v2.registers hd _ q nd ∙ w.near.registers q n12 n15; words = w.near.words }) l5))))

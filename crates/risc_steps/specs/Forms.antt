@@ -1,0 +1,397 @@
+-- The words of each instruction of three-address code. R14 is the frame of the innermost activation and R13 that of the program block;
+-- R12 and R15 are scratch registers, and operands in other registers are used where they stand.
+use Rattle.std.specs.Prelude.{ℕ, zero, suc, ◌+◌, ◌-◌, ◌*◌, ◌/◌, ◌%◌, Bool, false, ◌&&◌, nat_lt, if◌then◌else◌, List, [], ◌∷◌, ◌++◌, length, ℤ, pos, negsuc}
+use Rattle.risc_word.specs.declared.instr.Operation.{Operation}
+use Rattle.risc_word.specs.declared.instr.Operation.TheVariants as op
+use Rattle.risc_word.specs.declared.instr.Operand as machine
+use Rattle.risc_word.specs.declared.instr.Operand.TheVariants.{Content, Constant}
+use Rattle.risc_word.specs.declared.instr.Width.{Width}
+use Rattle.risc_word.specs.declared.instr.Width.TheVariants.{Word, Byte}
+use Rattle.risc_word.specs.declared.instr.Condition.{Condition}
+use Rattle.risc_word.specs.declared.instr.Condition.TheVariants as on
+use Rattle.risc_word.specs.declared.instr.Target.TheVariants.{Relative, Absolute}
+use Rattle.risc_word.specs.declared.instr.Instr.TheVariants as word
+use Rattle.tac_code.specs.declared.code.Operator.{Operator}
+use Rattle.tac_code.specs.declared.code.Operator.TheVariants.{Add, Subtract, Multiply, Divide, Modulo}
+use Rattle.tac_code.specs.declared.code.BitOperator.{BitOperator}
+use Rattle.tac_code.specs.declared.code.BitOperator.TheVariants.{And, Or, AndNot, ShiftLeft, Plus}
+use Rattle.tac_code.specs.declared.code.Relation.{Relation}
+use Rattle.tac_code.specs.declared.code.Relation.TheVariants.{Equal, NotEqual, Less, LessEqual, Greater, GreaterEqual}
+use Rattle.tac_code.specs.declared.code.Operand.{Operand}
+use Rattle.tac_code.specs.declared.code.Operand.TheVariants as operand
+use Rattle.tac_code.specs.declared.code.Base.{Base}
+use Rattle.tac_code.specs.declared.code.Base.TheVariants as base
+use Rattle.tac_code.specs.declared.code.Instruction.{Instruction}
+use Rattle.tac_code.specs.declared.code.Instruction.TheVariants.{Literal, Copy, Arithmetic, Bits, Compare, CheckRange, CheckPointer, Text, Offset, Index, RoutineValue, Load, Store, LoadByte, StoreByte, Jump, JumpBack, Branch, BranchBack, Call, CallValue, Return, Trap, Take, Put, New, End}
+use Rattle.tac_code.specs.declared.code.TacRoutine.{TacRoutine}
+use Rattle.tac_code.specs.Numbers.{word_of}
+use Rattle.risc_alloc.specs.declared.homes.Home.{Home}
+use Rattle.risc_alloc.specs.declared.homes.Home.TheVariants.{Slot, Reg}
+use Rattle.risc_related.specs.Context.{Context, home, is_program, slot_at}
+use Rattle.risc_steps.specs.Pieces.{Label, AtPlace, AtEntry, AtText, Piece, Plain, Goes, Fails, Enters, Joins, EntersAt, High, Low}
+
+-- ---- constants
+
+-- an offset of 20 bits, an immediate of 17
+abbrev pub is_near : ℕ → Bool
+is_near n = nat_lt n 524288
+
+abbrev pub is_small : ℤ → Bool
+is_small (pos n) = nat_lt n 65536
+is_small (negsuc n) = nat_lt n 65536
+
+-- register d takes a word, in two halves
+abbrev pub constant : ℕ → ℕ → List Piece
+constant d w =
+    Plain (word.MoveTop d (w / 65536)) ∷ Plain (word.Operate op.Add d d (Constant (pos (w % 65536)))) ∷ []
+
+-- register d takes a number
+abbrev pub number : ℕ → ℤ → List Piece
+number d z = if is_small z then Plain (word.Move d (Constant z)) ∷ [] else constant d (word_of z)
+
+-- ---- words of a frame
+
+-- register d takes the word n bytes behind the address in register b, another one
+abbrev pub load : ℕ → ℕ → ℕ → List Piece
+load d b n =
+    if is_near n then Plain (word.Load Word d b (pos n)) ∷ []
+    else constant d n ++ (Plain (word.Operate op.Add d d (Content b)) ∷ Plain (word.Load Word d d (pos 0)) ∷ [])
+
+-- the word there takes what register a holds
+abbrev pub store : ℕ → ℕ → ℕ → List Piece
+store a b n =
+    if is_near n then Plain (word.Store Word a b (pos n)) ∷ []
+    else constant 15 n ++ (Plain (word.Operate op.Add 15 15 (Content b)) ∷ Plain (word.Store Word a 15 (pos 0)) ∷ [])
+
+-- ---- what hangs on no place
+
+abbrev pub bit_operation : BitOperator → Operation
+bit_operation And = op.And
+bit_operation Or = op.Ior
+bit_operation AndNot = op.Ann
+bit_operation ShiftLeft = op.Lsl
+bit_operation Plus = op.Add
+
+-- where a relation holds after the left operand less the right one
+abbrev pub condition : Relation → Condition
+condition Equal = on.Equal
+condition NotEqual = on.NotEqual
+condition Less = on.Less
+condition LessEqual = on.LessEqual
+condition Greater = on.Greater
+condition GreaterEqual = on.GreaterEqual
+
+abbrev pub skip : Condition → ℕ → Piece
+skip condition n = Plain (word.Branch condition false (Relative (pos n)))
+
+-- an immediate divisor above 0
+abbrev pub is_divisor : Operand → Bool
+is_divisor (operand.Temporary t) = false
+is_divisor (operand.Number (pos n)) = nat_lt 0 n && nat_lt n 65536
+is_divisor (operand.Number (negsuc n)) = false
+
+-- the floored quotient in R12 rounded toward zero, in four words
+abbrev pub rounded : List Piece
+rounded =
+    skip on.Plus 3 ∷ Plain (word.MoveHigh 15) ∷ skip on.Equal 1 ∷ Plain (word.Operate op.Add 12 12 (Constant (pos 1))) ∷ []
+
+-- from 0 to an immediate: no borrow is outside, of negative numbers too
+abbrev pub is_short : ℤ → ℤ → Bool
+is_short (pos zero) (pos n) = nat_lt n 65535
+is_short low high = false
+
+abbrev pub natural : ℤ → ℕ
+natural (pos n) = n
+natural (negsuc n) = 0
+
+-- the device page is FFFFC0H
+abbrev pub device : ℕ → Piece
+device d = Plain (word.Move d (Constant (negsuc 63)))
+
+module _ (c : Context) (r : ℕ) where
+  -- an operand stands in its register, or is loaded into register d
+  abbrev pub fetch : ℕ → Home → List Piece
+  fetch d (Reg q) = []
+  fetch d (Slot k) = load d 14 (slot_at c r k)
+
+  abbrev pub fetched : ℕ → Home → ℕ
+  fetched d (Reg q) = q
+  fetched d (Slot k) = d
+
+  -- register d takes an operand, wherever it stands
+  abbrev pub bring : ℕ → Home → List Piece
+  bring d (Reg q) = Plain (word.Move d (Content q)) ∷ []
+  bring d (Slot k) = load d 14 (slot_at c r k)
+
+  -- the register in which a result is made, and the store of it into its slot
+  abbrev pub target : Home → ℕ
+  target (Reg q) = q
+  target (Slot k) = 12
+
+  abbrev pub save : Home → List Piece
+  save (Reg q) = []
+  save (Slot k) = store 12 14 (slot_at c r k)
+
+  -- a result in R12 comes to its home
+  abbrev pub receive : Home → List Piece
+  receive (Reg q) = Plain (word.Move q (Content 12)) ∷ []
+  receive (Slot k) = store 12 14 (slot_at c r k)
+
+  -- a right operand: a temporary's, an immediate, or a number in R15
+  abbrev pub right : Operand → List Piece
+  right (operand.Temporary t) = fetch 15 (home c r t)
+  right (operand.Number z) = if is_small z then [] else constant 15 (word_of z)
+
+  abbrev pub right_operand : Operand → machine.Operand
+  right_operand (operand.Temporary t) = Content (fetched 15 (home c r t))
+  right_operand (operand.Number z) = if is_small z then Constant z else Content 15
+
+  -- ---- bases
+
+  -- the address of a base: a register and an offset
+  abbrev pub base_code : Base → List Piece
+  base_code base.Frame = []
+  base_code base.Scratch = []
+  base_code base.Program = []
+  base_code (base.Temporary t) = fetch 12 (home c r t)
+
+  abbrev pub base_register : Base → ℕ
+  base_register base.Frame = 14
+  base_register base.Scratch = 14
+  base_register base.Program = 13
+  base_register (base.Temporary t) = fetched 12 (home c r t)
+
+  abbrev pub base_offset : Base → ℕ → ℕ
+  base_offset base.Frame n = c.frame_at r + n
+  base_offset base.Scratch n = c.scratch_at r + n
+  base_offset base.Program n = c.frame_at 0 + n
+  base_offset (base.Temporary t) n = n
+
+  -- the same with an offset that a load or a store can take
+  abbrev pub reach : Base → ℕ → List Piece
+  reach a n =
+      if is_near (base_offset a n) then base_code a
+      else base_code a ++ (constant 15 (base_offset a n) ++ Plain (word.Operate op.Add 12 (base_register a) (Content 15)) ∷ [])
+
+  abbrev pub reach_register : Base → ℕ → ℕ
+  reach_register a n = if is_near (base_offset a n) then base_register a else 12
+
+  abbrev pub reach_offset : Base → ℕ → ℕ
+  reach_offset a n = if is_near (base_offset a n) then base_offset a n else 0
+
+  abbrev pub load_form : Width → ℕ → Base → ℕ → List Piece
+  load_form width t a n =
+      reach a n ++ (Plain (word.Load width (target (home c r t)) (reach_register a n) (pos (reach_offset a n))) ∷ save (home c r t))
+
+  abbrev pub store_form : Width → Base → ℕ → ℕ → List Piece
+  store_form width a n b =
+      reach a n ++ (fetch 15 (home c r b) ++ Plain (word.Store width (fetched 15 (home c r b)) (reach_register a n) (pos (reach_offset a n))) ∷ [])
+
+  -- register d takes the address n bytes behind a base
+  abbrev pub address : ℕ → Base → ℕ → List Piece
+  address d a n =
+      base_code a ++ (if nat_lt (base_offset a n) 65536 then Plain (word.Operate op.Add d (base_register a) (Constant (pos (base_offset a n)))) ∷ [] else constant 15 (base_offset a n) ++ Plain (word.Operate op.Add d (base_register a) (Content 15)) ∷ [])
+
+  -- ---- instructions
+
+  -- a temporary takes another one
+  abbrev pub copy : Home → Home → List Piece
+  copy (Reg q) from = bring q from
+  copy (Slot k) from = fetch 12 from ++ store (fetched 12 from) 14 (slot_at c r k)
+
+  -- an operation on two operands, its result in the register of a home
+  abbrev pub operate : Operation → Home → ℕ → Operand → Piece
+  operate o t a b = Plain (word.Operate o (target t) (fetched 12 (home c r a)) (right_operand b))
+
+  abbrev pub both : ℕ → Operand → List Piece → List Piece
+  both a b rest = fetch 12 (home c r a) ++ (right b ++ rest)
+
+  abbrev pub difference : ℕ → Operand → Piece
+  difference a b = Plain (word.Operate op.Sub 12 (fetched 12 (home c r a)) (right_operand b))
+
+  abbrev pub compare_form : Relation → ℕ → ℕ → Operand → List Piece
+  compare_form relation t a b =
+      both a b (difference a b ∷ skip (condition relation) 2 ∷ Plain (word.Move (target (home c r t)) (Constant (pos 0))) ∷ skip on.Always 1 ∷ Plain (word.Move (target (home c r t)) (Constant (pos 1))) ∷ save (home c r t))
+
+  -- ---- numbers
+
+  -- H is the sign of the low word where the product has 32 bits
+  abbrev pub multiply_form : ℕ → ℕ → Operand → ℕ → ℕ → List Piece
+  multiply_form t a b error line =
+      both a b (operate op.Mul (home c r t) a b ∷ (save (home c r t) ++ (Plain (word.MoveHigh 15) ∷ Plain (word.Operate op.Asr 12 (target (home c r t)) (Constant (pos 31))) ∷ Plain (word.Operate op.Sub 12 12 (Content 15)) ∷ Fails on.NotEqual error line ∷ [])))
+
+  -- R15 takes a right operand, with N and Z
+  abbrev pub divisor : Operand → List Piece
+  divisor (operand.Temporary t) = bring 15 (home c r t)
+  divisor (operand.Number z) = number 15 z
+
+  -- the quotient by R15
+  abbrev pub quotient : ℕ → List Piece
+  quotient a =
+      fetch 12 (home c r a) ++ (Plain (word.Operate op.Div 12 (fetched 12 (home c r a)) (Content 15)) ∷ rounded)
+
+  -- by the least integer: 1 or 0
+  abbrev pub quotient_by_least : ℕ → List Piece
+  quotient_by_least a =
+      fetch 12 (home c r a) ++ (Plain (word.Operate op.Sub 12 (fetched 12 (home c r a)) (Content 15)) ∷ skip on.Equal 2 ∷ Plain (word.Move 12 (Constant (pos 0))) ∷ skip on.Always 1 ∷ Plain (word.Move 12 (Constant (pos 1))) ∷ [])
+
+  -- by a divisor below 0, which is negated, and then the quotient
+  abbrev pub quotient_by_negative : ℕ → ℕ → ℕ → List Piece
+  quotient_by_negative a error line =
+      Plain (word.Move 12 (Constant (pos 0))) ∷ Plain (word.Operate op.Sub 15 12 (Content 15)) ∷ skip on.OverflowSet (length (quotient a) + 4) ∷ (quotient a ++ (Plain (word.Move 15 (Constant (pos 0))) ∷ Plain (word.Operate op.Sub 12 15 (Content 12)) ∷ Fails on.OverflowSet error line ∷ skip on.Always (length (quotient_by_least a)) ∷ quotient_by_least a))
+
+  abbrev pub divide_form : ℕ → ℕ → Operand → ℕ → ℕ → List Piece
+  divide_form t a b error line =
+      if is_divisor b then fetch 12 (home c r a) ++ (Plain (word.Operate op.Div 12 (fetched 12 (home c r a)) (right_operand b)) ∷ (rounded ++ receive (home c r t)))
+      else divisor b ++ (Fails on.Equal 2 line ∷ skip on.Minus (length (quotient a) + 1) ∷ (quotient a ++ (skip on.Always (length (quotient_by_negative a error line)) ∷ (quotient_by_negative a error line ++ receive (home c r t)))))
+
+  -- what H holds after a division is Pascal's mod
+  abbrev pub modulo_form : ℕ → ℕ → Operand → ℕ → List Piece
+  modulo_form t a b line =
+      if is_divisor b then fetch 12 (home c r a) ++ (Plain (word.Operate op.Div 12 (fetched 12 (home c r a)) (right_operand b)) ∷ Plain (word.MoveHigh (target (home c r t))) ∷ save (home c r t))
+      else divisor b ++ (Plain (word.Operate op.Sub 12 15 (Constant (pos 1))) ∷ Fails on.Less 3 line ∷ (fetch 12 (home c r a) ++ (Plain (word.Operate op.Div 12 (fetched 12 (home c r a)) (Content 15)) ∷ Plain (word.MoveHigh (target (home c r t))) ∷ save (home c r t))))
+
+  abbrev pub arithmetic_form : Operator → ℕ → ℕ → Operand → ℕ → ℕ → List Piece
+  arithmetic_form Add t a b error line =
+      both a b (operate op.Add (home c r t) a b ∷ Fails on.OverflowSet error line ∷ save (home c r t))
+  arithmetic_form Subtract t a b error line =
+      both a b (operate op.Sub (home c r t) a b ∷ Fails on.OverflowSet error line ∷ save (home c r t))
+  arithmetic_form Multiply t a b error line = multiply_form t a b error line
+  arithmetic_form Divide t a b error line = divide_form t a b error line
+  arithmetic_form Modulo t a b error line = modulo_form t a b line
+
+  -- ---- ranges
+
+  -- R15 less a number
+  abbrev pub less_number : ℕ → ℤ → List Piece
+  less_number a z =
+      right (operand.Number z) ++ (Plain (word.Operate op.Sub 15 a (right_operand (operand.Number z))) ∷ [])
+
+  -- whether what register a holds lies in a range; R15 is scratch
+  abbrev pub range_code : ℕ → ℤ → ℤ → ℕ → ℕ → List Piece
+  range_code a low high error line =
+      if is_short low high then Plain (word.Operate op.Sub 15 a (Constant (pos (suc (natural high))))) ∷ Fails on.CarryClear error line ∷ []
+      else less_number a low ++ (Fails on.Less error line ∷ (less_number a high ++ Fails on.Greater error line ∷ []))
+
+  abbrev pub check_form : ℕ → ℤ → ℤ → ℕ → ℕ → List Piece
+  check_form a low high error line =
+      fetch 12 (home c r a) ++ range_code (fetched 12 (home c r a)) low high error line
+
+  -- R12 takes the index less the lowest one, times the width
+  abbrev pub steps_code : ℕ → ℤ → ℕ → List Piece
+  steps_code i low width =
+      right (operand.Number low) ++ (Plain (word.Operate op.Sub 12 i (right_operand (operand.Number low))) ∷ (right (operand.Number (pos width)) ++ Plain (word.Operate op.Mul 12 12 (right_operand (operand.Number (pos width)))) ∷ []))
+
+  -- R15 takes the address of a base
+  abbrev pub base_address : Base → List Piece
+  base_address base.Frame = number 15 (pos (c.frame_at r)) ++ Plain (word.Operate op.Add 15 14 (Content 15)) ∷ []
+  base_address base.Scratch = number 15 (pos (c.scratch_at r)) ++ Plain (word.Operate op.Add 15 14 (Content 15)) ∷ []
+  base_address base.Program = number 15 (pos (c.frame_at 0)) ++ Plain (word.Operate op.Add 15 13 (Content 15)) ∷ []
+  base_address (base.Temporary t) = bring 15 (home c r t)
+
+  abbrev pub index_form : ℕ → Base → ℕ → ℤ → ℤ → ℕ → ℕ → ℕ → List Piece
+  index_form t a i low high width error line =
+      fetch 12 (home c r i) ++ (range_code (fetched 12 (home c r i)) low high error line ++ (steps_code (fetched 12 (home c r i)) low width ++ (base_address a ++ (Plain (word.Operate op.Add (target (home c r t)) 15 (Content 12)) ∷ save (home c r t)))))
+
+  -- ---- devices, calls, objects
+
+  -- operands from number j on go to bytes 8 + 4 * j of the frame
+  abbrev pub pass : ℕ → List ℕ → List Piece
+  pass j [] = []
+  pass j (u ∷ us) =
+      fetch 12 (home c r u) ++ (Plain (word.Store Word (fetched 12 (home c r u)) 14 (pos (8 + 4 * j))) ∷ pass (suc j) us)
+
+  abbrev pub call_form : ℕ → ℕ → List ℕ → ℕ → List Piece
+  call_form t q us line =
+      pass 0 us ++ ((if is_program c q then Enters q line else Joins q) ∷ receive (home c r t))
+
+  abbrev pub call_value_form : ℕ → ℕ → List ℕ → ℕ → List Piece
+  call_value_form t a us line =
+      pass 0 us ++ (fetch 12 (home c r a) ++ (EntersAt (fetched 12 (home c r a)) line ∷ receive (home c r t)))
+
+  abbrev pub return_form : ℕ → List Piece
+  return_form a =
+      bring 12 (home c r a) ++ (if is_program c r then Plain (word.Load Word 15 14 (pos 0)) ∷ Plain (word.Load Word 14 14 (pos 4)) ∷ Plain (word.Branch on.Always false (Absolute 15)) ∷ [] else Plain (word.Load Word 15 14 (pos (c.link_at r))) ∷ Plain (word.Branch on.Always false (Absolute 15)) ∷ [])
+
+  abbrev pub label_form : ℕ → Label → List Piece
+  label_form t label = High (target (home c r t)) label ∷ Low (target (home c r t)) label ∷ save (home c r t)
+
+  abbrev pub put_form : ℕ → List Piece
+  put_form a =
+      fetch 12 (home c r a) ++ (device 15 ∷ Plain (word.Store Word (fetched 12 (home c r a)) 15 (pos 8)) ∷ [])
+
+  abbrev pub take_form : ℕ → List Piece
+  take_form t =
+      device 15 ∷ Plain (word.Load Word (target (home c r t)) 15 (pos 8)) ∷ save (home c r t)
+
+  abbrev pub end_form : List Piece
+  end_form =
+      device 12 ∷ Plain (word.Move 15 (Constant (pos 0))) ∷ Plain (word.Store Word 15 12 (pos 4)) ∷ []
+
+  -- the heap's next address, where there is room up to the stack's limit
+  abbrev pub new_form : ℕ → ℕ → ℕ → List Piece
+  new_form t bytes line =
+      Plain (word.Load Word 15 13 (pos 268)) ∷ Plain (word.Load Word 12 13 (pos 272)) ∷ Plain (word.Operate op.Sub 15 15 (Content 12)) ∷ (number 12 (pos bytes) ++ (Plain (word.Operate op.Sub 15 15 (Content 12)) ∷ Fails on.CarrySet 13 line ∷ Plain (word.Load Word 15 13 (pos 272)) ∷ Plain (word.Operate op.Add 12 12 (Content 15)) ∷ Plain (word.Store Word 12 13 (pos 272)) ∷ Plain (word.Move 12 (Content 15)) ∷ receive (home c r t)))
+
+  abbrev pub branch_form : Relation → ℕ → Operand → Label → List Piece
+  branch_form relation a b label = both a b (difference a b ∷ Goes (condition relation) label ∷ [])
+
+  -- the words of the instruction at a place
+  abbrev pub form : ℕ → Instruction → List Piece
+  form k (Literal t z) = number (target (home c r t)) z ++ save (home c r t)
+  form k (Copy t a) = copy (home c r t) (home c r a)
+  form k (Arithmetic operator t a b error line) = arithmetic_form operator t a b error line
+  form k (Bits operator t a b) = both a b (operate (bit_operation operator) (home c r t) a b ∷ save (home c r t))
+  form k (Compare relation t a b) = compare_form relation t a b
+  form k (CheckRange a low high error line) = check_form a low high error line
+  form k (CheckPointer a error line) = bring 12 (home c r a) ++ Fails on.Equal error line ∷ []
+  form k (Text t bytes) = label_form t (AtText r k)
+  form k (Offset t a n extent) = address (target (home c r t)) a n ++ save (home c r t)
+  form k (Index t a i low high width error line) = index_form t a i low high width error line
+  form k (RoutineValue t q) = label_form t (AtEntry q)
+  form k (Load t a n) = load_form Word t a n
+  form k (Store a n b) = store_form Word a n b
+  form k (LoadByte t a n) = load_form Byte t a n
+  form k (StoreByte a n b) = store_form Byte a n b
+  form k (Jump n) = Goes on.Always (AtPlace r (suc k + n)) ∷ []
+  form k (JumpBack n) = Goes on.Always (AtPlace r (k - n)) ∷ []
+  form k (Branch relation a b n) = branch_form relation a b (AtPlace r (suc k + n))
+  form k (BranchBack relation a b n) = branch_form relation a b (AtPlace r (k - n))
+  form k (Call t q us line) = call_form t q us line
+  form k (CallValue t a us line) = call_value_form t a us line
+  form k (Return a) = return_form a
+  form k (Trap error line) = Fails on.Always error line ∷ []
+  form k (Take t) = take_form t
+  form k (Put a) = put_form a
+  form k (New t type line) = new_form t (c.sizes type) line
+  form k End = end_form
+
+  -- ---- entries
+
+  -- parameters from number j on come from the operands of the caller, n bytes behind the frame
+  abbrev pub parameters : ℕ → ℕ → ℕ → List Piece
+  parameters n j zero = []
+  parameters n j (suc count) =
+      load (target (home c r j)) 14 (n + 8 + 4 * j) ++ (save (home c r j) ++ parameters n (suc j) count)
+
+  -- R12 takes the new frame's address
+  abbrev pub frame_below : ℕ → List Piece
+  frame_below n =
+      if nat_lt n 65536 then Plain (word.Operate op.Sub 12 14 (Constant (pos n))) ∷ []
+      else constant 12 n ++ Plain (word.Operate op.Sub 12 14 (Content 12)) ∷ []
+
+  abbrev pub enter_form : TacRoutine → List Piece
+  enter_form routine =
+      frame_below (c.costs r) ++ (Plain (word.Load Word 0 13 (pos 268)) ∷ Plain (word.Operate op.Sub 0 12 (Content 0)) ∷ Fails on.Less 12 routine.line ∷ Plain (word.Store Word 15 12 (pos 0)) ∷ Plain (word.Store Word 14 12 (pos 4)) ∷ Plain (word.Move 14 (Content 12)) ∷ parameters (c.costs r) 0 routine.parameters)
+
+  abbrev pub join_form : TacRoutine → List Piece
+  join_form routine =
+      Plain (word.Store Word 15 14 (pos (c.link_at r))) ∷ parameters 0 0 routine.parameters
+
+  -- a frame that no stack holds, and parameters that no call passes
+  abbrev pub is_entered : TacRoutine → Bool
+  is_entered routine = nat_lt (c.costs r) 16777153 && nat_lt routine.parameters 66
+
+  abbrev pub entry_form : TacRoutine → List Piece
+  entry_form routine =
+      if is_program c r then (if is_entered routine then enter_form routine else Fails on.Always 12 routine.line ∷ []) else join_form routine

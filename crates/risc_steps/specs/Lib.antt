@@ -1,0 +1,4 @@
+pub mod Pieces
+pub mod Forms
+pub mod Follows
+pub mod Laws

@@ -1,0 +1,6 @@
+pub mod Runs
+pub mod Temporaries
+pub mod Instructions
+pub mod Splices
+pub mod Pieces
+pub mod Blocks

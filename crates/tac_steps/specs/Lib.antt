@@ -1,0 +1,4 @@
+pub mod Runs
+pub mod Splices
+pub mod Laws
+pub mod Routines
