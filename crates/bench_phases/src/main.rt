@@ -2,7 +2,7 @@
 //! its word names: `read`, `scan`, `parse` or `check`. `bench/phases` tells their shares of the time by it.
 #![tactic(auto)]
 
-use pascal_cli::read_up_to;
+use pascal_cli::{Counted, read_up_to};
 use ps_build::Refusal;
 use ps_check::check;
 use ps_parse::parse;
@@ -75,7 +75,7 @@ fn run<R: Env + Input + Print + AllocGlobal>(rt: &R) -> u8 {
         }
         Err(_) => return UNREAD,
     };
-    let Ok(text) = read_up_to(rt.alloc(), &mut rt.reader(), TEXT_LIMIT) else {
+    let Ok(text) = read_up_to(rt.alloc(), &mut Counted::new(rt.reader()), TEXT_LIMIT) else {
         return UNREAD;
     };
     match take(rt.alloc(), &text, last) {

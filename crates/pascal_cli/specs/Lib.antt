@@ -1,3 +1,4 @@
 pub mod App
 pub mod Command
 pub mod Report
+pub mod Transfers

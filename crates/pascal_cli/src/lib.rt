@@ -9,4 +9,4 @@ mod transfer;
 pub use job::{CommandFault, Job, MAX_BUDGET, MAX_STEPS, Task, command};
 pub use report::{OutOfMemory, message, status};
 pub use session::run;
-pub use transfer::{ReadFault, put_all, read_up_to};
+pub use transfer::{Counted, ReadFault, put_all, read_up_to};

@@ -4,7 +4,7 @@ ghost use Rattle.std.specs.Prelude.{◌<◌, ◌^◌};
 
 use crate::job::{CommandFault, Job, Task, command};
 use crate::report::{message, status};
-use crate::transfer::{ReadFault, put_all, read_up_to};
+use crate::transfer::{Counted, ReadFault, put_all, read_up_to};
 use ps_build::{Budget, Outcome, Refusal, build, go, run_image};
 use risc_machine::Streams;
 use std::alloc::Global;
@@ -95,10 +95,10 @@ fn tell_read_fault<R: Eprint + AllocGlobal>(rt: &R, fault: ReadFault, path: &str
 fn read_file<R: Files + AllocGlobal>(rt: &R, path: &str, limit: usize) -> Result<Vec<u8>, ReadFault>
     requires { limit < 2 ^ 32 }
 {
-    let Ok(mut file) = fs::open(rt, path) else {
+    let Ok(file) = fs::open(rt, path) else {
         return Err(ReadFault::Device);
     };
-    read_up_to(rt.alloc(), &mut file, limit)
+    read_up_to(rt.alloc(), &mut Counted::new(file), limit)
 }
 
 fn budget_of(job: &Job<'_>) -> Budget {
@@ -117,10 +117,10 @@ fn compile<R: Files + Eprint + AllocGlobal>(rt: &R, source: &str, image: &str) -
         Ok(built) => built,
         Err(refusal) => return tell(rt, &Err(refusal)),
     };
-    let Ok(mut file) = fs::create(rt, image) else {
+    let Ok(file) = fs::create(rt, image) else {
         return cannot(rt, "write", image);
     };
-    match put_all(&mut file, built.bytes()) {
+    match put_all(&mut Counted::new(file), built.bytes()) {
         Ok(()) => 0,
         Err(_) => cannot(rt, "write", image),
     }
@@ -168,7 +168,7 @@ fn go_file<R: Files + Print + Eprint + Input + AllocGlobal>(
 
 // The text comes from standard input, so the run's own input is empty.
 fn go_standard_input<R: Print + Eprint + Input + AllocGlobal>(rt: &R, job: &Job<'_>) -> u8 {
-    let text = match read_up_to(rt.alloc(), &mut rt.reader(), TEXT_LIMIT) {
+    let text = match read_up_to(rt.alloc(), &mut Counted::new(rt.reader()), TEXT_LIMIT) {
         Ok(text) => text,
         Err(fault) => return tell_read_fault(rt, fault, STANDARD_INPUT),
     };

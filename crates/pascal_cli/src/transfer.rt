@@ -1,8 +1,13 @@
 // Whole texts and images from readers and to writers, in a bounded number of turns.
 
 ghost use Rattle.std.specs.Prelude.{◌≡◌, ℕ, ◌+◌, ◌^◌, ◌<◌, ◌≤◌, length, take, OnOk, IfOk, IfErr, vec_len};
-ghost use Rattle.std.specs.Io.KnownBytes.{Appends, Consumes, IsAtEnd};
+ghost use Rattle.std.specs.Io.{ReadsAtMost, WritesAtMost};
+ghost use Rattle.std.specs.Io.KnownBytes.{Appends, Consumes, IsAtEnd, ReadConsumes, WriteAppends};
+ghost use Rattle.risc_machine.specs.Console.{one_more};
+ghost use Rattle.pascal_cli.specs.declared.transfer.ReadFault.TheVariants.{OutOfMemory};
+ghost use Rattle.pascal_cli.specs.Transfers.{device_of, faults_of, Counts, CountsRead, TakesUpTo};
 
+use risc_machine::DeviceFault;
 use std::alloc::{AllocError, AllocFailed, Global};
 use std::io::{Read, Write};
 use thiserror::Error;
@@ -19,8 +24,66 @@ pub enum ReadFault {
 }
 
 impl From<AllocError> for ReadFault {
+    ghost from_gives = { λ _ r. r ≡ OutOfMemory };
+
     fn from(_error: AllocError) -> ReadFault {
         ReadFault::OutOfMemory
+    }
+}
+
+/// A reader or a writer with the count of its failures: each error, and each write of no byte.
+#[derive(Drop)]
+pub struct Counted<D> {
+    device: D,
+    faults: u64,
+}
+
+impl<D> Counted<D> {
+    /// The device, with no failure counted.
+    pub fn new(device: D) -> Counted<D>
+        ensures device { device_of result ≡ device }
+        ensures faults { faults_of result ≡ 0 }
+    {
+        Counted { device, faults: 0 }
+    }
+
+    // Counts a failure.
+    fn fault(&mut self) -> DeviceFault
+        ensures device { device_of self.new ≡ device_of self.old }
+        ensures faults { faults_of self.new ≡ one_more (faults_of self.old) }
+    {
+        self.faults = self.faults.saturating_add(1);
+        DeviceFault
+    }
+}
+
+impl<R: Read> Counted<R> {
+    // One read.
+    fn read(&mut self, buffer: &mut [u8]) -> Result<usize, DeviceFault>
+        ensures bound { ReadsAtMost result buffer.new }
+        ensures bytes { ReadConsumes (R.remaining (device_of self.old)) (R.remaining (device_of self.new)) result buffer.new }
+        ensures counted { Counts result (faults_of self.old) (faults_of self.new) }
+    {
+        match self.device.read(buffer) {
+            Ok(count) => Ok(count),
+            Err(_) => Err(self.fault()),
+        }
+    }
+}
+
+impl<W: Write> Counted<W> {
+    // One write, of some bytes.
+    fn write(&mut self, bytes: &[u8]) -> Result<usize, DeviceFault>
+        ensures bound { WritesAtMost result bytes.now }
+        ensures some { IfOk result (λ count. 0 < count) }
+        ensures bytes { WriteAppends (W.contents (device_of self.old)) (W.contents (device_of self.new)) result bytes.now }
+        ensures counted { Counts result (faults_of self.old) (faults_of self.new) }
+    {
+        match self.device.write(bytes) {
+            Ok(0) => Err(self.fault()),
+            Ok(count) => Ok(count),
+            Err(_) => Err(self.fault()),
+        }
     }
 }
 
@@ -29,19 +92,24 @@ const CHUNK: usize = 8192;
 
 /// Reads to the end, or to `limit` bytes where there are more. Each turn of reading takes at least one byte or
 /// meets the end, so there are at most `limit` turns and one more for the end.
+///
+/// It answers `Device` only where a read failed, once.
 pub fn read_up_to<R: Read>(
     alloc: Global,
-    reader: &mut R,
+    reader: &mut Counted<R>,
     limit: usize,
 ) -> Result<Vec<u8>, ReadFault>
     requires { limit < 2 ^ 32 }
     ensures bound { IfOk result (λ bytes. vec_len bytes ≤ limit) }
     ensures taken { IfOk result (λ bytes.
-        Consumes (R.remaining reader.old) (R.remaining reader.new) bytes.items) }
-    ensures whole { IfOk result (λ bytes. vec_len bytes < limit → IsAtEnd (R.remaining reader.new)) }
+        Consumes (R.remaining (device_of reader.old)) (R.remaining (device_of reader.new)) bytes.items) }
+    ensures whole { IfOk result (λ bytes. vec_len bytes < limit → IsAtEnd (R.remaining (device_of reader.new))) }
+    ensures failed { IfErr result (λ fault. TakesUpTo fault limit (R.remaining (device_of reader.old)) (R.remaining (device_of reader.new))) }
+    ensures counted { CountsRead result (faults_of reader.old) (faults_of reader.new) }
 {
     let mut bytes = Vec::new(alloc);
     let mut chunk = [0u8; CHUNK];
+    // each turn but the last adds a byte, so the list is full before the turns are used up
     for _turn in 0..=limit {
         let room = (limit - bytes.len()).min(CHUNK);
         let Ok(count) = reader.read(&mut chunk[..room]) else {
@@ -52,15 +120,16 @@ pub fn read_up_to<R: Read>(
         }
         bytes.extend_from_slice(&chunk[..count])?;
     }
-    Err(ReadFault::Device)
+    unreachable!()
 }
 
 /// Writes all the bytes. At `Err(k)` just the first k bytes were written: a write of no byte or an error ended it.
 /// Each turn writes at least one byte.
-pub fn put_all<W: Write>(writer: &mut W, bytes: &[u8]) -> Result<(), usize>
-    ensures ok { OnOk result (Appends (W.contents writer.old) (W.contents writer.new) bytes.now) }
-    ensures err { IfErr result (λ k. Appends (W.contents writer.old) (W.contents writer.new) (take k bytes.now)) }
+pub fn put_all<W: Write>(writer: &mut Counted<W>, bytes: &[u8]) -> Result<(), usize>
+    ensures ok { OnOk result (Appends (W.contents (device_of writer.old)) (W.contents (device_of writer.new)) bytes.now) }
+    ensures err { IfErr result (λ k. Appends (W.contents (device_of writer.old)) (W.contents (device_of writer.new)) (take k bytes.now)) }
     ensures short { IfErr result (λ k. k < length bytes.now) }
+    ensures counted { Counts result (faults_of writer.old) (faults_of writer.new) }
 {
     let mut done = 0;
     for _turn in 0..bytes.len() {
@@ -70,9 +139,6 @@ pub fn put_all<W: Write>(writer: &mut W, bytes: &[u8]) -> Result<(), usize>
         let Ok(written) = writer.write(&bytes[done..]) else {
             return Err(done);
         };
-        if written == 0 {
-            return Err(done);
-        }
         done += written;
     }
     Ok(())

@@ -2,7 +2,7 @@
 
 use crate::front::checked;
 use pascal_cli::{
-    CommandFault, Job, ReadFault, Task, command, message, put_all, read_up_to, status,
+    CommandFault, Counted, Job, ReadFault, Task, command, message, put_all, read_up_to, status,
 };
 use ps_build::{Outcome, Refusal};
 use ps_runner::ending::Ending;
@@ -65,7 +65,11 @@ fn run_words<R: Files + Print + Eprint + Input + AllocGlobal>(rt: &R, words: &[S
 fn do_job<R: Files + Print + Eprint + Input + AllocGlobal>(rt: &R, job: &Job<'_>) -> u8 {
     match job.task {
         Task::Go { source } => go_file(rt, job, source),
-        Task::GoStandardInput => match read_up_to(rt.alloc(), &mut rt.reader(), TEXT_LIMIT) {
+        Task::GoStandardInput => match read_up_to(
+            rt.alloc(),
+            &mut Counted::new(rt.reader()),
+            TEXT_LIMIT,
+        ) {
             Ok(text) => go(rt, &text, &[], job.steps),
             Err(fault) => tell_read_fault(rt, fault, "standard input"),
         },
@@ -81,14 +85,14 @@ fn go_file<R: Files + Print + Eprint + Input + AllocGlobal>(
     job: &Job<'_>,
     path: &str,
 ) -> u8 {
-    let Ok(mut file) = fs::open(rt, path) else {
+    let Ok(file) = fs::open(rt, path) else {
         return cannot(rt, "read", path);
     };
-    let text = match read_up_to(rt.alloc(), &mut file, TEXT_LIMIT) {
+    let text = match read_up_to(rt.alloc(), &mut Counted::new(file), TEXT_LIMIT) {
         Ok(text) => text,
         Err(fault) => return tell_read_fault(rt, fault, path),
     };
-    match read_up_to(rt.alloc(), &mut rt.reader(), INPUT_LIMIT) {
+    match read_up_to(rt.alloc(), &mut Counted::new(rt.reader()), INPUT_LIMIT) {
         Ok(input) => go(rt, &text, &input, job.steps),
         Err(fault) => tell_read_fault(rt, fault, "standard input"),
     }
@@ -126,7 +130,7 @@ fn go<R: Print + Eprint + AllocGlobal>(rt: &R, text: &[u8], input: &[u8], steps:
         Err(TranscriptFault::OutOfMemory) => return tell(rt, &Err(Refusal::OutOfMemory)),
         Err(TranscriptFault::NoByteAndNoMark) => return give_up(rt, "no transcript of a run"),
     };
-    match put_all(&mut io::writer(rt), bytes.as_slice()) {
+    match put_all(&mut Counted::new(io::writer(rt)), bytes.as_slice()) {
         Ok(()) => tell(rt, &Ok(outcome_of(ran.ending))),
         Err(_) => tell(rt, &Ok(Outcome::OutputFault)),
     }

@@ -1,7 +1,7 @@
 //! Whole texts and images, read and written.
 
 use crate::devices::{Broken, Drip, Narrow};
-use pascal_cli::{ReadFault, put_all, read_up_to};
+use pascal_cli::{Counted, ReadFault, put_all, read_up_to};
 use ps_build::{Budget, go};
 use risc_machine::Streams;
 use std::alloc::{AllocError, Global};
@@ -19,7 +19,7 @@ pub(crate) fn put(alloc: Global, row: &str) -> Result<String, AllocError> {
         room: usize::from(number(words.next())),
         fails: words.next() == Some("fails"),
     };
-    let end = put_all(&mut writer, b"0123456789");
+    let end = put_all(&mut Counted::new(&mut writer), b"0123456789");
     let mut shown = match end {
         Ok(()) => String::from_str(alloc, "all [")?,
         Err(count) => format!(in alloc; "{count} [")?,
@@ -54,10 +54,14 @@ pub(crate) fn read(alloc: Global, row: &str) -> Result<String, AllocError> {
     let limit = usize::from(number(words.next()));
     if words.next() == Some("fails") {
         let mut reader = Broken { left };
-        return read_told(alloc, read_up_to(alloc, &mut reader, limit), 0);
+        return read_told(
+            alloc,
+            read_up_to(alloc, &mut Counted::new(&mut reader), limit),
+            0,
+        );
     }
     let mut reader = Drip { left, turns: 0 };
-    let read = read_up_to(alloc, &mut reader, limit);
+    let read = read_up_to(alloc, &mut Counted::new(&mut reader), limit);
     read_told(alloc, read, reader.turns)
 }
 
@@ -65,7 +69,7 @@ pub(crate) fn read(alloc: Global, row: &str) -> Result<String, AllocError> {
 pub(crate) fn went(alloc: Global, row: &str) -> Result<String, AllocError> {
     let left = row.parse::<u32>().unwrap_or(0) as usize;
     let mut reader = Drip { left, turns: 0 };
-    let Ok(text) = read_up_to(alloc, &mut reader, 1_048_577) else {
+    let Ok(text) = read_up_to(alloc, &mut Counted::new(&mut reader), 1_048_577) else {
         return String::from_str(alloc, "not read");
     };
     let writer = Narrow {

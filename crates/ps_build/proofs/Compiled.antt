@@ -2,7 +2,9 @@
 use Rattle.std.proofs.Common.{◌≡◌, ◌≢◌, inl, inr, ℕ, zero, suc, ◌+◌, ◌*◌, ◌/◌, ◌%◌, ◌<◌, ◌≤◌, Bool, true, false, cond, List, [], ◌∷◌, length, map, get_or, Some, None, refl, sym, ap, ◌∙◌, subst, arith, lit≤}
 use Rattle.std.specs.Prelude.{nat_lt}
 use Rattle.std.proofs.lemmas.List.Elements.{All-nil, All-cons}
-use Rattle.ps_build.specs.Same.{Same, normal, out_of_stack}
+use Rattle.behavior.specs.Endings as ending
+use Rattle.behavior.specs.Transcripts.{Shown}
+use Rattle.behavior.specs.Same.{Same}
 use Rattle.ps_tree.specs.Tree as Tree
 use Rattle.ps_tree.specs.Tree.{routine_at}
 use Rattle.ps_tree.specs.Counts.{routine_cells, routine_nodes}
@@ -11,7 +13,7 @@ use Rattle.ps_regions.specs.declared.refusal.Rule.TheVariants as r
 use Rattle.ps_regions.specs.declared.refusal.CheckRefusal.{CheckRefusal}
 use Rattle.ps_regions.specs.declared.refusal.CheckRefusal.TheVariants as k
 use Rattle.ps_regions.specs.Refusal.{IsRefusal}
-use Rattle.ps_meaning.specs.Run.{Ran, run_within}
+use Rattle.ps_meaning.specs.Run.{run_within}
 use Rattle.ps_meaning.specs.Costs.{Bounded}
 use Rattle.ps_check.specs.Programs.{program}
 use Rattle.risc_word.specs.Words.{word_of}
@@ -28,7 +30,7 @@ use Rattle.ps_scan.specs.Lexis.{IsTokens}
 use Rattle.ps_syntax.specs.declared.program.Program.{Program}
 use Rattle.ps_grammar.specs.Trees.{IsTreeOf}
 use Rattle.ps_text.specs.Lines.{IsSource}
-use Rattle.ps_build.specs.Strings.{compiled_of}
+use Rattle.ps_build.specs.Strings.{only_block, compiled_of}
 use Rattle.ps_build.specs.Code.{program_code, code_words, frame_bytes as block_bytes, entry_link, program_image}
 use Rattle.ps_parse.specs.declared.error.ParseRefusal.{ParseRefusal}
 use Rattle.ps_parse.specs.declared.error.ParseRefusal.TheVariants as p
@@ -116,8 +118,8 @@ module _ (checked : Tree.Program) (line : ℕ) (bytes : List ℕ) (compiled : co
       }
 
   -- how the image ends, by whether the stack is too small
-  abbrev end_shown : Bool → Ran
-  end_shown small = cond small ([], out_of_stack line) (bytes, normal)
+  abbrev end_shown : Bool → Shown
+  end_shown small = cond small ([], ending.Stack line) (bytes, ending.Normal)
 
   halted : (small : Bool) (at : State) → outcome_of (trap_rows image) (outcome_bytes small bytes, Stopped (outcome_word small) at) ≡ end_shown small
   halted true at = refl
@@ -135,7 +137,7 @@ module _ (checked : Tree.Program) (line : ℕ) (bytes : List ℕ) (compiled : co
         (x.0, omega (arith, x.1), ap (outcome_of (trap_rows image)) e ∙ halted (nat_lt stack 4) writes.at)
 
     -- before any step it shows nothing, as the program does with no fuel
-    reached : (small : Bool) → nat_lt stack 4 ≡ small → (n : ℕ) → (m : ℕ) × (n ≤ m) × (image_shows image heap stack input m ≡ cond small ([], out_of_stack line) (shown_by bytes n))
+    reached : (small : Bool) → nat_lt stack 4 ≡ small → (n : ℕ) → (m : ℕ) × (n ≤ m) × (image_shows image heap stack input m ≡ cond small ([], ending.Stack line) (shown_by bytes n))
     reached false e zero = (0, lit≤ tt, refl)
     reached true e zero = let x = ended 0 in (x.0, x.1, x.2 ∙ ap end_shown e)
     reached small e (suc n) = let x = ended (suc n) in (x.0, x.1, x.2 ∙ ap end_shown e)
@@ -146,7 +148,7 @@ module _ (checked : Tree.Program) (line : ℕ) (bytes : List ℕ) (compiled : co
         (x.0, x.1, x.2 ∙ sym (shown checked line bytes one_block (frame_bytes image) (object_bytes image) stack heap input n))
 
   pub does_as_meant : DoesAsMeant checked image
-  does_as_meant = record { routines = sym routine_count; types = sym type_count; bounded = bounds; same = same_run }
+  does_as_meant = record { routines = sym routine_count; types = sym type_count; bounded = bounds; same = λ heap stack budget input are_bytes. same_run heap stack budget input }
 
 -- ---- the text is accepted as one checked program alone
 
@@ -172,7 +174,7 @@ module _ (text : List ℕ) (tokens : List Token) (tree : Program) (source : IsSo
   -- ---- why no program
 
   pub no_program : (refusal : CheckRefusal) → (IsRefusal refusal → program text tree ≡ None) → IsRefused text (of_check refusal)
-  no_program k.OutOfMemory none = tt
+  no_program k.OutOfMemory none = source
   no_program (k.Broken rule line) none = at rule (record { tokens = tokens; tree = tree; parsed = parsed; none = λ others other a. ap (program text) (one_tree others other a.scanned a.derived) ∙ none tt })
     where
       at : (rule : Rule) → HasNoProgram text → IsRefused text (of_rule rule line)
@@ -198,13 +200,13 @@ module _ (text : List ℕ) (tokens : List Token) (tree : Program) (source : IsSo
 
 module _ (text : List ℕ) (checked : Tree.Program) (of_text : IsProgramOf text checked) where
   pub not_yet : (refusal : Refusal) → OnlyNotYet refusal (compiled_of checked ≡ None) → IsRefused text refusal
-  not_yet OutOfMemory h = tt
+  not_yet OutOfMemory h = of_text.accepts.parsed.limits
   not_yet NotYet h = record { checked = checked; accepts = of_text.accepts; none = h }
   not_yet _ h = absurd h
 
   module _ (line : ℕ) (bytes : List ℕ) (compiled : compiled_of checked ≡ Some (line, bytes)) where
     pub too_large : (refusal : Refusal) → OnlyTooLarge refusal (most_words < code_words (length bytes)) → IsRefused text refusal
-    too_large OutOfMemory h = tt
+    too_large OutOfMemory h = of_text.accepts.parsed.limits
     too_large CodeTooLarge h = record { checked = checked; accepts = of_text.accepts; line = line; bytes = bytes; compiled = compiled; words = h }
     too_large _ h = absurd h
 
@@ -229,7 +231,7 @@ module _ (text : List ℕ) (tokens : List Token) (source : IsSource text) (scann
   no_tree (p.NotAProgram line token) none = without_tree (none (λ e. cc e))
   no_tree (p.TooDeep line) none = without_tree (none (λ e. cc e))
   no_tree (p.NotInProfile line) none = inl (without_tree (none (λ e. cc e)))
-  no_tree p.OutOfMemory none = tt
+  no_tree p.OutOfMemory none = source
 
 -- ---- what a refusal of a fault says: that the text is not accepted
 

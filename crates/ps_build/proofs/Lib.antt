@@ -1,9 +1,11 @@
 pub mod Simulation
 pub mod Emission
 pub mod Rows
+pub mod Asked
 pub mod Told
 pub mod Compiled
 pub mod Results
 pub mod Appending
 pub mod Bytes
 pub mod Meant
+pub mod Unbudgeted

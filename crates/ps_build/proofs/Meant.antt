@@ -1,5 +1,5 @@
 -- What a program of strings means: it writes its bytes and ends, or is stopped for stack at once.
-use Rattle.std.proofs.Common.{◌≡◌, ℕ, ℤ, pos, negsuc, zero, suc, ◌+◌, ◌-◌, ◌%◌, Bool, true, false, cond, List, [], ◌∷◌, ◌++◌, Option, Some, None, length, replicate, take, nat_lt, get_or, refl, sym, ap, ◌∙◌, arith, append_assoc}
+use Rattle.std.proofs.Common.{◌≡◌, ℕ, ℤ, pos, negsuc, zero, suc, ◌+◌, ◌-◌, ◌%◌, ◌<◌, Bool, true, false, cond, List, [], ◌∷◌, ◌++◌, Option, Some, None, length, replicate, take, nat_lt, get_or, refl, sym, ap, ◌∙◌, arith, append_assoc}
 use Rattle.std.specs.Prelude.{option_and_then}
 use Rattle.std.proofs.lemmas.List.{append-nil}
 use Rattle.ps_tree.specs.Tree as Tree
@@ -7,12 +7,13 @@ use Rattle.ps_tree.specs.Tree.{routine_at}
 use Rattle.ps_meaning.specs.Text.{fitted, right_aligned}
 use Rattle.ps_meaning.specs.Values.{text_values}
 use Rattle.ps_tree.specs.Types.{DataType}
-use Rattle.ps_build.specs.Same.{more, normal, out_of_stack}
-use Rattle.ps_meaning.specs.Worlds.{Context, World, Outside, Within, Stack, Answer, Gives, Act, Done, done, and_then, stop, says}
+use Rattle.behavior.specs.Endings as ending
+use Rattle.behavior.specs.Transcripts.{Shown}
+use Rattle.ps_meaning.specs.Worlds.{Context, World, Outside, Within, Answer, Gives, Ends, Act, Done, done, and_then, stop, says}
 use Rattle.ps_meaning.specs.Expressions.{Caller}
 use Rattle.ps_meaning.specs.Statements.{Costs, Next, Block, characters, write, writes, act, acts}
 use Rattle.ps_meaning.specs.Calls.{Bound, bind, call_routine, execute}
-use Rattle.ps_meaning.specs.Run.{Ran, first_world, first_context, costs_of, ran_of, run_within}
+use Rattle.ps_meaning.specs.Run.{first_world, first_context, costs_of, shown as shown_of, run_within}
 use Rattle.ps_meaning.proofs.Limits.{bind_quiet}
 use Rattle.ps_build.specs.Strings.{joined, character_text, parameter_text, parameters_text, statement_text, statements_text, only_block, compiled_of}
 
@@ -137,9 +138,9 @@ pub only : (program : Tree.Program) (line : ℕ) (text : List ℕ) → compiled_
 only program line text e = only_from program.routines program.domains line text e
 
 -- what it shows by its fuel, where it isn't stopped: one of fuel is spent on the block
-abbrev pub shown_by : List ℕ → ℕ → Ran
-shown_by text zero = ([], more)
-shown_by text (suc n) = (text, normal)
+abbrev pub shown_by : List ℕ → ℕ → Shown
+shown_by text zero = ([], ending.More)
+shown_by text (suc n) = (text, ending.Normal)
 
 module _ (program : Tree.Program) (line : ℕ) (text : List ℕ) (o : Only program.routines program.domains line text) (F G : List ℕ) (S H : ℕ) (input : List ℕ) where
   abbrev costs : Costs
@@ -166,11 +167,11 @@ module _ (program : Tree.Program) (line : ℕ) (text : List ℕ) (o : Only progr
   abbrev inside : Context
   inside = record { env = Within bound.frame Outside; opened = []; active = 0 ∷ []; calls = [] }
 
-  runs : (n : ℕ) → ran_of (execute program costs n (Block routine.body) inside bound.world) ≡ shown_by text n
-  runs zero = ap (λ t. (t, more)) silent
+  runs : (n : ℕ) → shown_of (execute program costs n (Block routine.body) inside bound.world) ≡ shown_by text n
+  runs zero = ap (λ t. (t, ending.More)) silent
   runs (suc n) =
-      ap ran_of (statements_write program costs (call_routine program costs (execute program costs n)) (execute program costs n) inside routine.body text body_is bound.world)
-      ∙ ap (λ t. (t ++ text, normal)) silent
+      ap shown_of (statements_write program costs (call_routine program costs (execute program costs n)) (execute program costs n) inside routine.body text body_is bound.world)
+      ∙ ap (λ t. (t ++ text, ending.Normal)) silent
 
   -- the entry of the block
   abbrev entered : ℕ → Act Done
@@ -178,13 +179,13 @@ module _ (program : Tree.Program) (line : ℕ) (text : List ℕ) (o : Only progr
       let bound = bind routine.result [] routine.variables w in
       execute program costs n (Block routine.body) (record { env = Within bound.frame Outside; opened = []; active = 0 ∷ []; calls = [] }) bound.world
 
-  by_stack : (small : Bool) (n : ℕ) → ran_of (cond small (stop (Stack routine.line) first_context) (entered n) (first_world input)) ≡ cond small ([], out_of_stack line) (shown_by text n)
-  by_stack true n = ap (λ l. ([], out_of_stack l)) line_is
+  by_stack : (small : Bool) (n : ℕ) → shown_of (cond small (stop (ending.Stack routine.line)) (entered n) (first_world input)) ≡ cond small ([], ending.Stack line) (shown_by text n)
+  by_stack true n = ap (λ l. ([], ending.Stack l)) line_is
   by_stack false n = runs n
 
-  pub shown : (n : ℕ) → run_within program F G S H input n ≡ cond (nat_lt S (get_or F 0 0)) ([], out_of_stack line) (shown_by text n)
+  pub shown : (n : ℕ) → run_within program F G S H input n ≡ cond (nat_lt S (get_or F 0 0)) ([], ending.Stack line) (shown_by text n)
   shown n =
-      ap (λ m. ran_of (cond (nat_lt S m) (stop (Stack routine.line) first_context) (entered n) (first_world input))) (alone (get_or F 0 0))
+      ap (λ m. shown_of (cond (nat_lt S m) (stop (ending.Stack routine.line)) (entered n) (first_world input))) (alone (get_or F 0 0))
       ∙ by_stack (nat_lt S (get_or F 0 0)) n
     where
       alone : (m : ℕ) → 0 + m ≡ m

@@ -32,7 +32,7 @@ no_image bytes budget i.TooLarge h = h
 no_image bytes budget i.BadTable h = h
 
 pub not_loaded : (bytes : List ℕ) (budget : Budget) (image : Image) (refusal : Refusal) → IsImage bytes image → IsLoadRefused image budget refusal → IsRunRefused bytes budget refusal
-not_loaded bytes budget image OutOfMemory is_image h = tt
+not_loaded bytes budget image OutOfMemory is_image h = record { image = image; is_image = is_image; refused = h }
 not_loaded bytes budget image BudgetTooLarge is_image h = record { image = image; is_image = is_image; refused = h }
 not_loaded bytes budget image BudgetUneven is_image h = record { image = image; is_image = is_image; refused = h }
 not_loaded bytes budget image _ is_image h = absurd h

@@ -3,113 +3,134 @@ use Rattle.std.proofs.Common.{◌≡◌, ℕ, zero, suc, ◌+◌, ◌*◌, ◌%�
 use Rattle.std.specs.Prelude.{nat_lt, nat_eq, ◌==◌, ◌||◌, not}
 use Rattle.risc_load.specs.Refusal.{budget_fault}
 use Rattle.risc_load.specs.declared.budget.LoadRefusal.TheVariants.{BudgetUneven, BudgetTooLarge}
-use Rattle.ps_build.specs.Same.{Ending, Shown, output, more, normal, fault}
+use Rattle.behavior.specs.Endings as ending
 use Rattle.risc_machine.specs.declared.stop.Stop.{Stop}
 use Rattle.risc_machine.specs.declared.stop.Stop.TheVariants as m
 use Rattle.risc_machine.specs.Console.{World}
 use Rattle.risc_machine.specs.Step.{State}
-use Rattle.risc_machine.specs.Exec.{Halt, Running, Stopped, Faulted, fresh, exec, output_of, ending_of, fault_number as machine_fault}
-use Rattle.risc_machine.specs.Laws.{stop_at, Ended, Broken, FollowsExec, Counts}
+use Rattle.risc_machine.specs.Exec.{Halt, Running, Stopped, Faulted, fresh, exec, fault_kind, ending_of}
+use Rattle.risc_machine.specs.Laws.{stop_at, Ended, FollowsExec, Counts}
 use Rattle.risc_image.specs.Image.{Image}
 use Rattle.risc_load.specs.declared.budget.Budget.{Budget}
 use Rattle.risc_load.specs.Loaded.{loaded_state}
 use Rattle.ps_build.specs.declared.outcome.Outcome.{Outcome}
 use Rattle.ps_build.specs.declared.outcome.Outcome.TheVariants.{Normal, Error, Stack, Heap, Steps, InputFault, OutputFault, Fault}
-use Rattle.risc_load.specs.Shows.{trap_rows, image_shows, IsBudget}
-use Rattle.ps_build.specs.Runs.{ending_told, IsToldBy, Ends, Breaks, Tells, CountsFaults, Runs}
+use Rattle.risc_load.specs.Shows.{trap_rows, IsBudget}
+use Rattle.ps_build.specs.Devices.{AsksInput, AsksOutput}
+use Rattle.ps_build.specs.Runs.{outcome_told, IsToldBy, Ends, Breaks, Tells, CountsFaults, Runs}
+use Rattle.ps_build.proofs.Asked.{Asked, Left, Shows}
 
--- the bytes of a transcript, in the words of both layers
-pub output_is : (transcript : List ℕ) → output_of transcript ≡ output transcript
-output_is [] = refl
-output_is (n ∷ rest) = ap (λ r. cond (nat_lt n 256) (n ∷ r) r) (output_is rest)
-
--- the outcome of the stop that a halt is has the halt's ending
-told_by : (traps : List (ℕ × ℕ × ℕ)) (h : Halt) (outcome : Outcome) → IsToldBy traps (stop_at h) outcome → ending_told outcome ≡ Some (ending_of traps h)
-told_by traps Running outcome e = ap ending_told e
-told_by traps (Stopped zero at) outcome e = ap ending_told e
+-- the outcome of the stop that a halt is tells the halt's ending
+told_by : (traps : List (ℕ × ℕ × ℕ)) (h : Halt) (outcome : Outcome) → IsToldBy traps (stop_at h) outcome → outcome_told (ending_of traps h) ≡ Some outcome
+told_by traps Running outcome e = ap Some (sym e)
+told_by traps (Stopped zero at) outcome e = ap Some (sym e)
 told_by traps (Stopped (suc k) at) outcome e = e
 told_by traps (Faulted kind) outcome e = e
 
--- an outcome that has an ending tells of a run that no device disturbed
-tells_end : (outcome : Outcome) (ending : Ending) (family : ℕ → Shown) (n : ℕ) (before : List ℕ) (after : World) → ending_told outcome ≡ Some ending → Ends family n before after outcome → Tells outcome family n before after
-tells_end Normal ending family n before after e ends = ends
-tells_end (Error number line) ending family n before after e ends = ends
-tells_end (Stack number line) ending family n before after e ends = ends
-tells_end (Heap number line) ending family n before after e ends = ends
-tells_end Steps ending family n before after e ends = ends
-tells_end (Fault kind) ending family n before after e ends = ends
-tells_end InputFault ending family n before after e ends = absurd (cc e)
-tells_end OutputFault ending family n before after e ends = absurd (cc e)
+-- a fault of a device is no ending
+no_input : (e : ending.Ending) → outcome_told e ≡ Some InputFault → ⊥
+no_input ending.More h = cc h
+no_input ending.Normal h = cc h
+no_input (ending.Error number line calls) h = cc h
+no_input (ending.Stack line) h = cc h
+no_input (ending.Heap line) h = cc h
+no_input (ending.Fault kind) h = cc h
+no_input ending.Stuck h = cc h
 
-counts_end : (outcome : Outcome) (ending : Ending) (old new : World) → ending_told outcome ≡ Some ending → new.faults ≡ old.faults → CountsFaults outcome old new
-counts_end Normal ending old new e same = same
-counts_end (Error number line) ending old new e same = same
-counts_end (Stack number line) ending old new e same = same
-counts_end (Heap number line) ending old new e same = same
-counts_end Steps ending old new e same = same
-counts_end (Fault kind) ending old new e same = same
-counts_end InputFault ending old new e same = absurd (cc e)
-counts_end OutputFault ending old new e same = absurd (cc e)
+no_output : (e : ending.Ending) → outcome_told e ≡ Some OutputFault → ⊥
+no_output ending.More h = cc h
+no_output ending.Normal h = cc h
+no_output (ending.Error number line calls) h = cc h
+no_output (ending.Stack line) h = cc h
+no_output (ending.Heap line) h = cc h
+no_output (ending.Fault kind) h = cc h
+no_output ending.Stuck h = cc h
+
+-- an outcome that tells an ending tells of a run that no device disturbed
+tells_end : (outcome : Outcome) (e : ending.Ending) (image : Image) (budget : Budget) (n : ℕ) (input before : List ℕ) (after : World) → outcome_told e ≡ Some outcome → Ends image budget n input before after outcome → Tells outcome image budget n input before after
+tells_end Normal e image budget n input before after h ends = ends
+tells_end (Error number line) e image budget n input before after h ends = ends
+tells_end (Stack number line) e image budget n input before after h ends = ends
+tells_end (Heap number line) e image budget n input before after h ends = ends
+tells_end Steps e image budget n input before after h ends = ends
+tells_end (Fault kind) e image budget n input before after h ends = ends
+tells_end InputFault e image budget n input before after h ends = absurd (no_input e h)
+tells_end OutputFault e image budget n input before after h ends = absurd (no_output e h)
+
+counts_end : (outcome : Outcome) (e : ending.Ending) (old new : World) → outcome_told e ≡ Some outcome → new.faults ≡ old.faults → CountsFaults outcome old new
+counts_end Normal e old new h same = same
+counts_end (Error number line) e old new h same = same
+counts_end (Stack number line) e old new h same = same
+counts_end (Heap number line) e old new h same = same
+counts_end Steps e old new h same = same
+counts_end (Fault kind) e old new h same = same
+counts_end InputFault e old new h same = absurd (no_input e h)
+counts_end OutputFault e old new h same = absurd (no_output e h)
 
 -- the loaded machine
 abbrev loaded : Image → Budget → State
 loaded image budget = loaded_state image budget
 
 module _ (image : Image) (budget : Budget) (n : ℕ) (left : State) (old new : World) (outcome : Outcome) (fits : IsBudget image budget.heap budget.stack) where
-  ended : (stop : Stop) (input before : List ℕ) → IsToldBy (trap_rows image) stop outcome → Ended n (loaded image budget) left (fresh input) before new stop → Tells outcome (image_shows image budget.heap budget.stack input) n before new
-  ended stop input before told e =
+  ended : (stop : Stop) (input before : List ℕ) → IsToldBy (trap_rows image) stop outcome → Ended n (loaded image budget) left (fresh input) before new stop → Left n (loaded image budget) (fresh input) new → Tells outcome image budget n input before new
+  ended stop input before told e rest =
       let h = (exec n (loaded image budget) (fresh input)).1 in
-      let ending = told_by (trap_rows image) h outcome (subst (λ s. IsToldBy (trap_rows image) s outcome) e.ending told) in
-      tells_end outcome (ending_of (trap_rows image) h) (image_shows image budget.heap budget.stack input) n before new ending (record {
-        output = e.output ∙ ap (λ bytes. Some (before ++ bytes)) (output_is (exec n (loaded image budget) (fresh input)).0);
-        ending = ending;
+      let told_end = told_by (trap_rows image) h outcome (subst (λ s. IsToldBy (trap_rows image) s outcome) e.ending told) in
+      tells_end outcome (ending_of (trap_rows image) h) image budget n input before new told_end (record {
+        moved = record { written = e.output; left = rest };
+        ending = told_end;
       })
 
-  broken : (input before : List ℕ) → Broken n (loaded image budget) (fresh input) before new → Breaks (image_shows image budget.heap budget.stack input) n before new
-  broken input before b =
+  broken : (Asks : State → Type 0) (input before : List ℕ) → Asked Asks n (loaded image budget) (fresh input) before new → Breaks Asks image budget n input before new
+  broken Asks input before b =
       record {
         steps = b.steps;
         fewer = b.fewer;
         running = ap (ending_of (trap_rows image)) b.running;
-        output = b.output ∙ ap (λ bytes. Some (before ++ bytes)) (output_is (exec b.steps (loaded image budget) (fresh input)).0);
+        asking = b.asking;
+        moved = record { written = b.output; left = b.left };
       }
 
+  -- what a run over a console that tells its bytes shows, up to a device that fails
+  abbrev pub AllShown : Stop → Type 0
+  AllShown stop = (input before : List ℕ) → old.input ≡ Some input → old.output ≡ Some before → Shows stop n (loaded image budget) (fresh input) before new
+
   -- a run that follows the run over plain lists is the image's
-  pub runs_of : (stop : Stop) → FollowsExec n (loaded image budget) old left new stop → Counts stop old new → IsToldBy (trap_rows image) stop outcome → Runs image budget n old new outcome
-  runs_of m.Normal follows counts told =
+  pub runs_of : (stop : Stop) → FollowsExec n (loaded image budget) old left new stop → AllShown stop → Counts stop old new → IsToldBy (trap_rows image) stop outcome → Runs image budget n old new outcome
+  runs_of m.Normal follows shows counts told =
       record {
         loaded = fits;
-        told = λ input before i o. ended m.Normal input before told (follows input before i o);
-        faults = counts_end outcome normal old new (ap ending_told told) counts;
+        told = λ input before bytes i o. ended m.Normal input before told (follows input before i o) (shows input before i o);
+        faults = counts_end outcome ending.Normal old new (ap Some (sym told)) counts;
       }
-  runs_of (m.Trap link) follows counts told =
+  runs_of (m.Trap link) follows shows counts told =
       record {
         loaded = fits;
-        told = λ input before i o. ended (m.Trap link) input before told (follows input before i o);
+        told = λ input before bytes i o. ended (m.Trap link) input before told (follows input before i o) (shows input before i o);
         faults = counts_end outcome _ old new told counts;
       }
-  runs_of m.Steps follows counts told =
+  runs_of m.Steps follows shows counts told =
       record {
         loaded = fits;
-        told = λ input before i o. ended m.Steps input before told (follows input before i o);
-        faults = counts_end outcome more old new (ap ending_told told) counts;
+        told = λ input before bytes i o. ended m.Steps input before told (follows input before i o) (shows input before i o);
+        faults = counts_end outcome ending.More old new (ap Some (sym told)) counts;
       }
-  runs_of (m.Fault kind) follows counts told =
+  runs_of (m.Fault kind) follows shows counts told =
       record {
         loaded = fits;
-        told = λ input before i o. ended (m.Fault kind) input before told (follows input before i o);
-        faults = counts_end outcome (fault (machine_fault kind)) old new told counts;
+        told = λ input before bytes i o. ended (m.Fault kind) input before told (follows input before i o) (shows input before i o);
+        faults = counts_end outcome (ending.Fault (fault_kind kind)) old new told counts;
       }
-  runs_of m.InputFault follows counts told =
+  runs_of m.InputFault follows shows counts told =
       record {
         loaded = fits;
-        told = λ input before i o. subst (λ x. Tells x (image_shows image budget.heap budget.stack input) n before new) (sym told) (broken input before (follows input before i o));
+        told = λ input before bytes i o. subst (λ x. Tells x image budget n input before new) (sym told) (broken AsksInput input before (shows input before i o));
         faults = subst (λ x. CountsFaults x old new) (sym told) counts;
       }
-  runs_of m.OutputFault follows counts told =
+  runs_of m.OutputFault follows shows counts told =
       record {
         loaded = fits;
-        told = λ input before i o. subst (λ x. Tells x (image_shows image budget.heap budget.stack input) n before new) (sym told) (broken input before (follows input before i o));
+        told = λ input before bytes i o. subst (λ x. Tells x image budget n input before new) (sym told) (broken AsksOutput input before (shows input before i o));
         faults = subst (λ x. CountsFaults x old new) (sym told) counts;
       }
 

@@ -69,12 +69,12 @@ pub record IsTooLarge (text : List ℕ) : Type 0 where
   pub compiled : compiled_of checked ≡ Some (line, bytes)
   pub words : most_words < code_words (length bytes)
 
--- what each refusal of a text says of it; the others are never told
+-- What each refusal of a text says of it; the others are never told. Memory is wanted only for a text within the limits.
 abbrev pub IsRefused : List ℕ → Refusal → Type 0
 IsRefused text TooLong = MAX_LENGTH < length text
 IsRefused text TooManyLines = (length text ≤ MAX_LENGTH) × (MAX_LINES < line_count text)
 IsRefused text NotYet = IsNotYet text
-IsRefused text OutOfMemory = Unit {0}
+IsRefused text OutOfMemory = IsSource text
 IsRefused text (BadByte line) = HasNoTokens text
 IsRefused text (OpenComment line) = HasNoTokens text
 IsRefused text (OpenString line) = HasNoTokens text

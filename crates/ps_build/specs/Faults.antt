@@ -1,11 +1,11 @@
--- The numbers of the faults of a run.
-use Rattle.std.specs.Prelude.{ℕ}
+-- The faults of a run, as an outcome tells them.
+use Rattle.behavior.specs.Endings as ending
 use Rattle.ps_build.specs.declared.outcome.FaultKind.{FaultKind}
 use Rattle.ps_build.specs.declared.outcome.FaultKind.TheVariants.{BadWord, BadAddress, BadDivisor, BadJump, UnknownTrap}
 
-abbrev pub fault_number : FaultKind → ℕ
-fault_number BadWord = 1
-fault_number BadAddress = 2
-fault_number BadDivisor = 3
-fault_number BadJump = 4
-fault_number UnknownTrap = 5
+abbrev pub kind_told : ending.FaultKind → FaultKind
+kind_told ending.BadWord = BadWord
+kind_told ending.BadAddress = BadAddress
+kind_told ending.BadDivisor = BadDivisor
+kind_told ending.BadJump = BadJump
+kind_told ending.UnknownTrap = UnknownTrap

@@ -1,9 +1,10 @@
-pub mod Same
 pub mod Strings
 pub mod Code
 pub mod Refusals
 pub mod Accepts
 pub mod Faults
 pub mod Headline
+pub mod Devices
 pub mod Runs
 pub mod Goes
+pub mod Laws

@@ -1,56 +1,70 @@
 -- What a run of an image over a console comes to.
-use Rattle.std.specs.Prelude.{◌≡◌, ℕ, ◌<◌, List, ◌++◌, Option, Some, None}
-use Rattle.ps_build.specs.Same.{Ending, more, normal, fault, Shown, output}
+use Rattle.std.specs.Prelude.{◌≡◌, ℕ, ◌<◌, List, [], ◌++◌, Option, Some, None}
+use Rattle.behavior.specs.Endings as ending
+use Rattle.behavior.specs.Transcripts.{output, AreBytes}
 use Rattle.risc_machine.specs.Console.{World, one_more}
 use Rattle.risc_machine.specs.declared.stop.Stop.{Stop}
 use Rattle.risc_machine.specs.declared.stop.Stop.TheVariants as m
-use Rattle.risc_machine.specs.Exec.{row_at, trap_ending, fault_number as machine_fault}
+use Rattle.risc_machine.specs.Step.{State}
+use Rattle.risc_machine.specs.Exec.{Tape, fresh, row_at, trap_ending, fault_kind}
 use Rattle.risc_image.specs.Image.{Image}
 use Rattle.risc_image.specs.Format.{IsImage}
 use Rattle.risc_image.specs.Refusal.{IsRefused}
 use Rattle.risc_load.specs.declared.budget.Budget.{Budget}
 use Rattle.risc_load.specs.declared.budget.LoadRefusal.TheVariants as l
 use Rattle.risc_load.specs.Refusal as load
+use Rattle.risc_load.specs.Loaded.{loaded_state}
 use Rattle.risc_image.specs.declared.refusal.ImageRefusal.TheVariants as i
 use Rattle.ps_build.specs.declared.refusal.Refusal.{Refusal}
 use Rattle.ps_build.specs.declared.refusal.Refusal.TheVariants.{OutOfMemory, Magic, Truncated, Trailing, TooLarge, BadTable, BudgetTooLarge, BudgetUneven}
 use Rattle.ps_build.specs.declared.outcome.Outcome.{Outcome}
 use Rattle.ps_build.specs.declared.outcome.Outcome.TheVariants.{Normal, Error, Stack, Heap, Steps, InputFault, OutputFault, Fault}
-use Rattle.ps_build.specs.Faults.{fault_number}
 use Rattle.risc_load.specs.Shows.{image_shows, IsBudget}
+use Rattle.ps_build.specs.Faults.{kind_told}
+use Rattle.ps_build.specs.Devices.{reached, AsksInput, AsksOutput}
 
--- the ending that an outcome tells; where a device failed there is none
-abbrev pub ending_told : Outcome → Option Ending
-ending_told Normal = Some normal
-ending_told (Error number line) = Some (2, number, line)
-ending_told (Stack number line) = Some (3, number, line)
-ending_told (Heap number line) = Some (4, number, line)
-ending_told Steps = Some more
-ending_told (Fault kind) = Some (fault (fault_number kind))
-ending_told InputFault = None
-ending_told OutputFault = None
+-- The outcome that tells an ending, without the calls that are open at an error. No run of an image is stuck.
+abbrev pub outcome_told : ending.Ending → Option Outcome
+outcome_told ending.More = Some Steps
+outcome_told ending.Normal = Some Normal
+outcome_told (ending.Error number line calls) = Some (Error number line)
+outcome_told (ending.Stack line) = Some (Stack 12 line)
+outcome_told (ending.Heap line) = Some (Heap 13 line)
+outcome_told (ending.Fault kind) = Some (Fault (kind_told kind))
+outcome_told ending.Stuck = None
 
--- No device failed: after n steps the console was given what the family shows, and the outcome tells its ending.
-pub record Ends (family : ℕ → Shown) (n : ℕ) (before : List ℕ) (after : World) (outcome : Outcome) : Type 0 where
-  pub output : after.output ≡ Some (before ++ output (family n).0)
-  pub ending : ending_told outcome ≡ Some (family n).1
+-- the loaded machine and its tape after at most so many steps
+abbrev pub stands_at : Image → Budget → List ℕ → ℕ → State × Tape
+stands_at image budget input steps = reached steps (loaded_state image budget) (fresh input)
 
--- A device failed: the console was given what the family shows after some fewer steps, at which it goes on.
-pub record Breaks (family : ℕ → Shown) (n : ℕ) (before : List ℕ) (after : World) : Type 0 where
+-- after so many steps the console was given what the image shows, and has left what the image has not taken
+pub record Moved (image : Image) (budget : Budget) (input before : List ℕ) (steps : ℕ) (after : World) : Type 0 where
+  pub written : after.output ≡ Some (before ++ output (image_shows image budget.heap budget.stack input steps).0)
+  pub left : after.input ≡ Some (stands_at image budget input steps).1.input
+
+-- No device failed: the console is as the image leaves it after n steps, and the outcome tells how the image ends.
+pub record Ends (image : Image) (budget : Budget) (n : ℕ) (input before : List ℕ) (after : World) (outcome : Outcome) : Type 0 where
+  pub moved : Moved image budget input before n after
+  pub ending : outcome_told (image_shows image budget.heap budget.stack input n).1 ≡ Some outcome
+
+-- A device failed: the console is as the image leaves it after some fewer steps, of which the next asks just that device. So nothing
+-- that was written before is held back or lost, and nothing was taken that the image had not asked for.
+pub record Breaks (Asks : State → Type 0) (image : Image) (budget : Budget) (n : ℕ) (input before : List ℕ) (after : World) : Type 0 where
   pub steps : ℕ
   pub fewer : steps < n
-  pub running : (family steps).1 ≡ more
-  pub output : after.output ≡ Some (before ++ output (family steps).0)
+  pub running : (image_shows image budget.heap budget.stack input steps).1 ≡ ending.More
+  pub asking : Asks (stands_at image budget input steps).0
+  pub moved : Moved image budget input before steps after
 
-abbrev pub Tells : Outcome → (ℕ → Shown) → ℕ → List ℕ → World → Type 0
-Tells InputFault family n before after = Breaks family n before after
-Tells OutputFault family n before after = Breaks family n before after
-Tells Normal family n before after = Ends family n before after Normal
-Tells (Error number line) family n before after = Ends family n before after (Error number line)
-Tells (Stack number line) family n before after = Ends family n before after (Stack number line)
-Tells (Heap number line) family n before after = Ends family n before after (Heap number line)
-Tells Steps family n before after = Ends family n before after Steps
-Tells (Fault kind) family n before after = Ends family n before after (Fault kind)
+abbrev pub Tells : Outcome → Image → Budget → ℕ → (input before : List ℕ) → World → Type 0
+Tells InputFault image budget n input before after = Breaks AsksInput image budget n input before after
+Tells OutputFault image budget n input before after = Breaks AsksOutput image budget n input before after
+Tells Normal image budget n input before after = Ends image budget n input before after Normal
+Tells (Error number line) image budget n input before after = Ends image budget n input before after (Error number line)
+Tells (Stack number line) image budget n input before after = Ends image budget n input before after (Stack number line)
+Tells (Heap number line) image budget n input before after = Ends image budget n input before after (Heap number line)
+Tells Steps image budget n input before after = Ends image budget n input before after Steps
+Tells (Fault kind) image budget n input before after = Ends image budget n input before after (Fault kind)
 
 -- the count of faults rises by one where a device failed, and else stays
 abbrev pub CountsFaults : Outcome → World → World → Type 0
@@ -66,7 +80,7 @@ CountsFaults (Fault kind) old new = new.faults ≡ old.faults
 -- The budget loads the image, and it was run for at most n steps: on a console that tells its bytes, as the image shows.
 pub record Runs (image : Image) (budget : Budget) (n : ℕ) (old new : World) (outcome : Outcome) : Type 0 where
   pub loaded : IsBudget image budget.heap budget.stack
-  pub told : (input before : List ℕ) → old.input ≡ Some input → old.output ≡ Some before → Tells outcome (image_shows image budget.heap budget.stack input) n before new
+  pub told : (input before : List ℕ) → AreBytes input → old.input ≡ Some input → old.output ≡ Some before → Tells outcome image budget n input before new
   pub faults : CountsFaults outcome old new
 
 -- The bytes are this one image, which was run so.
@@ -79,15 +93,15 @@ pub record RunsImage (bytes : List ℕ) (budget : Budget) (n : ℕ) (old new : W
 -- what an outcome tells of a stop, by the trap table's rows
 abbrev pub IsToldBy : List (ℕ × ℕ × ℕ) → Stop → Outcome → Type 0
 IsToldBy traps m.Normal outcome = outcome ≡ Normal
-IsToldBy traps (m.Trap link) outcome = ending_told outcome ≡ Some (trap_ending (row_at link traps))
+IsToldBy traps (m.Trap link) outcome = outcome_told (trap_ending (row_at link traps) []) ≡ Some outcome
 IsToldBy traps m.Steps outcome = outcome ≡ Steps
 IsToldBy traps m.InputFault outcome = outcome ≡ InputFault
 IsToldBy traps m.OutputFault outcome = outcome ≡ OutputFault
-IsToldBy traps (m.Fault kind) outcome = ending_told outcome ≡ Some (fault (machine_fault kind))
+IsToldBy traps (m.Fault kind) outcome = outcome_told (ending.Fault (fault_kind kind)) ≡ Some outcome
 
--- why an image isn't loaded under a budget
+-- why an image isn't loaded under a budget; memory is wanted only for a budget that fits
 abbrev pub IsLoadRefused : Image → Budget → Refusal → Type 0
-IsLoadRefused image budget OutOfMemory = Unit {0}
+IsLoadRefused image budget OutOfMemory = IsBudget image budget.heap budget.stack
 IsLoadRefused image budget BudgetTooLarge = load.IsRefused image budget l.BudgetTooLarge
 IsLoadRefused image budget BudgetUneven = load.IsRefused image budget l.BudgetUneven
 IsLoadRefused image budget _ = ⊥
@@ -100,7 +114,7 @@ pub record IsBudgetRefused (bytes : List ℕ) (budget : Budget) (refusal : Refus
 
 -- why bytes aren't run under a budget: the first check of the format that they fail, and else the budget
 abbrev pub IsRunRefused : List ℕ → Budget → Refusal → Type 0
-IsRunRefused bytes budget OutOfMemory = Unit {0}
+IsRunRefused bytes budget OutOfMemory = IsBudgetRefused bytes budget OutOfMemory
 IsRunRefused bytes budget Magic = IsRefused bytes i.Magic
 IsRunRefused bytes budget Truncated = IsRefused bytes i.Truncated
 IsRunRefused bytes budget Trailing = IsRefused bytes i.Trailing

@@ -3,6 +3,7 @@
 
 mod built;
 mod emit;
+pub mod laws;
 mod outcome;
 mod refusal;
 mod run;

@@ -1,8 +1,8 @@
 //! How a run of an image ends.
 
 ghost use Rattle.std.specs.Prelude.{◌≡◌};
-ghost use Rattle.risc_machine.specs.Exec.{fault_number as machine_fault};
-ghost use Rattle.ps_build.specs.Faults.{fault_number};
+ghost use Rattle.risc_machine.specs.Exec.{fault_kind};
+ghost use Rattle.ps_build.specs.Faults.{kind_told};
 
 use risc_machine::Fault;
 
@@ -38,7 +38,7 @@ pub enum Outcome {
 }
 
 impl From<Fault> for FaultKind {
-    ghost from_gives = { λ fault kind. fault_number kind ≡ machine_fault fault };
+    ghost from_gives = { λ fault kind. kind ≡ kind_told (fault_kind fault) };
 
     fn from(fault: Fault) -> FaultKind {
         match fault {

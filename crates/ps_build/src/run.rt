@@ -1,9 +1,9 @@
 //! Runs of images over a console.
 
-ghost use Rattle.std.specs.Prelude.{◌≡◌, Some, option_map, IfOk, IfErr, OnErr};
+ghost use Rattle.std.specs.Prelude.{◌≡◌, [], Some, option_map, IfOk, IfErr, OnErr};
 ghost use Rattle.risc_machine.specs.Exec.{trap_ending};
 ghost use Rattle.risc_load.specs.Shows.{trap_row, trap_rows};
-ghost use Rattle.ps_build.specs.Runs.{ending_told, IsToldBy, Runs, RunsImage, IsLoadRefused, IsRunRefused};
+ghost use Rattle.ps_build.specs.Runs.{outcome_told, IsToldBy, Runs, RunsImage, IsLoadRefused, IsRunRefused};
 ghost use Rattle.ps_build.specs.Goes.{Goes, IsGoRefused};
 
 use crate::built::build;
@@ -16,26 +16,24 @@ use std::alloc::Global;
 
 // The outcome of a stop with this row.
 fn trap_outcome(row: Option<TrapRow>) -> Outcome
-    ensures { ending_told result ≡ Some (trap_ending (option_map trap_row row)) }
+    ensures { outcome_told (trap_ending (option_map trap_row row) []) ≡ Some result }
 {
     let Some(TrapRow { error, line, .. }) = row else {
         return Outcome::Fault(FaultKind::UnknownTrap);
     };
-    if error < 12 {
-        Outcome::Error {
+    match error {
+        12 => Outcome::Stack {
             number: error,
             line,
-        }
-    } else if error == 12 {
-        Outcome::Stack {
+        },
+        13 => Outcome::Heap {
             number: error,
             line,
-        }
-    } else {
-        Outcome::Heap {
+        },
+        _ => Outcome::Error {
             number: error,
             line,
-        }
+        },
     }
 }
 

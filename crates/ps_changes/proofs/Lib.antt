@@ -2,3 +2,5 @@ pub mod Marking
 pub mod Walks
 pub mod Lists
 pub mod Examples
+pub mod Places
+pub mod Chains

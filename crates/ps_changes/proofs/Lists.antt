@@ -4,15 +4,18 @@ use Rattle.ps_tree.specs.declared.line.Line.{Line}
 use Rattle.ps_tree.specs.declared.tree.Place.{Place}
 use Rattle.ps_tree.specs.declared.tree.Argument.{Argument}
 use Rattle.ps_tree.specs.declared.tree.Member.{Member}
+use Rattle.ps_tree.specs.declared.tree.Selector.{Selector}
+use Rattle.ps_tree.specs.declared.tree.ArithmeticStep.{ArithmeticStep, out-ArithmeticStep}
+use Rattle.ps_tree.specs.declared.tree.SetStep.{SetStep, out-SetStep}
 use Rattle.ps_tree.specs.declared.tree.Expr.{Expr, Call, CallFormal}
 use Rattle.ps_tree.specs.declared.tree.ReadVariable.{ReadVariable}
 use Rattle.ps_tree.specs.declared.tree.WriteParameter.{WriteParameter}
 use Rattle.ps_tree.specs.declared.tree.Statement.{Statement, Repeat, Case}
 use Rattle.ps_tree.specs.declared.tree.CaseElement.{CaseElement, out-CaseElement}
-use Rattle.ps_tree.specs.View.{place_of, expr_of, argument_of, arguments_of, member_of, members_of, read_of, write_of, statement_of, statements_of, elements_of}
+use Rattle.ps_tree.specs.View.{place_of, selector_of, selectors_of, expr_of, arithmetic_of, operands_of, set_of, set_steps_of, argument_of, arguments_of, member_of, members_of, read_of, write_of, statement_of, statements_of, elements_of}
 use Rattle.ps_tree.proofs.TreeLemmas.{expr_of_Call, expr_of_CallFormal}
 use Rattle.ps_tree.proofs.StatementLemmas.{statement_of_Repeat, statement_of_Case}
-use Rattle.ps_changes.specs.Changes.{place_threatens, expr_threatens, member_threatens, members_threaten, argument_threatens, arguments_threaten, places_threaten, read_threatens, reads_threaten, parameter_threatens, parameters_threaten, statement_threatens, statements_threaten, elements_threaten, statement_controls, statements_control, elements_control, statement_assigns, statements_assign, elements_assign}
+use Rattle.ps_changes.specs.Changes.{place_threatens, selector_threatens, selectors_threaten, expr_threatens, arithmetic_threatens, operands_threaten, set_threatens, set_steps_threaten, member_threatens, members_threaten, argument_threatens, arguments_threaten, places_threaten, read_threatens, reads_threaten, parameter_threatens, parameters_threaten, statement_threatens, statements_threaten, elements_threaten, statement_controls, statements_control, elements_control, statement_assigns, statements_assign, elements_assign}
 
 abbrev pub arguments_answer : ℕ → (ℕ → Bool) → List Argument → Bool
 arguments_answer up watched items = arguments_threaten up watched (arguments_of items)
@@ -35,6 +38,50 @@ members_none up watched = refl
 pub members_more : (up : ℕ) (watched : ℕ → Bool) (x : Member) (xs : List Member) → members_answer up watched (x ∷ xs) ≡ member_threatens up watched (member_of x) || members_answer up watched xs
 unfolding members_threaten members_of
 members_more up watched x xs = refl
+
+abbrev pub selectors_answer : ℕ → (ℕ → Bool) → List Selector → Bool
+selectors_answer up watched items = selectors_threaten up watched (selectors_of items)
+
+pub selectors_none : (up : ℕ) (watched : ℕ → Bool) → selectors_answer up watched [] ≡ false
+unfolding selectors_threaten selectors_of
+selectors_none up watched = refl
+
+pub selectors_more : (up : ℕ) (watched : ℕ → Bool) (x : Selector) (xs : List Selector) → selectors_answer up watched (x ∷ xs) ≡ selector_threatens up watched (selector_of x) || selectors_answer up watched xs
+unfolding selectors_threaten selectors_of
+selectors_more up watched x xs = refl
+
+abbrev pub arithmetic_answer : ℕ → (ℕ → Bool) → List ArithmeticStep → Bool
+arithmetic_answer up watched items = arithmetic_threatens up watched (arithmetic_of items)
+
+pub arithmetic_none : (up : ℕ) (watched : ℕ → Bool) → arithmetic_answer up watched [] ≡ false
+unfolding arithmetic_threatens arithmetic_of
+arithmetic_none up watched = refl
+
+pub arithmetic_more : (up : ℕ) (watched : ℕ → Bool) (x : ArithmeticStep) (xs : List ArithmeticStep) → arithmetic_answer up watched (x ∷ xs) ≡ expr_threatens up watched (expr_of (out-ArithmeticStep x).operand) || arithmetic_answer up watched xs
+unfolding arithmetic_threatens arithmetic_of
+arithmetic_more up watched x xs = refl
+
+abbrev pub operands_answer : ℕ → (ℕ → Bool) → List Expr → Bool
+operands_answer up watched items = operands_threaten up watched (operands_of items)
+
+pub operands_none : (up : ℕ) (watched : ℕ → Bool) → operands_answer up watched [] ≡ false
+unfolding operands_threaten operands_of
+operands_none up watched = refl
+
+pub operands_more : (up : ℕ) (watched : ℕ → Bool) (x : Expr) (xs : List Expr) → operands_answer up watched (x ∷ xs) ≡ expr_threatens up watched (expr_of x) || operands_answer up watched xs
+unfolding operands_threaten operands_of
+operands_more up watched x xs = refl
+
+abbrev pub set_steps_answer : ℕ → (ℕ → Bool) → List SetStep → Bool
+set_steps_answer up watched items = set_steps_threaten up watched (set_steps_of items)
+
+pub set_steps_none : (up : ℕ) (watched : ℕ → Bool) → set_steps_answer up watched [] ≡ false
+unfolding set_steps_threaten set_steps_of
+set_steps_none up watched = refl
+
+pub set_steps_more : (up : ℕ) (watched : ℕ → Bool) (x : SetStep) (xs : List SetStep) → set_steps_answer up watched (x ∷ xs) ≡ set_threatens up watched (set_of (out-SetStep x).operand) || set_steps_answer up watched xs
+unfolding set_steps_threaten set_steps_of
+set_steps_more up watched x xs = refl
 
 abbrev pub places_answer : ℕ → (ℕ → Bool) → List Place → Bool
 places_answer up watched items = places_threaten up watched (map place_of items)

@@ -4,7 +4,7 @@ use Rattle.std.specs.Prelude.{ℕ, Bool, false, ◌&&◌, ◌||◌, ◌==◌, Li
 use Rattle.std.specs.List.{list_any}
 use Rattle.ps_changes.specs.declared.place.Entries.{Entries}
 use Rattle.ps_changes.specs.declared.place.Entries.TheVariants as entries
-use Rattle.ps_tree.specs.Tree.{Place, Entry, Opened, Element, Field, Target, Expr, Number, Nil, Load, Plus, Minus, Not, Arithmetic, Logic, Compare, ComparePointers, CompareSets, CompareStrings, In, Apply, Eof, Eoln, Call, CallFormal, SetExpr, LoadSet, Constructor, Combine, Member, One, Several, Members, no_member, member_before, Structure, Literal, Contents, Argument, ByValue, BySet, ByCopy, ByVariable, ByRoutine, ByFormal, Arguments, no_argument, argument_before, ReadVariable, ReadChar, ReadInteger, Width, DefaultWidth, GivenWidth, WriteParameter, WriteInteger, WriteChar, WriteBoolean, WriteText, Statement, Empty, Assign, AssignSet, AssignStructure, CallProcedure, CallFormalProcedure, Compound, If, IfElse, Case, While, Repeat, For, With, New, Pack, Unpack, Read, Readln, Write, Writeln, Statements, no_statement, statement_before, Elements, no_element, element_before}
+use Rattle.ps_tree.specs.Tree.{Place, Variable, Entry, Selector, Element, Field, Target, Selectors, no_selector, selector_before, ArithmeticSteps, no_arithmetic_step, arithmetic_step_before, Operands, no_operand, operand_before, SetSteps, no_set_step, set_step_before, Expr, Number, Nil, Load, Plus, Minus, Not, Arithmetic, Logic, Compare, ComparePointers, CompareSets, CompareStrings, In, Apply, Eof, Eoln, Call, CallFormal, SetExpr, LoadSet, Constructor, Combine, Member, One, Several, Members, no_member, member_before, Structure, Literal, Contents, Argument, ByValue, BySet, ByCopy, ByVariable, ByRoutine, ByFormal, Arguments, no_argument, argument_before, ReadVariable, ReadChar, ReadInteger, Width, DefaultWidth, GivenWidth, WriteParameter, WriteInteger, WriteChar, WriteBoolean, WriteText, Statement, Empty, Assign, AssignSet, AssignStructure, CallProcedure, CallFormalProcedure, Compound, If, IfElse, Case, While, Repeat, For, With, New, Pack, Unpack, Read, Readln, Write, Writeln, Statements, no_statement, statement_before, Elements, no_element, element_before}
 
 -- the entries that are asked for, by their indices
 abbrev pub watched_of : Entries → ℕ → Bool
@@ -17,11 +17,11 @@ among entries index = list_any (λ entry. entry == index) entries
 
 -- One of these entries as a whole. A control variable and a function's result are of simple or pointer types, so they have no components.
 abbrev pub is_watched : ℕ → (ℕ → Bool) → Place → Bool
-is_watched up watched (Entry u i) = up == u && watched i
+is_watched up watched (Variable (Entry u i) no_selector) = up == u && watched i
 is_watched up watched _ = false
 
 abbrev pub is_entry : ℕ → ℕ → Place → Bool
-is_entry up index (Entry u i) = up == u && index == i
+is_entry up index (Variable (Entry u i) no_selector) = up == u && index == i
 is_entry up index _ = false
 
 -- 6.8.3.9: a statement threatens a variable where it assigns to it, passes it as an actual variable parameter, has it in read or readln,
@@ -31,11 +31,16 @@ module _ (up : ℕ) (watched : ℕ → Bool) where
   -- a function call in the part passes the entry as a variable parameter
   unfoldable mutual
     pub place_threatens : Place → Bool
-    place_threatens (Entry u i) = false
-    place_threatens (Opened which type number) = false
-    place_threatens (Element base type e line) = place_threatens base || expr_threatens e
-    place_threatens (Field base type number) = place_threatens base
-    place_threatens (Target base pointer line) = place_threatens base
+    place_threatens (Variable base selectors) = selectors_threaten selectors
+
+    pub selector_threatens : Selector → Bool
+    selector_threatens (Element type e line) = expr_threatens e
+    selector_threatens (Field type number) = false
+    selector_threatens (Target pointer line) = false
+
+    pub selectors_threaten : Selectors → Bool
+    selectors_threaten no_selector = false
+    selectors_threaten (selector_before s rest) = selector_threatens s || selectors_threaten rest
 
     pub expr_threatens : Expr → Bool
     expr_threatens (Number n) = false
@@ -44,8 +49,8 @@ module _ (up : ℕ) (watched : ℕ → Bool) where
     expr_threatens (Plus e) = expr_threatens e
     expr_threatens (Minus e line) = expr_threatens e
     expr_threatens (Not e) = expr_threatens e
-    expr_threatens (Arithmetic operator a b line) = expr_threatens a || expr_threatens b
-    expr_threatens (Logic operator a b) = expr_threatens a || expr_threatens b
+    expr_threatens (Arithmetic e steps) = expr_threatens e || arithmetic_threatens steps
+    expr_threatens (Logic operator e rest) = expr_threatens e || operands_threaten rest
     expr_threatens (Compare relation a b) = expr_threatens a || expr_threatens b
     expr_threatens (ComparePointers relation a b) = expr_threatens a || expr_threatens b
     expr_threatens (CompareSets relation a b) = set_threatens a || set_threatens b
@@ -57,10 +62,22 @@ module _ (up : ℕ) (watched : ℕ → Bool) where
     expr_threatens (Call routine u arguments line) = arguments_threaten arguments
     expr_threatens (CallFormal u i arguments line) = arguments_threaten arguments
 
+    pub arithmetic_threatens : ArithmeticSteps → Bool
+    arithmetic_threatens no_arithmetic_step = false
+    arithmetic_threatens (arithmetic_step_before operator e line rest) = expr_threatens e || arithmetic_threatens rest
+
+    pub operands_threaten : Operands → Bool
+    operands_threaten no_operand = false
+    operands_threaten (operand_before e rest) = expr_threatens e || operands_threaten rest
+
     pub set_threatens : SetExpr → Bool
     set_threatens (LoadSet p) = place_threatens p
     set_threatens (Constructor members) = members_threaten members
-    set_threatens (Combine operator a b) = set_threatens a || set_threatens b
+    set_threatens (Combine e steps) = set_threatens e || set_steps_threaten steps
+
+    pub set_steps_threaten : SetSteps → Bool
+    set_steps_threaten no_set_step = false
+    set_steps_threaten (set_step_before operator e rest) = set_threatens e || set_steps_threaten rest
 
     pub member_threatens : Member → Bool
     member_threatens (One e line) = expr_threatens e
@@ -131,7 +148,7 @@ module _ (up : ℕ) (watched : ℕ → Bool) where
     statement_threatens (While e s) = expr_threatens e || statement_threatens s
     statement_threatens (Repeat body e) = statements_threaten body || expr_threatens e
     -- a control variable is an entry of the routine itself, so of `up` 0
-    statement_threatens (For variable low high a from_line direction b to_line s) = is_watched up watched (Entry 0 variable) || (expr_threatens a || (expr_threatens b || statement_threatens s))
+    statement_threatens (For variable low high a from_line direction b to_line s) = is_watched up watched (Variable (Entry 0 variable) no_selector) || (expr_threatens a || (expr_threatens b || statement_threatens s))
     statement_threatens (With places s) = places_threaten places || statement_threatens s
     -- new, pack and unpack write to pointers and arrays, which no control variable is
     statement_threatens (New p pointer line) = write_threatens p

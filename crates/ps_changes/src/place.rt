@@ -4,7 +4,7 @@ ghost use Rattle.std.specs.Prelude.{◌≡◌};
 ghost use Rattle.ps_tree.specs.View.{place_of};
 ghost use Rattle.ps_changes.specs.Changes.{watched_of, is_entry, is_watched};
 
-use ps_tree::tree::Place;
+use ps_tree::tree::{Place, PlaceBase};
 
 /// Entries of a routine that are asked for: one, or those that are marked, by their indices.
 #[derive(Clone, Copy)]
@@ -29,29 +29,35 @@ impl<'a> Entries<'a> {
 }
 
 // whether the place is one of these entries
-#[tactic(auto, unfolding(ps_tree::specs::View::place_of))]
+#[tactic(auto, using(crate::proofs::Places::entire_watched, crate::proofs::Places::component_watched))]
 pub(crate) fn denotes(place: &Place, up: u32, watched: Entries<'_>) -> bool
     ensures { result ≡ is_watched up (watched_of watched.entry) (place_of place.now) }
 {
-    match place {
-        Place::Entry {
+    if !place.selectors.is_empty() {
+        return false;
+    }
+    match &place.base {
+        PlaceBase::Entry {
             up: levels,
             index: number,
         } => up == *levels && watched.has(*number),
-        _ => false,
+        PlaceBase::Opened { .. } => false,
     }
 }
 
 // whether the place is the entry
-#[tactic(auto, unfolding(ps_tree::specs::View::place_of))]
+#[tactic(auto, using(crate::proofs::Places::entire_entry, crate::proofs::Places::component_entry))]
 pub(crate) fn is_entry(place: &Place, up: u32, index: u32) -> bool
     ensures { result ≡ is_entry up index (place_of place.now) }
 {
-    match place {
-        Place::Entry {
+    if !place.selectors.is_empty() {
+        return false;
+    }
+    match &place.base {
+        PlaceBase::Entry {
             up: levels,
             index: number,
         } => up == *levels && index == *number,
-        _ => false,
+        PlaceBase::Opened { .. } => false,
     }
 }

@@ -1,33 +1,47 @@
 // Which statements threaten an entry: each function tells whether a part of the tree does (ISO 7185, 6.8.3.9).
 
 ghost use Rattle.std.specs.Prelude.{◌≡◌, map};
-ghost use Rattle.ps_tree.specs.View.{place_of, expr_of, set_of, member_of, members_of, structure_of, argument_of, arguments_of, read_of, width_of, write_of, statement_of, statements_of, elements_of};
-ghost use Rattle.ps_changes.specs.Changes.{watched_of, place_threatens, expr_threatens, set_threatens, member_threatens, members_threaten, structure_threatens, argument_threatens, arguments_threaten, write_threatens, places_threaten, read_threatens, reads_threaten, width_threatens, parameter_threatens, parameters_threaten, statement_threatens, statements_threaten, elements_threaten};
+ghost use Rattle.ps_tree.specs.View.{place_of, selector_of, selectors_of, expr_of, arithmetic_of, operands_of, set_of, set_steps_of, member_of, members_of, structure_of, argument_of, arguments_of, read_of, width_of, write_of, statement_of, statements_of, elements_of};
+ghost use Rattle.ps_changes.specs.Changes.{watched_of, place_threatens, selector_threatens, selectors_threaten, expr_threatens, arithmetic_threatens, operands_threaten, set_threatens, set_steps_threaten, member_threatens, members_threaten, structure_threatens, argument_threatens, arguments_threaten, write_threatens, places_threaten, read_threatens, reads_threaten, width_threatens, parameter_threatens, parameters_threaten, statement_threatens, statements_threaten, elements_threaten};
 
 use crate::place::{Entries, denotes};
 use ps_tree::tree::{
-    Argument, CaseElement, Expr, Member, Place, ReadVariable, SetExpr, Statement, Structure, Width,
-    WriteParameter,
+    Argument, ArithmeticStep, CaseElement, Expr, Member, Place, ReadVariable, Selector, SetExpr,
+    SetStep, Statement, Structure, Width, WriteParameter,
 };
 
 #[cycle(operands)]
-#[tactic(auto, unfolding(ps_tree::specs::View::place_of, crate::specs::Changes::place_threatens))]
 fn by_place(place: &Place, up: u32, watched: Entries<'_>) -> bool
     ensures { result ≡ place_threatens up (watched_of watched.entry) (place_of place.now) }
 {
-    match place {
-        Place::Entry { .. } | Place::Opened { .. } => false,
-        Place::Element {
-            base,
-            index: component,
-            ..
-        } => by_place(base, up, watched) || by_expr(component, up, watched),
-        Place::Field { base, .. } | Place::Target { base, .. } => by_place(base, up, watched),
+    by_selectors(&place.selectors, up, watched)
+}
+
+#[cycle(operands)]
+fn by_selectors(selectors: &[Selector], up: u32, watched: Entries<'_>) -> bool
+    ensures { result ≡ selectors_threaten up (watched_of watched.entry) (selectors_of selectors.now) }
+{
+    for selector in selectors {
+        if by_selector(selector, up, watched) {
+            return true;
+        }
+    }
+    false
+}
+
+#[cycle(operands)]
+#[tactic(auto, unfolding(ps_tree::specs::View::selector_of, crate::specs::Changes::selector_threatens))]
+fn by_selector(selector: &Selector, up: u32, watched: Entries<'_>) -> bool
+    ensures { result ≡ selector_threatens up (watched_of watched.entry) (selector_of selector.now) }
+{
+    match selector {
+        Selector::Element { index, .. } => by_expr(index, up, watched),
+        Selector::Field { .. } | Selector::Target { .. } => false,
     }
 }
 
 #[cycle(operands)]
-#[tactic(auto, using(ps_tree::proofs::TreeLemmas::expr_of_Call, ps_tree::proofs::TreeLemmas::expr_of_CallFormal), unfolding(ps_tree::specs::View::expr_of, crate::specs::Changes::expr_threatens))]
+#[tactic(auto, using(ps_tree::proofs::TreeLemmas::expr_of_Load, ps_tree::proofs::TreeLemmas::expr_of_Arithmetic, ps_tree::proofs::TreeLemmas::expr_of_Logic, ps_tree::proofs::TreeLemmas::expr_of_Call, ps_tree::proofs::TreeLemmas::expr_of_CallFormal), unfolding(ps_tree::specs::View::expr_of, crate::specs::Changes::expr_threatens))]
 fn by_expr(e: &Expr, up: u32, watched: Entries<'_>) -> bool
     ensures { result ≡ expr_threatens up (watched_of watched.entry) (expr_of e.now) }
 {
@@ -38,10 +52,13 @@ fn by_expr(e: &Expr, up: u32, watched: Entries<'_>) -> bool
         | Expr::Minus { operand, .. }
         | Expr::Not(operand)
         | Expr::Apply { operand, .. } => by_expr(operand, up, watched),
-        Expr::Arithmetic { left, right, .. }
-        | Expr::Logic { left, right, .. }
-        | Expr::Compare { left, right, .. }
-        | Expr::ComparePointers { left, right, .. } => {
+        Expr::Arithmetic { first, steps } => {
+            by_expr(first, up, watched) || by_arithmetic(steps, up, watched)
+        }
+        Expr::Logic { first, rest, .. } => {
+            by_expr(first, up, watched) || by_operands(rest, up, watched)
+        }
+        Expr::Compare { left, right, .. } | Expr::ComparePointers { left, right, .. } => {
             by_expr(left, up, watched) || by_expr(right, up, watched)
         }
         Expr::CompareSets { left, right, .. } => {
@@ -57,16 +74,52 @@ fn by_expr(e: &Expr, up: u32, watched: Entries<'_>) -> bool
 }
 
 #[cycle(operands)]
-#[tactic(auto, using(ps_tree::proofs::TreeLemmas::set_of_Constructor), unfolding(ps_tree::specs::View::set_of, crate::specs::Changes::set_threatens))]
+fn by_arithmetic(steps: &[ArithmeticStep], up: u32, watched: Entries<'_>) -> bool
+    ensures { result ≡ arithmetic_threatens up (watched_of watched.entry) (arithmetic_of steps.now) }
+{
+    for step in steps {
+        if by_expr(&step.operand, up, watched) {
+            return true;
+        }
+    }
+    false
+}
+
+#[cycle(operands)]
+fn by_operands(operands: &[Expr], up: u32, watched: Entries<'_>) -> bool
+    ensures { result ≡ operands_threaten up (watched_of watched.entry) (operands_of operands.now) }
+{
+    for operand in operands {
+        if by_expr(operand, up, watched) {
+            return true;
+        }
+    }
+    false
+}
+
+#[cycle(operands)]
+#[tactic(auto, using(ps_tree::proofs::TreeLemmas::set_of_Load, ps_tree::proofs::TreeLemmas::set_of_Combine, ps_tree::proofs::TreeLemmas::set_of_Constructor), unfolding(ps_tree::specs::View::set_of, crate::specs::Changes::set_threatens))]
 fn by_set(e: &SetExpr, up: u32, watched: Entries<'_>) -> bool
     ensures { result ≡ set_threatens up (watched_of watched.entry) (set_of e.now) }
 {
     match e {
         SetExpr::Load(place) => by_place(place, up, watched),
         SetExpr::Constructor(members) => by_members(members, up, watched),
-        SetExpr::Combine { left, right, .. } => by_set(left, up, watched)
-            || by_set(right, up, watched),
+        SetExpr::Combine { first, steps } => by_set(first, up, watched)
+            || by_set_steps(steps, up, watched),
     }
+}
+
+#[cycle(operands)]
+fn by_set_steps(steps: &[SetStep], up: u32, watched: Entries<'_>) -> bool
+    ensures { result ≡ set_steps_threaten up (watched_of watched.entry) (set_steps_of steps.now) }
+{
+    for step in steps {
+        if by_set(&step.operand, up, watched) {
+            return true;
+        }
+    }
+    false
 }
 
 #[cycle(operands)]
@@ -93,7 +146,7 @@ fn by_member(member: &Member, up: u32, watched: Entries<'_>) -> bool
 }
 
 #[cycle(operands)]
-#[tactic(auto, unfolding(ps_tree::specs::View::structure_of, crate::specs::Changes::structure_threatens))]
+#[tactic(auto, using(ps_tree::proofs::TreeLemmas::structure_of_Contents), unfolding(ps_tree::specs::View::structure_of, crate::specs::Changes::structure_threatens))]
 fn by_structure(e: &Structure, up: u32, watched: Entries<'_>) -> bool
     ensures { result ≡ structure_threatens up (watched_of watched.entry) (structure_of e.now) }
 {
@@ -104,7 +157,7 @@ fn by_structure(e: &Structure, up: u32, watched: Entries<'_>) -> bool
 }
 
 #[cycle(operands)]
-#[tactic(auto, unfolding(ps_tree::specs::View::argument_of, crate::specs::Changes::argument_threatens))]
+#[tactic(auto, using(ps_tree::proofs::TreeLemmas::argument_of_Variable), unfolding(ps_tree::specs::View::argument_of, crate::specs::Changes::argument_threatens))]
 fn by_argument(argument: &Argument, up: u32, watched: Entries<'_>) -> bool
     ensures { result ≡ argument_threatens up (watched_of watched.entry) (argument_of argument.now) }
 {

@@ -5,3 +5,4 @@ mod Routines
 pub mod Growth
 pub mod Limits
 pub mod Laws
+pub mod Unstopped

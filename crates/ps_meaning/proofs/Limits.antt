@@ -1,17 +1,19 @@
 -- Runs under two costs and two meanings of what fuel is spent on stand side by side, part by part.
 use Rattle.std.proofs.Common.{◌≡◌, ◌⊎◌, inl, inr, ℕ, ◌+◌, ℤ, pos, List, [], ◌∷◌, ◌++◌, Bool, true, false, cond, ◌&&◌, int_lt, unsigned_abs, nat_le, Option, Some, None, refl, ap, ◌∙◌}
 use Rattle.ps_tree.specs.Types.{DataType}
-use Rattle.ps_tree.specs.Tree.{Place, Entry, Opened, Element, Field, Target, Expr, Number, Nil, Load, Plus, Minus, Not, Arithmetic, Logic, Compare, ComparePointers, CompareSets, CompareStrings, In, Apply, Eof, Eoln, Call, CallFormal, SetExpr, LoadSet, Constructor, Combine, Member, One, Several, Members, no_member, member_before, Structure, Literal, Contents, Argument, ByValue, BySet, ByCopy, ByVariable, ByRoutine, ByFormal, Arguments, no_argument, argument_before, ReadVariable, ReadChar, ReadInteger, Width, DefaultWidth, GivenWidth, WriteParameter, WriteInteger, WriteChar, WriteBoolean, WriteText, Statement, Empty, Assign, AssignSet, AssignStructure, CallProcedure, CallFormalProcedure, Compound, If, IfElse, Case, While, Repeat, For, With, New, Pack, Unpack, Read, Readln, Write, Writeln, Statements, no_statement, statement_before, Elements, no_element, element_before, Program}
+use Rattle.ps_tree.specs.declared.tree.BooleanOperator.{BooleanOperator}
+use Rattle.ps_tree.specs.Tree.{Place, Variable, Selector, Element, Field, Target, Selectors, no_selector, selector_before, ArithmeticSteps, no_arithmetic_step, arithmetic_step_before, Operands, no_operand, operand_before, SetSteps, no_set_step, set_step_before, Expr, Number, Nil, Load, Plus, Minus, Not, Arithmetic, Logic, Compare, ComparePointers, CompareSets, CompareStrings, In, Apply, Eof, Eoln, Call, CallFormal, SetExpr, LoadSet, Constructor, Combine, Member, One, Several, Members, no_member, member_before, Structure, Literal, Contents, Argument, ByValue, BySet, ByCopy, ByVariable, ByRoutine, ByFormal, Arguments, no_argument, argument_before, ReadVariable, ReadChar, ReadInteger, Width, DefaultWidth, GivenWidth, WriteParameter, WriteInteger, WriteChar, WriteBoolean, WriteText, Statement, Empty, Assign, AssignSet, AssignStructure, CallProcedure, CallFormalProcedure, Compound, If, IfElse, Case, While, Repeat, For, With, New, Pack, Unpack, Read, Readln, Write, Writeln, Statements, no_statement, statement_before, Elements, no_element, element_before, Program}
 use Rattle.ps_tree.specs.declared.types.Ordinal.{Ordinal}
 use Rattle.ps_tree.specs.Sizes.{value_count}
 use Rattle.ps_tree.specs.declared.tree.Direction.{Direction}
 use Rattle.ps_tree.specs.declared.tree.Range.{Range}
 use Rattle.ps_tree.specs.declared.tree.Range.TheVariants.{Within as WithinBounds}
+use Rattle.behavior.specs.Endings.{Ending, Stack, Heap}
 use Rattle.ps_meaning.specs.Values.{Value, OrdinalValue, ObjectValue, StructureValue, Root, Declared, Made, Spot, number_of, components_of, first, first_values, values_from, with_values}
-use Rattle.ps_meaning.specs.Operators.{Computed, Result, Fault, fits, set_fits, is_between, is_true, is_equal, is_among}
+use Rattle.ps_meaning.specs.Operators.{Computed, Result, Fault, combine_truths, combine_sets, fits, set_fits, is_between, is_true, is_equal, is_among}
 use Rattle.ps_meaning.specs.Text.{look_marks, Reading, EndFound, NoInteger, Integer, scan_integer, marks_to, line_marks}
-use Rattle.ps_meaning.specs.Worlds.{Env, Context, World, Ending, Stack, Heap, Answer, Gives, Ends, Act, Done, done, and_then, give, stop, fault, settled, contents, contents_in, put, ◌>>=◌, ◌>>◌, with_root, write_text, look, with_new}
-use Rattle.ps_meaning.specs.Expressions.{Actual, ValueActual, VariableActual, RoutineActual, Caller, calling, Held, HeldText, HeldSpot, contents_of, component_of, object_of, fitting, fitting_set, set_between, line_end, function_value, access, value, set_value, member_value, members_value, operand, actual_of, actuals_of, index_of}
+use Rattle.ps_meaning.specs.Worlds.{Env, Context, World, Answer, Gives, Ends, Act, Done, done, and_then, give, stop, fault, settled, contents, contents_in, put, ◌>>=◌, ◌>>◌, with_root, write_text, look, with_new}
+use Rattle.ps_meaning.specs.Expressions.{Actual, ValueActual, VariableActual, RoutineActual, Caller, calling, Held, HeldText, HeldSpot, contents_of, component_of, object_of, fitting, fitting_set, set_between, line_end, function_value, denoted, access, accesses, at_selector, value, computed, combined, set_value, sets_combined, member_value, members_value, operand, actual_of, actuals_of, index_of}
 use Rattle.ps_meaning.specs.Statements.{Task, Block, Again, Further, Next, Costs, passes_stack, passes_heap, with_opened, is_past, succeeding, own_spot, index_place, character_read, integer_found, scan, line_read, made_object, new_object, opening, read, reads, width_value, write, writes, act, acts, selected, perform}
 use Rattle.ps_meaning.specs.Calls.{bind_variables, bind_actuals, bind}
 use Rattle.ps_meaning.proofs.Growth.{transcript_of, Beside, then_beside, more_of, still, cut_here, choose_beside}
@@ -88,13 +90,13 @@ module _ (Cuts : Ending → Type 0) where
   abbrev pub Stops : Bool → Bool → Ending → Type 0
   Stops b b' ending = (b ≡ b') ⊎ ((b' ≡ false) × Cuts ending)
 
-  pub stop_beside : {A : Type 0} (b b' : Bool) (ending : Ending) (c : Context) (w : World) (f g : Act A) → Stops b b' ending → Beside Cuts w (f w) (g w) → Beside Cuts w (cond b (stop ending c) f w) (cond b' (stop ending c) g w)
-  stop_beside true true ending c w f g s h = still Cuts w (Ends w.transcript ending c.calls) refl
-  stop_beside false false ending c w f g s h = h
-  stop_beside true false ending c w f g (inl e) h = absurd (cc)
-  stop_beside true false ending c w f g (inr k) h = cut_here Cuts w ending c.calls (g w) k.1 h.grows
-  stop_beside false true ending c w f g (inl e) h = absurd (cc)
-  stop_beside false true ending c w f g (inr k) h = absurd (let e : true ≡ false = k.0 in cc)
+  pub stop_beside : {A : Type 0} (b b' : Bool) (ending : Ending) (w : World) (f g : Act A) → Stops b b' ending → Beside Cuts w (f w) (g w) → Beside Cuts w (cond b (stop ending) f w) (cond b' (stop ending) g w)
+  stop_beside true true ending w f g s h = still Cuts w (Ends w.transcript ending) refl
+  stop_beside false false ending w f g s h = h
+  stop_beside true false ending w f g (inl e) h = absurd (cc)
+  stop_beside true false ending w f g (inr k) h = cut_here Cuts w ending (g w) k.1 h.grows
+  stop_beside false true ending w f g (inl e) h = absurd (cc)
+  stop_beside false true ending w f g (inr k) h = absurd (let e : true ≡ false = k.0 in cc)
 
   module _ (call call' : Caller) (calls : (r : ℕ) (parent : Env) (actuals : List Actual) (c : Context) (w : World) → Beside Cuts w (call r parent actuals c w) (call' r parent actuals c w)) where
     function_beside : (r : ℕ) (parent : Env) (actuals : List Actual) (c : Context) (w : World) → Beside Cuts w (function_value call r parent actuals c w) (function_value call' r parent actuals c w)
@@ -102,11 +104,16 @@ module _ (Cuts : Ending → Type 0) where
 
     mutual
       pub access_beside : (p : Place) (c : Context) (w : World) → Beside Cuts w (access call p c w) (access call' p c w)
-      access_beside (Entry up index) c w = still Cuts w _ refl
-      access_beside (Opened which type number) c w = still Cuts w _ refl
-      access_beside (Element base type e line) c w = then_beside Cuts w _ _ _ _ (access_beside base c w) (λ s u. then_beside Cuts u _ _ _ _ (value_beside e c u) (λ x v. quiet (component_of s (index_of type) (number_of x) line c) (choice_quiet (is_between (index_of type).low (number_of x) (index_of type).high) _ _ (λ t. refl) (λ t. refl)) v))
-      access_beside (Field base type number) c w = then_beside Cuts w _ _ _ _ (access_beside base c w) (λ s u. still Cuts u _ refl)
-      access_beside (Target base pointer line) c w = then_beside Cuts w _ _ _ _ (access_beside base c w) (λ s u. then_beside Cuts u _ _ _ _ (quiet (contents s) (λ t. refl) u) (λ x v. quiet (object_of x line c) (object_quiet x line c) v))
+      access_beside (Variable base selectors) c w = accesses_beside selectors (denoted base c) c w
+
+      accesses_beside : (l : Selectors) (s : Spot) (c : Context) (w : World) → Beside Cuts w (accesses call l s c w) (accesses call' l s c w)
+      accesses_beside no_selector s c w = still Cuts w _ refl
+      accesses_beside (selector_before selector rest) s c w = then_beside Cuts w _ _ _ _ (selector_beside selector s c w) (λ t u. accesses_beside rest t c u)
+
+      selector_beside : (selector : Selector) (s : Spot) (c : Context) (w : World) → Beside Cuts w (at_selector call selector s c w) (at_selector call' selector s c w)
+      selector_beside (Element type e line) s c w = then_beside Cuts w _ _ _ _ (value_beside e c w) (λ x u. quiet (component_of s (index_of type) (number_of x) line c) (choice_quiet (is_between (index_of type).low (number_of x) (index_of type).high) _ _ (λ t. refl) (λ t. refl)) u)
+      selector_beside (Field type number) s c w = still Cuts w _ refl
+      selector_beside (Target pointer line) s c w = then_beside Cuts w _ _ _ _ (quiet (contents s) (λ t. refl) w) (λ x u. quiet (object_of x line c) (object_quiet x line c) u)
 
       pub value_beside : (e : Expr) (c : Context) (w : World) → Beside Cuts w (value call e c w) (value call' e c w)
       value_beside (Number n) c w = still Cuts w _ refl
@@ -115,8 +122,8 @@ module _ (Cuts : Ending → Type 0) where
       value_beside (Plus e) c w = value_beside e c w
       value_beside (Minus e line) c w = then_beside Cuts w _ _ _ _ (value_beside e c w) (λ x u. quiet (settled _ line c) (settled_quiet _ line c) u)
       value_beside (Not e) c w = then_beside Cuts w _ _ _ _ (value_beside e c w) (λ x u. still Cuts u _ refl)
-      value_beside (Arithmetic operator a b line) c w = then_beside Cuts w _ _ _ _ (value_beside a c w) (λ x u. then_beside Cuts u _ _ _ _ (value_beside b c u) (λ y v. quiet (settled _ line c) (settled_quiet _ line c) v))
-      value_beside (Logic operator a b) c w = then_beside Cuts w _ _ _ _ (value_beside a c w) (λ x u. then_beside Cuts u _ _ _ _ (value_beside b c u) (λ y v. still Cuts v _ refl))
+      value_beside (Arithmetic e steps) c w = then_beside Cuts w _ _ _ _ (value_beside e c w) (λ x u. computed_beside steps (number_of x) c u)
+      value_beside (Logic operator e rest) c w = then_beside Cuts w _ _ _ _ (value_beside e c w) (λ x u. combined_beside operator rest (is_true (number_of x)) c u)
       value_beside (Compare relation a b) c w = then_beside Cuts w _ _ _ _ (value_beside a c w) (λ x u. then_beside Cuts u _ _ _ _ (value_beside b c u) (λ y v. still Cuts v _ refl))
       value_beside (ComparePointers relation a b) c w = then_beside Cuts w _ _ _ _ (value_beside a c w) (λ x u. then_beside Cuts u _ _ _ _ (value_beside b c u) (λ y v. still Cuts v _ refl))
       value_beside (CompareSets relation a b) c w = then_beside Cuts w _ _ _ _ (set_beside a c w) (λ x u. then_beside Cuts u _ _ _ _ (set_beside b c u) (λ y v. still Cuts v _ refl))
@@ -128,10 +135,22 @@ module _ (Cuts : Ending → Type 0) where
       value_beside (Call r up arguments line) c w = then_beside Cuts w _ _ _ _ (actuals_beside arguments c w) (λ x u. function_beside _ _ x (calling line c) u)
       value_beside (CallFormal up index arguments line) c w = then_beside Cuts w _ _ _ _ (actuals_beside arguments c w) (λ x u. function_beside _ _ x (calling line c) u)
 
+      computed_beside : (steps : ArithmeticSteps) (x : ℤ) (c : Context) (w : World) → Beside Cuts w (computed call steps x c w) (computed call' steps x c w)
+      computed_beside no_arithmetic_step x c w = still Cuts w _ refl
+      computed_beside (arithmetic_step_before operator e line rest) x c w = then_beside Cuts w _ _ _ _ (value_beside e c w) (λ y u. then_beside Cuts u _ _ _ _ (quiet (settled _ line c) (settled_quiet _ line c) u) (λ z v. computed_beside rest (number_of z) c v))
+
+      combined_beside : (operator : BooleanOperator) (operands : Operands) (x : Bool) (c : Context) (w : World) → Beside Cuts w (combined call operator operands x c w) (combined call' operator operands x c w)
+      combined_beside operator no_operand x c w = still Cuts w _ refl
+      combined_beside operator (operand_before e rest) x c w = then_beside Cuts w _ _ _ _ (value_beside e c w) (λ y u. combined_beside operator rest (combine_truths operator x (is_true (number_of y))) c u)
+
       pub set_beside : (e : SetExpr) (c : Context) (w : World) → Beside Cuts w (set_value call e c w) (set_value call' e c w)
       set_beside (LoadSet p) c w = then_beside Cuts w _ _ _ _ (access_beside p c w) (λ s u. still Cuts u _ refl)
       set_beside (Constructor members) c w = members_beside members c w
-      set_beside (Combine operator a b) c w = then_beside Cuts w _ _ _ _ (set_beside a c w) (λ x u. then_beside Cuts u _ _ _ _ (set_beside b c u) (λ y v. still Cuts v _ refl))
+      set_beside (Combine e steps) c w = then_beside Cuts w _ _ _ _ (set_beside e c w) (λ x u. sets_beside steps x c u)
+
+      sets_beside : (steps : SetSteps) (x : ℕ → Bool) (c : Context) (w : World) → Beside Cuts w (sets_combined call steps x c w) (sets_combined call' steps x c w)
+      sets_beside no_set_step x c w = still Cuts w _ refl
+      sets_beside (set_step_before operator e rest) x c w = then_beside Cuts w _ _ _ _ (set_beside e c w) (λ y u. sets_beside rest (combine_sets operator x y) c u)
 
       member_beside : (m : Member) (c : Context) (w : World) → Beside Cuts w (member_value call m c w) (member_value call' m c w)
       member_beside (One e line) c w = then_beside Cuts w _ _ _ _ (value_beside e c w) (λ x u. quiet (set_between (number_of x) (number_of x) line c) (between_quiet (number_of x) (number_of x) line c) u)
@@ -163,8 +182,8 @@ pub record Tighter (Cuts : Ending → Type 0) (costs costs' : Costs) : Type 0 wh
   pub heap : (made : List ℕ) (line : ℕ) → Stops Cuts (passes_heap costs made) (passes_heap costs' made) (Heap line)
 
 module _ (Cuts : Ending → Type 0) (program : Program) (costs costs' : Costs) (tighter : Tighter Cuts costs costs') (call call' : Caller) (calls : (r : ℕ) (parent : Env) (actuals : List Actual) (c : Context) (w : World) → Beside Cuts w (call r parent actuals c w) (call' r parent actuals c w)) (next next' : Next) (nexts : (t : Task) (c : Context) (w : World) → Beside Cuts w (next t c w) (next' t c w)) where
-  new_beside : (pointer line : ℕ) (c : Context) (w : World) → Beside Cuts w (new_object program costs call next pointer line c w) (new_object program costs' call' next' pointer line c w)
-  new_beside pointer line c w = stop_beside Cuts (passes_heap costs (w.made ++ pointer ∷ [])) (passes_heap costs' (w.made ++ pointer ∷ [])) (Heap line) c w (made_object program costs call next pointer) (made_object program costs' call' next' pointer) (tighter.heap (w.made ++ pointer ∷ []) line) (still Cuts w (made_object program costs call next pointer w) refl)
+  new_beside : (pointer line : ℕ) (w : World) → Beside Cuts w (new_object program costs call next pointer line w) (new_object program costs' call' next' pointer line w)
+  new_beside pointer line w = stop_beside Cuts (passes_heap costs (w.made ++ pointer ∷ [])) (passes_heap costs' (w.made ++ pointer ∷ [])) (Heap line) w (made_object program costs call next pointer) (made_object program costs' call' next' pointer) (tighter.heap (w.made ++ pointer ∷ []) line) (still Cuts w (made_object program costs call next pointer w) refl)
 
   opening_beside : (places : List Place) (c : Context) (w : World) → Beside Cuts w (opening program costs call next places c w) (opening program costs' call' next' places c w)
   opening_beside [] c w = still Cuts w (Gives c.opened w) refl
@@ -241,7 +260,7 @@ module _ (Cuts : Ending → Type 0) (program : Program) (costs costs' : Costs) (
     act_beside (Repeat body e) c w = then_beside Cuts w _ _ _ _ (acts_beside body c w) (λ d u. then_beside Cuts u _ _ _ _ (value_beside Cuts call call' calls e c u) (λ x v. choose_beside Cuts (is_true (number_of x)) v (give done) (next (Again (Repeat body e)) c) (give done) (next' (Again (Repeat body e)) c) (still Cuts v (Gives done v) refl) (nexts (Again (Repeat body e)) c v)))
     act_beside (For variable low high a from_line direction b to_line s) c w = then_beside Cuts w _ _ _ _ (value_beside Cuts call call' calls a c w) (λ x u. then_beside Cuts u _ _ _ _ (value_beside Cuts call call' calls b c u) (λ y v. turns_beside (is_past direction (number_of x) (number_of y)) variable low high x from_line y to_line direction s c v (act_beside s c)))
     act_beside (With places s) c w = then_beside Cuts w _ _ _ _ (opening_beside places c w) (λ opened u. act_beside s (with_opened opened c) u)
-    act_beside (New p pointer line) c w = then_beside Cuts w _ _ _ _ (access_beside Cuts call call' calls p c w) (λ s u. then_beside Cuts u _ _ _ _ (new_beside pointer line c u) (λ v t. quiet Cuts (put s v) (put_quiet s v) t))
+    act_beside (New p pointer line) c w = then_beside Cuts w _ _ _ _ (access_beside Cuts call call' calls p c w) (λ s u. then_beside Cuts u _ _ _ _ (new_beside pointer line u) (λ v t. quiet Cuts (put s v) (put_quiet s v) t))
     act_beside (Pack p from_type e line q to_type) c w = then_beside Cuts w _ _ _ _ (access_beside Cuts call call' calls p c w) (λ a u. then_beside Cuts u _ _ _ _ (value_beside Cuts call call' calls e c u) (λ x v. then_beside Cuts v _ _ _ _ (quiet Cuts (index_place (index_of from_type) (number_of x) line c) (place_quiet (index_of from_type) (number_of x) line c) v) (λ k t. then_beside Cuts t _ _ _ _ (access_beside Cuts call call' calls q c t) (λ z r. put_or_fault (nat_le (k + value_count (index_of to_type)) (value_count (index_of from_type))) z (StructureValue (first_values (value_count (index_of to_type)) (values_from (components_of (contents_in r a)) k))) line c r))))
     act_beside (Unpack p from_type q to_type e line) c w = then_beside Cuts w _ _ _ _ (access_beside Cuts call call' calls p c w) (λ z u. then_beside Cuts u _ _ _ _ (access_beside Cuts call call' calls q c u) (λ a v. then_beside Cuts v _ _ _ _ (value_beside Cuts call call' calls e c v) (λ x t. then_beside Cuts t _ _ _ _ (quiet Cuts (index_place (index_of to_type) (number_of x) line c) (place_quiet (index_of to_type) (number_of x) line c) t) (λ k r. put_or_fault (nat_le (k + value_count (index_of from_type)) (value_count (index_of to_type))) a (StructureValue (with_values (components_of (contents_in r a)) k (components_of (contents_in r z)))) line c r))))
     act_beside (Read variables) c w = reads_beside variables c w

@@ -2,11 +2,12 @@
 use Rattle.std.proofs.Common.{ℕ, ℤ, pos, negsuc, true, List, [], ◌∷◌, Some, None}
 use Rattle.ps_tree.specs.declared.types.Host.TheVariants.{Integer, Char}
 use Rattle.ps_tree.specs.declared.types.Ordinal.{Ordinal}
-use Rattle.ps_tree.specs.declared.tree.ArithmeticOperator.TheVariants.{Add}
 use Rattle.ps_tree.specs.declared.tree.Range.{Range}
 use Rattle.ps_tree.specs.declared.tree.Range.TheVariants.{Within}
 use Rattle.ps_tree.specs.Types.{DataType, OrdinalType, ArrayType}
-use Rattle.ps_tree.specs.Tree.{Place, Entry, Expr, Number, Load, Arithmetic, Argument, Arguments, no_argument, argument_before, Literal, Width, DefaultWidth, GivenWidth, WriteInteger, WriteText, Statement, Assign, Write, Statements, no_statement, statement_before, no_formal, Routine, Program}
+use Rattle.ps_tree.specs.declared.tree.ArithmeticOperator.{ArithmeticOperator}
+use Rattle.ps_tree.specs.declared.tree.ArithmeticOperator.TheVariants.{Add}
+use Rattle.ps_tree.specs.Tree.{Place, Variable, Entry, Selector, Selectors, no_selector, selector_before, no_arithmetic_step, arithmetic_step_before, Expr, Number, Load, Arithmetic, Argument, Arguments, no_argument, argument_before, Literal, Width, DefaultWidth, GivenWidth, WriteInteger, WriteText, Statement, Assign, Write, Statements, no_statement, statement_before, no_formal, Routine, Program}
 
 abbrev pub integer : Ordinal
 integer = record { host = Integer; subrange = None; low = negsuc 2147483647; high = pos 2147483647 }
@@ -29,8 +30,19 @@ any_integer = Within (negsuc 2147483647) (pos 2147483647)
 abbrev pub n : ℕ → Expr
 n k = Number (pos k)
 
+abbrev pub outer : ℕ → ℕ → Place
+outer up i = Variable (Entry up i) no_selector
+
 abbrev pub own : ℕ → Place
-own i = Entry 0 i
+own i = outer 0 i
+
+-- a variable's selectors and one more
+abbrev pub selectors_and : Selectors → Selector → Selectors
+selectors_and no_selector s = selector_before s no_selector
+selectors_and (selector_before t rest) s = selector_before t (selectors_and rest s)
+
+abbrev pub then_selector : Place → Selector → Place
+then_selector (Variable base selectors) s = Variable base (selectors_and selectors s)
 
 abbrev pub load : ℕ → Expr
 load i = Load (own i)
@@ -38,8 +50,11 @@ load i = Load (own i)
 abbrev pub set : ℕ → Expr → Statement
 set i e = Assign (own i) any_integer e 1
 
+abbrev pub arithmetic : ArithmeticOperator → Expr → Expr → (line : ℕ) → Expr
+arithmetic operator a b line = Arithmetic a (arithmetic_step_before operator b line no_arithmetic_step)
+
 abbrev pub plus : Expr → Expr → Expr
-plus a b = Arithmetic Add a b 1
+plus a b = arithmetic Add a b 1
 
 abbrev pub statements : List Statement → Statements
 statements [] = no_statement

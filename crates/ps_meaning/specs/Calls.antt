@@ -2,8 +2,9 @@
 use Rattle.std.specs.Prelude.{ℕ, zero, suc, if◌then◌else◌, List, [], ◌∷◌, Option, Some, None}
 use Rattle.ps_tree.specs.Types.{DataType}
 use Rattle.ps_tree.specs.Tree.{Program, routine_at}
+use Rattle.behavior.specs.Endings.{Stack, More}
 use Rattle.ps_meaning.specs.Values.{Value, Declared, entire, first}
-use Rattle.ps_meaning.specs.Worlds.{Within, Frame, no_entry, variable_before, routine_before, World, Stack, More, stop, with_new}
+use Rattle.ps_meaning.specs.Worlds.{Within, Frame, no_entry, variable_before, routine_before, World, stop, with_new}
 use Rattle.ps_meaning.specs.Expressions.{Actual, ValueActual, VariableActual, RoutineActual, Caller}
 use Rattle.ps_meaning.specs.Statements.{Block, Next, Costs, passes_stack, perform}
 
@@ -44,12 +45,12 @@ bind (Some type) actuals variables w = declared (first type) (bind_actuals actua
 abbrev pub call_routine : Program → Costs → Next → Caller
 call_routine program costs next r parent actuals c =
     let routine = routine_at program r in
-    if passes_stack costs (r ∷ c.active) then stop (Stack routine.line) c
+    if passes_stack costs (r ∷ c.active) then stop (Stack routine.line)
     else (λ w.
     let bound = bind routine.result actuals routine.variables w in
     next (Block routine.body) (record { env = Within bound.frame parent; opened = []; active = r ∷ c.active; calls = c.calls }) bound.world)
 
 -- a task, done with n of fuel
 abbrev pub execute : Program → Costs → ℕ → Next
-execute program costs zero task c = stop More c
+execute program costs zero task c = stop More
 execute program costs (suc n) task c = perform program costs (call_routine program costs (execute program costs n)) (execute program costs n) task c

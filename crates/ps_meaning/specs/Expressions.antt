@@ -3,10 +3,11 @@
 use Rattle.std.specs.Prelude.{ℕ, ℤ, pos, ◌-ℤ◌, unsigned_abs, int_lt, Bool, not, ◌&&◌, ◌==◌, is_none, if◌then◌else◌, List, [], ◌∷◌, get_or, Option, Some, None}
 use Rattle.ps_tree.specs.declared.types.Host.TheVariants.{Integer}
 use Rattle.ps_tree.specs.declared.types.Ordinal.{Ordinal}
+use Rattle.ps_tree.specs.declared.tree.BooleanOperator.{BooleanOperator}
 use Rattle.ps_tree.specs.declared.tree.Range.{Range}
 use Rattle.ps_tree.specs.declared.tree.SetOperator.TheVariants.{Union}
 use Rattle.ps_tree.specs.Types.{DataType, ArrayType}
-use Rattle.ps_tree.specs.Tree.{Place, Entry, Opened, Element, Field, Target, Expr, Number, Nil, Load, Plus, Minus, Not, Arithmetic, Logic, Compare, ComparePointers, CompareSets, CompareStrings, In, Apply, Eof, Eoln, Call, CallFormal, SetExpr, LoadSet, Constructor, Combine, Member, One, Several, Members, no_member, member_before, Structure, Literal, Contents, Argument, ByValue, BySet, ByCopy, ByVariable, ByRoutine, ByFormal, Arguments, no_argument, argument_before}
+use Rattle.ps_tree.specs.Tree.{Place, Variable, PlaceBase, Entry, Opened, Selector, Element, Field, Target, Selectors, no_selector, selector_before, ArithmeticSteps, no_arithmetic_step, arithmetic_step_before, Operands, no_operand, operand_before, SetSteps, no_set_step, set_step_before, Expr, Number, Nil, Load, Plus, Minus, Not, Arithmetic, Logic, Compare, ComparePointers, CompareSets, CompareStrings, In, Apply, Eof, Eoln, Call, CallFormal, SetExpr, LoadSet, Constructor, Combine, Member, One, Several, Members, no_member, member_before, Structure, Literal, Contents, Argument, ByValue, BySet, ByCopy, ByVariable, ByRoutine, ByFormal, Arguments, no_argument, argument_before}
 use Rattle.ps_meaning.specs.Values.{Value, OrdinalValue, NilValue, ObjectValue, SetValue, StructureValue, Declared, Made, Spot, entire, step, number_of, set_of, components_of, no_member_of, text_values}
 use Rattle.ps_meaning.specs.Operators.{integer, compute, apply, combine_truths, combine_sets, holds, pointers_hold, strings_hold, sets_hold, is_member, interval, is_between, is_true, truth, fits, set_fits}
 use Rattle.ps_meaning.specs.Worlds.{Env, above, frame_of, spot_in, routine_in, env_in, no_spot, Context, Gives, Act, Done, ◌>>=◌, ◌>>◌, give, fault, settled, contents, look}
@@ -71,6 +72,11 @@ line_end (Some b) line c = give (OrdinalValue (truth (b == 10)))
 abbrev pub next_name : Act ℕ
 next_name = λ w. Gives w.next w
 
+-- what a variable's name denotes by itself
+abbrev pub denoted : PlaceBase → Context → Spot
+denoted (Entry up index) c = spot_in (frame_of (above c.env up)) index
+denoted (Opened which type number) c = step (get_or c.opened which no_spot) number
+
 module _ (call : Caller) where
   abbrev pub function_value : (routine : ℕ) → Env → List Actual → Context → Act Value
   function_value r parent actuals c = do
@@ -79,19 +85,22 @@ module _ (call : Caller) where
     contents (entire (Declared name))
 
   abbrev mutual
-    -- 6.5: variables are accessed
+    -- 6.5: variables are accessed: what the name denotes, then each selector from there
     pub access : Place → Context → Act Spot
-    access (Entry up index) c = give (spot_in (frame_of (above c.env up)) index)
-    access (Opened which type number) c = give (step (get_or c.opened which no_spot) number)
-    access (Element base type e line) c = do
-      s ← access base c
+    access (Variable base selectors) c = accesses selectors (denoted base c) c
+
+    pub accesses : Selectors → Spot → Context → Act Spot
+    accesses no_selector s c = give s
+    accesses (selector_before selector rest) s c = do
+      t ← at_selector selector s c
+      accesses rest t c
+
+    pub at_selector : Selector → Spot → Context → Act Spot
+    at_selector (Element type e line) s c = do
       x ← value e c
       component_of s (index_of type) (number_of x) line c
-    access (Field base type number) c = do
-      s ← access base c
-      give (step s number)
-    access (Target base pointer line) c = do
-      s ← access base c
+    at_selector (Field type number) s c = give (step s number)
+    at_selector (Target pointer line) s c = do
       v ← contents s
       object_of v line c
 
@@ -109,15 +118,13 @@ module _ (call : Caller) where
     value (Not e) c = do
       x ← value e c
       give (OrdinalValue (truth (not (is_true (number_of x)))))
-    value (Arithmetic operator a b line) c = do
-      x ← value a c
-      y ← value b c
-      settled (compute operator (number_of x) (number_of y)) line c
-    -- both operands are evaluated
-    value (Logic operator a b) c = do
-      x ← value a c
-      y ← value b c
-      give (OrdinalValue (truth (combine_truths operator (is_true (number_of x)) (is_true (number_of y)))))
+    -- operators of one precedence are left associative (6.7.1)
+    value (Arithmetic e steps) c = do
+      x ← value e c
+      computed steps (number_of x) c
+    value (Logic operator e rest) c = do
+      x ← value e c
+      combined operator rest (is_true (number_of x)) c
     value (Compare relation a b) c = do
       x ← value a c
       y ← value b c
@@ -156,6 +163,21 @@ module _ (call : Caller) where
       actuals ← actuals_of arguments c
       function_value (routine_in (frame_of (above c.env up)) index) (env_in (frame_of (above c.env up)) index) actuals (calling line c)
 
+    -- each step is done before the next operand is evaluated: the number so far is its left operand
+    pub computed : ArithmeticSteps → ℤ → Context → Act Value
+    computed no_arithmetic_step x c = give (OrdinalValue x)
+    computed (arithmetic_step_before operator e line rest) x c = do
+      y ← value e c
+      z ← settled (compute operator x (number_of y)) line c
+      computed rest (number_of z) c
+
+    -- all operands are evaluated, whatever those before them are
+    pub combined : BooleanOperator → Operands → Bool → Context → Act Value
+    combined operator no_operand x c = give (OrdinalValue (truth x))
+    combined operator (operand_before e rest) x c = do
+      y ← value e c
+      combined operator rest (combine_truths operator x (is_true (number_of y))) c
+
     -- expressions of a set type
     pub set_value : SetExpr → Context → Act (ℕ → Bool)
     set_value (LoadSet p) c = do
@@ -163,10 +185,15 @@ module _ (call : Caller) where
       v ← contents s
       give (set_of v)
     set_value (Constructor members) c = members_value members c
-    set_value (Combine operator a b) c = do
-      x ← set_value a c
-      y ← set_value b c
-      give (combine_sets operator x y)
+    set_value (Combine e steps) c = do
+      x ← set_value e c
+      sets_combined steps x c
+
+    pub sets_combined : SetSteps → (ℕ → Bool) → Context → Act (ℕ → Bool)
+    sets_combined no_set_step x c = give x
+    sets_combined (set_step_before operator e rest) x c = do
+      y ← set_value e c
+      sets_combined rest (combine_sets operator x y) c
 
     -- each member is evaluated and checked before the next
     pub member_value : Member → Context → Act (ℕ → Bool)

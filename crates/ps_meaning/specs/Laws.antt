@@ -1,25 +1,26 @@
 -- Laws of the runs: how the run within costs and a budget lies in the run without, and how runs grow with the fuel.
-use Rattle.std.specs.Prelude.{◌≡◌, ◌⊎◌, ℕ, ◌+◌, List, ◌++◌}
+use Rattle.std.specs.Prelude.{◌≡◌, ℕ, ◌+◌, List}
+use Rattle.behavior.specs.Endings.{Error, IsStop}
+use Rattle.behavior.specs.Transcripts.{GoesOn}
+use Rattle.behavior.specs.Same.{Grows}
 use Rattle.ps_tree.specs.Tree.{Program}
-use Rattle.ps_meaning.specs.Run.{Ran, run, run_within}
-
--- a goes on to b: it is b, or it ended with an ending of this kind after a part of b's transcript
-abbrev pub GoesOn : (kinds : ℕ → Type 0) → Ran → Ran → Type 0
-GoesOn kinds a b = (a ≡ b) ⊎ (kinds a.1.0 × ((rest : List ℕ) × (b.0 ≡ a.0 ++ rest)))
-
--- a stop for stack or heap
-abbrev pub IsStop : ℕ → Type 0
-IsStop kind = (kind ≡ 3) ⊎ (kind ≡ 4)
-
--- the fuel was used up
-abbrev pub IsMore : ℕ → Type 0
-IsMore kind = kind ≡ 0
+use Rattle.ps_meaning.specs.Run.{run, run_within}
 
 -- the run within costs and a budget is the run without, or is stopped for stack or heap after a part of its
 -- transcript
 abbrev pub LimitsOnlyStop : Type 0
 LimitsOnlyStop = (program : Program) (F G : List ℕ) (S H : ℕ) (input : List ℕ) (n : ℕ) → GoesOn IsStop (run_within program F G S H input n) (run program input n)
 
+-- a run that costs nothing is not stopped
+abbrev pub FreeNeverStops : Type 0
+FreeNeverStops = (program : Program) (input : List ℕ) (n : ℕ) → IsStop (run program input n).1 → ⊥
+
 -- with more fuel a run that ended stays as it is, and one that did not goes on
 abbrev pub FuelOnlyExtends : Type 0
-FuelOnlyExtends = (program : Program) (F G : List ℕ) (S H : ℕ) (input : List ℕ) (n k : ℕ) → GoesOn IsMore (run_within program F G S H input n) (run_within program F G S H input (n + k))
+FuelOnlyExtends = (program : Program) (F G : List ℕ) (S H : ℕ) (input : List ℕ) → Grows (run_within program F G S H input)
+
+-- An error within a budget is the error of the run without, with the same calls open, and it stays with more fuel.
+abbrev pub ErrorsStay : Type 0
+ErrorsStay = (program : Program) (F G : List ℕ) (S H : ℕ) (input : List ℕ) (n k : ℕ) (transcript : List ℕ) (number line : ℕ) (calls : List ℕ)
+    → run_within program F G S H input n ≡ (transcript, Error number line calls)
+    → (run_within program F G S H input (n + k) ≡ (transcript, Error number line calls)) × (run program input (n + k) ≡ (transcript, Error number line calls))

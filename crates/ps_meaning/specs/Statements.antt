@@ -6,10 +6,11 @@ use Rattle.ps_tree.specs.declared.tree.Direction.{Direction}
 use Rattle.ps_tree.specs.declared.tree.Direction.TheVariants.{To, Downto}
 use Rattle.ps_tree.specs.Sizes.{value_count}
 use Rattle.ps_tree.specs.Tree.{Place, ReadVariable, ReadChar, ReadInteger, Width, DefaultWidth, GivenWidth, WriteParameter, WriteInteger, WriteChar, WriteBoolean, WriteText, Statement, Empty, Assign, AssignSet, AssignStructure, CallProcedure, CallFormalProcedure, Compound, If, IfElse, Case, While, Repeat, For, With, New, Pack, Unpack, Read, Readln, Write, Writeln, Statements, no_statement, statement_before, Elements, no_element, element_before, Program, domain_at}
+use Rattle.behavior.specs.Endings.{Heap}
 use Rattle.ps_meaning.specs.Values.{Value, OrdinalValue, ObjectValue, StructureValue, Values, no_value, value_before, Spot, number_of, components_of, first, values_from, first_values, with_values}
 use Rattle.ps_meaning.specs.Operators.{is_equal, is_between, is_true, is_among}
 use Rattle.ps_meaning.specs.Text.{as_character, Reading, EndFound, NoInteger, Integer, scan_integer, marks_to, after_integer, after_line, line_marks, right_aligned, fitted, integer_text, boolean_text}
-use Rattle.ps_meaning.specs.Worlds.{above, frame_of, spot_in, routine_in, env_in, Context, Heap, Gives, Act, Done, done, ◌>>=◌, ◌>>◌, give, stop, fault, contents, put, write_text, look, take_next, with_input}
+use Rattle.ps_meaning.specs.Worlds.{above, frame_of, spot_in, routine_in, env_in, Context, Gives, Act, Done, done, ◌>>=◌, ◌>>◌, give, stop, fault, contents, put, write_text, look, take_next, with_input}
 use Rattle.ps_meaning.specs.Expressions.{Caller, calling, contents_of, index_of, fitting, fitting_set, access, value, set_value, operand, actuals_of}
 
 -- what fuel is spent on: a block, a while or repeat statement again, or a further turn of a for statement up to its
@@ -47,11 +48,11 @@ abbrev pub is_past : Direction → ℤ → ℤ → Bool
 is_past To x y = int_lt y x
 is_past Downto x y = int_lt x y
 
--- the next value of a control variable; the same value where there is no next integer, since a for statement has had
--- its last turn by then (6.8.3.9)
+-- the next value of a control variable: the sum with 1 or -1 modulo 2 ^ 32, among the integers, so that there is always
+-- one; where this is not the sum, a for statement has had its last turn (6.8.3.9)
 abbrev pub succeeding : Direction → ℤ → ℤ
-succeeding To x = if int_lt x (pos 2147483647) then x +ℤ pos 1 else x
-succeeding Downto x = if int_lt (negsuc 2147483647) x then x -ℤ pos 1 else x
+succeeding To x = if int_lt x (pos 2147483647) then x +ℤ pos 1 else negsuc 2147483647
+succeeding Downto x = if int_lt (negsuc 2147483647) x then x -ℤ pos 1 else pos 2147483647
 
 -- an entry of the routine itself
 abbrev pub own_spot : ℕ → Context → Spot
@@ -94,8 +95,8 @@ module _ (program : Program) (costs : Costs) (call : Caller) (next : Next) where
   abbrev pub made_object : (pointer : ℕ) → Act Value
   made_object pointer = λ w. Gives (ObjectValue (length w.objects)) (record w { objects = w.objects ++ first (domain_at program pointer) ∷ []; made = w.made ++ pointer ∷ [] })
 
-  abbrev pub new_object : (pointer line : ℕ) → Context → Act Value
-  new_object pointer line c = λ w. (if passes_heap costs (w.made ++ pointer ∷ []) then stop (Heap line) c else made_object pointer) w
+  abbrev pub new_object : (pointer line : ℕ) → Act Value
+  new_object pointer line = λ w. (if passes_heap costs (w.made ++ pointer ∷ []) then stop (Heap line) else made_object pointer) w
 
   -- `with` opens each record in the context of those before it
   abbrev pub opening : List Place → Context → Act (List Spot)
@@ -219,7 +220,7 @@ module _ (program : Program) (costs : Costs) (call : Caller) (next : Next) where
     -- 6.6.5.3
     act (New p pointer line) c = do
       s ← access call p c
-      v ← new_object pointer line c
+      v ← new_object pointer line
       put s v
     -- 6.6.5.4: the components from the index on, or to there
     act (Pack p from_type e line q to_type) c = do

@@ -1,6 +1,7 @@
 -- Text (6.9, 6.10): what each read looks at, takes and leaves, and what each write adds. Characters are bytes; byte
 -- 10 ends a line.
 use Rattle.std.specs.Prelude.{ℕ, zero, suc, ◌+◌, ◌-◌, ◌*◌, ◌/◌, ◌%◌, ℤ, pos, negsuc, neg_ℤ, Bool, true, false, not, ◌&&◌, ◌||◌, ◌==◌, nat_lt, nat_le, if◌then◌else◌, List, [], ◌∷◌, ◌++◌, length, drop, take, take_while, replicate, Option, Some, None, codes}
+use Rattle.behavior.specs.Transcripts.{mark}
 
 -- The input that is left: its bytes; whether the first of them, or the end where there is none, was looked at; and
 -- whether a line was begun and not ended, which counts as ended where the bytes end (a nonempty input whose last
@@ -12,10 +13,6 @@ pub record Input : Type 0 where
 
 abbrev pub whole_input : List ℕ → Input
 whole_input bytes = record { left = bytes; looked = false; in_line = false }
-
--- a mark stands in the transcript for each first look at a byte of the input or at its end
-abbrev pub mark : ℕ
-mark = 256
 
 -- the next character; none at the end of input
 abbrev pub next_of : List ℕ → Bool → Option ℕ
@@ -29,6 +26,7 @@ next_character i = next_of i.left i.in_line
 abbrev pub looked_at : Input → Input
 looked_at i = record { left = i.left; looked = true; in_line = i.in_line }
 
+-- a mark stands in the transcript for each first look at a byte of the input or at its end
 abbrev pub look_marks : Input → List ℕ
 look_marks i = if i.looked then [] else mark ∷ []
 

@@ -1,5 +1,6 @@
 -- What a program acts in: environments of frames, the world of stored values, input and output, and answers.
 use Rattle.std.specs.Prelude.{ℕ, zero, suc, pos, nat_eq, if◌then◌else◌, List, ◌++◌, set, get_or, Option}
+use Rattle.behavior.specs.Endings.{Ending, failed}
 use Rattle.ps_meaning.specs.Values.{Value, OrdinalValue, Root, Declared, Made, Spot, entire, part, with_part}
 use Rattle.ps_meaning.specs.Operators.{Computed, Result, Fault}
 use Rattle.ps_meaning.specs.Text.{Input, next_character, looked_at, look_marks, taken}
@@ -69,18 +70,10 @@ pub record World : Type 0 where
   pub input : Input
   pub transcript : List ℕ
 
--- how a run ends, or More where the fuel was used up
-pub data Ending : Type 0 where
-  Normal : Ending
-  Error : (number line : ℕ) → Ending
-  Stack : (line : ℕ) → Ending
-  Heap : (line : ℕ) → Ending
-  More : Ending
-
--- an act gives a value and a new world, or ends the run, with the transcript and the lines of the open calls
+-- an act gives a value and a new world, or ends the run, with the transcript
 pub data Answer (A : Type 0) : Type 0 where
   Gives : A → World → Answer A
-  Ends : (transcript : List ℕ) → Ending → (calls : List ℕ) → Answer A
+  Ends : (transcript : List ℕ) → Ending → Answer A
 
 abbrev pub Act : Type 0 → Type 0
 Act A = World → Answer A
@@ -90,7 +83,7 @@ pub data Done : Type 0 where
 
 abbrev pub and_then : {A B : Type 0} → Answer A → (A → Act B) → Answer B
 and_then (Gives v w) f = f v w
-and_then (Ends transcript ending calls) f = Ends transcript ending calls
+and_then (Ends transcript ending) f = Ends transcript ending
 
 -- one act after another
 infixl 10 ◌>>=◌
@@ -104,11 +97,12 @@ m >> k = λ w. and_then (m w) (λ _. k)
 abbrev pub give : {A : Type 0} → A → Act A
 give v = λ w. Gives v w
 
-abbrev pub stop : {A : Type 0} → Ending → Context → Act A
-stop ending c = λ w. Ends w.transcript ending c.calls
+abbrev pub stop : {A : Type 0} → Ending → Act A
+stop ending = λ w. Ends w.transcript ending
 
+-- an error, with the calls that are open
 abbrev pub fault : {A : Type 0} → (number line : ℕ) → Context → Act A
-fault number line c = stop (Error number line) c
+fault number line c = stop (failed number line c.calls)
 
 -- what was computed, or its error at a line
 abbrev pub settled : Computed → (line : ℕ) → Context → Act Value

@@ -2,6 +2,7 @@
 use Rattle.std.proofs.Common.{◌≡◌, ℕ, ℤ, zero, suc, ◌+◌, ◌<◌, ◌≤◌, Bool, true, false, if◌then◌else◌, ◌-◌, ◌≢◌, max, arith, List, ◌∷◌, length, get_or, drop, map, Result, Vec, Global, refl, sym, ap, subst, ◌∙◌}
 use mathlib.Core.Path.{fun_ext}
 use Rattle.std.proofs.lemmas.List.{drop_all}
+use Rattle.behavior.specs.Endings.{failed}
 use Rattle.ps_tree.specs.Tree as t
 use Rattle.ps_tree.specs.declared.tree.Direction.{Direction}
 use Rattle.ps_tree.specs.declared.line.Line.{Line}
@@ -115,11 +116,11 @@ pub selects_next : (job : Job) (n : ℕ) (c : m.Context) (xs : List CaseElement)
 selects_next job n c xs i x k line w all is among at lt =
     sym (ap (λ l. selecting job n l k line c w) (elements_at xs i x lt at) ∙ ap (λ b. (if b then acting job n (statement_of (out-CaseElement x).body) c else selecting job n (elements_of (drop (i + 1) xs)) k line c) w) among) ∙ is
 
-pub selects_none : (job : Job) (n : ℕ) (c : m.Context) (xs : List CaseElement) (i : ℕ) (k : ℤ) (line : ℕ) (w : m.World) (all : m.Answer m.Done) → selecting job n (elements_of (drop i xs)) k line c w ≡ all → length xs ≤ i → all ≡ m.Ends w.transcript (m.Error 7 line) c.calls
+pub selects_none : (job : Job) (n : ℕ) (c : m.Context) (xs : List CaseElement) (i : ℕ) (k : ℤ) (line : ℕ) (w : m.World) (all : m.Answer m.Done) → selecting job n (elements_of (drop i xs)) k line c w ≡ all → length xs ≤ i → all ≡ m.Ends w.transcript (failed 7 line c.calls)
 selects_none job n c xs i k line w all is le = sym is ∙ ap (λ l. selecting job n l k line c w) (elements_past xs i le)
 
 -- with no fuel left, and with one more
-next_none : (job : Job) (n : ℕ) (task : s.Task) (c : m.Context) (w : m.World) → n ≡ 0 → next job n task c w ≡ r.more_at c w
+next_none : (job : Job) (n : ℕ) (task : s.Task) (c : m.Context) (w : m.World) → n ≡ 0 → next job n task c w ≡ r.used_up w
 unfolding next
 next_none job n task c w none = ap (λ k. next job k task c w) none
 
@@ -139,7 +140,7 @@ unfolding next caller
 further_next job n variable direction last statement c w = refl
 
 -- blocks
-pub block_over : (job : Job) (n : ℕ) (body : t.Statements) (c : m.Context) (w : m.World) → n ≡ 0 → r.more_at c w ≡ next job n (s.Block body) c w
+pub block_over : (job : Job) (n : ℕ) (body : t.Statements) (c : m.Context) (w : m.World) → n ≡ 0 → r.used_up w ≡ next job n (s.Block body) c w
 block_over job n body c w none = sym (next_none job n (s.Block body) c w none)
 
 pub block_done : (job : Job) (n : ℕ) (body : t.Statements) (c : m.Context) (w : m.World) → n ≢ 0 → acting_all job (n - 1) body c w ≡ next job n (s.Block body) c w
@@ -149,7 +150,7 @@ block_done job (suc n) body c w more = ap (λ k. acting_all job k body c w) (one
 -- conditions
 truth_split : (a : m.Answer v.Value) (f g : m.Act m.Done) → m.and_then a (λ x. if is_true (v.number_of x) then f else g) ≡ m.and_then (m.and_then a (λ x. m.give (is_true (v.number_of x)))) (λ k. if k then f else g)
 truth_split (m.Gives x w) f g = refl
-truth_split (m.Ends out ending calls) f g = refl
+truth_split (m.Ends out ending) f g = refl
 
 -- while statements
 while_again : Job → ℕ → t.Expr → t.Statement → m.Context → Bool → m.Act m.Done
@@ -191,7 +192,7 @@ while_body_halt job j n a b c k halt w u z all d le is gives holds h =
 while_further : (job : Job) (n : ℕ) (a : t.Expr) (b : t.Statement) (c : m.Context) (k : Bool) (w u z : m.World) (all : m.Answer m.Done) → acting job n (t.While a b) c w ≡ all → truth_in job n a c w ≡ m.Gives k u → k ≡ true → acting job n b c u ≡ m.Gives m.done z → next job n (s.Again (t.While a b)) c z ≡ all
 while_further job n a b c k w u z all is gives holds did = sym (then_gives (acting job n b c u) (λ _. next job n (s.Again (t.While a b)) c) m.done z did) ∙ while_turn job n a b c k w u all is gives holds
 
-pub while_over : (job : Job) (n : ℕ) (a : t.Expr) (b : t.Statement) (c : m.Context) (k : Bool) (w u z : m.World) (all : m.Answer m.Done) → acting job n (t.While a b) c w ≡ all → truth_in job n a c w ≡ m.Gives k u → k ≡ true → acting job n b c u ≡ m.Gives m.done z → n ≡ 0 → r.more_at c z ≡ all
+pub while_over : (job : Job) (n : ℕ) (a : t.Expr) (b : t.Statement) (c : m.Context) (k : Bool) (w u z : m.World) (all : m.Answer m.Done) → acting job n (t.While a b) c w ≡ all → truth_in job n a c w ≡ m.Gives k u → k ≡ true → acting job n b c u ≡ m.Gives m.done z → n ≡ 0 → r.used_up z ≡ all
 while_over job n a b c k w u z all is gives holds did none = sym (next_none job n (s.Again (t.While a b)) c z none) ∙ while_further job n a b c k w u z all is gives holds did
 
 pub while_next : (job : Job) (n : ℕ) (a : t.Expr) (b : t.Statement) (c : m.Context) (k : Bool) (w u z : m.World) (all : m.Answer m.Done) → acting job n (t.While a b) c w ≡ all → truth_in job n a c w ≡ m.Gives k u → k ≡ true → acting job n b c u ≡ m.Gives m.done z → n ≢ 0 → acting job (n - 1) (t.While a b) c z ≡ all
@@ -241,7 +242,7 @@ repeat_further : (job : Job) (n : ℕ) (b : t.Statements) (a : t.Expr) (c : m.Co
 unfolding repeat_again
 repeat_further job n b a c k w u z all is did gives fails = sym (ap (λ x. repeat_again job n b a c x z) fails) ∙ repeat_known job n b a c k w u z all is did gives
 
-pub repeat_over : (job : Job) (n : ℕ) (b : t.Statements) (a : t.Expr) (c : m.Context) (k : Bool) (w u z : m.World) (all : m.Answer m.Done) → acting job n (t.Repeat b a) c w ≡ all → acting_all job n b c w ≡ m.Gives m.done u → truth_in job n a c u ≡ m.Gives k z → k ≡ false → n ≡ 0 → r.more_at c z ≡ all
+pub repeat_over : (job : Job) (n : ℕ) (b : t.Statements) (a : t.Expr) (c : m.Context) (k : Bool) (w u z : m.World) (all : m.Answer m.Done) → acting job n (t.Repeat b a) c w ≡ all → acting_all job n b c w ≡ m.Gives m.done u → truth_in job n a c u ≡ m.Gives k z → k ≡ false → n ≡ 0 → r.used_up z ≡ all
 repeat_over job n b a c k w u z all is did gives fails none = sym (next_none job n (s.Again (t.Repeat b a)) c z none) ∙ repeat_further job n b a c k w u z all is did gives fails
 
 pub repeat_next : (job : Job) (n : ℕ) (b : t.Statements) (a : t.Expr) (c : m.Context) (k : Bool) (w u z : m.World) (all : m.Answer m.Done) → acting job n (t.Repeat b a) c w ≡ all → acting_all job n b c w ≡ m.Gives m.done u → truth_in job n a c u ≡ m.Gives k z → k ≡ false → n ≢ 0 → acting job (n - 1) (t.Repeat b a) c z ≡ all
@@ -271,7 +272,7 @@ turns_further : (job : Job) (n variable : ℕ) (direction : Direction) (last : �
 unfolding turning
 turns_further job n variable direction last b c w u all is did = sym (then_gives (acting job n b c w) (λ _. next job n (s.Further variable direction last b) c) m.done u did) ∙ is
 
-pub turns_over : (job : Job) (n variable : ℕ) (direction : Direction) (last : ℤ) (b : t.Statement) (c : m.Context) (w u : m.World) (all : m.Answer m.Done) → turning job n variable direction last b c w ≡ all → acting job n b c w ≡ m.Gives m.done u → n ≡ 0 → r.more_at c u ≡ all
+pub turns_over : (job : Job) (n variable : ℕ) (direction : Direction) (last : ℤ) (b : t.Statement) (c : m.Context) (w u : m.World) (all : m.Answer m.Done) → turning job n variable direction last b c w ≡ all → acting job n b c w ≡ m.Gives m.done u → n ≡ 0 → r.used_up u ≡ all
 turns_over job n variable direction last b c w u all is did none = sym (next_none job n (s.Further variable direction last b) c u none) ∙ turns_further job n variable direction last b c w u all is did
 
 turns_begun : (job : Job) (n variable : ℕ) (direction : Direction) (last : ℤ) (b : t.Statement) (c : m.Context) (spot : v.Spot) (w u : m.World) (all : m.Answer m.Done) → turning job n variable direction last b c w ≡ all → acting job n b c w ≡ m.Gives m.done u → n ≢ 0 → spot ≡ s.own_spot variable c → m.and_then (advancing spot direction last u) (turn_again job (n - 1) variable direction last b c) ≡ all
@@ -319,13 +320,13 @@ pub runs_same : {A R : Type 0} (view : R → A) (a b : m.Answer A) (result : Res
 runs_same view a b result u d k n is le h = runs_deeper view b result u d k d n (subst (λ x. Runs view x d k result u) is h) (omega arith)
 
 -- new
-pub new_stop : (job : Job) (n : ℕ) (p : t.Place) (pointer line : ℕ) (c : m.Context) (spot : v.Spot) (stop : Stop) (w u : m.World) (z : World) → e.access (caller job n) p c w ≡ m.Gives spot u → Stopped (r.making job n pointer line c u) stop z → Stopped (acting job n (t.New p pointer line) c w) stop z
+pub new_stop : (job : Job) (n : ℕ) (p : t.Place) (pointer line : ℕ) (c : m.Context) (spot : v.Spot) (stop : Stop) (w u : m.World) (z : World) → e.access (caller job n) p c w ≡ m.Gives spot u → Stopped (r.making job n pointer line u) stop z → Stopped (acting job n (t.New p pointer line) c w) stop z
 new_stop job n p pointer line c spot stop w u z gives h =
-    stopped_same _ _ stop z (sym (then_gives (e.access (caller job n) p c w) (λ i j. m.and_then (r.making job n pointer line c j) (m.put i)) spot u gives)) (stopped_then (r.making job n pointer line c u) (m.put spot) stop z h)
+    stopped_same _ _ stop z (sym (then_gives (e.access (caller job n) p c w) (λ i j. m.and_then (r.making job n pointer line j) (m.put i)) spot u gives)) (stopped_then (r.making job n pointer line u) (m.put spot) stop z h)
 
-pub new_done : (job : Job) (n : ℕ) (p : t.Place) (pointer line : ℕ) (c : m.Context) (spot : v.Spot) (x : v.Value) (w u z k : m.World) → e.access (caller job n) p c w ≡ m.Gives spot u → r.making job n pointer line c u ≡ m.Gives x z → k ≡ m.with_contents z spot x → acting job n (t.New p pointer line) c w ≡ m.Gives m.done k
+pub new_done : (job : Job) (n : ℕ) (p : t.Place) (pointer line : ℕ) (c : m.Context) (spot : v.Spot) (x : v.Value) (w u z k : m.World) → e.access (caller job n) p c w ≡ m.Gives spot u → r.making job n pointer line u ≡ m.Gives x z → k ≡ m.with_contents z spot x → acting job n (t.New p pointer line) c w ≡ m.Gives m.done k
 new_done job n p pointer line c spot x w u z k gives made is =
-    then_gives (e.access (caller job n) p c w) (λ i j. m.and_then (r.making job n pointer line c j) (m.put i)) spot u gives ∙ then_gives (r.making job n pointer line c u) (m.put spot) x z made ∙ ap (m.Gives m.done) (sym is)
+    then_gives (e.access (caller job n) p c w) (λ i j. m.and_then (r.making job n pointer line j) (m.put i)) spot u gives ∙ then_gives (r.making job n pointer line u) (m.put spot) x z made ∙ ap (m.Gives m.done) (sym is)
 
 -- case and repeat statements, read again
 pub case_runs : (job : Job) (n : ℕ) (c : m.Context) (w : m.World) (x : Statement) (index : Expr) (v : Vec CaseElement Global) (line : Line) (items : List CaseElement) (result : Result (Unit {0}) Halt) (u : World) (d : ℕ) → x ≡ Case index v line → items ≡ v.items → Runs r.done_of (acting job n (t.Case (expr_of index) (elements_of items) line.number) c w) (d - 1) (levels job n (max (expr_height (expr_of index)) (elements_height (elements_of items)))) result u → Runs r.done_of (acting job n (statement_of x) c w) d (levels job n (statement_height (statement_of x))) result u

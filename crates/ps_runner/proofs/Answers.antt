@@ -47,7 +47,7 @@ members_left call c members i tests w = m.and_then (e.members_value call (member
 
 members_none : (a : m.Answer (ℕ → Bool)) → m.and_then a (λ s. m.give (combine_sets Union (listed []) s)) ≡ a
 members_none (m.Gives s w) = refl
-members_none (m.Ends out ending calls) = refl
+members_none (m.Ends out ending) = refl
 
 pub members_start : (call : e.Caller) (c : m.Context) (members : List Member) (w : m.World) → members_left call c members 0 [] w ≡ e.members_value call (members_of members) c w
 unfolding members_left
@@ -59,7 +59,7 @@ or_assoc false b c = refl
 
 members_more : (s t : ℕ → Bool) (a : m.Answer (ℕ → Bool)) → m.and_then (m.and_then a (λ y. m.give (combine_sets Union t y))) (λ y. m.give (combine_sets Union s y)) ≡ m.and_then a (λ y. m.give (combine_sets Union (combine_sets Union s t) y))
 members_more s t (m.Gives y w) = ap (λ z. m.Gives z w) (fun_ext (λ k. or_assoc (s k) (t k) (y k)))
-members_more s t (m.Ends out ending calls) = refl
+members_more s t (m.Ends out ending) = refl
 
 pub members_next : (call : e.Caller) (c : m.Context) (members : List Member) (i : ℕ) (tests more both : List Bool) (x : Member) (w v : m.World) → i < length members → x ≡ get_or members i x → e.member_value call (member_of x) c w ≡ m.Gives (listed more) v → listed both ≡ combine_sets Union (listed tests) (listed more) → members_left call c members (i + 1) both v ≡ members_left call c members i tests w
 unfolding members_left
@@ -92,7 +92,7 @@ actuals_left call c arguments i taken w = m.and_then (e.actuals_of call (argumen
 
 actuals_none : (a : m.Answer (List e.Actual)) → m.and_then a (λ xs. m.give ([] ++ xs)) ≡ a
 actuals_none (m.Gives xs w) = refl
-actuals_none (m.Ends out ending calls) = refl
+actuals_none (m.Ends out ending) = refl
 
 pub actuals_start : (call : e.Caller) (c : m.Context) (arguments : List Argument) (w : m.World) → actuals_left call c arguments 0 [] w ≡ e.actuals_of call (arguments_of arguments) c w
 unfolding actuals_left
@@ -100,7 +100,7 @@ actuals_start call c arguments w = actuals_none (e.actuals_of call (arguments_of
 
 actuals_more : (taken : List e.Actual) (x : e.Actual) (a : m.Answer (List e.Actual)) → m.and_then (m.and_then a (λ xs. m.give (x ∷ xs))) (λ xs. m.give (taken ++ xs)) ≡ m.and_then a (λ xs. m.give ((taken ++ x ∷ []) ++ xs))
 actuals_more taken x (m.Gives xs w) = ap (λ l. m.Gives l w) (sym (append_assoc taken (x ∷ []) xs))
-actuals_more taken x (m.Ends out ending calls) = refl
+actuals_more taken x (m.Ends out ending) = refl
 
 pub actuals_next : (call : e.Caller) (c : m.Context) (arguments : List Argument) (i : ℕ) (taken both : List e.Actual) (x : Argument) (actual : e.Actual) (w v : m.World) → i < length arguments → x ≡ get_or arguments i x → e.actual_of call (argument_of x) c w ≡ m.Gives actual v → both ≡ taken ++ actual ∷ [] → actuals_left call c arguments (i + 1) both v ≡ actuals_left call c arguments i taken w
 unfolding actuals_left

@@ -5,6 +5,7 @@ use Rattle.std.proofs.lemmas.List.{drop_all}
 use Rattle.ps_tree.specs.Types.{DataType}
 use Rattle.ps_tree.specs.declared.types.Ty.{Ty}
 use Rattle.ps_tree.specs.declared.tree.Routine.{Routine}
+use Rattle.behavior.specs.Endings.{Stack}
 use Rattle.ps_tree.specs.Tree as Tree
 use Rattle.ps_tree.specs.View.{type_of, routine_of, program_of}
 use Rattle.ps_meaning.specs.Values as v
@@ -74,10 +75,10 @@ if_false_at : {A B : Type 0} (b : Bool) (f g : A → B) (w : A) → b ≡ false 
 if_false_at b f g w is = ap (λ k. (if k then f else g) w) is
 
 -- a call that is stopped, and one that enters its block
-pub stack_passed : (job : Job) (n number : ℕ) (parent : m.Env) (actuals : List x.Actual) (c : m.Context) (w : m.World) (line : ℕ) → (Tree.routine_at (r.program_of job) number).line ≡ line → s.passes_stack (costs_in job) (number ∷ c.active) ≡ true → caller job n number parent actuals c w ≡ m.Ends w.transcript (m.Stack line) c.calls
+pub stack_passed : (job : Job) (n number : ℕ) (parent : m.Env) (actuals : List x.Actual) (c : m.Context) (w : m.World) (line : ℕ) → (Tree.routine_at (r.program_of job) number).line ≡ line → s.passes_stack (costs_in job) (number ∷ c.active) ≡ true → caller job n number parent actuals c w ≡ m.Ends w.transcript (Stack line)
 unfolding caller
 stack_passed job n number parent actuals c w line is passes =
-    if_true_at _ _ _ w passes ∙ ap (λ k. m.Ends w.transcript (m.Stack k) c.calls) is
+    if_true_at _ _ _ w passes ∙ ap (λ k. m.Ends w.transcript (Stack k)) is
 
 -- a block whose names are bound
 entered : Job → (n number : ℕ) → m.Env → m.Context → Tree.Statements → Bound → m.Answer m.Done
@@ -89,7 +90,7 @@ block_entered job n number parent actuals c w result variables body bound ends d
     if_false_at _ _ _ w passes ∙ ap (λ k. entered job n number parent c k (bind (Tree.routine_at (r.program_of job) number).result actuals (Tree.routine_at (r.program_of job) number).variables w)) does ∙ ap (entered job n number parent c body) (ap (λ k. bind k actuals (Tree.routine_at (r.program_of job) number).variables w) ends ∙ ap (λ k. bind result actuals k w) declares ∙ did)
 
 -- the block of a call, with no fuel left and with some
-pub block_none : (job : Job) (n : ℕ) (body : Tree.Statements) (c : m.Context) (w : m.World) → n ≡ 0 → next job n (s.Block body) c w ≡ r.more_at c w
+pub block_none : (job : Job) (n : ℕ) (body : Tree.Statements) (c : m.Context) (w : m.World) → n ≡ 0 → next job n (s.Block body) c w ≡ r.used_up w
 unfolding next
 block_none job n body c w none = ap (λ k. execute (r.program_of job) (costs_in job) k (s.Block body) c w) none
 

@@ -8,19 +8,19 @@ use Rattle.ps_tree.specs.declared.tree.CaseElement.{CaseElement, out-CaseElement
 use Rattle.ps_tree.specs.declared.tree.Place.{Place}
 use Rattle.ps_tree.specs.declared.tree.ReadVariable.{ReadVariable}
 use Rattle.ps_tree.specs.declared.tree.WriteParameter.{WriteParameter}
-use Rattle.ps_tree.specs.View.{member_of, members_of, argument_of, arguments_of, place_of, statement_of, statements_of, elements_of, read_of, write_of}
+use Rattle.ps_tree.specs.declared.tree.Selector.{Selector}
+use Rattle.ps_tree.specs.declared.tree.Expr.{Expr}
+use Rattle.ps_tree.specs.declared.tree.ArithmeticStep.{ArithmeticStep, out-ArithmeticStep}
+use Rattle.ps_tree.specs.declared.tree.SetStep.{SetStep, out-SetStep}
+use Rattle.ps_tree.specs.View.{selector_of, selectors_of, expr_of, arithmetic_of, operands_of, set_of, set_steps_of, member_of, members_of, argument_of, arguments_of, place_of, statement_of, statements_of, elements_of, read_of, write_of}
 use Rattle.ps_runner.specs.declared.world.Job.{Job}
 use Rattle.ps_runner.specs.Worlds.{program_of}
-use Rattle.ps_runner.specs.Heights.{place_height, expr_height, set_height, member_height, members_height, argument_height, arguments_height, places_height, read_height, reads_height, write_height, writes_height, statement_height, statements_height, elements_height, highest, highest_of}
+use Rattle.ps_runner.specs.Heights.{place_height, selector_height, selectors_height, expr_height, steps_height, operands_height, set_height, set_steps_height, member_height, members_height, argument_height, arguments_height, places_height, read_height, reads_height, write_height, writes_height, statement_height, statements_height, elements_height, highest, highest_of}
 use Rattle.ps_runner.specs.Runs.{call_levels, levels}
 
 -- a variable, an expression and a statement take a level at least
 pub place_is_high : (p : t.Place) (d n : ℕ) → d ≡ 0 → d < place_height p + n
-place_is_high (t.Entry up index) d n is = omega arith
-place_is_high (t.Opened which type number) d n is = omega arith
-place_is_high (t.Element base type e line) d n is = omega arith
-place_is_high (t.Field base type number) d n is = omega arith
-place_is_high (t.Target base pointer line) d n is = omega arith
+place_is_high (t.Variable base selectors) d n is = omega arith
 
 pub expr_is_high : (e : t.Expr) (d n : ℕ) → d ≡ 0 → d < expr_height e + n
 expr_is_high (t.Number k) d n is = omega arith
@@ -29,8 +29,8 @@ expr_is_high (t.Load p) d n is = omega arith
 expr_is_high (t.Plus e) d n is = omega arith
 expr_is_high (t.Minus e line) d n is = omega arith
 expr_is_high (t.Not e) d n is = omega arith
-expr_is_high (t.Arithmetic operator a b line) d n is = omega arith
-expr_is_high (t.Logic operator a b) d n is = omega arith
+expr_is_high (t.Arithmetic a steps) d n is = omega arith
+expr_is_high (t.Logic operator a rest) d n is = omega arith
 expr_is_high (t.Compare relation a b) d n is = omega arith
 expr_is_high (t.ComparePointers relation a b) d n is = omega arith
 expr_is_high (t.CompareSets relation a b) d n is = omega arith
@@ -45,7 +45,7 @@ expr_is_high (t.CallFormal up index arguments line) d n is = omega arith
 pub set_is_high : (s : t.SetExpr) (d n : ℕ) → d ≡ 0 → d < set_height s + n
 set_is_high (t.LoadSet p) d n is = omega arith
 set_is_high (t.Constructor members) d n is = omega arith
-set_is_high (t.Combine operator a b) d n is = omega arith
+set_is_high (t.Combine a steps) d n is = omega arith
 
 pub statement_is_high : (s : t.Statement) (d n : ℕ) → d ≡ 0 → d < statement_height s + n
 statement_is_high t.Empty d n is = omega arith
@@ -71,6 +71,30 @@ statement_is_high (t.Write parameters) d n is = omega arith
 statement_is_high (t.Writeln parameters) d n is = omega arith
 
 -- a part of a list is no higher than the list
+pub selector_within : (xs : List Selector) (i : ℕ) (x : Selector) → x ≡ get_or xs i x → i < length xs → selector_height (selector_of x) ≤ selectors_height (selectors_of xs)
+unfolding selectors_of
+selector_within [] i x at lt = absurd (omega arith)
+selector_within (y ∷ ys) zero x at lt = subst (λ z. selector_height (selector_of z) ≤ max (selector_height (selector_of y)) (selectors_height (selectors_of ys))) (sym at) (omega arith)
+selector_within (y ∷ ys) (suc i) x at lt = let le : selector_height (selector_of x) ≤ selectors_height (selectors_of ys) = selector_within ys i x at (omega arith) in omega arith
+
+pub step_within : (xs : List ArithmeticStep) (i : ℕ) (x : ArithmeticStep) → x ≡ get_or xs i x → i < length xs → expr_height (expr_of (out-ArithmeticStep x).operand) ≤ steps_height (arithmetic_of xs)
+unfolding arithmetic_of
+step_within [] i x at lt = absurd (omega arith)
+step_within (y ∷ ys) zero x at lt = subst (λ z. expr_height (expr_of (out-ArithmeticStep z).operand) ≤ max (expr_height (expr_of (out-ArithmeticStep y).operand)) (steps_height (arithmetic_of ys))) (sym at) (omega arith)
+step_within (y ∷ ys) (suc i) x at lt = let le : expr_height (expr_of (out-ArithmeticStep x).operand) ≤ steps_height (arithmetic_of ys) = step_within ys i x at (omega arith) in omega arith
+
+pub operand_within : (xs : List Expr) (i : ℕ) (x : Expr) → x ≡ get_or xs i x → i < length xs → expr_height (expr_of x) ≤ operands_height (operands_of xs)
+unfolding operands_of
+operand_within [] i x at lt = absurd (omega arith)
+operand_within (y ∷ ys) zero x at lt = subst (λ z. expr_height (expr_of z) ≤ max (expr_height (expr_of y)) (operands_height (operands_of ys))) (sym at) (omega arith)
+operand_within (y ∷ ys) (suc i) x at lt = let le : expr_height (expr_of x) ≤ operands_height (operands_of ys) = operand_within ys i x at (omega arith) in omega arith
+
+pub set_step_within : (xs : List SetStep) (i : ℕ) (x : SetStep) → x ≡ get_or xs i x → i < length xs → set_height (set_of (out-SetStep x).operand) ≤ set_steps_height (set_steps_of xs)
+unfolding set_steps_of
+set_step_within [] i x at lt = absurd (omega arith)
+set_step_within (y ∷ ys) zero x at lt = subst (λ z. set_height (set_of (out-SetStep z).operand) ≤ max (set_height (set_of (out-SetStep y).operand)) (set_steps_height (set_steps_of ys))) (sym at) (omega arith)
+set_step_within (y ∷ ys) (suc i) x at lt = let le : set_height (set_of (out-SetStep x).operand) ≤ set_steps_height (set_steps_of ys) = set_step_within ys i x at (omega arith) in omega arith
+
 pub member_within : (xs : List Member) (i : ℕ) (x : Member) → x ≡ get_or xs i x → i < length xs → member_height (member_of x) ≤ members_height (members_of xs)
 unfolding members_of
 member_within [] i x at lt = absurd (omega arith)

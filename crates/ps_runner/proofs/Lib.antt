@@ -9,4 +9,6 @@ pub mod Heights
 pub mod Trees
 pub mod Answers
 pub mod Acts
+pub mod Chains
+pub mod Arms
 pub mod Runs

@@ -1,9 +1,10 @@
 -- A run's first world, what it tells, and transcripts without marks.
-use Rattle.std.proofs.Common.{◌≡◌, ◌≢◌, ℕ, zero, suc, ◌<◌, ◌≤◌, ◌+◌, Bool, true, false, not, ◌==◌, List, [], ◌∷◌, ◌++◌, length, get_or, take, map, cond, append-nil, Vec, Global, refl, sym, ap, subst, ◌∙◌, arith}
+use Rattle.std.proofs.Common.{◌≡◌, ◌≢◌, ℕ, zero, suc, ◌<◌, ◌≤◌, ◌+◌, nat_lt, false, List, [], ◌∷◌, ◌++◌, length, get_or, take, map, cond, append-nil, Vec, Global, refl, sym, ap, subst, ◌∙◌, arith}
 use mathlib.Core.Path.{fun_ext}
 use Rattle.std.specs.List.{All}
+use Rattle.std.proofs.lemmas.Bool.{lt-ltb}
 use Rattle.std.proofs.lemmas.List.Elements.{filter_more, All-head, All-tail}
-use Rattle.std.proofs.lemmas.Bool.{eqb-true}
+use Rattle.behavior.specs.Transcripts.{mark, output}
 use Rattle.ps_meaning.specs.Values as v
 use Rattle.ps_meaning.specs.Worlds as m
 use Rattle.ps_meaning.specs.Text as t
@@ -18,7 +19,7 @@ use Rattle.ps_runner.specs.View.{value_of}
 use Rattle.ps_runner.specs.Worlds.{stored, caller, world_of, ending_of, program_of, costs_in}
 use Rattle.ps_runner.specs.declared.stop.Halt.{Halt}
 use Rattle.ps_runner.specs.declared.stop.Halt.TheVariants.{Stopped as StoppedBy}
-use Rattle.ps_runner.specs.Runs.{Halted, Tells}
+use Rattle.ps_runner.specs.Runs.{Halted, shown}
 
 no_store : stored [] ≡ (λ (name : ℕ). m.unset)
 unfolding stored
@@ -36,26 +37,22 @@ pub answer_is : (job : Job) (n : ℕ) (input : List ℕ) → caller job n 0 m.Ou
 unfolding caller
 answer_is job n input = refl
 
-pub tells_done : (w : World) (calls : Vec ℕ Global) (a : m.Answer m.Done) → a ≡ m.Gives m.done (world_of w) → calls.items ≡ [] → Tells (record { transcript = w.transcript; ending = Normal; calls = calls }) a
-tells_done w calls a is none = subst (λ x. Tells (record { transcript = w.transcript; ending = Normal; calls = calls }) x) (sym is) (refl, (refl, none))
+pub shown_done : (w : World) (calls : Vec ℕ Global) (a : m.Answer m.Done) → a ≡ m.Gives m.done (world_of w) → shown (record { transcript = w.transcript; ending = Normal; calls = calls }) ≡ d.shown a
+shown_done w calls a is = sym (ap d.shown is)
 
-pub tells_stopped : (w : World) (ending : Ending) (calls : Vec ℕ Global) (halt : Halt) (a : m.Answer m.Done) (d n : ℕ) → Halted a d n halt w → halt ≡ StoppedBy (Ended ending calls) → Tells (record { transcript = w.transcript; ending = ending; calls = calls }) a
-tells_stopped w ending calls halt a d n h is =
-    let ends : a ≡ m.Ends w.transcript.items (ending_of ending) calls.items = subst (λ s. Halted a d n s w) is h in
-    subst (λ x. Tells (record { transcript = w.transcript; ending = ending; calls = calls }) x) (sym ends) (refl, (refl, refl))
+pub shown_stopped : (w : World) (ending : Ending) (calls : Vec ℕ Global) (halt : Halt) (a : m.Answer m.Done) (k n : ℕ) → Halted a k n halt w → halt ≡ StoppedBy (Ended ending calls) → shown (record { transcript = w.transcript; ending = ending; calls = calls }) ≡ d.shown a
+shown_stopped w ending calls halt a k n h is =
+    let ends : a ≡ m.Ends w.transcript.items (ending_of ending calls.items) = subst (λ s. Halted a k n s w) is h in
+    sym (ap d.shown ends)
 
 -- a mark, or a byte, more
-pub shown_mark : (xs : List ℕ) (i x : ℕ) → i < length xs → x ≡ get_or xs i 0 → x ≡ 256 → d.output_of (take (i + 1) xs) ≡ d.output_of (take i xs)
+pub shown_mark : (xs : List ℕ) (i x : ℕ) → i < length xs → x ≡ get_or xs i 0 → x ≡ 256 → output (take (i + 1) xs) ≡ output (take i xs)
 shown_mark xs i x lt at is =
-    filter_more (λ b. not (b == t.mark)) xs i 0 lt ∙ ap (λ y. d.output_of (take i xs) ++ cond (not (y == 256)) (y ∷ []) []) (sym at ∙ is) ∙ append-nil (d.output_of (take i xs))
+    filter_more (λ b. nat_lt b mark) xs i 0 lt ∙ ap (λ y. output (take i xs) ++ cond (nat_lt y mark) (y ∷ []) []) (sym at ∙ is) ∙ append-nil (output (take i xs))
 
-other_than : (x : ℕ) (b : Bool) → (x == 256) ≡ b → x ≢ 256 → (x == 256) ≡ false
-other_than x true e other = absurd (other (eqb-true x 256 e))
-other_than x false e other = e
-
-pub shown_byte : (xs : List ℕ) (i x : ℕ) → i < length xs → x ≡ get_or xs i 0 → x ≢ 256 → d.output_of (take (i + 1) xs) ≡ d.output_of (take i xs) ++ x ∷ []
-shown_byte xs i x lt at other =
-    filter_more (λ b. not (b == t.mark)) xs i 0 lt ∙ ap (λ y. d.output_of (take i xs) ++ cond (not (y == 256)) (y ∷ []) []) (sym at) ∙ ap (λ b. d.output_of (take i xs) ++ cond (not b) (x ∷ []) []) (other_than x (x == 256) refl other)
+pub shown_byte : (xs : List ℕ) (i x : ℕ) → i < length xs → x ≡ get_or xs i 0 → x < 256 → output (take (i + 1) xs) ≡ output (take i xs) ++ x ∷ []
+shown_byte xs i x lt at low =
+    filter_more (λ b. nat_lt b mark) xs i 0 lt ∙ ap (λ y. output (take i xs) ++ cond (nat_lt y mark) (y ∷ []) []) (sym at) ∙ ap (λ b. output (take i xs) ++ cond b (x ∷ []) []) (lt-ltb x 256 low)
 
 -- an item that is neither a byte nor a mark
 pub neither_byte_nor_mark : (xs : List ℕ) (i x : ℕ) → i < length xs → x ≡ get_or xs i 0 → x ≢ 256 → 256 ≤ x → All (λ b. b ≤ 256) xs → ⊥

@@ -1,15 +1,20 @@
 -- How deep the parts of a program lie in one another: a statement, an expression or a variable takes one level more than
--- the highest of its parts.
+-- the highest of its parts. An operator's operands and a variable's indices are parts of the one chain that they stand in.
 use Rattle.std.specs.Prelude.{ℕ, suc, max, List, [], ◌∷◌}
-use Rattle.ps_tree.specs.Tree.{Place, Entry, Opened, Element, Field, Target, Expr, Number, Nil, Load, Plus, Minus, Not, Arithmetic, Logic, Compare, ComparePointers, CompareSets, CompareStrings, In, Apply, Eof, Eoln, Call, CallFormal, SetExpr, LoadSet, Constructor, Combine, Member, One, Several, Members, no_member, member_before, Structure, Literal, Contents, Argument, ByValue, BySet, ByCopy, ByVariable, ByRoutine, ByFormal, Arguments, no_argument, argument_before, ReadVariable, ReadChar, ReadInteger, Width, DefaultWidth, GivenWidth, WriteParameter, WriteInteger, WriteChar, WriteBoolean, WriteText, Statement, Empty, Assign, AssignSet, AssignStructure, CallProcedure, CallFormalProcedure, Compound, If, IfElse, Case, While, Repeat, For, With, New, Pack, Unpack, Read, Readln, Write, Writeln, Statements, no_statement, statement_before, Elements, no_element, element_before, Routine, Program}
+use Rattle.ps_tree.specs.Tree.{Place, Variable, Selector, Element, Field, Target, Selectors, no_selector, selector_before, ArithmeticSteps, no_arithmetic_step, arithmetic_step_before, Operands, no_operand, operand_before, SetSteps, no_set_step, set_step_before, Expr, Number, Nil, Load, Plus, Minus, Not, Arithmetic, Logic, Compare, ComparePointers, CompareSets, CompareStrings, In, Apply, Eof, Eoln, Call, CallFormal, SetExpr, LoadSet, Constructor, Combine, Member, One, Several, Members, no_member, member_before, Structure, Literal, Contents, Argument, ByValue, BySet, ByCopy, ByVariable, ByRoutine, ByFormal, Arguments, no_argument, argument_before, ReadVariable, ReadChar, ReadInteger, Width, DefaultWidth, GivenWidth, WriteParameter, WriteInteger, WriteChar, WriteBoolean, WriteText, Statement, Empty, Assign, AssignSet, AssignStructure, CallProcedure, CallFormalProcedure, Compound, If, IfElse, Case, While, Repeat, For, With, New, Pack, Unpack, Read, Readln, Write, Writeln, Statements, no_statement, statement_before, Elements, no_element, element_before, Routine, Program}
 
 abbrev mutual
   pub place_height : Place → ℕ
-  place_height (Entry up index) = 1
-  place_height (Opened which type number) = 1
-  place_height (Element base type e line) = suc (max (place_height base) (expr_height e))
-  place_height (Field base type number) = suc (place_height base)
-  place_height (Target base pointer line) = suc (place_height base)
+  place_height (Variable base selectors) = suc (selectors_height selectors)
+
+  pub selector_height : Selector → ℕ
+  selector_height (Element type e line) = expr_height e
+  selector_height (Field type number) = 0
+  selector_height (Target pointer line) = 0
+
+  pub selectors_height : Selectors → ℕ
+  selectors_height no_selector = 0
+  selectors_height (selector_before s rest) = max (selector_height s) (selectors_height rest)
 
   pub expr_height : Expr → ℕ
   expr_height (Number n) = 1
@@ -18,8 +23,8 @@ abbrev mutual
   expr_height (Plus e) = suc (expr_height e)
   expr_height (Minus e line) = suc (expr_height e)
   expr_height (Not e) = suc (expr_height e)
-  expr_height (Arithmetic operator a b line) = suc (max (expr_height a) (expr_height b))
-  expr_height (Logic operator a b) = suc (max (expr_height a) (expr_height b))
+  expr_height (Arithmetic e steps) = suc (max (expr_height e) (steps_height steps))
+  expr_height (Logic operator e rest) = suc (max (expr_height e) (operands_height rest))
   expr_height (Compare relation a b) = suc (max (expr_height a) (expr_height b))
   expr_height (ComparePointers relation a b) = suc (max (expr_height a) (expr_height b))
   expr_height (CompareSets relation a b) = suc (max (set_height a) (set_height b))
@@ -31,10 +36,22 @@ abbrev mutual
   expr_height (Call routine up arguments line) = suc (arguments_height arguments)
   expr_height (CallFormal up index arguments line) = suc (arguments_height arguments)
 
+  pub steps_height : ArithmeticSteps → ℕ
+  steps_height no_arithmetic_step = 0
+  steps_height (arithmetic_step_before operator e line rest) = max (expr_height e) (steps_height rest)
+
+  pub operands_height : Operands → ℕ
+  operands_height no_operand = 0
+  operands_height (operand_before e rest) = max (expr_height e) (operands_height rest)
+
   pub set_height : SetExpr → ℕ
   set_height (LoadSet p) = suc (place_height p)
   set_height (Constructor members) = suc (members_height members)
-  set_height (Combine operator a b) = suc (max (set_height a) (set_height b))
+  set_height (Combine e steps) = suc (max (set_height e) (set_steps_height steps))
+
+  pub set_steps_height : SetSteps → ℕ
+  set_steps_height no_set_step = 0
+  set_steps_height (set_step_before operator e rest) = max (set_height e) (set_steps_height rest)
 
   pub member_height : Member → ℕ
   member_height (One e line) = expr_height e

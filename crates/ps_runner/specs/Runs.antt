@@ -1,5 +1,6 @@
 -- Parts of statements, and what a run tells.
-use Rattle.std.specs.Prelude.{◌≡◌, ℕ, ◌+◌, ◌*◌, ◌<◌, ℤ, Bool, true, false, if◌then◌else◌, List, [], take, Result, Ok, Err}
+use Rattle.std.specs.Prelude.{◌≡◌, ℕ, ◌+◌, ◌*◌, ◌<◌, ℤ, Bool, true, false, if◌then◌else◌, Result, Ok, Err}
+use Rattle.behavior.specs.Transcripts.{Shown}
 use Rattle.ps_tree.specs.Tree as t
 use Rattle.ps_tree.specs.declared.tree.Direction.{Direction}
 use Rattle.ps_meaning.specs.Values as v
@@ -8,7 +9,6 @@ use Rattle.ps_meaning.specs.Worlds as m
 use Rattle.ps_meaning.specs.Expressions as e
 use Rattle.ps_meaning.specs.Statements as s
 use Rattle.ps_runner.specs.declared.world.Job.{Job}
-use Rattle.ps_meaning.specs.Run.{Ran as RanOf, plain_ending}
 use Rattle.ps_runner.specs.declared.world.World.{World}
 use Rattle.ps_runner.specs.Worlds.{Stopped, caller, ending_of, program_of, world_of}
 use Rattle.ps_runner.specs.declared.stop.Halt.{Halt}
@@ -47,18 +47,5 @@ abbrev pub advancing : v.Spot → Direction → (last : ℤ) → m.Act Bool
 advancing spot direction last = λ w. if is_equal (v.number_of (m.contents_in w spot)) last then m.Gives false w else m.Gives true (m.with_contents w spot (v.OrdinalValue (s.succeeding direction (v.number_of (m.contents_in w spot)))))
 
 -- the transcript and the ending
-abbrev pub shown : Ran → RanOf
-shown k = (k.transcript.items, plain_ending (ending_of k.ending))
-
--- a run went as the definition's answer says; the calls are those that are open at its end
-abbrev pub Tells : Ran → m.Answer m.Done → Type 0
-Tells k (m.Gives x w) = (k.transcript.items ≡ w.transcript) × ((ending_of k.ending ≡ m.Normal) × (k.calls.items ≡ []))
-Tells k (m.Ends transcript ending calls) = (k.transcript.items ≡ transcript) × ((ending_of k.ending ≡ ending) × (k.calls.items ≡ calls))
-
--- the open calls of an error, the first 16
-abbrev pub lines_at : m.Ending → List ℕ → List ℕ
-lines_at (m.Error number line) calls = take 16 calls
-lines_at _ calls = []
-
-abbrev pub trail_of : Ran → List ℕ
-trail_of k = lines_at (ending_of k.ending) k.calls.items
+abbrev pub shown : Ran → Shown
+shown k = (k.transcript.items, ending_of k.ending k.calls.items)

@@ -1,6 +1,7 @@
 -- What the runner's environments, contexts and worlds stand for in the definitions.
 use Rattle.std.specs.Prelude.{◌≡◌, ◌+◌, nat_le, ℕ, ℤ, pos, int_lt, is_none, Bool, unsigned_abs, if◌then◌else◌, Option, Some, zero, suc, List, [], ◌∷◌, map, Vec, Result, Ok, Err}
 use Rattle.std.specs.Global.{Global}
+use Rattle.behavior.specs.Endings as endings
 use Rattle.ps_tree.specs.Checked.{program_in}
 use Rattle.ps_tree.specs.declared.types.Ordinal.{Ordinal}
 use Rattle.ps_tree.specs.Sizes.{value_count}
@@ -101,16 +102,17 @@ caller job n = call_routine (program_of job) (costs_in job) (execute (program_of
 unfoldable pub next : Job → ℕ → Next
 next job n = execute (program_of job) (costs_in job) n
 
-abbrev pub ending_of : Ending → m.Ending
-ending_of Normal = m.Normal
-ending_of (Error number line) = m.Error number line
-ending_of (Stack line) = m.Stack line
-ending_of (Heap line) = m.Heap line
-ending_of More = m.More
+-- how a run ends, where the calls with these lines are open
+abbrev pub ending_of : Ending → (calls : List ℕ) → endings.Ending
+ending_of Normal calls = endings.Normal
+ending_of (Error number line) calls = endings.failed number line calls
+ending_of (Stack line) calls = endings.Stack line
+ending_of (Heap line) calls = endings.Heap line
+ending_of More calls = endings.More
 
 -- where the definition's answer is known to end the run; nothing is said where memory was refused
 abbrev pub Stopped : {A : Type 0} → m.Answer A → Stop → World → Type 0
-Stopped answer (Ended ending calls) w = answer ≡ m.Ends w.transcript.items (ending_of ending) calls.items
+Stopped answer (Ended ending calls) w = answer ≡ m.Ends w.transcript.items (ending_of ending calls.items)
 Stopped answer OutOfMemory w = Unit {0}
 
 -- a part of the runner answers what the definition's answer is
@@ -163,7 +165,7 @@ module _ (job : Job) (n : ℕ) where
   abbrev pub opening_all : List Tree.Place → m.Context → m.Act (List v.Spot)
   opening_all = st.opening (program_of job) (costs_in job) (caller job n) (next job n)
 
-  abbrev pub making : (pointer line : ℕ) → m.Context → m.Act v.Value
+  abbrev pub making : (pointer line : ℕ) → m.Act v.Value
   making = st.new_object (program_of job) (costs_in job) (caller job n) (next job n)
 
   -- a body, and then the further turns
@@ -217,8 +219,8 @@ abbrev pub width_of : Option ℕ → Option ℕ
 width_of n = n
 
 -- the fuel is used up
-abbrev pub more_at : m.Context → m.Act m.Done
-more_at c = m.stop m.More c
+abbrev pub used_up : m.Act m.Done
+used_up = m.stop endings.More
 
 -- a width that was given
 abbrev pub width_checked : ℤ → (line : ℕ) → m.Context → m.Act (Option ℕ)

@@ -7,7 +7,8 @@ ghost use Rattle.ps_meaning.specs.Expressions as e;
 ghost use Rattle.ps_meaning.specs.Expressions.{calling};
 ghost use Rattle.ps_meaning.specs.Statements.{Block};
 ghost use Rattle.ps_runner.specs.View.{value_of};
-ghost use Rattle.ps_runner.specs.Worlds.{Stopped, acting, caller, next, program_of, context_of, world_of, env_of, actual_of, done_of, more_at};
+ghost use Rattle.ps_runner.specs.Worlds as r;
+ghost use Rattle.ps_runner.specs.Worlds.{Stopped, acting, caller, next, program_of, context_of, world_of, env_of, actual_of, done_of};
 ghost use Rattle.ps_runner.specs.Heights.{arguments_height, statements_height, highest};
 ghost use Rattle.ps_runner.specs.Runs.{Runs, levels};
 
@@ -23,7 +24,7 @@ use std::rc::Rc;
 
 /// The fuel is used up.
 pub fn used_up(world: &World, c: &Context) -> Stop
-    ensures { Stopped (more_at (context_of c.now) (world_of world.now)) result world.now }
+    ensures { Stopped (r.used_up (world_of world.now)) result world.now }
 {
     match c.calls.listed(c.job.alloc) {
         Ok(calls) => Stop::Ended {

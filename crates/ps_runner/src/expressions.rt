@@ -1,30 +1,33 @@
 // Variables, expressions and actual parameters.
 
-ghost use Rattle.std.specs.Prelude.{◌≡◌, max, map};
+ghost use Rattle.std.specs.Prelude.{◌≡◌, max, map, IfOk};
 ghost use Rattle.ps_tree.specs.Tree as Tree;
-ghost use Rattle.ps_tree.specs.View.{type_of, place_of, expr_of, set_of, member_of, members_of, structure_of, argument_of, arguments_of};
+ghost use Rattle.ps_tree.specs.View.{place_of, selector_of, selectors_of, expr_of, set_of, set_steps_of, member_of, members_of, structure_of, argument_of, arguments_of};
 ghost use Rattle.ps_meaning.specs.Expressions as m;
+ghost use Rattle.ps_meaning.specs.Values as v;
+ghost use Rattle.ps_meaning.specs.Worlds.{contents_in};
 ghost use Rattle.ps_runner.specs.View.{members_of_set, value_of, spot_of};
 ghost use Rattle.ps_runner.specs.Worlds.{caller, context_of, world_of, actual_of, actuals_in, held_of};
-ghost use Rattle.ps_runner.specs.Heights.{place_height, expr_height, set_height, member_height, members_height, structure_height, argument_height, arguments_height};
+ghost use Rattle.ps_runner.specs.Heights.{place_height, selector_height, selectors_height, expr_height, set_height, set_steps_height, member_height, members_height, structure_height, argument_height, arguments_height};
 ghost use Rattle.ps_runner.specs.Runs.{Runs, levels, truth_in, truth_of};
 
 use crate::calls::{call_formal_value, call_value};
 use crate::operands::{Actual, Held, index_of, keep, passed_on};
 use crate::operations::{
-    apply_required, calculate, combine, compare, compare_pointers, compare_sets, compare_strings,
-    invert, load, negate, test_member,
+    calculate, combine, compare, compare_pointers, compare_sets, compare_strings, test_member,
 };
-use crate::operators::{combine_sets, is_true};
+use crate::operators::{apply, combine_sets, is_true, negated};
 use crate::stop::Halt;
 use crate::value::{Spot, Value};
-use crate::world::{Context, World, above, spot_above};
-use ps_tree::tree::{Argument, Expr, Member, Place, Range, SetExpr, SetOperator, Structure};
-use ps_tree::types::Ty;
+use crate::world::{Context, World, above};
+use ps_tree::tree::{
+    Argument, Expr, Member, Place, Selector, SetExpr, SetOperator, SetStep, Structure,
+};
+use std::alloc::AllocError;
 
-/// Accesses a variable.
+/// Accesses a variable: what its name denotes, then its selectors.
 #[cycle(run)]
-#[tactic(auto, using(crate::proofs::Answers::stopped_then, crate::proofs::Answers::halted_then, crate::proofs::Answers::runs_deeper), unfolding(ps_tree::specs::View::place_of))]
+#[tactic(auto, using(crate::proofs::Answers::stopped_then, crate::proofs::Answers::halted_then, crate::proofs::Answers::runs_deeper))]
 pub fn access(
     world: &mut World,
     place: &Place,
@@ -37,52 +40,56 @@ pub fn access(
     if depth == 0 {
         return Err(Halt::TooDeep);
     }
-    match place {
-        Place::Entry { up, index } => { Ok(spot_above(c, *up, *index)?) }
-        Place::Opened { which, number, .. } => {
-            let spot = world.opened(*which, c)?;
-            Ok(spot.step(*number)?)
-        }
-        Place::Element {
-            base,
-            ty,
-            index,
-            line,
-        } => { access_component(world, base, ty, index, line.number, c, fuel, depth - 1) }
-        Place::Field { base, number, .. } => {
-            let spot = access(world, base, c, fuel, depth - 1)?;
-            Ok(spot.step(*number)?)
-        }
-        Place::Target { base, line, .. } => {
-            let spot = access(world, base, c, fuel, depth - 1)?;
-            Ok(world.target_of(&spot, line.number, c)?)
-        }
-    }
+    let spot = world.denoted(&place.base, c)?;
+    select_all(world, &place.selectors, spot, c, fuel, depth - 1)
 }
 
-/// Accesses an array, evaluates an index, and then accesses the component.
+/// Goes on from a variable by its selectors, one after another.
 #[cycle(run)]
-#[tactic(auto, using(crate::proofs::Answers::stopped_then, crate::proofs::Answers::halted_then, crate::proofs::Answers::runs_deeper))]
-fn access_component(
+#[tactic(auto)]
+fn select_all(
     world: &mut World,
-    base: &Place,
-    ty: &Ty,
-    index: &Expr,
-    line: u16,
+    selectors: &[Selector],
+    base: Spot,
     c: &Context,
     fuel: u64,
     depth: u32,
 ) -> Result<Spot, Halt>
-    ensures { Runs spot_of (m.access (caller c.now.job.now fuel) (Tree.Element (place_of base.now) (type_of ty.now) (expr_of index.now) line) (context_of c.now) (world_of world.old)) depth (levels c.now.job.now fuel (max (place_height (place_of base.now)) (expr_height (expr_of index.now)))) result world.new }
+    ensures { Runs spot_of (m.accesses (caller c.now.job.now fuel) (selectors_of selectors.now) (spot_of base) (context_of c.now) (world_of world.old)) depth (levels c.now.job.now fuel (selectors_height (selectors_of selectors.now))) result world.new }
 {
-    let spot = access(world, base, c, fuel, depth)?;
-    let x = evaluate(world, index, c, fuel, depth)?.number();
-    Ok(world.component_of(spot, index_of(ty), x, line, c)?)
+    let mut spot = base;
+    for selector in selectors {
+        spot = select(world, selector, spot, c, fuel, depth)?;
+    }
+    Ok(spot)
+}
+
+/// Goes on from a variable by a selector.
+#[cycle(run)]
+#[tactic(auto, using(crate::proofs::Answers::stopped_then, crate::proofs::Answers::halted_then, crate::proofs::Answers::runs_deeper), unfolding(ps_tree::specs::View::selector_of))]
+fn select(
+    world: &mut World,
+    selector: &Selector,
+    spot: Spot,
+    c: &Context,
+    fuel: u64,
+    depth: u32,
+) -> Result<Spot, Halt>
+    ensures { Runs spot_of (m.at_selector (caller c.now.job.now fuel) (selector_of selector.now) (spot_of spot) (context_of c.now) (world_of world.old)) depth (levels c.now.job.now fuel (selector_height (selector_of selector.now))) result world.new }
+{
+    match selector {
+        Selector::Element { ty, index, line } => {
+            let x = evaluate(world, index, c, fuel, depth)?.number();
+            Ok(world.component_of(spot, index_of(ty), x, line.number, c)?)
+        }
+        Selector::Field { number, .. } => Ok(spot.step(*number)?),
+        Selector::Target { line, .. } => Ok(world.target_of(&spot, line.number, c)?),
+    }
 }
 
 /// Evaluates an expression of an ordinal or pointer type.
 #[cycle(run)]
-#[tactic(auto, using(crate::proofs::Answers::stopped_then, crate::proofs::Answers::halted_then, crate::proofs::Answers::runs_deeper, crate::proofs::Trees::expr_of_Call, crate::proofs::Trees::expr_of_CallFormal), unfolding(ps_tree::specs::View::expr_of, crate::specs::View::value_of))]
+#[tactic(auto, using(crate::proofs::Answers::stopped_then, crate::proofs::Answers::halted_then, crate::proofs::Answers::runs_deeper, ps_tree::proofs::TreeLemmas::expr_of_Load), unfolding(ps_tree::specs::View::expr_of, crate::specs::View::value_of, crate::specs::View::integer_of))]
 pub fn evaluate(
     world: &mut World,
     e: &Expr,
@@ -98,30 +105,25 @@ pub fn evaluate(
     match e {
         Expr::Number(number) => Ok(Value::Ordinal(*number)),
         Expr::Nil => Ok(Value::Nil),
-        Expr::Load(place) => load(world, place, c, fuel, depth - 1),
+        Expr::Load(place) => {
+            let spot = access(world, place, c, fuel, depth - 1)?;
+            Ok(world.contents(c.job.alloc, &spot)?)
+        }
         Expr::Plus(operand) => evaluate(world, operand, c, fuel, depth - 1),
-        Expr::Minus { operand, line } => negate(world, operand, line.number, c, fuel, depth - 1),
-        Expr::Not(operand) => invert(world, operand, c, fuel, depth - 1),
-        Expr::Arithmetic {
-            operator,
-            left,
-            right,
-            line,
-        } => calculate(
-            world,
-            *operator,
-            left,
-            right,
-            line.number,
-            c,
-            fuel,
-            depth - 1,
-        ),
+        Expr::Minus { operand, line } => {
+            let x = evaluate(world, operand, c, fuel, depth - 1)?.number();
+            Ok(world.settled(negated(x), line.number, c)?)
+        }
+        Expr::Not(operand) => {
+            let x = evaluate(world, operand, c, fuel, depth - 1)?.number();
+            Ok(Value::truth(!is_true(x)))
+        }
+        Expr::Arithmetic { first, steps } => calculate(world, first, steps, c, fuel, depth - 1),
         Expr::Logic {
             operator,
-            left,
-            right,
-        } => combine(world, *operator, left, right, c, fuel, depth - 1),
+            first,
+            rest,
+        } => combine(world, *operator, first, rest, c, fuel, depth - 1),
         Expr::Compare {
             relation,
             left,
@@ -147,7 +149,10 @@ pub fn evaluate(
             function,
             operand,
             line,
-        } => apply_required(world, *function, operand, line.number, c, fuel, depth - 1),
+        } => {
+            let x = evaluate(world, operand, c, fuel, depth - 1)?.number();
+            Ok(world.settled(apply(*function, x), line.number, c)?)
+        }
         Expr::Eof => Ok(world.eof()?),
         Expr::Eoln { line } => Ok(world.eoln(line.number, c)?),
         Expr::Call {
@@ -203,9 +208,19 @@ pub fn evaluate_truth(
     Ok(is_true(x.number()))
 }
 
+impl<'a> World<'a> {
+    /// The set in the variable at a spot.
+    fn set_at(&self, spot: &Spot, c: &Context) -> Result<Vec<bool>, AllocError>
+        ensures { IfOk result (λ s. members_of_set s ≡ v.set_of (contents_in (world_of self.now) (spot_of spot.now))) }
+    {
+        let value = self.contents(c.job.alloc, spot)?;
+        Vec::from_slice(c.job.alloc, value.members())
+    }
+}
+
 /// Evaluates an expression of a set type.
 #[cycle(run)]
-#[tactic(auto, using(crate::proofs::Answers::stopped_then, crate::proofs::Answers::halted_then, crate::proofs::Answers::runs_deeper, crate::proofs::Trees::set_of_Constructor), unfolding(ps_tree::specs::View::set_of))]
+#[tactic(auto, using(crate::proofs::Answers::stopped_then, crate::proofs::Answers::halted_then, crate::proofs::Answers::runs_deeper, crate::proofs::Trees::set_of_Constructor, ps_tree::proofs::TreeLemmas::set_of_Load), unfolding(ps_tree::specs::View::set_of))]
 pub fn evaluate_set(
     world: &mut World,
     e: &SetExpr,
@@ -221,20 +236,39 @@ pub fn evaluate_set(
     match e {
         SetExpr::Load(place) => {
             let spot = access(world, place, c, fuel, depth - 1)?;
-            let value = world.contents(c.job.alloc, &spot)?;
-            Ok(Vec::from_slice(c.job.alloc, value.members())?)
+            Ok(world.set_at(&spot, c)?)
         }
         SetExpr::Constructor(members) => evaluate_members(world, members, c, fuel, depth - 1),
-        SetExpr::Combine {
-            operator,
-            left,
-            right,
-        } => {
-            let x = evaluate_set(world, left, c, fuel, depth - 1)?;
-            let y = evaluate_set(world, right, c, fuel, depth - 1)?;
-            Ok(combine_sets(c.job.alloc, *operator, x.as_slice(), y.as_slice())?)
+        SetExpr::Combine { first, steps } => {
+            combine_all(world, first, steps, c, fuel, depth - 1)
         }
     }
+}
+
+/// Operators on sets, from left to right.
+#[cycle(run)]
+#[tactic(auto)]
+fn combine_all(
+    world: &mut World,
+    first: &SetExpr,
+    steps: &[SetStep],
+    c: &Context,
+    fuel: u64,
+    depth: u32,
+) -> Result<Vec<bool>, Halt>
+    ensures { Runs members_of_set (m.set_value (caller c.now.job.now fuel) (Tree.Combine (set_of first.now) (set_steps_of steps.now)) (context_of c.now) (world_of world.old)) depth (levels c.now.job.now fuel (max (set_height (set_of first.now)) (set_steps_height (set_steps_of steps.now)))) result world.new }
+{
+    let mut tests = evaluate_set(world, first, c, fuel, depth)?;
+    for step in steps {
+        let more = evaluate_set(world, &step.operand, c, fuel, depth)?;
+        tests = combine_sets(
+            c.job.alloc,
+            step.operator,
+            tests.as_slice(),
+            more.as_slice(),
+        )?;
+    }
+    Ok(tests)
 }
 
 /// Evaluates a member of a set constructor, and checks it.
@@ -309,7 +343,7 @@ pub fn take_operand<'t>(
 
 /// Takes an actual parameter.
 #[cycle(run)]
-#[tactic(auto, using(crate::proofs::Answers::stopped_then, crate::proofs::Answers::halted_then, crate::proofs::Answers::runs_deeper), unfolding(ps_tree::specs::View::argument_of, crate::specs::Worlds::actual_of))]
+#[tactic(auto, using(crate::proofs::Answers::stopped_then, crate::proofs::Answers::halted_then, crate::proofs::Answers::runs_deeper, ps_tree::proofs::TreeLemmas::argument_of_Variable), unfolding(ps_tree::specs::View::argument_of, crate::specs::Worlds::actual_of))]
 fn take_actual(
     world: &mut World,
     argument: &Argument,
@@ -321,73 +355,26 @@ fn take_actual(
 {
     match argument {
         Argument::Value { value, range, line } => {
-            take_value(world, value, *range, line.number, c, fuel, depth)
+            let x = evaluate(world, value, c, fuel, depth)?;
+            Ok(Actual::Value(world.fitting(*range, x, line.number, c)?))
         }
         Argument::Set {
             value,
             low,
             high,
             line,
-        } => take_set(world, value, *low, *high, line.number, c, fuel, depth),
-        Argument::Copy { value, ty } => take_copy(world, value, ty, c, fuel, depth),
+        } => {
+            let s = evaluate_set(world, value, c, fuel, depth)?;
+            Ok(Actual::Value(world.fitting_set(*low, *high, s, line.number, c)?))
+        }
+        Argument::Copy { value, .. } => {
+            let held = take_operand(world, value, c, fuel, depth)?;
+            Ok(Actual::Value(world.contents_of(&held, c)?))
+        }
         Argument::Variable(place) => { Ok(Actual::Variable(access(world, place, c, fuel, depth)?)) }
         Argument::Routine { routine, up } => { Ok(Actual::Routine(*routine, above(&c.env, *up)?)) }
         Argument::Formal { up, index } => { Ok(passed_on(c, *up, *index)?) }
     }
-}
-
-/// The value of an expression, for a value parameter of this range.
-#[cycle(run)]
-#[tactic(auto, using(crate::proofs::Answers::stopped_then, crate::proofs::Answers::halted_then, crate::proofs::Answers::runs_deeper), unfolding(crate::specs::Worlds::actual_of))]
-fn take_value(
-    world: &mut World,
-    value: &Expr,
-    range: Range,
-    line: u16,
-    c: &Context,
-    fuel: u64,
-    depth: u32,
-) -> Result<Actual, Halt>
-    ensures { Runs actual_of (m.actual_of (caller c.now.job.now fuel) (Tree.ByValue (expr_of value.now) range line) (context_of c.now) (world_of world.old)) depth (levels c.now.job.now fuel (expr_height (expr_of value.now))) result world.new }
-{
-    let x = evaluate(world, value, c, fuel, depth)?;
-    Ok(Actual::Value(world.fitting(range, x, line, c)?))
-}
-
-/// The set of an expression, for a value parameter whose base type has these bounds.
-#[cycle(run)]
-#[tactic(auto, using(crate::proofs::Answers::stopped_then, crate::proofs::Answers::halted_then, crate::proofs::Answers::runs_deeper), unfolding(crate::specs::Worlds::actual_of))]
-fn take_set(
-    world: &mut World,
-    value: &SetExpr,
-    low: i32,
-    high: i32,
-    line: u16,
-    c: &Context,
-    fuel: u64,
-    depth: u32,
-) -> Result<Actual, Halt>
-    ensures { Runs actual_of (m.actual_of (caller c.now.job.now fuel) (Tree.BySet (set_of value.now) low high line) (context_of c.now) (world_of world.old)) depth (levels c.now.job.now fuel (set_height (set_of value.now))) result world.new }
-{
-    let s = evaluate_set(world, value, c, fuel, depth)?;
-    Ok(Actual::Value(world.fitting_set(low, high, s, line, c)?))
-}
-
-/// The contents of an operand, for a value parameter of an array or record type.
-#[cycle(run)]
-#[tactic(auto, using(crate::proofs::Answers::stopped_then, crate::proofs::Answers::halted_then, crate::proofs::Answers::runs_deeper), unfolding(crate::specs::Worlds::actual_of))]
-fn take_copy(
-    world: &mut World,
-    value: &Structure,
-    ty: &Ty,
-    c: &Context,
-    fuel: u64,
-    depth: u32,
-) -> Result<Actual, Halt>
-    ensures { Runs actual_of (m.actual_of (caller c.now.job.now fuel) (Tree.ByCopy (structure_of value.now) (type_of ty.now)) (context_of c.now) (world_of world.old)) depth (levels c.now.job.now fuel (structure_height (structure_of value.now))) result world.new }
-{
-    let held = take_operand(world, value, c, fuel, depth)?;
-    Ok(Actual::Value(world.contents_of(&held, c)?))
 }
 
 /// Takes the actual parameters, from left to right.

@@ -36,13 +36,13 @@ fn is_past(direction: Direction, x: i32, y: i32) -> bool
     }
 }
 
-/// The next value of a control variable; the same value where there is no next integer.
+/// The next value of a control variable, modulo 2 ^ 32.
 fn succeeding(direction: Direction, x: i32) -> i32
     ensures { result ≡ m.succeeding direction x }
 {
     match direction {
-        Direction::To => { if x < i32::MAX { x + 1 } else { x } }
-        Direction::Downto => { if i32::MIN < x { x - 1 } else { x } }
+        Direction::To => { if x < i32::MAX { x + 1 } else { i32::MIN } }
+        Direction::Downto => { if i32::MIN < x { x - 1 } else { i32::MAX } }
     }
 }
 

@@ -1,7 +1,7 @@
 // Operands and actual parameters as they were taken, the parts of variables, and the tests of values.
 
 ghost use Rattle.std.specs.Prelude.{◌≡◌, ◌++◌, ◌∷◌, [], map, get_or, IfOk, OnOk};
-ghost use Rattle.ps_tree.specs.View.{type_of};
+ghost use Rattle.ps_tree.specs.View.{type_of, base_of};
 ghost use Rattle.ps_meaning.specs.Worlds.{above, frame_of, routine_in, env_in, contents_in, settled, no_spot, Gives, done};
 ghost use Rattle.ps_meaning.specs.Expressions as m;
 ghost use Rattle.ps_meaning.specs.Statements.{index_place};
@@ -12,8 +12,8 @@ use crate::ending::Ending;
 use crate::operators::{Computed, fits, interval, set_fits, strings_hold, truth};
 use crate::stop::Stop;
 use crate::value::{Root, Spot, Value, text_values};
-use crate::world::{Context, Env, World, routine_above};
-use ps_tree::tree::{Range, Relation};
+use crate::world::{Context, Env, World, routine_above, spot_above};
+use ps_tree::tree::{PlaceBase, Range, Relation};
 use ps_tree::types::{Host, Ordinal, Ty};
 use std::alloc::AllocError;
 use std::rc::Rc;
@@ -146,6 +146,16 @@ impl<'a> World<'a> {
         match c.opened.as_slice().get(which as usize) {
             Some(spot) => spot.copy(c.job.alloc),
             None => Ok(Spot::entire(c.job.alloc, Root::Declared(0))),
+        }
+    }
+
+    /// What a variable's name denotes by itself.
+    pub fn denoted(&self, base: &PlaceBase, c: &Context) -> Result<Spot, AllocError>
+        ensures { IfOk result (λ s. spot_of s ≡ m.denoted (base_of base.now) (context_of c.now)) }
+    {
+        match base {
+            PlaceBase::Entry { up, index } => spot_above(c, *up, *index),
+            PlaceBase::Opened { which, number, .. } => self.opened(*which, c)?.step(*number),
         }
     }
 

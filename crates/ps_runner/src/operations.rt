@@ -2,113 +2,101 @@
 
 ghost use Rattle.std.specs.Prelude.{◌≡◌, max};
 ghost use Rattle.ps_tree.specs.Tree as Tree;
-ghost use Rattle.ps_tree.specs.View.{place_of, expr_of, set_of, structure_of};
+ghost use Rattle.ps_tree.specs.View.{expr_of, arithmetic_of, operands_of, set_of, structure_of};
 ghost use Rattle.ps_meaning.specs.Expressions as m;
+ghost use Rattle.ps_meaning.specs.Operators.{compute, truth};
+ghost use Rattle.ps_meaning.specs.Values.{OrdinalValue, number_of};
+ghost use Rattle.ps_meaning.specs.Worlds.{settled};
 ghost use Rattle.ps_runner.specs.View.{value_of};
-ghost use Rattle.ps_runner.specs.Worlds.{caller, context_of, world_of};
-ghost use Rattle.ps_runner.specs.Heights.{place_height, expr_height, set_height, structure_height};
+ghost use Rattle.ps_runner.specs.Worlds.{Answers, caller, context_of, world_of};
+ghost use Rattle.ps_runner.specs.Heights.{expr_height, steps_height, operands_height, set_height, structure_height};
 ghost use Rattle.ps_runner.specs.Runs.{Runs, levels};
 
-use crate::expressions::{access, evaluate, evaluate_set, take_operand};
+use crate::expressions::{evaluate, evaluate_set, evaluate_truth, take_operand};
 use crate::operators::{
-    apply, combine_truths, compute, holds, is_member, is_true, negated, pointers_hold, sets_hold,
-    truth,
+    combine_truths, compute, holds, is_member, pointers_hold, sets_hold, truth,
 };
-use crate::stop::Halt;
+use crate::stop::{Halt, Stop};
 use crate::value::Value;
 use crate::world::{Context, World};
 use ps_tree::tree::{
-    ArithmeticOperator, BooleanOperator, Expr, Place, PointerRelation, Relation, RequiredFunction,
-    SetExpr, SetRelation, Structure,
+    ArithmeticStep, BooleanOperator, Expr, PointerRelation, Relation, SetExpr, SetRelation,
+    Structure,
 };
 
-/// The value of a variable.
-#[cycle(run)]
-#[tactic(auto, using(crate::proofs::Answers::stopped_then, crate::proofs::Answers::halted_then, crate::proofs::Answers::runs_deeper))]
-pub fn load(
-    world: &mut World,
-    place: &Place,
-    c: &Context,
-    fuel: u64,
-    depth: u32,
-) -> Result<Value, Halt>
-    ensures { Runs value_of (m.value (caller c.now.job.now fuel) (Tree.Load (place_of place.now)) (context_of c.now) (world_of world.old)) depth (levels c.now.job.now fuel (place_height (place_of place.now))) result world.new }
-{
-    let spot = access(world, place, c, fuel, depth)?;
-    Ok(world.contents(c.job.alloc, &spot)?)
+impl Value {
+    /// The ordinal of a Boolean value.
+    #[tactic(auto, unfolding(crate::specs::View::value_of))]
+    pub fn truth(b: bool) -> Value
+        ensures { value_of result ≡ OrdinalValue (truth b) }
+    {
+        Value::Ordinal(truth(b))
+    }
+
+    /// The ordinal with this value's number.
+    #[tactic(auto, unfolding(crate::specs::View::value_of))]
+    fn ordinal(&self) -> Value
+        ensures { value_of result ≡ OrdinalValue (number_of (value_of self.now)) }
+    {
+        Value::Ordinal(self.number())
+    }
 }
 
-/// The operand with the other sign.
+/// Operators on integers, from left to right.
 #[cycle(run)]
-#[tactic(auto, using(crate::proofs::Answers::stopped_then, crate::proofs::Answers::halted_then, crate::proofs::Answers::runs_deeper), unfolding(crate::specs::View::integer_of))]
-pub fn negate(
-    world: &mut World,
-    operand: &Expr,
-    line: u16,
-    c: &Context,
-    fuel: u64,
-    depth: u32,
-) -> Result<Value, Halt>
-    ensures { Runs value_of (m.value (caller c.now.job.now fuel) (Tree.Minus (expr_of operand.now) line) (context_of c.now) (world_of world.old)) depth (levels c.now.job.now fuel (expr_height (expr_of operand.now))) result world.new }
-{
-    let x = evaluate(world, operand, c, fuel, depth)?.number();
-    Ok(world.settled(negated(x), line, c)?)
-}
-
-/// `not`.
-#[cycle(run)]
-#[tactic(auto, using(crate::proofs::Answers::stopped_then, crate::proofs::Answers::halted_then, crate::proofs::Answers::runs_deeper), unfolding(crate::specs::View::value_of))]
-pub fn invert(
-    world: &mut World,
-    operand: &Expr,
-    c: &Context,
-    fuel: u64,
-    depth: u32,
-) -> Result<Value, Halt>
-    ensures { Runs value_of (m.value (caller c.now.job.now fuel) (Tree.Not (expr_of operand.now)) (context_of c.now) (world_of world.old)) depth (levels c.now.job.now fuel (expr_height (expr_of operand.now))) result world.new }
-{
-    let x = evaluate(world, operand, c, fuel, depth)?.number();
-    Ok(Value::Ordinal(truth(!is_true(x))))
-}
-
-/// An operator on two integers.
-#[cycle(run)]
-#[tactic(auto, using(crate::proofs::Answers::stopped_then, crate::proofs::Answers::halted_then, crate::proofs::Answers::runs_deeper))]
+#[tactic(auto)]
 pub fn calculate(
     world: &mut World,
-    operator: ArithmeticOperator,
-    left: &Expr,
-    right: &Expr,
-    line: u16,
+    first: &Expr,
+    steps: &[ArithmeticStep],
     c: &Context,
     fuel: u64,
     depth: u32,
 ) -> Result<Value, Halt>
-    ensures { Runs value_of (m.value (caller c.now.job.now fuel) (Tree.Arithmetic operator (expr_of left.now) (expr_of right.now) line) (context_of c.now) (world_of world.old)) depth (levels c.now.job.now fuel (max (expr_height (expr_of left.now)) (expr_height (expr_of right.now)))) result world.new }
+    ensures { Runs value_of (m.value (caller c.now.job.now fuel) (Tree.Arithmetic (expr_of first.now) (arithmetic_of steps.now)) (context_of c.now) (world_of world.old)) depth (levels c.now.job.now fuel (max (expr_height (expr_of first.now)) (steps_height (arithmetic_of steps.now)))) result world.new }
 {
-    let x = evaluate(world, left, c, fuel, depth)?.number();
-    let y = evaluate(world, right, c, fuel, depth)?.number();
-    Ok(world.settled(compute(operator, x, y), line, c)?)
+    let mut x = evaluate(world, first, c, fuel, depth)?;
+    for step in steps {
+        let y = evaluate(world, &step.operand, c, fuel, depth)?;
+        x = calculated(world, step, &x, &y, c)?;
+    }
+    Ok(x.ordinal())
 }
 
-/// `and` and `or`, of which both operands are evaluated.
+/// The number so far with the operand of the next step; errors 1, 2 and 3.
+fn calculated(
+    world: &World,
+    step: &ArithmeticStep,
+    x: &Value,
+    y: &Value,
+    c: &Context,
+) -> Result<Value, Stop>
+    ensures { Answers value_of (settled (compute step.now.operator (number_of (value_of x.now)) (number_of (value_of y.now))) step.now.line.number (context_of c.now) (world_of world.now)) result world.now }
+{
+    let computed = compute(step.operator, x.number(), y.number());
+    world.settled(computed, step.line.number, c)
+}
+
+/// `and` and `or`, of which all operands are evaluated.
 #[cycle(run)]
-#[tactic(auto, using(crate::proofs::Answers::stopped_then, crate::proofs::Answers::halted_then, crate::proofs::Answers::runs_deeper), unfolding(crate::specs::View::value_of))]
+#[tactic(auto)]
 pub fn combine(
     world: &mut World,
     operator: BooleanOperator,
-    left: &Expr,
-    right: &Expr,
+    first: &Expr,
+    rest: &[Expr],
     c: &Context,
     fuel: u64,
     depth: u32,
 ) -> Result<Value, Halt>
-    ensures { Runs value_of (m.value (caller c.now.job.now fuel) (Tree.Logic operator (expr_of left.now) (expr_of right.now)) (context_of c.now) (world_of world.old)) depth (levels c.now.job.now fuel (max (expr_height (expr_of left.now)) (expr_height (expr_of right.now)))) result world.new }
+    ensures { Runs value_of (m.value (caller c.now.job.now fuel) (Tree.Logic operator (expr_of first.now) (operands_of rest.now)) (context_of c.now) (world_of world.old)) depth (levels c.now.job.now fuel (max (expr_height (expr_of first.now)) (operands_height (operands_of rest.now)))) result world.new }
 {
-    let x = evaluate(world, left, c, fuel, depth)?.number();
-    let y = evaluate(world, right, c, fuel, depth)?.number();
-    let both = combine_truths(operator, is_true(x), is_true(y));
-    Ok(Value::Ordinal(truth(both)))
+    let mut x = evaluate_truth(world, first, c, fuel, depth)?;
+    for operand in rest {
+        let y = evaluate_truth(world, operand, c, fuel, depth)?;
+        x = combine_truths(operator, x, y);
+    }
+    Ok(Value::truth(x))
 }
 
 /// A relation between two ordinals.
@@ -127,7 +115,7 @@ pub fn compare(
 {
     let x = evaluate(world, left, c, fuel, depth)?.number();
     let y = evaluate(world, right, c, fuel, depth)?.number();
-    Ok(Value::Ordinal(truth(holds(relation, x, y))))
+    Ok(Value::truth(holds(relation, x, y)))
 }
 
 /// A relation between two pointers.
@@ -146,7 +134,7 @@ pub fn compare_pointers(
 {
     let x = evaluate(world, left, c, fuel, depth)?;
     let y = evaluate(world, right, c, fuel, depth)?;
-    Ok(Value::Ordinal(truth(pointers_hold(relation, &x, &y))))
+    Ok(Value::truth(pointers_hold(relation, &x, &y)))
 }
 
 /// A relation between two sets.
@@ -165,7 +153,7 @@ pub fn compare_sets(
 {
     let x = evaluate_set(world, left, c, fuel, depth)?;
     let y = evaluate_set(world, right, c, fuel, depth)?;
-    Ok(Value::Ordinal(truth(sets_hold(relation, x.as_slice(), y.as_slice()))))
+    Ok(Value::truth(sets_hold(relation, x.as_slice(), y.as_slice())))
 }
 
 /// A relation between two strings, whose contents are taken when both are accessed.
@@ -202,23 +190,5 @@ pub fn test_member(
 {
     let x = evaluate(world, left, c, fuel, depth)?.number();
     let s = evaluate_set(world, right, c, fuel, depth)?;
-    Ok(Value::Ordinal(truth(is_member(x, s.as_slice()))))
-}
-
-/// A required function of an ordinal.
-#[cycle(run)]
-#[tactic(auto, using(crate::proofs::Answers::stopped_then, crate::proofs::Answers::halted_then, crate::proofs::Answers::runs_deeper))]
-pub fn apply_required(
-    world: &mut World,
-    function: RequiredFunction,
-    operand: &Expr,
-    line: u16,
-    c: &Context,
-    fuel: u64,
-    depth: u32,
-) -> Result<Value, Halt>
-    ensures { Runs value_of (m.value (caller c.now.job.now fuel) (Tree.Apply function (expr_of operand.now) line) (context_of c.now) (world_of world.old)) depth (levels c.now.job.now fuel (expr_height (expr_of operand.now))) result world.new }
-{
-    let x = evaluate(world, operand, c, fuel, depth)?.number();
-    Ok(world.settled(apply(function, x), line, c)?)
+    Ok(Value::truth(is_member(x, s.as_slice())))
 }

@@ -13,7 +13,7 @@ use ps_tree::tree::{
 use std::alloc::{AllocError, Global};
 
 /// A number, or the number of an error.
-#[derive(Clone, Copy, PartialEq, Eq, Debug)]
+#[derive(Clone, Copy)]
 pub enum Computed {
     Result(i32),
     Fault(u16),

@@ -31,7 +31,7 @@ fn first_object(job: &Job, pointer: u32) -> Result<Value, AllocError>
 impl<'a> World<'a> {
     /// A new object with its first value; an end for heap where its bytes would pass it.
     pub fn new_object(&mut self, pointer: u32, line: u16, c: &Context) -> Result<Value, Stop>
-        ensures { (n : ℕ) → Answers value_of (r.making c.now.job.now n pointer line (context_of c.now) (world_of self.old)) result self.new }
+        ensures { (n : ℕ) → Answers value_of (r.making c.now.job.now n pointer line (world_of self.old)) result self.new }
     {
         if passes_heap(c.job, self.made.as_slice(), pointer) {
             return Err(Stop::Ended {

@@ -2,6 +2,8 @@
 
 ghost use Rattle.std.specs.Prelude.{◌≡◌, ◌*◌, ◌<◌, ◌≤◌, [], ℕ, List, IfOk, IfErr};
 ghost use Rattle.std.specs.List.{All};
+ghost use Rattle.behavior.specs.Endings.{calls_of};
+ghost use Rattle.behavior.specs.Transcripts.{output};
 ghost use Rattle.ps_tree.specs.Checked.{program_in};
 ghost use Rattle.ps_meaning.specs.Worlds.{Outside};
 ghost use Rattle.ps_meaning.specs.Run as m;
@@ -10,7 +12,7 @@ ghost use Rattle.ps_runner.specs.declared.run.TheConstants.{DEPTH};
 ghost use Rattle.ps_runner.specs.declared.run.Refusal.TheVariants.{TooDeep};
 ghost use Rattle.ps_runner.specs.declared.run.TranscriptFault.TheVariants.{NoByteAndNoMark};
 ghost use Rattle.ps_runner.specs.Heights.{highest};
-ghost use Rattle.ps_runner.specs.Runs.{Runs, levels, shown, Tells, trail_of};
+ghost use Rattle.ps_runner.specs.Runs.{Runs, levels, shown};
 
 use crate::calls::do_block;
 use crate::ending::Ending;
@@ -106,7 +108,7 @@ fn run_job(world: &mut World, job: &Job, fuel: u64, depth: u32) -> Result<(), Ha
 /// How a run on an input went.
 #[tactic(auto, unfolding(crate::specs::Runs::call_levels))]
 fn run_on(job: &Job, input: &[u8], fuel: u64, depth: u32) -> Result<Ran, Refusal>
-    ensures told { IfOk result (λ k. Tells k (m.answer (program_of job.now) (costs_in job.now) input.now fuel)) }
+    ensures told { IfOk result (λ k. shown k ≡ m.shown (m.answer (program_of job.now) (costs_in job.now) input.now fuel)) }
     ensures refused { IfErr result (λ refusal. refusal ≡ TooDeep → depth < fuel * highest (program_of job.now)) }
 {
     let mut world = first_world(job.alloc, input);
@@ -147,7 +149,6 @@ pub fn reference_to_depth(
     fuel: u64,
     depth: u32,
 ) -> Result<Ran, Refusal>
-    ensures told { IfOk result (λ k. Tells k (m.answer (program_in program.now) (m.costs_of budget.now.frames.now budget.now.objects.now budget.now.stack budget.now.heap) input.now fuel)) }
     ensures run { IfOk result (λ k. shown k ≡ m.run_within (program_in program.now) budget.now.frames.now budget.now.objects.now budget.now.stack budget.now.heap input.now fuel) }
     ensures refused { IfErr result (λ refusal. refusal ≡ TooDeep → depth < fuel * highest (program_in program.now)) }
 {
@@ -171,7 +172,6 @@ pub fn reference_within(
     input: &[u8],
     fuel: u64,
 ) -> Result<Ran, Refusal>
-    ensures told { IfOk result (λ k. Tells k (m.answer (program_in program.now) (m.costs_of budget.now.frames.now budget.now.objects.now budget.now.stack budget.now.heap) input.now fuel)) }
     ensures run { IfOk result (λ k. shown k ≡ m.run_within (program_in program.now) budget.now.frames.now budget.now.objects.now budget.now.stack budget.now.heap input.now fuel) }
     ensures refused { IfErr result (λ refusal. refusal ≡ TooDeep → DEPTH < fuel * highest (program_in program.now)) }
 {
@@ -180,7 +180,6 @@ pub fn reference_within(
 
 /// The run of a program on an input with so much fuel, without costs. It is refused as that within costs is.
 pub fn reference(alloc: Global, program: &Checked, input: &[u8], fuel: u64) -> Result<Ran, Refusal>
-    ensures told { IfOk result (λ k. Tells k (m.answer (program_in program.now) (m.costs_of [] [] 0 0) input.now fuel)) }
     ensures run { IfOk result (λ k. shown k ≡ m.run (program_in program.now) input.now fuel) }
     ensures refused { IfErr result (λ refusal. refusal ≡ TooDeep → DEPTH < fuel * highest (program_in program.now)) }
 {
@@ -195,7 +194,7 @@ pub fn reference(alloc: Global, program: &Checked, input: &[u8], fuel: u64) -> R
 
 /// The lines of the calls that are open at an error, of which the first 16 are told.
 fn first_lines(ran: Ran) -> Vec<u32>
-    ensures { result.items ≡ trail_of ran }
+    ensures { result.items ≡ calls_of (shown ran).1 }
 {
     let Ran { ending, calls, .. } = ran;
     let mut lines = calls;
@@ -209,7 +208,7 @@ fn first_lines(ran: Ran) -> Vec<u32>
 /// The lines of the calls that are open at an error, the innermost first, the first 16 of them; none where no error is
 /// met.
 pub fn trail(alloc: Global, program: &Checked, input: &[u8], fuel: u64) -> Result<Vec<u32>, Refusal>
-    ensures told { IfOk result (λ v. v.items ≡ m.trail (program_in program.now) input.now fuel) }
+    ensures told { IfOk result (λ v. v.items ≡ calls_of (m.run (program_in program.now) input.now fuel).1) }
     ensures refused { IfErr result (λ refusal. refusal ≡ TooDeep → DEPTH < fuel * highest (program_in program.now)) }
 {
     let ran = reference(alloc, program, input, fuel)?;
@@ -228,7 +227,7 @@ pub enum TranscriptFault {
 /// The bytes that a transcript shows, without its marks.
 #[tactic(auto, using(crate::proofs::Runs::shown_mark, crate::proofs::Runs::shown_byte, crate::proofs::Runs::neither_byte_nor_mark))]
 pub fn output(alloc: Global, transcript: &[u16]) -> Result<Vec<u8>, TranscriptFault>
-    ensures shown { IfOk result (λ v. v.items ≡ m.output_of transcript.now) }
+    ensures shown { IfOk result (λ v. v.items ≡ output transcript.now) }
     ensures refused { IfErr result (λ fault. fault ≡ NoByteAndNoMark → All (λ b. b ≤ 256) transcript.now → ⊥) }
 {
     let mut bytes = Vec::new(alloc);

@@ -14,7 +14,7 @@ use crate::expressions::{access, evaluate, evaluate_set, take_operand};
 use crate::loops::{count, repeat_until, repeat_while};
 use crate::operands::index_of;
 use crate::stop::Halt;
-use crate::transfers::{read_all, read_line, write_all, write_line};
+use crate::transfers::{read_all, write_all};
 use crate::world::{Context, World};
 use ps_tree::tree::{Expr, Place, Range, SetExpr, Statement, Structure};
 use ps_tree::types::Ty;
@@ -192,10 +192,14 @@ pub fn act(
         ),
         Statement::Read { variables } => read_all(world, variables, c, fuel, depth - 1),
         Statement::Readln { variables, line } => {
-            read_line(world, variables, line.number, c, fuel, depth - 1)
+            read_all(world, variables, c, fuel, depth - 1)?;
+            Ok(world.line_taken(line.number, c)?)
         }
         Statement::Write { parameters } => write_all(world, parameters, c, fuel, depth - 1),
-        Statement::Writeln { parameters } => write_line(world, parameters, c, fuel, depth - 1),
+        Statement::Writeln { parameters } => {
+            write_all(world, parameters, c, fuel, depth - 1)?;
+            Ok(world.write(&[10])?)
+        }
     }
 }
 

@@ -1,7 +1,8 @@
 // Text: what reads look at and take, and what writes add.
 
 ghost use Rattle.std.specs.Prelude.{replicate, ◌≡◌, ◌+◌, ◌-◌, ◌≤◌, ◌<◌, ◌++◌, ◌∷◌, [], ◌^◌, min, ℕ, pos, neg_ℤ, length, drop, take_while, if◌then◌else◌, IfOk};
-ghost use Rattle.ps_meaning.specs.Text.{next_character, looked_at, look_marks, taken, as_character, is_blank, after_blanks, is_digit, has_sign, after_sign, number_written, digits, scan_integer, has_line_end, after_line_end, after_line, line_marks, mark, right_aligned, fitted, integer_text, boolean_text};
+ghost use Rattle.ps_meaning.specs.Text.{next_character, looked_at, look_marks, taken, as_character, is_blank, after_blanks, is_digit, has_sign, after_sign, number_written, digits, scan_integer, has_line_end, after_line_end, after_line, line_marks, right_aligned, fitted, integer_text, boolean_text};
+ghost use Rattle.behavior.specs.Transcripts.{mark};
 ghost use Rattle.ps_runner.specs.Worlds.{input_of};
 ghost use Rattle.ps_runner.specs.View.{IsNumber, IsReading};
 
@@ -186,7 +187,7 @@ pub fn fitted(alloc: Global, width: u32, text: &[u8]) -> Result<Vec<u8>, AllocEr
 }
 
 /// An integer that was read; a number that is no integer of the language is none.
-#[derive(Clone, Copy, PartialEq, Eq, Debug)]
+#[derive(Clone, Copy)]
 pub enum Reading {
     EndFound,
     NoInteger,

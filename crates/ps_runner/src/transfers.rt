@@ -73,23 +73,6 @@ fn read_one(
     }
 }
 
-/// `readln`: reads variables, and then the rest of the line.
-#[cycle(run)]
-#[tactic(auto, using(crate::proofs::Answers::stopped_then, crate::proofs::Answers::halted_then, crate::proofs::Answers::runs_deeper))]
-pub fn read_line(
-    world: &mut World,
-    variables: &[ReadVariable],
-    line: u16,
-    c: &Context,
-    fuel: u64,
-    depth: u32,
-) -> Result<(), Halt>
-    ensures { Runs done_of (acting c.now.job.now fuel (Tree.Readln (map read_of variables.now) line) (context_of c.now) (world_of world.old)) depth (levels c.now.job.now fuel (reads_height (map read_of variables.now))) result world.new }
-{
-    read_all(world, variables, c, fuel, depth)?;
-    Ok(world.line_taken(line, c)?)
-}
-
 impl<'a> World<'a> {
     /// The width of a parameter of write; error 11 for one below 1.
     pub fn checked_width(&self, x: i32, line: u16, c: &Context) -> Result<Option<u32>, Stop>
@@ -195,22 +178,6 @@ fn write_contents(
     let n = evaluate_width(world, width, c, fuel, depth)?;
     let text = world.contents_of(&held, c)?;
     Ok(write_string(world, c.job.alloc, text.components(), n)?)
-}
-
-/// `writeln`: writes parameters, and then the end of the line.
-#[cycle(run)]
-#[tactic(auto, using(crate::proofs::Answers::stopped_then, crate::proofs::Answers::halted_then, crate::proofs::Answers::runs_deeper))]
-pub fn write_line(
-    world: &mut World,
-    parameters: &[WriteParameter],
-    c: &Context,
-    fuel: u64,
-    depth: u32,
-) -> Result<(), Halt>
-    ensures { Runs done_of (acting c.now.job.now fuel (Tree.Writeln (map write_of parameters.now)) (context_of c.now) (world_of world.old)) depth (levels c.now.job.now fuel (writes_height (map write_of parameters.now))) result world.new }
-{
-    write_all(world, parameters, c, fuel, depth)?;
-    Ok(world.write(&[10])?)
 }
 
 /// The byte of a character.

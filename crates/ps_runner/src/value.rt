@@ -21,7 +21,7 @@ pub enum Value {
 }
 
 /// A variable that was declared, by its name, or that `new` made.
-#[derive(Clone, Copy, PartialEq, Eq, Debug)]
+#[derive(Clone, Copy)]
 pub enum Root {
     Declared(usize),
     Made(usize),

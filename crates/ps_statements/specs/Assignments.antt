@@ -15,7 +15,7 @@ use Rattle.ps_typing.specs.Expressions.{operand, variable_operand}
 
 -- the result of a function, as a variable of the block that is `levels` blocks out
 abbrev pub result_of : Heading → ℕ → Option Variable
-result_of h levels = h.result >>= (λ type. Some (record { place = Tree.Entry levels 0; type = type; in_packed = false }))
+result_of h levels = h.result >>= (λ type. Some (record { place = Tree.Variable (Tree.Entry levels 0) Tree.no_selector; type = type; in_packed = false }))
 
 -- 6.6.2: the function's name stands for its result in the function's own block, which is n blocks further out
 unfoldable pub result_in : List Region → ℕ → Heading → ℕ → Option Variable

@@ -145,21 +145,27 @@ module _ (c : Context) (Γ : List Region) where
   new_statement line _ = None
 
   -- pack(a, i, z)
-  unfoldable pub pack_statement : List Parameter → Option Tree.Statement
-  pack_statement (a ∷ i ∷ z ∷ []) = do
+  unfoldable pub pack : Parameter → Parameter → Parameter → Option Tree.Statement
+  pack a i z = do
     from ← parameter_variable a
     index ← parameter_index i
     to ← parameter_variable z
     packed_from from to (line_in c.text (first_of_parameter i)) index
+
+  unfoldable pub pack_statement : List Parameter → Option Tree.Statement
+  pack_statement (a ∷ i ∷ z ∷ []) = pack a i z
   pack_statement _ = None
 
   -- unpack(z, a, i)
-  unfoldable pub unpack_statement : List Parameter → Option Tree.Statement
-  unpack_statement (z ∷ a ∷ i ∷ []) = do
+  unfoldable pub unpack : Parameter → Parameter → Parameter → Option Tree.Statement
+  unpack z a i = do
     from ← parameter_variable z
     to ← parameter_variable a
     index ← parameter_index i
     unpacked_to from to (line_in c.text (first_of_parameter i)) index
+
+  unfoldable pub unpack_statement : List Parameter → Option Tree.Statement
+  unpack_statement (z ∷ a ∷ i ∷ []) = unpack z a i
   unpack_statement _ = None
 
   unfoldable pub required_procedure : ℕ → Required → List Parameter → Option Tree.Statement

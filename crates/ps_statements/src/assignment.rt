@@ -14,25 +14,29 @@ use ps_regions::scope::{Found, Scope};
 use ps_syntax::{Expr, Variable};
 use ps_text::Span;
 use ps_tree::line::Line;
-use ps_tree::tree::{Place, SetExpr, Statement};
+use ps_tree::tree::{Place, PlaceBase, SetExpr, Statement};
 use ps_tree::types::{Ty, assignable};
 use ps_typing::expression::{expr_value, variable_place};
 use ps_typing::place::{variable_found, wrong_kind};
 use ps_typing::site::Site;
 use ps_typing::value::{TypedPlace, TypedValue, range_of};
+use std::alloc::Global;
 
 /// The result of a function as a variable of the block that is `levels` blocks out. Its name is at `at`.
-#[tactic(auto, unfolding(ps_tree::specs::View::place_of))]
-fn result_of(heading: &Heading, levels: u32, at: u32) -> Result<TypedPlace, Fault>
+#[tactic(auto, unfolding(ps_tree::specs::View::selectors_of))]
+fn result_of(alloc: Global, heading: &Heading, levels: u32, at: u32) -> Result<TypedPlace, Fault>
     ensures ok { IfOk result (λ v. result_of (heading_of heading.now) levels ≡ Some (variable_of v)) }
     ensures err { IfErr result (λ fault. IsFault fault → result_of (heading_of heading.now) levels ≡ None) }
 {
     match &heading.result {
         None => Err(wrong_kind(at)),
         Some(ty) => Ok(TypedPlace {
-            place: Place::Entry {
-                up: levels,
-                index: 0,
+            place: Place {
+                base: PlaceBase::Entry {
+                    up: levels,
+                    index: 0,
+                },
+                selectors: Vec::new(alloc),
             },
             ty: ty.copy()?,
             in_packed: false,
@@ -43,6 +47,7 @@ fn result_of(heading: &Heading, levels: u32, at: u32) -> Result<TypedPlace, Faul
 /// The result of a function whose own block is `further` blocks out of these regions (6.6.2).
 #[tactic(auto, unfolding(crate::specs::Assignments::result_in, ps_regions::specs::Views::scope_of))]
 fn result_in(
+    alloc: Global,
     scope: &Scope<'_>,
     further: u32,
     heading: &Heading,
@@ -56,15 +61,15 @@ fn result_in(
         Scope::Outside => Err(wrong_kind(at)),
         Scope::Block { routine, outer, .. } => {
             if further != 0 {
-                return result_in(outer, further - 1, heading, levels, at);
+                return result_in(alloc, outer, further - 1, heading, levels, at);
             }
             if *routine != heading.number {
                 return Err(wrong_kind(at));
             }
-            result_of(heading, levels, at)
+            result_of(alloc, heading, levels, at)
         }
         Scope::Record { outer, .. } | Scope::Fields { outer, .. } => {
-            result_in(outer, further, heading, levels, at)
+            result_in(alloc, outer, further, heading, levels, at)
         }
     }
 }
@@ -76,13 +81,13 @@ fn target_found(site: Site<'_>, found: Found<'_>, at: u32) -> Result<TypedPlace,
     ensures err { IfErr result (λ fault. IsFault fault → target_at (regions_at site.entry) (point_of found.entry) ≡ None) }
 {
     match found {
-        Found::Field { .. } => variable_found(found, at),
+        Found::Field { .. } => variable_found(site.alloc, found, at),
         Found::Name { up, meaning } => match meaning {
             Meaning::Routine(heading) => {
                 if up == 0 {
                     return Err(wrong_kind(at));
                 }
-                result_in(site.scope, up - 1, heading, up - 1, at)
+                result_in(site.alloc, site.scope, up - 1, heading, up - 1, at)
             }
             Meaning::Constant { .. }
             | Meaning::Text(_)
@@ -90,7 +95,7 @@ fn target_found(site: Site<'_>, found: Found<'_>, at: u32) -> Result<TypedPlace,
             | Meaning::Variable { .. }
             | Meaning::Parameter { .. }
             | Meaning::RoutineParameter { .. }
-            | Meaning::Required(_) => variable_found(found, at),
+            | Meaning::Required(_) => variable_found(site.alloc, found, at),
             Meaning::File(_) | Meaning::LeftOut => Err(Fault::Broken {
                 rule: Rule::NotInProfile,
                 at,

@@ -128,6 +128,23 @@ fn index_at(parameter: &Parameter, site: Site<'_>) -> Result<(Expr, Ordinal), Fa
 }
 
 /// pack(a, i, z)
+#[tactic(auto, unfolding(crate::specs::Procedures::pack))]
+fn pack(a: &Parameter, i: &Parameter, z: &Parameter, site: Site<'_>) -> Result<Statement, Fault>
+    ensures ok { IfOk result (λ s. spec.pack (context_at site.entry) (regions_at site.entry) a.now i.now z.now ≡ Some (statement_of s)) }
+    ensures err { IfErr result (λ fault. IsFault fault → spec.pack (context_at site.entry) (regions_at site.entry) a.now i.now z.now ≡ None) }
+{
+    let from = parameter_variable(a, site);
+    let rest = paired(index_at(i, site), parameter_variable(z, site));
+    let (from, (index, to)) = paired(from, rest)?;
+    let at = Places {
+        unpacked: first_token(a),
+        packed: first_token(z),
+        index: first_token(i),
+    };
+    packed_from(from, index, to, site.reading.line(at.index), at)
+}
+
+/// The statement of pack, which has three parameters.
 #[tactic(auto, unfolding(crate::specs::Procedures::pack_statement))]
 pub(crate) fn pack_statement(
     parameters: &[Parameter],
@@ -138,22 +155,29 @@ pub(crate) fn pack_statement(
     ensures err { IfErr result (λ fault. IsFault fault → spec.pack_statement (context_at site.entry) (regions_at site.entry) parameters.now ≡ None) }
 {
     match parameters {
-        [a, i, z] => {
-            let from = parameter_variable(a, site);
-            let rest = paired(index_at(i, site), parameter_variable(z, site));
-            let (from, (index, to)) = paired(from, rest)?;
-            let at = Places {
-                unpacked: first_token(a),
-                packed: first_token(z),
-                index: first_token(i),
-            };
-            packed_from(from, index, to, site.reading.line(at.index), at)
-        }
+        [a, i, z] => pack(a, i, z, site),
         _ => Err(wrong_number(name.from)),
     }
 }
 
 /// unpack(z, a, i)
+#[tactic(auto, unfolding(crate::specs::Procedures::unpack))]
+fn unpack(z: &Parameter, a: &Parameter, i: &Parameter, site: Site<'_>) -> Result<Statement, Fault>
+    ensures ok { IfOk result (λ s. spec.unpack (context_at site.entry) (regions_at site.entry) z.now a.now i.now ≡ Some (statement_of s)) }
+    ensures err { IfErr result (λ fault. IsFault fault → spec.unpack (context_at site.entry) (regions_at site.entry) z.now a.now i.now ≡ None) }
+{
+    let from = parameter_variable(z, site);
+    let rest = paired(parameter_variable(a, site), index_at(i, site));
+    let (from, (to, index)) = paired(from, rest)?;
+    let at = Places {
+        unpacked: first_token(a),
+        packed: first_token(z),
+        index: first_token(i),
+    };
+    unpacked_to(from, to, index, site.reading.line(at.index), at)
+}
+
+/// The statement of unpack, which has three parameters.
 #[tactic(auto, unfolding(crate::specs::Procedures::unpack_statement))]
 pub(crate) fn unpack_statement(
     parameters: &[Parameter],
@@ -164,17 +188,7 @@ pub(crate) fn unpack_statement(
     ensures err { IfErr result (λ fault. IsFault fault → spec.unpack_statement (context_at site.entry) (regions_at site.entry) parameters.now ≡ None) }
 {
     match parameters {
-        [z, a, i] => {
-            let from = parameter_variable(z, site);
-            let rest = paired(parameter_variable(a, site), index_at(i, site));
-            let (from, (to, index)) = paired(from, rest)?;
-            let at = Places {
-                unpacked: first_token(a),
-                packed: first_token(z),
-                index: first_token(i),
-            };
-            unpacked_to(from, to, index, site.reading.line(at.index), at)
-        }
+        [z, a, i] => unpack(z, a, i, site),
         _ => Err(wrong_number(name.from)),
     }
 }

@@ -9,7 +9,7 @@ use ps_syntax::{
     Element, Expr, Factor, Member, Parameter, Selector, Simple, Statement as Syntax, Term, Variable,
 };
 use ps_text::Span;
-use ps_tree::tree::{Argument, CaseElement, Place, Statement};
+use ps_tree::tree::{Argument, CaseElement, Place, PlaceBase, Statement};
 use ps_typing::expression::name_alone;
 
 /// A control variable: its name at the `for`, and its entry in the routine that is `up` levels out of the statements.
@@ -204,11 +204,21 @@ fn is_plain_name(parameter: &Parameter, control: Control<'_>) -> bool {
     }
 }
 
+/// Whether a variable is the entry as a whole.
+fn is_entry(place: &Place, control: Control<'_>) -> bool {
+    match &place.base {
+        PlaceBase::Entry { up, index } => {
+            place.selectors.is_empty() && *up == control.up && *index == control.entry
+        }
+        PlaceBase::Opened { .. } => false,
+    }
+}
+
 /// The place of the variable parameter that is the entry.
 fn passed_at(arguments: &[Argument], control: Control<'_>) -> Option<usize> {
     for i in 0..arguments.len() {
-        if let Argument::Variable(Place::Entry { up, index }) = &arguments[i] {
-            if *up == control.up && *index == control.entry {
+        if let Argument::Variable(place) = &arguments[i] {
+            if is_entry(place, control) {
                 return Some(i);
             }
         }

@@ -2,7 +2,7 @@
 use Rattle.std.proofs.Common.{rules, ◌≤◌, ◌≡◌, ◌<◌, ℕ, zero, suc, Bool, true, false, List, [], ◌∷◌, Option, Some, None, option_map, slice_get, get_or, length, nat_le, cond, refl, sym, ap, ◌∙◌, arith}
 use Rattle.std.proofs.lemmas.Option.{slice_get_read, slice_get_past}
 use Rattle.ps_tree.specs.declared.types.Ty.{Ty}
-use Rattle.ps_tree.specs.Types.{DataType, DataTypes, type_at, field_at}
+use Rattle.ps_tree.specs.Types.{DataType, type_at, field_at}
 use Rattle.ps_tree.specs.TypeView.{type_of, types_of}
 
 type_at_items : (types : List Ty) (n : ℕ) → type_at (types_of types) n ≡ option_map type_of (slice_get types n)

@@ -3,11 +3,15 @@ use Rattle.std.proofs.Common.{◌≡◌, ℕ, suc, map, ◌+◌, ◌<◌, ◌≤
 use Rattle.std.proofs.Math.Seq.{drop-cons}
 use Rattle.std.proofs.lemmas.List.{drop_all}
 use Rattle.ps_tree.specs.declared.count.Extent.{Extent}
-use Rattle.ps_tree.specs.Counts.{◌⊕◌, nothing, capped, argument_extent, arguments_extent, member_extent, members_extent, place_extent, places_extent, read_extent, reads_extent, write_extent, writes_extent}
-use Rattle.ps_tree.specs.View.{argument_of, arguments_of, member_of, members_of, place_of, read_of, write_of}
+use Rattle.ps_tree.specs.Counts.{◌⊕◌, nothing, capped, argument_extent, arguments_extent, member_extent, members_extent, place_extent, selector_extent, selectors_extent, expr_extent, arithmetic_extent, operands_extent, set_extent, set_steps_extent, node, places_extent, read_extent, reads_extent, write_extent, writes_extent}
+use Rattle.ps_tree.specs.View.{argument_of, arguments_of, member_of, members_of, place_of, selector_of, selectors_of, expr_of, arithmetic_of, operands_of, set_of, set_steps_of, read_of, write_of}
 use Rattle.ps_tree.specs.declared.tree.Argument.{Argument}
 use Rattle.ps_tree.specs.declared.tree.Member.{Member}
 use Rattle.ps_tree.specs.declared.tree.Place.{Place}
+use Rattle.ps_tree.specs.declared.tree.Selector.{Selector}
+use Rattle.ps_tree.specs.declared.tree.Expr.{Expr}
+use Rattle.ps_tree.specs.declared.tree.ArithmeticStep.{ArithmeticStep, out-ArithmeticStep}
+use Rattle.ps_tree.specs.declared.tree.SetStep.{SetStep, out-SetStep}
 use Rattle.ps_tree.specs.declared.tree.ReadVariable.{ReadVariable}
 use Rattle.ps_tree.specs.declared.tree.WriteParameter.{WriteParameter}
 
@@ -74,6 +78,64 @@ members_none = refl
 pub members_more : (x : Member) (xs : List Member) → members_size (x ∷ xs) ≡ member_extent (member_of x) ⊕ members_size xs
 unfolding members_extent members_of
 members_more x xs = refl
+
+-- the selectors of a variable
+abbrev pub selector_one : Selector → Extent
+selector_one s = selector_extent (selector_of s)
+
+abbrev pub selectors_size : List Selector → Extent
+selectors_size items = selectors_extent (selectors_of items)
+
+pub selectors_none : selectors_size [] ≡ nothing
+unfolding selectors_extent selectors_of
+selectors_none = refl
+
+pub selectors_more : (x : Selector) (xs : List Selector) → selectors_size (x ∷ xs) ≡ selector_extent (selector_of x) ⊕ selectors_size xs
+unfolding selectors_extent selectors_of
+selectors_more x xs = refl
+
+-- operators with their operands
+abbrev pub arithmetic_one : ArithmeticStep → Extent
+arithmetic_one s = node ⊕ expr_extent (expr_of (out-ArithmeticStep s).operand)
+
+abbrev pub arithmetic_size : List ArithmeticStep → Extent
+arithmetic_size items = arithmetic_extent (arithmetic_of items)
+
+pub arithmetic_none : arithmetic_size [] ≡ nothing
+unfolding arithmetic_extent arithmetic_of
+arithmetic_none = refl
+
+pub arithmetic_more : (x : ArithmeticStep) (xs : List ArithmeticStep) → arithmetic_size (x ∷ xs) ≡ arithmetic_one x ⊕ arithmetic_size xs
+unfolding arithmetic_extent arithmetic_of
+arithmetic_more x xs = refl
+
+abbrev pub operand_one : Expr → Extent
+operand_one e = node ⊕ expr_extent (expr_of e)
+
+abbrev pub operands_size : List Expr → Extent
+operands_size items = operands_extent (operands_of items)
+
+pub operands_none : operands_size [] ≡ nothing
+unfolding operands_extent operands_of
+operands_none = refl
+
+pub operands_more : (x : Expr) (xs : List Expr) → operands_size (x ∷ xs) ≡ operand_one x ⊕ operands_size xs
+unfolding operands_extent operands_of
+operands_more x xs = refl
+
+abbrev pub set_step_one : SetStep → Extent
+set_step_one s = node ⊕ set_extent (set_of (out-SetStep s).operand)
+
+abbrev pub set_steps_size : List SetStep → Extent
+set_steps_size items = set_steps_extent (set_steps_of items)
+
+pub set_steps_none : set_steps_size [] ≡ nothing
+unfolding set_steps_extent set_steps_of
+set_steps_none = refl
+
+pub set_steps_more : (x : SetStep) (xs : List SetStep) → set_steps_size (x ∷ xs) ≡ set_step_one x ⊕ set_steps_size xs
+unfolding set_steps_extent set_steps_of
+set_steps_more x xs = refl
 
 abbrev pub places_size : List Place → Extent
 places_size items = places_extent (map place_of items)

@@ -3,7 +3,7 @@ use Rattle.std.specs.Prelude.{ℕ, ◌+◌, ◌-◌, ◌^◌, min, Bool, true, �
 use Rattle.ps_tree.specs.declared.count.Extent.{Extent}
 use Rattle.ps_tree.specs.Types.{DataType}
 use Rattle.ps_tree.specs.Sizes.{cells}
-use Rattle.ps_tree.specs.Tree.{Place, Entry, Opened, Element, Field, Target, Expr, Number, Nil, Load, Plus, Minus, Not, Arithmetic, Logic, Compare, ComparePointers, CompareSets, CompareStrings, In, Apply, Eof, Eoln, Call, CallFormal, SetExpr, LoadSet, Constructor, Combine, Member, One, Several, Members, no_member, member_before, Structure, Literal, Contents, Argument, ByValue, BySet, ByCopy, ByVariable, ByRoutine, ByFormal, Arguments, no_argument, argument_before, ReadVariable, ReadChar, ReadInteger, Width, DefaultWidth, GivenWidth, WriteParameter, WriteInteger, WriteChar, WriteBoolean, WriteText, Statement, Empty, Assign, AssignSet, AssignStructure, CallProcedure, CallFormalProcedure, Compound, If, IfElse, Case, While, Repeat, For, With, New, Pack, Unpack, Read, Readln, Write, Writeln, Statements, no_statement, statement_before, Elements, no_element, element_before, Formal, ValueFormal, VariableFormal, RoutineFormal, Formals, no_formal, formal_before, Routine, Program}
+use Rattle.ps_tree.specs.Tree.{Place, Variable, Selector, Element, Field, Target, Selectors, no_selector, selector_before, ArithmeticSteps, no_arithmetic_step, arithmetic_step_before, Operands, no_operand, operand_before, SetSteps, no_set_step, set_step_before, Expr, Number, Nil, Load, Plus, Minus, Not, Arithmetic, Logic, Compare, ComparePointers, CompareSets, CompareStrings, In, Apply, Eof, Eoln, Call, CallFormal, SetExpr, LoadSet, Constructor, Combine, Member, One, Several, Members, no_member, member_before, Structure, Literal, Contents, Argument, ByValue, BySet, ByCopy, ByVariable, ByRoutine, ByFormal, Arguments, no_argument, argument_before, ReadVariable, ReadChar, ReadInteger, Width, DefaultWidth, GivenWidth, WriteParameter, WriteInteger, WriteChar, WriteBoolean, WriteText, Statement, Empty, Assign, AssignSet, AssignStructure, CallProcedure, CallFormalProcedure, Compound, If, IfElse, Case, While, Repeat, For, With, New, Pack, Unpack, Read, Readln, Write, Writeln, Statements, no_statement, statement_before, Elements, no_element, element_before, Formal, ValueFormal, VariableFormal, RoutineFormal, Formals, no_formal, formal_before, Routine, Program}
 
 -- An extent is how many nodes a part of the tree has, and how many cells its variables take, and the copies of arrays and records that its calls make.
 -- Nodes are statements (empty ones too), operators and leading signs, operands (numbers, strings, nil, variables, calls, set constructors),
@@ -26,12 +26,18 @@ abbrev pub capped : Extent → Extent
 capped a = record { nodes = min a.nodes (2 ^ 64 - 1); taken = min a.taken (2 ^ 64 - 1) }
 
 unfoldable mutual
+  -- a variable's name is an operand, and each selector a node
   pub place_extent : Place → Extent
-  place_extent (Entry up index) = node
-  place_extent (Opened which type number) = node
-  place_extent (Element base type e line) = place_extent base ⊕ node ⊕ expr_extent e
-  place_extent (Field base type number) = place_extent base ⊕ node
-  place_extent (Target base pointer line) = place_extent base ⊕ node
+  place_extent (Variable base selectors) = node ⊕ selectors_extent selectors
+
+  pub selector_extent : Selector → Extent
+  selector_extent (Element type e line) = node ⊕ expr_extent e
+  selector_extent (Field type number) = node
+  selector_extent (Target pointer line) = node
+
+  pub selectors_extent : Selectors → Extent
+  selectors_extent no_selector = nothing
+  selectors_extent (selector_before s rest) = selector_extent s ⊕ selectors_extent rest
 
   pub expr_extent : Expr → Extent
   expr_extent (Number n) = node
@@ -40,8 +46,8 @@ unfoldable mutual
   expr_extent (Plus e) = node ⊕ expr_extent e
   expr_extent (Minus e line) = node ⊕ expr_extent e
   expr_extent (Not e) = node ⊕ expr_extent e
-  expr_extent (Arithmetic operator a b line) = expr_extent a ⊕ node ⊕ expr_extent b
-  expr_extent (Logic operator a b) = expr_extent a ⊕ node ⊕ expr_extent b
+  expr_extent (Arithmetic e steps) = expr_extent e ⊕ arithmetic_extent steps
+  expr_extent (Logic operator e rest) = expr_extent e ⊕ operands_extent rest
   expr_extent (Compare relation a b) = expr_extent a ⊕ node ⊕ expr_extent b
   expr_extent (ComparePointers relation a b) = expr_extent a ⊕ node ⊕ expr_extent b
   expr_extent (CompareSets relation a b) = set_extent a ⊕ node ⊕ set_extent b
@@ -54,10 +60,23 @@ unfoldable mutual
   expr_extent (Call routine up arguments line) = node ⊕ arguments_extent arguments
   expr_extent (CallFormal up index arguments line) = node ⊕ arguments_extent arguments
 
+  -- each operator is a node
+  pub arithmetic_extent : ArithmeticSteps → Extent
+  arithmetic_extent no_arithmetic_step = nothing
+  arithmetic_extent (arithmetic_step_before operator e line rest) = node ⊕ expr_extent e ⊕ arithmetic_extent rest
+
+  pub operands_extent : Operands → Extent
+  operands_extent no_operand = nothing
+  operands_extent (operand_before e rest) = node ⊕ expr_extent e ⊕ operands_extent rest
+
   pub set_extent : SetExpr → Extent
   set_extent (LoadSet p) = place_extent p
   set_extent (Constructor members) = node ⊕ members_extent members
-  set_extent (Combine operator a b) = set_extent a ⊕ node ⊕ set_extent b
+  set_extent (Combine e steps) = set_extent e ⊕ set_steps_extent steps
+
+  pub set_steps_extent : SetSteps → Extent
+  set_steps_extent no_set_step = nothing
+  set_steps_extent (set_step_before operator e rest) = node ⊕ set_extent e ⊕ set_steps_extent rest
 
   pub member_extent : Member → Extent
   member_extent (One e line) = node ⊕ expr_extent e

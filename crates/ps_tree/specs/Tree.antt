@@ -13,18 +13,29 @@ use Rattle.ps_tree.specs.Types.{DataType, PointerType}
 
 -- A name is resolved to `up`, the levels of routines from its use out to its block, and what it is there:
 -- an entry (a routine's result, if it is a function, then its formal parameters, then its variables) or a routine's number.
+
+-- what a variable's name denotes by itself
+pub data PlaceBase : Type 0 where
+  Entry : (up index : ℕ) → PlaceBase
+  -- a field's name alone: of the record that a `with` opened, the innermost of which is 0
+  Opened : (which : ℕ) (record_type : DataType) (number : ℕ) → PlaceBase
+
 mutual
-  -- 6.5: variables
+  -- 6.5: a variable: what its name denotes, and its selectors from left to right
   pub data Place : Type 0 where
-    Entry : (up index : ℕ) → Place
-    -- a field's name alone: of the record that a `with` opened, the innermost of which is 0
-    Opened : (which : ℕ) (record_type : DataType) (number : ℕ) → Place
-    -- base[index], with the line of the index's first token
-    Element : Place → (array_type : DataType) → Expr → (line : ℕ) → Place
-    -- base.name
-    Field : Place → (record_type : DataType) (number : ℕ) → Place
-    -- base^, with the number of the pointer's type and the line of the ^
-    Target : Place → (pointer line : ℕ) → Place
+    Variable : PlaceBase → Selectors → Place
+
+  pub data Selector : Type 0 where
+    -- [index], with the line of the index's first token
+    Element : (array_type : DataType) → Expr → (line : ℕ) → Selector
+    -- .name
+    Field : (record_type : DataType) (number : ℕ) → Selector
+    -- ^, with the number of the pointer's type and the line of the ^
+    Target : (pointer line : ℕ) → Selector
+
+  pub data Selectors : Type 0 where
+    no_selector : Selectors
+    selector_before : Selector → Selectors → Selectors
 
   -- 6.7: expressions of an ordinal or pointer type
   pub data Expr : Type 0 where
@@ -34,8 +45,10 @@ mutual
     Plus : Expr → Expr
     Minus : Expr → (line : ℕ) → Expr
     Not : Expr → Expr
-    Arithmetic : ArithmeticOperator → Expr → Expr → (line : ℕ) → Expr
-    Logic : BooleanOperator → Expr → Expr → Expr
+    -- a first operand, and operators with their next operands, from left to right
+    Arithmetic : Expr → ArithmeticSteps → Expr
+    -- operands with one operator between each two
+    Logic : BooleanOperator → Expr → Operands → Expr
     Compare : Relation → Expr → Expr → Expr
     ComparePointers : PointerRelation → Expr → Expr → Expr
     CompareSets : SetRelation → SetExpr → SetExpr → Expr
@@ -49,11 +62,24 @@ mutual
     Call : (routine up : ℕ) → Arguments → (line : ℕ) → Expr
     CallFormal : (up index : ℕ) → Arguments → (line : ℕ) → Expr
 
+  -- operators with their operands, and with the lines of the operators
+  pub data ArithmeticSteps : Type 0 where
+    no_arithmetic_step : ArithmeticSteps
+    arithmetic_step_before : ArithmeticOperator → Expr → (line : ℕ) → ArithmeticSteps → ArithmeticSteps
+
+  pub data Operands : Type 0 where
+    no_operand : Operands
+    operand_before : Expr → Operands → Operands
+
   -- expressions of a set type
   pub data SetExpr : Type 0 where
     LoadSet : Place → SetExpr
     Constructor : Members → SetExpr
-    Combine : SetOperator → SetExpr → SetExpr → SetExpr
+    Combine : SetExpr → SetSteps → SetExpr
+
+  pub data SetSteps : Type 0 where
+    no_set_step : SetSteps
+    set_step_before : SetOperator → SetExpr → SetSteps → SetSteps
 
   -- members, with the line of the first token
   pub data Member : Type 0 where

@@ -1,5 +1,5 @@
 -- What stands in a type is less deep. No contract speaks of it: by it a walk through a type ends.
-use Rattle.std.specs.Prelude.{ℕ, ◌+◌, ◌≤◌, max, List, [], ◌∷◌}
+use Rattle.std.specs.Prelude.{ℕ, ◌≤◌, max, List, [], ◌∷◌}
 use Rattle.std.proofs.Common.{arith}
 use denote.Param.Weighed.{most}
 use Rattle.ps_tree.specs.declared.types.Ty.{Ty}

@@ -3,13 +3,20 @@ pub use Rattle.ps_tree.specs.TypeView.{type_of, types_of}
 use Rattle.std.specs.Prelude.{List, [], ◌∷◌, map, option_map}
 use Rattle.ps_tree.specs.Tree as Tree
 use Rattle.ps_tree.specs.declared.types.Ty.{Ty}
-use Rattle.ps_tree.specs.declared.tree.Place.{Place, Entry, Opened, Element', Field', Target'}
+use Rattle.ps_tree.specs.declared.tree.Place.{Place}
+use Rattle.ps_tree.specs.declared.tree.PlaceBase.{PlaceBase}
+use Rattle.ps_tree.specs.declared.tree.PlaceBase.TheVariants.{Entry, Opened}
+use Rattle.ps_tree.specs.declared.tree.Selector.{Selector, Element, Field, Target}
+use Rattle.ps_tree.specs.declared.tree.ArithmeticStep.{ArithmeticStep, out-ArithmeticStep}
+use Rattle.ps_tree.specs.declared.tree.SetStep.{SetStep, out-SetStep}
 use Rattle.ps_tree.specs.declared.tree.Expr.{Expr, Number, Nil, Load', Plus', Minus', Not', Arithmetic', Logic', Compare', ComparePointers', CompareSets', CompareStrings', In', Apply', Eof, Eoln, Call', CallFormal', Row_of-Argument, end_of-Argument, more_of-Argument}
 use Rattle.ps_tree.specs.declared.tree.SetExpr.{SetExpr, Constructor', Combine', Row_of-Member, end_of-Member, more_of-Member}
 use Rattle.ps_tree.specs.declared.tree.SetExpr.{Load' as LoadSet'}
 use Rattle.ps_tree.specs.declared.tree.Member.{Member, One, Range as Several}
 use Rattle.ps_tree.specs.declared.tree.Structure.{Structure, Literal, Contents'}
-use Rattle.ps_tree.specs.declared.tree.Argument.{Argument, Value as ByValue, Set as BySet, Copy as ByCopy, Variable as ByVariable, Routine as ByRoutine, Formal as ByFormal}
+use Rattle.ps_tree.specs.declared.tree.Expr.{Row_of-Selector, end_of-Selector, more_of-Selector, Row_of-ArithmeticStep, end_of-ArithmeticStep, more_of-ArithmeticStep, Row_of-Expr, end_of-Expr, more_of-Expr}
+use Rattle.ps_tree.specs.declared.tree.SetExpr.{Row_of-SetStep, end_of-SetStep, more_of-SetStep}
+use Rattle.ps_tree.specs.declared.tree.Argument.{Argument, Value as ByValue, Set as BySet, Copy as ByCopy, Variable' as ByVariable', Routine as ByRoutine, Formal as ByFormal}
 use Rattle.ps_tree.specs.declared.tree.ReadVariable.{ReadVariable}
 use Rattle.ps_tree.specs.declared.tree.ReadVariable.TheVariants.{Char as ReadChar, Integer as ReadInteger}
 use Rattle.ps_tree.specs.declared.tree.Width.{Width}
@@ -21,23 +28,29 @@ use Rattle.ps_tree.specs.declared.tree.CaseElement.{CaseElement, out-CaseElement
 use Rattle.ps_tree.specs.declared.tree.Formal.{Formal, Value as ValueFormal, Variable as VariableFormal, Routine' as RoutineFormal', Row_of-Formal, end_of-Formal, more_of-Formal}
 use Rattle.ps_tree.specs.declared.tree.Routine.{Routine}
 
+abbrev pub base_of : PlaceBase → Tree.PlaceBase
+base_of (Entry up index) = Tree.Entry up index
+base_of (Opened which ty number) = Tree.Opened which (type_of ty) number
+
 unfoldable mutual
-  pub place_of : Place → Tree.Place
-  place_of (Entry up index) = Tree.Entry up index
-  place_of (Opened which ty number) = Tree.Opened which (type_of ty) number
-  place_of (Element' p base ty q index line) = Tree.Element (place_of base) (type_of ty) (expr_of index) line.number
-  place_of (Field' p base ty number) = Tree.Field (place_of base) (type_of ty) number
-  place_of (Target' p base pointer line) = Tree.Target (place_of base) pointer line.number
+  pub selector_of : Selector → Tree.Selector
+  selector_of (Element ty index line) = Tree.Element (type_of ty) (expr_of index) line.number
+  selector_of (Field ty number) = Tree.Field (type_of ty) number
+  selector_of (Target pointer line) = Tree.Target pointer line.number
+
+  pub selectors_of_row : {m : _} → Row_of-Selector m → Tree.Selectors
+  selectors_of_row end_of-Selector = Tree.no_selector
+  selectors_of_row (more_of-Selector s rest) = Tree.selector_before (selector_of s) (selectors_of_row rest)
 
   pub expr_of : Expr → Tree.Expr
   expr_of (Number n) = Tree.Number n
   expr_of Nil = Tree.Nil
-  expr_of (Load' p place) = Tree.Load (place_of place)
+  expr_of (Load' p base shape row) = Tree.Load (Tree.Variable (base_of base) (selectors_of_row row))
   expr_of (Plus' p e) = Tree.Plus (expr_of e)
   expr_of (Minus' p e line) = Tree.Minus (expr_of e) line.number
   expr_of (Not' p e) = Tree.Not (expr_of e)
-  expr_of (Arithmetic' operator p a q b line) = Tree.Arithmetic operator (expr_of a) (expr_of b) line.number
-  expr_of (Logic' operator p a q b) = Tree.Logic operator (expr_of a) (expr_of b)
+  expr_of (Arithmetic' p e shape row) = Tree.Arithmetic (expr_of e) (arithmetic_of_row row)
+  expr_of (Logic' operator p e shape row) = Tree.Logic operator (expr_of e) (operands_of_row row)
   expr_of (Compare' relation p a q b) = Tree.Compare relation (expr_of a) (expr_of b)
   expr_of (ComparePointers' relation p a q b) = Tree.ComparePointers relation (expr_of a) (expr_of b)
   expr_of (CompareSets' relation p a q b) = Tree.CompareSets relation (set_of a) (set_of b)
@@ -49,10 +62,22 @@ unfoldable mutual
   expr_of (Call' routine up shape row line) = Tree.Call routine up (arguments_of_row row) line.number
   expr_of (CallFormal' up index shape row line) = Tree.CallFormal up index (arguments_of_row row) line.number
 
+  pub arithmetic_of_row : {m : _} → Row_of-ArithmeticStep m → Tree.ArithmeticSteps
+  arithmetic_of_row end_of-ArithmeticStep = Tree.no_arithmetic_step
+  arithmetic_of_row (more_of-ArithmeticStep operator e line rest) = Tree.arithmetic_step_before operator (expr_of e) line.number (arithmetic_of_row rest)
+
+  pub operands_of_row : {m : _} → Row_of-Expr m → Tree.Operands
+  operands_of_row end_of-Expr = Tree.no_operand
+  operands_of_row (more_of-Expr e rest) = Tree.operand_before (expr_of e) (operands_of_row rest)
+
   pub set_of : SetExpr → Tree.SetExpr
-  set_of (LoadSet' p place) = Tree.LoadSet (place_of place)
+  set_of (LoadSet' p base shape row) = Tree.LoadSet (Tree.Variable (base_of base) (selectors_of_row row))
   set_of (Constructor' shape row) = Tree.Constructor (members_of_row row)
-  set_of (Combine' operator p a q b) = Tree.Combine operator (set_of a) (set_of b)
+  set_of (Combine' p e shape row) = Tree.Combine (set_of e) (set_steps_of_row row)
+
+  pub set_steps_of_row : {m : _} → Row_of-SetStep m → Tree.SetSteps
+  set_steps_of_row end_of-SetStep = Tree.no_set_step
+  set_steps_of_row (more_of-SetStep operator e rest) = Tree.set_step_before operator (set_of e) (set_steps_of_row rest)
 
   pub member_of : Member → Tree.Member
   member_of (One e line) = Tree.One (expr_of e) line.number
@@ -64,19 +89,40 @@ unfoldable mutual
 
   pub structure_of : Structure → Tree.Structure
   structure_of (Literal characters) = Tree.Literal characters.items
-  structure_of (Contents' p place ty) = Tree.Contents (place_of place) (type_of ty)
+  structure_of (Contents' p base shape row ty) = Tree.Contents (Tree.Variable (base_of base) (selectors_of_row row)) (type_of ty)
 
   pub argument_of : Argument → Tree.Argument
   argument_of (ByValue e range line) = Tree.ByValue (expr_of e) range line.number
   argument_of (BySet e low high line) = Tree.BySet (set_of e) low high line.number
   argument_of (ByCopy e ty) = Tree.ByCopy (structure_of e) (type_of ty)
-  argument_of (ByVariable place) = Tree.ByVariable (place_of place)
+  argument_of (ByVariable' base shape row) = Tree.ByVariable (Tree.Variable (base_of base) (selectors_of_row row))
   argument_of (ByRoutine routine up) = Tree.ByRoutine routine up
   argument_of (ByFormal up index) = Tree.ByFormal up index
 
   pub arguments_of_row : {m : _} → Row_of-Argument m → Tree.Arguments
   arguments_of_row end_of-Argument = Tree.no_argument
   arguments_of_row (more_of-Argument a rest) = Tree.argument_before (argument_of a) (arguments_of_row rest)
+
+-- lists of selectors, and a variable
+unfoldable pub selectors_of : List Selector → Tree.Selectors
+selectors_of [] = Tree.no_selector
+selectors_of (s ∷ rest) = Tree.selector_before (selector_of s) (selectors_of rest)
+
+abbrev pub place_of : Place → Tree.Place
+place_of place = Tree.Variable (base_of place.base) (selectors_of place.selectors.items)
+
+-- lists of operands with their operators
+unfoldable pub arithmetic_of : List ArithmeticStep → Tree.ArithmeticSteps
+arithmetic_of [] = Tree.no_arithmetic_step
+arithmetic_of (s ∷ rest) = Tree.arithmetic_step_before (out-ArithmeticStep s).operator (expr_of (out-ArithmeticStep s).operand) (out-ArithmeticStep s).line.number (arithmetic_of rest)
+
+unfoldable pub operands_of : List Expr → Tree.Operands
+operands_of [] = Tree.no_operand
+operands_of (e ∷ rest) = Tree.operand_before (expr_of e) (operands_of rest)
+
+unfoldable pub set_steps_of : List SetStep → Tree.SetSteps
+set_steps_of [] = Tree.no_set_step
+set_steps_of (s ∷ rest) = Tree.set_step_before (out-SetStep s).operator (set_of (out-SetStep s).operand) (set_steps_of rest)
 
 -- lists of arguments, as the tree has them
 unfoldable pub arguments_of : List Argument → Tree.Arguments

@@ -2,12 +2,12 @@
 
 ghost use Rattle.std.specs.Prelude.{◌≡◌, ℕ, map};
 ghost use Rattle.ps_tree.specs.Types.{DataType};
-ghost use Rattle.ps_tree.specs.Counts.{capped, ◌⊕◌, nothing, node, copy_of, place_extent, expr_extent, set_extent, member_extent, members_extent, structure_extent, argument_extent, arguments_extent, places_extent, read_extent, reads_extent, width_extent, write_extent, writes_extent, statement_extent, statements_extent, elements_extent};
-ghost use Rattle.ps_tree.specs.View.{type_of, place_of, expr_of, set_of, member_of, members_of, structure_of, argument_of, arguments_of, read_of, width_of, write_of, statement_of, statements_of, elements_of};
+ghost use Rattle.ps_tree.specs.Counts.{capped, ◌⊕◌, nothing, node, copy_of, place_extent, selector_extent, selectors_extent, expr_extent, arithmetic_extent, operands_extent, set_extent, set_steps_extent, member_extent, members_extent, structure_extent, argument_extent, arguments_extent, places_extent, read_extent, reads_extent, width_extent, write_extent, writes_extent, statement_extent, statements_extent, elements_extent};
+ghost use Rattle.ps_tree.specs.View.{type_of, place_of, selector_of, selectors_of, expr_of, arithmetic_of, operands_of, set_of, set_steps_of, member_of, members_of, structure_of, argument_of, arguments_of, read_of, width_of, write_of, statement_of, statements_of, elements_of};
 
 use crate::tree::{
-    Argument, CaseElement, Expr, Member, Place, ReadVariable, SetExpr, Statement, Structure, Width,
-    WriteParameter,
+    Argument, ArithmeticStep, CaseElement, Expr, Member, Place, ReadVariable, Selector, SetExpr,
+    SetStep, Statement, Structure, Width, WriteParameter,
 };
 use crate::types::Ty;
 
@@ -46,13 +46,6 @@ fn binary(a: Extent, b: Extent) -> Extent
     both(both(a, NODE), b)
 }
 
-/// The extent of a part and a node after it.
-fn and_node(a: Extent) -> Extent
-    ensures { (x : Extent) → a ≡ capped x → result ≡ capped (x ⊕ node) }
-{
-    both(a, NODE)
-}
-
 /// The extent of two nodes and a part.
 fn with_nodes(a: Extent) -> Extent
     ensures { (x : Extent) → a ≡ capped x → result ≡ capped (node ⊕ node ⊕ x) }
@@ -85,19 +78,36 @@ pub fn copy(ty: &Ty) -> Extent
 }
 
 #[cycle(extents)]
-#[tactic(auto, unfolding(crate::specs::View::place_of, crate::specs::Counts::place_extent))]
 fn count_place(place: &Place) -> Extent
     ensures { result ≡ capped (place_extent (place_of place.now)) }
 {
-    match place {
-        Place::Entry { .. } | Place::Opened { .. } => NODE,
-        Place::Element { base, index, .. } => binary(count_place(base), count_expr(index)),
-        Place::Field { base, .. } | Place::Target { base, .. } => and_node(count_place(base)),
+    with_node(count_selectors(&place.selectors))
+}
+
+#[cycle(extents)]
+fn count_selectors(selectors: &[Selector]) -> Extent
+    ensures { result ≡ capped (selectors_extent (selectors_of selectors.now)) }
+{
+    let mut total = NOTHING;
+    for selector in selectors {
+        total = both(total, count_selector(selector));
+    }
+    total
+}
+
+#[cycle(extents)]
+#[tactic(auto, unfolding(crate::specs::View::selector_of, crate::specs::Counts::selector_extent))]
+fn count_selector(selector: &Selector) -> Extent
+    ensures { result ≡ capped (selector_extent (selector_of selector.now)) }
+{
+    match selector {
+        Selector::Element { index, .. } => with_node(count_expr(index)),
+        Selector::Field { .. } | Selector::Target { .. } => NODE,
     }
 }
 
 #[cycle(extents)]
-#[tactic(auto, using(crate::proofs::TreeLemmas::expr_of_Call, crate::proofs::TreeLemmas::expr_of_CallFormal), unfolding(crate::specs::View::expr_of, crate::specs::Counts::expr_extent))]
+#[tactic(auto, using(crate::proofs::TreeLemmas::expr_of_Load, crate::proofs::TreeLemmas::expr_of_Call, crate::proofs::TreeLemmas::expr_of_CallFormal), unfolding(crate::specs::View::expr_of, crate::specs::Counts::expr_extent))]
 fn count_expr(e: &Expr) -> Extent
     ensures { result ≡ capped (expr_extent (expr_of e.now)) }
 {
@@ -108,10 +118,12 @@ fn count_expr(e: &Expr) -> Extent
             with_node(count_expr(operand))
         }
         Expr::Apply { operand, .. } => with_nodes(count_expr(operand)),
-        Expr::Arithmetic { left, right, .. }
-        | Expr::Logic { left, right, .. }
-        | Expr::Compare { left, right, .. }
-        | Expr::ComparePointers { left, right, .. } => binary(count_expr(left), count_expr(right)),
+        Expr::Arithmetic { first, steps } => both(count_expr(first), count_arithmetic(steps)),
+        Expr::Logic { first, rest, .. } => both(count_expr(first), count_operands(rest)),
+        Expr::Compare { left, right, .. } | Expr::ComparePointers { left, right, .. } => binary(
+            count_expr(left),
+            count_expr(right),
+        ),
         Expr::CompareSets { left, right, .. } => binary(count_set(left), count_set(right)),
         Expr::CompareStrings { left, right, .. } => {
             binary(count_structure(left), count_structure(right))
@@ -123,15 +135,48 @@ fn count_expr(e: &Expr) -> Extent
 }
 
 #[cycle(extents)]
-#[tactic(auto, using(crate::proofs::TreeLemmas::set_of_Constructor), unfolding(crate::specs::View::set_of, crate::specs::Counts::set_extent))]
+fn count_arithmetic(steps: &[ArithmeticStep]) -> Extent
+    ensures { result ≡ capped (arithmetic_extent (arithmetic_of steps.now)) }
+{
+    let mut total = NOTHING;
+    for step in steps {
+        total = both(total, with_node(count_expr(&step.operand)));
+    }
+    total
+}
+
+#[cycle(extents)]
+fn count_operands(operands: &[Expr]) -> Extent
+    ensures { result ≡ capped (operands_extent (operands_of operands.now)) }
+{
+    let mut total = NOTHING;
+    for operand in operands {
+        total = both(total, with_node(count_expr(operand)));
+    }
+    total
+}
+
+#[cycle(extents)]
+#[tactic(auto, using(crate::proofs::TreeLemmas::set_of_Load, crate::proofs::TreeLemmas::set_of_Constructor), unfolding(crate::specs::View::set_of, crate::specs::Counts::set_extent))]
 fn count_set(e: &SetExpr) -> Extent
     ensures { result ≡ capped (set_extent (set_of e.now)) }
 {
     match e {
         SetExpr::Load(place) => count_place(place),
         SetExpr::Constructor(members) => with_node(count_members(members)),
-        SetExpr::Combine { left, right, .. } => binary(count_set(left), count_set(right)),
+        SetExpr::Combine { first, steps } => both(count_set(first), count_set_steps(steps)),
     }
+}
+
+#[cycle(extents)]
+fn count_set_steps(steps: &[SetStep]) -> Extent
+    ensures { result ≡ capped (set_steps_extent (set_steps_of steps.now)) }
+{
+    let mut total = NOTHING;
+    for step in steps {
+        total = both(total, with_node(count_set(&step.operand)));
+    }
+    total
 }
 
 #[cycle(extents)]
@@ -157,7 +202,7 @@ fn count_member(member: &Member) -> Extent
 }
 
 #[cycle(extents)]
-#[tactic(auto, unfolding(crate::specs::View::structure_of, crate::specs::Counts::structure_extent))]
+#[tactic(auto, using(crate::proofs::TreeLemmas::structure_of_Contents), unfolding(crate::specs::View::structure_of, crate::specs::Counts::structure_extent))]
 fn count_structure(e: &Structure) -> Extent
     ensures { result ≡ capped (structure_extent (structure_of e.now)) }
 {
@@ -168,7 +213,7 @@ fn count_structure(e: &Structure) -> Extent
 }
 
 #[cycle(extents)]
-#[tactic(auto, unfolding(crate::specs::View::argument_of, crate::specs::Counts::argument_extent))]
+#[tactic(auto, using(crate::proofs::TreeLemmas::argument_of_Variable), unfolding(crate::specs::View::argument_of, crate::specs::Counts::argument_extent))]
 fn count_argument(argument: &Argument) -> Extent
     ensures { result ≡ capped (argument_extent (argument_of argument.now)) }
 {

@@ -81,41 +81,34 @@ pub enum Direction {
     Downto,
 }
 
-/// A variable (6.5).
+/// A variable (6.5): what its name denotes, and the selectors behind the name, from left to right.
 #[cycle(tree)]
 #[derive(Drop)]
-pub enum Place {
+pub struct Place {
+    pub base: PlaceBase,
+    pub selectors: Vec<Selector>,
+}
+
+/// What a variable's name denotes by itself.
+#[derive(Drop)]
+pub enum PlaceBase {
     /// An entire variable, a formal parameter or a function's result: entry `index` of the routine `up` levels out.
     /// A routine's entries are its result, where it is a function, its formal parameters and its variables.
-    Entry {
-        up: u32,
-        index: u32,
-    },
+    Entry { up: u32, index: u32 },
     /// A field's name alone: field `number` of the record that a `with` around it opened; the innermost is 0.
-    Opened {
-        which: u32,
-        ty: Ty,
-        number: u32,
-    },
-    /// `base[index]`; `ty` is the array's type, `line` that of the index's first token.
-    Element {
-        base: Box<Place>,
-        ty: Ty,
-        index: Box<Expr>,
-        line: Line,
-    },
-    /// `base.name`; `ty` is the record's type, `number` the field's place in it.
-    Field {
-        base: Box<Place>,
-        ty: Ty,
-        number: u32,
-    },
-    /// `base^`; `pointer` is the number of the pointer's type, `line` that of the `^`.
-    Target {
-        base: Box<Place>,
-        pointer: u32,
-        line: Line,
-    },
+    Opened { which: u32, ty: Ty, number: u32 },
+}
+
+/// A step from a variable to one that it contains or points to.
+#[cycle(tree)]
+#[derive(Drop)]
+pub enum Selector {
+    /// `[index]`; `ty` is the array's type, `line` that of the index's first token.
+    Element { ty: Ty, index: Expr, line: Line },
+    /// `.name`; `ty` is the record's type, `number` the field's place in it.
+    Field { ty: Ty, number: u32 },
+    /// `^`; `pointer` is the number of the pointer's type, `line` that of the `^`.
+    Target { pointer: u32, line: Line },
 }
 
 /// An expression of an ordinal or pointer type (6.7).
@@ -133,16 +126,16 @@ pub enum Expr {
         line: Line,
     },
     Not(Box<Expr>),
+    /// A first operand and at least one step, each an operator with its next operand, from left to right.
     Arithmetic {
-        operator: ArithmeticOperator,
-        left: Box<Expr>,
-        right: Box<Expr>,
-        line: Line,
+        first: Box<Expr>,
+        steps: Vec<ArithmeticStep>,
     },
+    /// A first operand and at least one more, with one operator between each two.
     Logic {
         operator: BooleanOperator,
-        left: Box<Expr>,
-        right: Box<Expr>,
+        first: Box<Expr>,
+        rest: Vec<Expr>,
     },
     Compare {
         relation: Relation,
@@ -195,17 +188,34 @@ pub enum Expr {
     },
 }
 
+/// An operator on integers and the operand behind it; `line` is that of the operator.
+#[cycle(tree)]
+#[derive(Drop)]
+pub struct ArithmeticStep {
+    pub operator: ArithmeticOperator,
+    pub operand: Expr,
+    pub line: Line,
+}
+
 /// An expression of a set type.
 #[cycle(tree)]
 #[derive(Drop)]
 pub enum SetExpr {
     Load(Box<Place>),
     Constructor(Vec<Member>),
+    /// A first operand and at least one step, each an operator with its next operand, from left to right.
     Combine {
-        operator: SetOperator,
-        left: Box<SetExpr>,
-        right: Box<SetExpr>,
+        first: Box<SetExpr>,
+        steps: Vec<SetStep>,
     },
+}
+
+/// An operator on sets and the operand behind it.
+#[cycle(tree)]
+#[derive(Drop)]
+pub struct SetStep {
+    pub operator: SetOperator,
+    pub operand: SetExpr,
 }
 
 /// A member of a set constructor; `line` is that of its first token.

@@ -14,7 +14,8 @@ use Rattle.ps_syntax.specs.declared.expression.Adding.TheVariants.{Plus}
 use Rattle.ps_syntax.specs.declared.expression.Expr.TheOpen.{Simple-F, Term-F, AddedTerm-F}
 use Rattle.ps_syntax.specs.declared.expression.Expr.TheVariants as e
 use Rattle.ps_syntax.specs.declared.expression.Factor.TheVariants as f
-use Rattle.ps_tree.specs.declared.tree.ArithmeticOperator.TheVariants.{Add}
+use Rattle.ps_tree.specs.declared.tree.ArithmeticOperator.TheVariants.{Add, Subtract}
+use Rattle.ps_tree.specs.declared.tree.BooleanOperator.TheVariants.{And, Or}
 use Rattle.ps_tree.specs.Types.{OrdinalType, ArrayType, is_compatible, is_same_type}
 use Rattle.ps_tree.specs.Tree as Tree
 use Rattle.ps_regions.specs.Option.{◌>>=◌, steps}
@@ -22,6 +23,7 @@ use Rattle.ps_regions.specs.Spelling.{line_in}
 use Rattle.ps_regions.specs.Constants.{integer, char, number_at}
 use Rattle.ps_regions.specs.Regions.{Context, Region, BlockRegion, BlockPoint, ConstantMeaning, find, find_past}
 use Rattle.ps_typing.specs.Values.{Value, SimpleValue}
+use Rattle.ps_typing.specs.Chains.{selector_after, selected, arithmetic_step_after, calculated, connected}
 use Rattle.ps_typing.specs.Operators.{operand_of, negated, added, arithmetic_or_set, arithmetic}
 use Rattle.ps_typing.specs.Places.{element, index_operand}
 use Rattle.ps_typing.specs.Calls.{by_variable}
@@ -36,18 +38,40 @@ mixed_set : set_value (Some (Tree.One (Tree.Number (pos 1)) 1, integer) ∷ Some
 unfolding gathered
 mixed_set = refl
 
+-- the fourth entry of the routine itself
+abbrev a : Tree.Place
+a = Tree.Variable (Tree.Entry 0 4) Tree.no_selector
+
 -- `a[1]` on line 2, where `a` is a packed array of char with an integer index
-element_at : element (Tree.Entry 0 4) (ArrayType 9 true integer (OrdinalType char)) (SimpleValue (Tree.Number (pos 1)) (OrdinalType integer)) 2
-    ≡ Some (record { place = Tree.Element (Tree.Entry 0 4) (ArrayType 9 true integer (OrdinalType char)) (Tree.Number (pos 1)) 2; type = OrdinalType char; in_packed = true })
-unfolding element index_operand is_compatible
+element_at : element a (ArrayType 9 true integer (OrdinalType char)) (SimpleValue (Tree.Number (pos 1)) (OrdinalType integer)) 2
+    ≡ Some (record { place = Tree.Variable (Tree.Entry 0 4) (Tree.selector_before (Tree.Element (ArrayType 9 true integer (OrdinalType char)) (Tree.Number (pos 1)) 2) Tree.no_selector); type = OrdinalType char; in_packed = true })
+unfolding element index_operand is_compatible selector_after
 element_at = refl
 
+-- `a^^` has two selectors, in the order of the text
+two_selectors : selected (selected a (Tree.Target 1 2)) (Tree.Target 3 4)
+    ≡ Tree.Variable (Tree.Entry 0 4) (Tree.selector_before (Tree.Target 1 2) (Tree.selector_before (Tree.Target 3 4) Tree.no_selector))
+unfolding selector_after
+two_selectors = refl
+
+-- `1 + 2 - 3`, with its operators on the lines 1 and 2, is a chain of two steps
+longer_sum : calculated Subtract 2 (calculated Add 1 (Tree.Number (pos 1)) (Tree.Number (pos 2))) (Tree.Number (pos 3))
+    ≡ Tree.Arithmetic (Tree.Number (pos 1)) (Tree.arithmetic_step_before Add (Tree.Number (pos 2)) 1 (Tree.arithmetic_step_before Subtract (Tree.Number (pos 3)) 2 Tree.no_arithmetic_step))
+unfolding calculated arithmetic_step_after
+longer_sum = refl
+
+-- a chain of `and`s is the first operand of an `or`
+mixed_operators : connected Or (connected And Tree.Eof Tree.Eof) Tree.Eof
+    ≡ Tree.Logic Or (Tree.Logic And Tree.Eof (Tree.operand_before Tree.Eof Tree.no_operand)) (Tree.operand_before Tree.Eof Tree.no_operand)
+unfolding connected
+mixed_operators = refl
+
 -- a component of a packed variable is no variable parameter, but any other variable of the type is
-packed_argument : by_variable (OrdinalType char) (record { place = Tree.Entry 0 4; type = OrdinalType char; in_packed = true }) ≡ None
+packed_argument : by_variable (OrdinalType char) (record { place = a; type = OrdinalType char; in_packed = true }) ≡ None
 unfolding is_same_type
 packed_argument = refl
 
-argument : by_variable (OrdinalType char) (record { place = Tree.Entry 0 4; type = OrdinalType char; in_packed = false }) ≡ Some (Tree.ByVariable (Tree.Entry 0 4))
+argument : by_variable (OrdinalType char) (record { place = a; type = OrdinalType char; in_packed = false }) ≡ Some (Tree.ByVariable a)
 unfolding is_same_type
 argument = refl
 
@@ -94,10 +118,10 @@ module _ (c : Context) (Γ : List Region) where
       ∙ ap (λ o. o >>= (λ v. Some v)) (number at)
 
   abbrev sum_value : (m at n : Span) → Value
-  sum_value m at n = SimpleValue (Tree.Arithmetic Add (Tree.Number (number_at c.text m)) (Tree.Number (number_at c.text n)) (line_in c.text at.from)) (OrdinalType integer)
+  sum_value m at n = SimpleValue (Tree.Arithmetic (Tree.Number (number_at c.text m)) (Tree.arithmetic_step_before Add (Tree.Number (number_at c.text n)) (line_in c.text at.from) Tree.no_arithmetic_step)) (OrdinalType integer)
 
   added_number : (m at n : Span) → add_term c Γ (roll-AddedTerm (plus at (roll-Term (only (f.Number n))))) (number_value c m) ≡ Some (sum_value m at n)
-  unfolding added arithmetic_or_set arithmetic operand_of
+  unfolding added arithmetic_or_set arithmetic operand_of calculated
   added_number m at n = add_term_is c Γ (roll-AddedTerm (plus at (roll-Term (only (f.Number n))))) (number_value c m)
       ∙ ap (λ (t : AddedTerm-F Expr Factor Member Selector AddedTerm MultipliedFactor Simple Term v.Variable). (term_operand c Γ t.term).value >>= added t.operator (line_in c.text t.at.from) (number_value c m)) (out-roll-AddedTerm (plus at (roll-Term (only (f.Number n)))))
       ∙ ap (λ o. o >>= added Plus (line_in c.text at.from) (number_value c m)) (number_term n)
@@ -122,5 +146,5 @@ token n = record { from = n; to = suc n }
 
 -- its value is the tree of 1 + 2 on line 1
 sum : (operand text [] (e.Simple (roll-Simple (sum_tree text [] (token 0) (token 1) (token 2))))).value
-    ≡ Some (SimpleValue (Tree.Arithmetic Add (Tree.Number (pos 1)) (Tree.Number (pos 2)) 1) (OrdinalType integer))
+    ≡ Some (SimpleValue (Tree.Arithmetic (Tree.Number (pos 1)) (Tree.arithmetic_step_before Add (Tree.Number (pos 2)) 1 Tree.no_arithmetic_step)) (OrdinalType integer))
 sum = sum_is text [] (token 0) (token 1) (token 2)

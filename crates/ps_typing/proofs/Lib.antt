@@ -1,3 +1,4 @@
+pub mod ChainLemmas
 pub mod Equations
 pub mod Judgement
 pub mod ParameterLemmas

@@ -1,4 +1,5 @@
 pub mod Values
+pub mod Chains
 pub mod Operators
 pub mod Names
 pub mod Places

@@ -25,6 +25,7 @@ use Rattle.ps_tree.specs.declared.types.Host.{Host}
 use Rattle.ps_tree.specs.declared.types.Host.TheVariants.{Integer, Boolean}
 use Rattle.ps_tree.specs.Tree as Tree
 use Rattle.ps_regions.specs.Option.{◌>>=◌, provided}
+use Rattle.ps_typing.specs.Chains.{calculated, connected, combined}
 use Rattle.ps_typing.specs.Values.{Value, SimpleValue, SetValue, StructureValue, has_host, set_type_of_both}
 use Rattle.ps_regions.specs.Constants.{integer, boolean}
 
@@ -54,17 +55,17 @@ negated v = operand_of Boolean v >>= (λ e. Some (truth (Tree.Not e)))
 
 -- on integers (6.7.2.2)
 unfoldable pub arithmetic : ArithmeticOperator → ℕ → Value → Value → Option Value
-arithmetic operator line v w = operand_of Integer v >>= (λ a. operand_of Integer w >>= (λ b. Some (number (Tree.Arithmetic operator a b line))))
+arithmetic operator line v w = operand_of Integer v >>= (λ a. operand_of Integer w >>= (λ b. Some (number (calculated operator line a b))))
 
 -- on integers or on sets of compatible types (6.7.2.4)
 unfoldable pub arithmetic_or_set : ArithmeticOperator → SetOperator → ℕ → Value → Value → Option Value
 arithmetic_or_set operator sets line (SetValue a s) (SetValue b t) =
-    provided (is_compatible s t) (SetValue (Tree.Combine sets a b) (set_type_of_both s t))
+    provided (is_compatible s t) (SetValue (combined sets a b) (set_type_of_both s t))
 arithmetic_or_set operator sets line a b = arithmetic operator line a b
 
 -- on Boolean operands (6.7.2.3)
 unfoldable pub logic : BooleanOperator → Value → Value → Option Value
-logic operator v w = operand_of Boolean v >>= (λ a. operand_of Boolean w >>= (λ b. Some (truth (Tree.Logic operator a b))))
+logic operator v w = operand_of Boolean v >>= (λ a. operand_of Boolean w >>= (λ b. Some (truth (connected operator a b))))
 
 unfoldable pub added : Adding → ℕ → Value → Value → Option Value
 added adding.Plus line a b = arithmetic_or_set Add Union line a b

@@ -291,7 +291,11 @@ fn standing(site: Site<'_>, found: Found<'_>, name: Span) -> Result<TypedValue, 
     ensures err { IfErr result (λ fault. IsFault fault → standing (context_at site.entry) (regions_at site.entry) (line_in (context_at site.entry).text name.from) (point_of found.entry) ≡ None) }
 {
     match found {
-        Found::Field { .. } => loaded(site.alloc, variable_found(found, name.from)?, name.from),
+        Found::Field { .. } => loaded(
+            site.alloc,
+            variable_found(site.alloc, found, name.from)?,
+            name.from,
+        ),
         Found::Name { meaning, .. } => match meaning {
             Meaning::Constant { ordinal, value } => {
                 let constant = ConstantValue::Ordinal(*ordinal, *value);
@@ -302,7 +306,11 @@ fn standing(site: Site<'_>, found: Found<'_>, name: Span) -> Result<TypedValue, 
                 of_constant(ConstantValue::Text(text), name.from)
             }
             Meaning::Variable { .. } | Meaning::Parameter { .. } => {
-                loaded(site.alloc, variable_found(found, name.from)?, name.from)
+                loaded(
+                    site.alloc,
+                    variable_found(site.alloc, found, name.from)?,
+                    name.from,
+                )
             }
             Meaning::Type(_)
             | Meaning::RoutineParameter { .. }
@@ -527,7 +535,7 @@ pub fn variable_place(x: &Variable, site: Site<'_>) -> Result<TypedPlace, Fault>
     ensures err { IfErr result (λ fault. IsFault fault → (variable_operand (context_at site.entry) (regions_at site.entry) x.now).variable ≡ None) }
 {
     let found = site.denoted(x.name)?;
-    let entire = variable_found(found, x.name.from)?;
+    let entire = variable_found(site.alloc, found, x.name.from)?;
     select_all(x.selectors.as_slice(), site, entire, x.name.from)
 }
 
@@ -564,7 +572,7 @@ fn select(
         Selector::Index(indices) => index_all(indices.as_slice(), site, variable, at),
         Selector::Field(name) => {
             let spelling = site.reading.spelling(site.alloc, *name)?;
-            component(site.alloc, variable, spelling.as_slice(), at, name.from)
+            component(variable, spelling.as_slice(), at, name.from)
         }
         Selector::Content(span) => {
             let line = site.reading.line(span.from);
@@ -609,7 +617,7 @@ fn index_one(
         first: at,
         second: first,
     };
-    element(site.alloc, variable, value, line, at)
+    element(variable, value, line, at)
 }
 
 /// The value of a function that a name denotes, with its actual parameters.

@@ -3,7 +3,7 @@
 ghost use Rattle.std.specs.Prelude.{◌≡◌, false, if◌then◌else◌, IfOk, IfErr, Some, None};
 ghost use Rattle.ps_tree.specs.View.{type_of, expr_of, set_of, structure_of};
 ghost use Rattle.ps_tree.specs.Types.{are_same, is_compatible, string_length, OrdinalType};
-ghost use Rattle.ps_tree.specs.Tree as Tree;
+ghost use Rattle.ps_typing.specs.Chains.{combined};
 ghost use Rattle.ps_regions.specs.Option.{provided};
 ghost use Rattle.ps_regions.specs.Refusal.{IsFault};
 ghost use Rattle.ps_regions.specs.declared.refusal.Fault.TheVariants.{Broken};
@@ -12,7 +12,9 @@ ghost use Rattle.ps_typing.specs.Values.{SimpleValue, SetValue, StructureValue, 
 ghost use Rattle.ps_typing.specs.Operators.{operand_of, number, with_sign, negated, arithmetic, arithmetic_or_set, logic, added, multiplied, ordered, of_pointers, of_sets, simple_comparison, may_be_member, is_in, compared, truth};
 ghost use Rattle.ps_typing.specs.View.{value_of};
 
+use crate::chain::{calculated, combined, connected};
 use crate::value::{TypedValue, has_host, set_type_of_both};
+use ps_regions::answer::{boxed_answer, paired};
 use ps_regions::constants::{BOOLEAN, INTEGER};
 use ps_regions::refusal::{Fault, Rule};
 use ps_syntax::{Adding, Multiplying, Relation, Sign};
@@ -70,16 +72,16 @@ fn boxed_pair<A: Drop, B: Drop>(
 
 /// An operand that must be of the host type or of a subrange of it; `at` is where it begins.
 #[tactic(auto, unfolding(crate::specs::Operators::operand_of, crate::specs::View::value_of))]
-fn operand_of(alloc: Global, host: Host, operand: TypedValue, at: u32) -> Result<Box<Expr>, Fault>
-    ensures ok { IfOk result (λ e. operand_of host (value_of operand) ≡ Some (expr_of e.value)) }
+fn operand_of(host: Host, operand: TypedValue, at: u32) -> Result<Expr, Fault>
+    ensures ok { IfOk result (λ e. operand_of host (value_of operand) ≡ Some (expr_of e)) }
     ensures err { IfErr result (λ fault. IsFault fault → operand_of host (value_of operand) ≡ None) }
 {
     match operand {
         TypedValue::Simple(value, ty) => {
-            let value = Box::new(alloc, value)?;
             if has_host(&ty, host) {
                 Ok(value)
             } else {
+                drop(value);
                 Err(wrong_type(at))
             }
         }
@@ -116,7 +118,7 @@ pub(crate) fn with_sign(
     ensures ok { IfOk result (λ v. with_sign sign line.number (value_of operand) ≡ Some (value_of v)) }
     ensures err { IfErr result (λ fault. IsFault fault → with_sign sign line.number (value_of operand) ≡ None) }
 {
-    let operand = operand_of(alloc, Host::Integer, operand, at)?;
+    let operand = boxed_answer(alloc, operand_of(Host::Integer, operand, at))?;
     Ok(number(match sign {
         Sign::Plus => Expr::Plus(operand),
         Sign::Minus => Expr::Minus { operand, line },
@@ -129,12 +131,12 @@ pub(crate) fn negated(alloc: Global, operand: TypedValue, at: u32) -> Result<Typ
     ensures ok { IfOk result (λ v. negated (value_of operand) ≡ Some (value_of v)) }
     ensures err { IfErr result (λ fault. IsFault fault → negated (value_of operand) ≡ None) }
 {
-    let operand = operand_of(alloc, Host::Boolean, operand, at)?;
+    let operand = boxed_answer(alloc, operand_of(Host::Boolean, operand, at))?;
     Ok(truth(Expr::Not(operand)))
 }
 
 /// An operator on two integers.
-#[tactic(auto, unfolding(crate::specs::Operators::arithmetic, ps_tree::specs::View::expr_of))]
+#[tactic(auto, unfolding(crate::specs::Operators::arithmetic))]
 fn arithmetic(
     alloc: Global,
     operator: ArithmeticOperator,
@@ -146,18 +148,14 @@ fn arithmetic(
     ensures ok { IfOk result (λ v. arithmetic operator line.number (value_of left) (value_of right) ≡ Some (value_of v)) }
     ensures err { IfErr result (λ fault. IsFault fault → arithmetic operator line.number (value_of left) (value_of right) ≡ None) }
 {
-    let left = operand_of(alloc, Host::Integer, left, at.first);
-    let right = operand_of(alloc, Host::Integer, right, at.second);
-    Ok(number(Expr::Arithmetic {
-        operator,
-        left: left?,
-        right: right?,
-        line,
-    }))
+    let left = operand_of(Host::Integer, left, at.first);
+    let right = operand_of(Host::Integer, right, at.second);
+    let (left, right) = paired(left, right)?;
+    Ok(number(calculated(alloc, operator, line, left, right)?))
 }
 
 /// An operator on two sets of compatible types.
-#[tactic(auto, unfolding(crate::specs::View::value_of, ps_tree::specs::View::set_of))]
+#[tactic(auto, unfolding(crate::specs::View::value_of))]
 fn set_operation(
     alloc: Global,
     operator: SetOperator,
@@ -165,22 +163,16 @@ fn set_operation(
     right: (SetExpr, Ty),
     at: Operands,
 ) -> Result<TypedValue, Fault>
-    ensures ok { IfOk result (λ v. provided (is_compatible (type_of left.1) (type_of right.1)) (SetValue (Tree.Combine operator (set_of left.0) (set_of right.0)) (set_type_of_both (type_of left.1) (type_of right.1))) ≡ Some (value_of v)) }
+    ensures ok { IfOk result (λ v. provided (is_compatible (type_of left.1) (type_of right.1)) (SetValue (combined operator (set_of left.0) (set_of right.0)) (set_type_of_both (type_of left.1) (type_of right.1))) ≡ Some (value_of v)) }
     ensures err { IfErr result (λ fault. IsFault fault → is_compatible (type_of left.1) (type_of right.1) ≡ false) }
 {
-    let ty = set_type_of_both(&left.1, &right.1);
-    let are_compatible = compatible(&left.1, &right.1);
-    let (left, right) = boxed_pair(alloc, left.0, right.0)?;
-    if are_compatible {
-        let value = SetExpr::Combine {
-            operator,
-            left,
-            right,
-        };
-        Ok(TypedValue::Set(value, ty))
-    } else {
-        Err(at.wrong(true))
+    if !compatible(&left.1, &right.1) {
+        drop((left, right));
+        return Err(at.wrong(true));
     }
+    let ty = set_type_of_both(&left.1, &right.1);
+    let value = combined(alloc, operator, left.0, right.0)?;
+    Ok(TypedValue::Set(value, ty))
 }
 
 /// An operator on two integers or on two sets.
@@ -212,7 +204,7 @@ fn arithmetic_or_set(
 }
 
 /// An operator on two Boolean operands.
-#[tactic(auto, unfolding(crate::specs::Operators::logic, ps_tree::specs::View::expr_of))]
+#[tactic(auto, unfolding(crate::specs::Operators::logic))]
 fn logic(
     alloc: Global,
     operator: BooleanOperator,
@@ -223,13 +215,10 @@ fn logic(
     ensures ok { IfOk result (λ v. logic operator (value_of left) (value_of right) ≡ Some (value_of v)) }
     ensures err { IfErr result (λ fault. IsFault fault → logic operator (value_of left) (value_of right) ≡ None) }
 {
-    let left = operand_of(alloc, Host::Boolean, left, at.first);
-    let right = operand_of(alloc, Host::Boolean, right, at.second);
-    Ok(truth(Expr::Logic {
-        operator,
-        left: left?,
-        right: right?,
-    }))
+    let left = operand_of(Host::Boolean, left, at.first);
+    let right = operand_of(Host::Boolean, right, at.second);
+    let (left, right) = paired(left, right)?;
+    Ok(truth(connected(alloc, operator, left, right)?))
 }
 
 /// An adding operator.

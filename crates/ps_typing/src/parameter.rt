@@ -146,7 +146,7 @@ pub fn by_value(ty: &Ty, value: TypedValue, line: Line, at: u32) -> Result<Argum
 }
 
 /// An actual variable parameter, for a formal one of type `ty`.
-#[tactic(auto, unfolding(ps_tree::specs::View::argument_of))]
+#[tactic(auto, using(ps_tree::proofs::TreeLemmas::argument_of_Variable))]
 pub fn by_variable(ty: &Ty, variable: TypedPlace, at: u32) -> Result<Argument, Fault>
     ensures ok { IfOk result (λ a. by_variable (type_of ty.now) (variable_of variable) ≡ Some (argument_of a)) }
     ensures err { IfErr result (λ fault. IsFault fault → by_variable (type_of ty.now) (variable_of variable) ≡ None) }

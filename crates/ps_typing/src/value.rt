@@ -162,7 +162,7 @@ pub(crate) fn set_type_of_both(a: &Ty, b: &Ty) -> Ty
 }
 
 /// The contents of a variable, whose first token is at `at`.
-#[tactic(auto, unfolding(crate::specs::Values::contents, crate::specs::View::value_of, ps_tree::specs::View::type_of, ps_tree::specs::View::expr_of, ps_tree::specs::View::set_of, ps_tree::specs::View::structure_of))]
+#[tactic(auto, using(ps_tree::proofs::TreeLemmas::expr_of_Load, ps_tree::proofs::TreeLemmas::set_of_Load, ps_tree::proofs::TreeLemmas::structure_of_Contents), unfolding(crate::specs::Values::contents, crate::specs::View::value_of, ps_tree::specs::View::type_of))]
 pub(crate) fn loaded(alloc: Global, variable: TypedPlace, at: u32) -> Result<TypedValue, Fault>
     ensures ok { IfOk result (λ v. loaded (variable_of variable) ≡ Some (value_of v)) }
     ensures err { IfErr result (λ fault. IsFault fault → loaded (variable_of variable) ≡ None) }

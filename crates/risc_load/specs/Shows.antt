@@ -1,5 +1,6 @@
--- What a loaded image shows: the costs of its tables, the rows of its traps, and its transcript and plain ending after each count of steps.
+-- What a loaded image shows: the costs of its tables, the rows of its traps, and what it shows after each count of steps.
 use Rattle.std.specs.Prelude.{◌≡◌, ℕ, ◌+◌, ◌*◌, ◌%◌, ◌≤◌, List, length, map}
+use Rattle.behavior.specs.Transcripts.{Shown}
 use Rattle.risc_machine.specs.Exec.{image_run}
 use Rattle.risc_image.specs.declared.rows.TrapRow.{TrapRow}
 use Rattle.risc_image.specs.Image.{Image}
@@ -20,7 +21,7 @@ abbrev pub trap_rows : Image → List (ℕ × ℕ × ℕ)
 trap_rows image = map trap_row image.traps
 
 -- what the loaded image shows under a budget of heap and stack bytes, after each count of steps
-abbrev pub image_shows : Image → ℕ → ℕ → List ℕ → ℕ → List ℕ × (ℕ × ℕ × ℕ)
+abbrev pub image_shows : Image → ℕ → ℕ → List ℕ → ℕ → Shown
 image_shows image heap stack input steps = image_run (word_bytes image.code) image.global (trap_rows image) heap stack input steps
 
 -- A budget with which the image is loaded: the processor's memory holds code, globals, heap and stack.

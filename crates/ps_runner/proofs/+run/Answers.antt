@@ -1,21 +1,23 @@
-use Rattle.std.proofs.Common.{◌≡◌, ◌≤◌, ◌-◌, max, ◌∙◌, ap, sym, subst, map, true, false, List, ◌∷◌, ℤ, to_z, of_z, w32, rules, arith}
+use Rattle.std.proofs.Common.{◌≡◌, ◌≤◌, ◌-◌, max, ◌+◌, ◌∙◌, refl, ap, sym, subst, map, drop, true, false, List, ◌∷◌, ℤ, to_z, of_z, w32, rules, arith}
 use Rattle.std.proofs.Math.Facts.{to_z-of_z}
-use Rattle.ps_tree.specs.Tree.{Expr, Statement}
+use Rattle.behavior.specs.Endings.{failed}
 use Rattle.ps_tree.specs.Tree as Tree
 use Rattle.ps_tree.specs.declared.tree.CaseElement.{out-CaseElement}
-use Rattle.ps_tree.specs.View.{expr_of, set_of, members_of, arguments_of, elements_of, statements_of, statement_of, read_of, write_of, place_of}
-use Rattle.ps_meaning.specs.Expressions.{access, members_value, actuals_of, calling}
+use Rattle.ps_tree.specs.View.{structure_of, selectors_of, arithmetic_of, operands_of, set_steps_of, expr_of, set_of, members_of, arguments_of, elements_of, statements_of, statement_of, read_of, write_of, place_of}
+use Rattle.ps_meaning.specs.Expressions.{access, operand, accesses, value, combined, set_value, members_value, actuals_of, calling}
 use Rattle.ps_meaning.specs.Statements.{Block, own_spot, with_opened}
 use Rattle.ps_meaning.specs.Values.{number_of}
 use Rattle.ps_meaning.specs.Operators.{is_among}
 use Rattle.ps_meaning.specs.Worlds as m
 use Rattle.ps_runner.specs.declared.world.Job.{Job}
 use Rattle.ps_runner.specs.declared.operands.Actual.{Actual}
-use Rattle.ps_runner.specs.Heights.{place_height, expr_height, statement_height, statements_height, elements_height, members_height, arguments_height, places_height, reads_height, writes_height}
+use Rattle.ps_runner.specs.Heights.{place_height, structure_height, selectors_height, expr_height, steps_height, operands_height, set_height, set_steps_height, statement_height, statements_height, elements_height, members_height, arguments_height, places_height, reads_height, writes_height}
 use Rattle.ps_runner.specs.Runs.{Halted, levels}
 use Rattle.ps_runner.proofs.Heights.{place_is_high, expr_is_high, set_is_high, statement_is_high, element_within, block_levels}
 use Rattle.ps_runner.proofs.Acts as a
-use Rattle.ps_runner.specs.View.{value_of, spot_of}
+use Rattle.ps_runner.proofs.Chains as chain
+use Rattle.ps_runner.proofs.Arms as arm
+use Rattle.ps_runner.specs.View.{listed, value_of, spot_of}
 use Rattle.ps_runner.specs.Worlds.{Stopped, caller, next, context_of, world_of, env_of, actual_of, acting, acting_all, counting, turning, numbers_of, reading_all, writing_all, opening_all, opened_in, done_of}
 use Rattle.ps_runner.proofs.Answers.{members_halt, actuals_halt, call_runs, call_formal_runs}
 use Rattle.ps_runner.proofs.+run.Goals as goal
@@ -86,7 +88,7 @@ choices::act_selected-loop-element-preserved t c =
 
 pub choices::act_selected-returns : goal.choices::act_selected-returns
 choices::act_selected-returns t c =
-    a.selects_none c.args.c.now.job.now c.args.fuel (context_of c.args.c.now) c.args.elements.now c.loop-element.element-index (number_of (value_of c.args.x.now)) c.args.line (world_of c.loop-element.world) _ c.loop-element.invariant (omega arith) ∙ ap (m.Ends c.loop-element.world.transcript.items (m.Error 7 c.args.line)) (sym (c.in_ok-listed.ensures ∙ ap numbers_of c.deref.ensures))
+    a.selects_none c.args.c.now.job.now c.args.fuel (context_of c.args.c.now) c.args.elements.now c.loop-element.element-index (number_of (value_of c.args.x.now)) c.args.line (world_of c.loop-element.world) _ c.loop-element.invariant (omega arith) ∙ ap (λ l. m.Ends c.loop-element.world.transcript.items (failed 7 c.args.line l)) (sym (c.in_ok-listed.ensures ∙ ap numbers_of c.deref.ensures))
 
 pub transfers::read_all-returns-in_err-read_one : goal.transfers::read_all-returns-in_err-read_one
 transfers::read_all-returns-in_err-read_one t c =
@@ -224,3 +226,169 @@ statements::make-returns-in_err-v t c =
 pub statements::make-returns : goal.statements::make-returns
 statements::make-returns t c =
     a.new_done c.args.c.now.job.now c.args.fuel (place_of c.args.place.now) c.args.pointer c.args.line (context_of c.args.c.now) (spot_of c.in_ok-spot.spot) (value_of c.in_ok-v.v) (world_of c.args.world.now) (world_of c.access.new.world) (world_of c.new_object.new.self) (world_of c.put.new.self) c.in_ok-spot.ensures (c.in_ok-v.ensures c.args.fuel) c.in_ok-put.ensures
+
+-- chains
+
+pub expressions::select_all-returns-in_err-spot : goal.expressions::select_all-returns-in_err-spot
+expressions::select_all-returns-in_err-spot t c =
+    let h : Halted (accesses (caller c.args.c.now.job.now c.args.fuel) (selectors_of c.args.selectors.now) (spot_of c.args.base) (context_of c.args.c.now) (world_of c.args.world.now)) c.args.depth (levels c.args.c.now.job.now c.args.fuel (selectors_height (selectors_of c.args.selectors.now))) c.in_err-spot.field-0.0 c.select.new.world = chain.selectors_halt c.args.c.now.job.now c.args.fuel (context_of c.args.c.now) c.args.selectors.now c.loop-selector.selector-index c.selector-item.result (spot_of c.loop-selector.spot) _ (world_of c.loop-selector.world) c.select.new.world _ c.args.depth c.loop-selector.invariant c.in_err-spot.ensures c.selector-item.is c.loop-selector-test.true in
+    search (rules, h)
+
+pub expressions::select_all-returns : goal.expressions::select_all-returns
+expressions::select_all-returns t c =
+    chain.selectors_end (caller c.args.c.now.job.now c.args.fuel) (context_of c.args.c.now) c.args.selectors.now c.loop-selector.selector-index (spot_of c.loop-selector.spot) (world_of c.loop-selector.world) _ c.loop-selector.invariant (omega arith)
+
+pub expressions::select_all-loop-selector-preserved : goal.expressions::select_all-loop-selector-preserved
+expressions::select_all-loop-selector-preserved t c =
+    chain.selectors_next (caller c.args.c.now.job.now c.args.fuel) (context_of c.args.c.now) c.args.selectors.now c.loop-selector.selector-index c.selector-item.result (spot_of c.loop-selector.spot) _ (world_of c.loop-selector.world) (world_of c.select.new.world) _ c.loop-selector.invariant c.in_ok-spot.ensures c.selector-item.is c.loop-selector-test.true
+
+pub expressions::combine_all-returns-in_err-tests : goal.expressions::combine_all-returns-in_err-tests
+expressions::combine_all-returns-in_err-tests t c =
+    let h : Halted (set_value (caller c.args.c.now.job.now c.args.fuel) (Tree.Combine (set_of c.args.first.now) (set_steps_of c.args.steps.now)) (context_of c.args.c.now) (world_of c.args.world.now)) c.args.depth (levels c.args.c.now.job.now c.args.fuel (max (set_height (set_of c.args.first.now)) (set_steps_height (set_steps_of c.args.steps.now)))) c.in_err-tests.field-0.0 c.evaluate_set.new.world = chain.sets_halt_first c.args.c.now.job.now c.args.fuel (context_of c.args.c.now) (set_of c.args.first.now) (set_steps_of c.args.steps.now) _ (world_of c.args.world.now) c.evaluate_set.new.world c.args.depth c.in_err-tests.ensures in
+    search (rules, h)
+
+pub expressions::combine_all-returns-in_err-more : goal.expressions::combine_all-returns-in_err-more
+expressions::combine_all-returns-in_err-more t c =
+    let h : Halted (set_value (caller c.args.c.now.job.now c.args.fuel) (Tree.Combine (set_of c.args.first.now) (set_steps_of c.args.steps.now)) (context_of c.args.c.now) (world_of c.args.world.now)) c.args.depth (levels c.args.c.now.job.now c.args.fuel (max (set_height (set_of c.args.first.now)) (set_steps_height (set_steps_of c.args.steps.now)))) c.in_err-more.field-0.0 c.evaluate_set-in-loop-step.new.world = chain.sets_halt c.args.c.now.job.now c.args.fuel (context_of c.args.c.now) c.args.steps.now c.loop-step.step-index c.step-item.result (listed c.loop-step.tests.items) _ (world_of c.loop-step.world) c.evaluate_set-in-loop-step.new.world _ c.args.depth (set_height (set_of c.args.first.now)) c.loop-step.invariant c.in_err-more.ensures c.step-item.is c.loop-step-test.true in
+    search (rules, h)
+
+pub expressions::combine_all-loop-step-init : goal.expressions::combine_all-loop-step-init
+expressions::combine_all-loop-step-init t c =
+    chain.sets_begin (caller c.args.c.now.job.now c.args.fuel) (context_of c.args.c.now) (set_of c.args.first.now) (set_steps_of c.args.steps.now) _ (world_of c.args.world.now) (world_of c.evaluate_set.new.world) c.in_ok-tests.ensures
+
+pub expressions::combine_all-loop-step-preserved : goal.expressions::combine_all-loop-step-preserved
+expressions::combine_all-loop-step-preserved t c =
+    chain.sets_next (caller c.args.c.now.job.now c.args.fuel) (context_of c.args.c.now) c.args.steps.now c.loop-step.step-index c.step-item.result (listed c.loop-step.tests.items) _ _ (world_of c.loop-step.world) (world_of c.evaluate_set-in-loop-step.new.world) _ c.loop-step.invariant c.in_ok-more.ensures (search (rules, c.in_ok-tests-2.ensures)) c.step-item.is c.loop-step-test.true
+
+pub expressions::combine_all-returns : goal.expressions::combine_all-returns
+expressions::combine_all-returns t c =
+    chain.sets_end (caller c.args.c.now.job.now c.args.fuel) (context_of c.args.c.now) c.args.steps.now c.loop-step.step-index (listed c.loop-step.tests.items) (world_of c.loop-step.world) _ c.loop-step.invariant (omega arith)
+
+pub operations::calculate-returns-in_err-x : goal.operations::calculate-returns-in_err-x
+operations::calculate-returns-in_err-x t c =
+    let h : Halted (value (caller c.args.c.now.job.now c.args.fuel) (Tree.Arithmetic (expr_of c.args.first.now) (arithmetic_of c.args.steps.now)) (context_of c.args.c.now) (world_of c.args.world.now)) c.args.depth (levels c.args.c.now.job.now c.args.fuel (max (expr_height (expr_of c.args.first.now)) (steps_height (arithmetic_of c.args.steps.now)))) c.in_err-x.field-0.0 c.evaluate.new.world = chain.steps_halt_first c.args.c.now.job.now c.args.fuel (context_of c.args.c.now) (expr_of c.args.first.now) (arithmetic_of c.args.steps.now) _ (world_of c.args.world.now) c.evaluate.new.world c.args.depth c.in_err-x.ensures in
+    search (rules, h)
+
+pub operations::calculate-returns-in_err-y : goal.operations::calculate-returns-in_err-y
+operations::calculate-returns-in_err-y t c =
+    let h : Halted (value (caller c.args.c.now.job.now c.args.fuel) (Tree.Arithmetic (expr_of c.args.first.now) (arithmetic_of c.args.steps.now)) (context_of c.args.c.now) (world_of c.args.world.now)) c.args.depth (levels c.args.c.now.job.now c.args.fuel (max (expr_height (expr_of c.args.first.now)) (steps_height (arithmetic_of c.args.steps.now)))) c.in_err-y.field-0.0 c.evaluate-in-loop-step.new.world = chain.steps_halt c.args.c.now.job.now c.args.fuel (context_of c.args.c.now) c.args.steps.now c.loop-step.step-index c.step-item.result (number_of (value_of c.loop-step.x)) _ (world_of c.loop-step.world) c.evaluate-in-loop-step.new.world _ c.args.depth (expr_height (expr_of c.args.first.now)) c.loop-step.invariant c.in_err-y.ensures c.step-item.is c.loop-step-test.true in
+    search (rules, h)
+
+pub operations::calculate-returns-in_err-x-2 : goal.operations::calculate-returns-in_err-x-2
+operations::calculate-returns-in_err-x-2 t c =
+    let h : Stopped (value (caller c.args.c.now.job.now c.args.fuel) (Tree.Arithmetic (expr_of c.args.first.now) (arithmetic_of c.args.steps.now)) (context_of c.args.c.now) (world_of c.args.world.now)) c.in_err-x-2.field-0.0 c.evaluate-in-loop-step.new.world = chain.steps_stop (caller c.args.c.now.job.now c.args.fuel) (context_of c.args.c.now) c.args.steps.now c.loop-step.step-index c.step-item.result (number_of (value_of c.loop-step.x)) (value_of c.in_ok-y.y) _ (world_of c.loop-step.world) (world_of c.evaluate-in-loop-step.new.world) c.evaluate-in-loop-step.new.world _ c.loop-step.invariant c.in_ok-y.ensures c.in_err-x-2.ensures c.step-item.is c.loop-step-test.true in
+    search (rules, h)
+
+pub operations::calculate-loop-step-init : goal.operations::calculate-loop-step-init
+operations::calculate-loop-step-init t c =
+    chain.steps_begin (caller c.args.c.now.job.now c.args.fuel) (context_of c.args.c.now) (expr_of c.args.first.now) (arithmetic_of c.args.steps.now) _ (world_of c.args.world.now) (world_of c.evaluate.new.world) c.in_ok-x.ensures
+
+pub operations::calculate-loop-step-preserved : goal.operations::calculate-loop-step-preserved
+operations::calculate-loop-step-preserved t c =
+    chain.steps_next (caller c.args.c.now.job.now c.args.fuel) (context_of c.args.c.now) c.args.steps.now c.loop-step.step-index c.step-item.result (number_of (value_of c.loop-step.x)) (value_of c.in_ok-y.y) _ (world_of c.loop-step.world) (world_of c.evaluate-in-loop-step.new.world) _ _ c.loop-step.invariant c.in_ok-y.ensures c.in_ok-x-2.ensures c.step-item.is c.loop-step-test.true
+
+pub operations::calculate-returns : goal.operations::calculate-returns
+operations::calculate-returns t c =
+    chain.steps_end (caller c.args.c.now.job.now c.args.fuel) (context_of c.args.c.now) c.args.steps.now c.loop-step.step-index (number_of (value_of c.loop-step.x)) (world_of c.loop-step.world) _ c.loop-step.invariant (omega arith) ∙ ap (λ k. m.Gives k (world_of c.loop-step.world)) (sym c.ordinal.ensures)
+
+pub operations::combine-returns-in_err-x : goal.operations::combine-returns-in_err-x
+operations::combine-returns-in_err-x t c =
+    let h : Halted (value (caller c.args.c.now.job.now c.args.fuel) (Tree.Logic c.args.operator (expr_of c.args.first.now) (operands_of c.args.rest.now)) (context_of c.args.c.now) (world_of c.args.world.now)) c.args.depth (levels c.args.c.now.job.now c.args.fuel (max (expr_height (expr_of c.args.first.now)) (operands_height (operands_of c.args.rest.now)))) c.in_err-x.field-0.0 c.evaluate_truth.new.world = chain.operands_halt_first c.args.c.now.job.now c.args.fuel (context_of c.args.c.now) c.args.operator (expr_of c.args.first.now) (operands_of c.args.rest.now) _ (world_of c.args.world.now) c.evaluate_truth.new.world c.args.depth c.in_err-x.ensures in
+    search (rules, h)
+
+pub operations::combine-returns-in_err-y : goal.operations::combine-returns-in_err-y
+operations::combine-returns-in_err-y t c =
+    let h : Halted (value (caller c.args.c.now.job.now c.args.fuel) (Tree.Logic c.args.operator (expr_of c.args.first.now) (operands_of c.args.rest.now)) (context_of c.args.c.now) (world_of c.args.world.now)) c.args.depth (levels c.args.c.now.job.now c.args.fuel (max (expr_height (expr_of c.args.first.now)) (operands_height (operands_of c.args.rest.now)))) c.in_err-y.field-0.0 c.evaluate_truth-in-loop-operand.new.world = chain.operands_halt c.args.c.now.job.now c.args.fuel (context_of c.args.c.now) c.args.operator c.args.rest.now c.loop-operand.operand-index c.operand-item.result c.loop-operand.x _ (world_of c.loop-operand.world) c.evaluate_truth-in-loop-operand.new.world _ c.args.depth (expr_height (expr_of c.args.first.now)) c.loop-operand.invariant c.in_err-y.ensures c.operand-item.is c.loop-operand-test.true in
+    search (rules, h)
+
+pub operations::combine-loop-operand-init : goal.operations::combine-loop-operand-init
+operations::combine-loop-operand-init t c =
+    chain.operands_begin c.args.c.now.job.now c.args.fuel (context_of c.args.c.now) c.args.operator (expr_of c.args.first.now) (operands_of c.args.rest.now) _ (world_of c.args.world.now) (world_of c.evaluate_truth.new.world) c.in_ok-x.ensures
+
+pub operations::combine-loop-operand-preserved : goal.operations::combine-loop-operand-preserved
+operations::combine-loop-operand-preserved t c =
+    ap (λ k. combined (caller c.args.c.now.job.now c.args.fuel) c.args.operator (operands_of (drop (c.loop-operand.operand-index + 1) c.args.rest.now)) k (context_of c.args.c.now) (world_of c.evaluate_truth-in-loop-operand.new.world)) c.combine_truths-x.ensures ∙ chain.operands_next c.args.c.now.job.now c.args.fuel (context_of c.args.c.now) c.args.operator c.args.rest.now c.loop-operand.operand-index c.operand-item.result c.loop-operand.x _ (world_of c.loop-operand.world) (world_of c.evaluate_truth-in-loop-operand.new.world) _ c.loop-operand.invariant c.in_ok-y.ensures c.operand-item.is c.loop-operand-test.true
+
+pub operations::combine-returns : goal.operations::combine-returns
+operations::combine-returns t c =
+    chain.operands_end (caller c.args.c.now.job.now c.args.fuel) (context_of c.args.c.now) c.args.operator c.args.rest.now c.loop-operand.operand-index c.loop-operand.x (world_of c.loop-operand.world) _ c.loop-operand.invariant (omega arith) ∙ ap (λ k. m.Gives k (world_of c.loop-operand.world)) (sym c.truth.ensures)
+
+pub expressions::evaluate-returns-in-Arithmetic : goal.expressions::evaluate-returns-in-Arithmetic
+expressions::evaluate-returns-in-Arithmetic t c = chain.arithmetic_runs c.args.c.now.job.now c.args.fuel (context_of c.args.c.now) (world_of c.args.world.now) c.args.e.now _ _ _ _ c.calculate.result c.calculate.new.world c.args.depth c.in-Arithmetic.is c.deref-in-Arithmetic.ensures c.deref-in-Arithmetic-2.ensures.value c.calculate.ensures
+
+pub expressions::evaluate-returns-in-Logic : goal.expressions::evaluate-returns-in-Logic
+expressions::evaluate-returns-in-Logic t c = chain.logical_runs c.args.c.now.job.now c.args.fuel (context_of c.args.c.now) (world_of c.args.world.now) c.args.e.now _ _ _ _ _ c.combine.result c.combine.new.world c.args.depth c.in-Logic.is c.deref-in-Logic.ensures c.deref-in-Logic-2.ensures.value c.combine.ensures
+
+pub expressions::evaluate_set-returns-in-Combine : goal.expressions::evaluate_set-returns-in-Combine
+expressions::evaluate_set-returns-in-Combine t c = chain.combination_runs c.args.c.now.job.now c.args.fuel (context_of c.args.c.now) (world_of c.args.world.now) c.args.e.now _ _ _ _ c.combine_all.result c.combine_all.new.world c.args.depth c.in-Combine.is c.deref-in-Combine.ensures c.deref-in-Combine-2.ensures.value c.combine_all.ensures
+
+-- arms
+
+pub expressions::evaluate-returns-in-Plus : goal.expressions::evaluate-returns-in-Plus
+expressions::evaluate-returns-in-Plus t c = arm.expr_runs c.args.c.now.job.now c.args.fuel (context_of c.args.c.now) (world_of c.args.world.now) c.args.e.now _ _ c.evaluate.result c.evaluate.new.world c.args.depth (arm.plus_is _ _ _ c.in-Plus.is c.deref-in-Plus.ensures) refl c.evaluate.ensures
+
+pub expressions::evaluate-returns-in-Compare : goal.expressions::evaluate-returns-in-Compare
+expressions::evaluate-returns-in-Compare t c = arm.expr_runs c.args.c.now.job.now c.args.fuel (context_of c.args.c.now) (world_of c.args.world.now) c.args.e.now _ _ c.compare.result c.compare.new.world c.args.depth (arm.compare_is _ _ _ _ _ _ c.in-Compare.is c.deref-in-Compare.ensures c.deref-in-Compare-2.ensures) refl c.compare.ensures
+
+pub expressions::evaluate-returns-in-ComparePointers : goal.expressions::evaluate-returns-in-ComparePointers
+expressions::evaluate-returns-in-ComparePointers t c = arm.expr_runs c.args.c.now.job.now c.args.fuel (context_of c.args.c.now) (world_of c.args.world.now) c.args.e.now _ _ c.compare_pointers.result c.compare_pointers.new.world c.args.depth (arm.compare_pointers_is _ _ _ _ _ _ c.in-ComparePointers.is c.deref-in-ComparePointers.ensures c.deref-in-ComparePointers-2.ensures) refl c.compare_pointers.ensures
+
+pub expressions::evaluate-returns-in-CompareSets : goal.expressions::evaluate-returns-in-CompareSets
+expressions::evaluate-returns-in-CompareSets t c = arm.expr_runs c.args.c.now.job.now c.args.fuel (context_of c.args.c.now) (world_of c.args.world.now) c.args.e.now _ _ c.compare_sets.result c.compare_sets.new.world c.args.depth (arm.compare_sets_is _ _ _ _ _ _ c.in-CompareSets.is c.deref-in-CompareSets.ensures c.deref-in-CompareSets-2.ensures) refl c.compare_sets.ensures
+
+pub expressions::evaluate-returns-in-CompareStrings : goal.expressions::evaluate-returns-in-CompareStrings
+expressions::evaluate-returns-in-CompareStrings t c = arm.expr_runs c.args.c.now.job.now c.args.fuel (context_of c.args.c.now) (world_of c.args.world.now) c.args.e.now _ _ c.compare_strings.result c.compare_strings.new.world c.args.depth (arm.compare_strings_is _ _ _ _ _ _ c.in-CompareStrings.is c.deref-in-CompareStrings.ensures c.deref-in-CompareStrings-2.ensures) refl c.compare_strings.ensures
+
+pub expressions::evaluate-returns-in-In : goal.expressions::evaluate-returns-in-In
+expressions::evaluate-returns-in-In t c = arm.expr_runs c.args.c.now.job.now c.args.fuel (context_of c.args.c.now) (world_of c.args.world.now) c.args.e.now _ _ c.test_member.result c.test_member.new.world c.args.depth (arm.member_is _ _ _ _ _ c.in-In.is c.deref-in-In.ensures c.deref-in-In-2.ensures) refl c.test_member.ensures
+
+pub statements::act-returns-in-Assign : goal.statements::act-returns-in-Assign
+statements::act-returns-in-Assign t c = arm.statement_runs c.args.c.now.job.now c.args.fuel (context_of c.args.c.now) (world_of c.args.world.now) c.args.statement.now _ _ c.assign.result c.assign.new.world c.args.depth (arm.assign_is _ _ _ _ _ c.in-Assign.is) refl c.assign.ensures
+
+pub statements::act-returns-in-AssignStructure : goal.statements::act-returns-in-AssignStructure
+statements::act-returns-in-AssignStructure t c = arm.statement_runs c.args.c.now.job.now c.args.fuel (context_of c.args.c.now) (world_of c.args.world.now) c.args.statement.now _ _ c.assign_structure.result c.assign_structure.new.world c.args.depth (arm.assign_structure_is _ _ _ c.in-AssignStructure.is) refl c.assign_structure.ensures
+
+pub statements::act-returns-in-Call : goal.statements::act-returns-in-Call
+statements::act-returns-in-Call t c = arm.statement_runs c.args.c.now.job.now c.args.fuel (context_of c.args.c.now) (world_of c.args.world.now) c.args.statement.now _ _ c.call_procedure.result c.call_procedure.new.world c.args.depth (arm.call_is _ _ _ _ _ _ c.in-Call.is c.deref.ensures.value) refl c.call_procedure.ensures
+
+pub statements::act-returns-in-CallFormal : goal.statements::act-returns-in-CallFormal
+statements::act-returns-in-CallFormal t c = arm.statement_runs c.args.c.now.job.now c.args.fuel (context_of c.args.c.now) (world_of c.args.world.now) c.args.statement.now _ _ c.call_formal_procedure.result c.call_formal_procedure.new.world c.args.depth (arm.call_formal_is _ _ _ _ _ _ c.in-CallFormal.is c.deref-in-CallFormal.ensures.value) refl c.call_formal_procedure.ensures
+
+pub statements::act-returns-in-Compound : goal.statements::act-returns-in-Compound
+statements::act-returns-in-Compound t c = arm.statement_runs c.args.c.now.job.now c.args.fuel (context_of c.args.c.now) (world_of c.args.world.now) c.args.statement.now _ _ c.act_all.result c.act_all.new.world c.args.depth (arm.compound_is _ _ _ c.in-Compound.is c.deref-in-Compound.ensures.value) refl c.act_all.ensures
+
+pub statements::act-returns-in-If : goal.statements::act-returns-in-If
+statements::act-returns-in-If t c = arm.statement_runs c.args.c.now.job.now c.args.fuel (context_of c.args.c.now) (world_of c.args.world.now) c.args.statement.now _ _ c.act_if.result c.act_if.new.world c.args.depth (arm.if_is _ _ _ _ c.in-If.is c.deref-in-If.ensures) refl c.act_if.ensures
+
+pub statements::act-returns-in-IfElse : goal.statements::act-returns-in-IfElse
+statements::act-returns-in-IfElse t c = arm.statement_runs c.args.c.now.job.now c.args.fuel (context_of c.args.c.now) (world_of c.args.world.now) c.args.statement.now _ _ c.act_if_else.result c.act_if_else.new.world c.args.depth (arm.if_else_is _ _ _ _ _ _ c.in-IfElse.is c.deref-in-IfElse.ensures c.deref-in-IfElse-2.ensures) refl c.act_if_else.ensures
+
+pub statements::act-returns-in-While : goal.statements::act-returns-in-While
+statements::act-returns-in-While t c = arm.statement_runs c.args.c.now.job.now c.args.fuel (context_of c.args.c.now) (world_of c.args.world.now) c.args.statement.now _ _ c.repeat_while.result c.repeat_while.new.world c.args.depth (arm.while_is _ _ _ _ c.in-While.is c.deref-in-While.ensures) refl c.repeat_while.ensures
+
+pub statements::act-returns-in-With : goal.statements::act-returns-in-With
+statements::act-returns-in-With t c = arm.statement_runs c.args.c.now.job.now c.args.fuel (context_of c.args.c.now) (world_of c.args.world.now) c.args.statement.now _ _ c.act_with.result c.act_with.new.world c.args.depth (arm.with_is _ _ _ _ _ c.in-With.is c.deref-in-With.ensures.value c.deref-in-With-2.ensures) refl c.act_with.ensures
+
+pub statements::act-returns-in-New : goal.statements::act-returns-in-New
+statements::act-returns-in-New t c = arm.statement_runs c.args.c.now.job.now c.args.fuel (context_of c.args.c.now) (world_of c.args.world.now) c.args.statement.now _ _ c.make.result c.make.new.world c.args.depth (arm.new_is _ _ _ _ c.in-New.is) refl c.make.ensures
+
+pub statements::act-returns-in-Pack : goal.statements::act-returns-in-Pack
+statements::act-returns-in-Pack t c = arm.statement_runs c.args.c.now.job.now c.args.fuel (context_of c.args.c.now) (world_of c.args.world.now) c.args.statement.now _ _ c.pack.result c.pack.new.world c.args.depth (arm.pack_is _ _ _ _ _ _ _ c.in-Pack.is) refl c.pack.ensures
+
+pub statements::act-returns-in-Unpack : goal.statements::act-returns-in-Unpack
+statements::act-returns-in-Unpack t c = arm.statement_runs c.args.c.now.job.now c.args.fuel (context_of c.args.c.now) (world_of c.args.world.now) c.args.statement.now _ _ c.unpack.result c.unpack.new.world c.args.depth (arm.unpack_is _ _ _ _ _ _ _ c.in-Unpack.is) refl c.unpack.ensures
+
+pub statements::act-returns-in-Read : goal.statements::act-returns-in-Read
+statements::act-returns-in-Read t c = arm.statement_runs c.args.c.now.job.now c.args.fuel (context_of c.args.c.now) (world_of c.args.world.now) c.args.statement.now _ _ c.read_all.result c.read_all.new.world c.args.depth (arm.read_is _ _ _ c.in-Read.is c.deref-in-Read.ensures.value) refl c.read_all.ensures
+
+pub statements::act-returns-in-Write : goal.statements::act-returns-in-Write
+statements::act-returns-in-Write t c = arm.statement_runs c.args.c.now.job.now c.args.fuel (context_of c.args.c.now) (world_of c.args.world.now) c.args.statement.now _ _ c.write_all.result c.write_all.new.world c.args.depth (arm.write_is _ _ _ c.in-Write.is c.deref-in-Write.ensures.value) refl c.write_all.ensures
+
+pub expressions::take_operand-returns-in_err-access-in-Contents : goal.expressions::take_operand-returns-in_err-access-in-Contents
+expressions::take_operand-returns-in_err-access-in-Contents t c =
+    let h : Halted (operand (caller c.args.c.now.job.now c.args.fuel) (structure_of c.args.e.now) (context_of c.args.c.now) (world_of c.args.world.now)) c.args.depth (levels c.args.c.now.job.now c.args.fuel (structure_height (structure_of c.args.e.now))) c.in_err-access-in-Contents.field-0.0 c.access.new.world = chain.contents_halt c.args.c.now.job.now c.args.fuel (context_of c.args.c.now) (world_of c.args.world.now) c.args.e.now _ _ _ _ c.access.new.world c.args.depth c.in-Contents.is c.deref.ensures c.in_err-access-in-Contents.ensures in
+    search (rules, h)
+
+pub expressions::take_operand-returns-in_ok-access-in-Contents : goal.expressions::take_operand-returns-in_ok-access-in-Contents
+expressions::take_operand-returns-in_ok-access-in-Contents t c =
+    chain.contents_gives c.args.c.now.job.now c.args.fuel (context_of c.args.c.now) (world_of c.args.world.now) (world_of c.access.new.world) c.args.e.now _ _ _ c.in_ok-access-in-Contents.field-0 c.in-Contents.is c.deref.ensures c.in_ok-access-in-Contents.ensures

@@ -1,13 +1,13 @@
 use Rattle.std.proofs.Common.{◌≡◌, ◌≤◌, ◌+◌, ◌*◌, map, drop}
 use Rattle.ps_meaning.specs.Statements.{with_opened}
-use Rattle.ps_tree.specs.View.{place_of, read_of, write_of, members_of, arguments_of, expr_of, statement_of, statements_of, elements_of}
+use Rattle.ps_tree.specs.View.{selectors_of, arithmetic_of, operands_of, set_of, set_steps_of, place_of, read_of, write_of, members_of, arguments_of, expr_of, statement_of, statements_of, elements_of}
 use Rattle.ps_meaning.specs.Expressions as e
 use Rattle.ps_runner.specs.Worlds.{caller, context_of, world_of, actual_of, acting, acting_all, selecting, turning, reading_all, writing_all, opening_all, opened_in}
 use Rattle.ps_runner.proofs.Answers.{members_left, actuals_left}
 use Rattle.ps_runner.proofs.+run.Given as goal
 use Rattle.ps_tree.specs.Tree as Tree
 use Rattle.ps_meaning.specs.Values.{number_of}
-use Rattle.ps_runner.specs.View.{value_of}
+use Rattle.ps_runner.specs.View.{listed, value_of, spot_of}
 
 abbrev pub decreases-expressions::access : goal.decreases-expressions::access
 decreases-expressions::access l = 16 * l.depth
@@ -157,15 +157,6 @@ decreases-statements::unpack l = 16 * l.depth + 1
 abbrev pub decreases-expressions::evaluate_truth : goal.decreases-expressions::evaluate_truth
 decreases-expressions::evaluate_truth l = 16 * l.depth + 1
 
-abbrev pub decreases-operations::load : goal.decreases-operations::load
-decreases-operations::load l = 16 * l.depth + 2
-
-abbrev pub decreases-operations::negate : goal.decreases-operations::negate
-decreases-operations::negate l = 16 * l.depth + 2
-
-abbrev pub decreases-operations::invert : goal.decreases-operations::invert
-decreases-operations::invert l = 16 * l.depth + 2
-
 abbrev pub decreases-operations::calculate : goal.decreases-operations::calculate
 decreases-operations::calculate l = 16 * l.depth + 2
 
@@ -186,9 +177,6 @@ decreases-operations::compare_strings l = 16 * l.depth + 2
 
 abbrev pub decreases-operations::test_member : goal.decreases-operations::test_member
 decreases-operations::test_member l = 16 * l.depth + 2
-
-abbrev pub decreases-operations::apply_required : goal.decreases-operations::apply_required
-decreases-operations::apply_required l = 16 * l.depth + 2
 
 abbrev pub decreases-statements::assign : goal.decreases-statements::assign
 decreases-statements::assign l = 16 * l.depth + 1
@@ -214,23 +202,26 @@ decreases-choices::act_if l = 16 * l.depth + 2
 abbrev pub decreases-choices::act_if_else : goal.decreases-choices::act_if_else
 decreases-choices::act_if_else l = 16 * l.depth + 2
 
-abbrev pub decreases-transfers::read_line : goal.decreases-transfers::read_line
-decreases-transfers::read_line l = 16 * l.depth + 3
-
-abbrev pub decreases-transfers::write_line : goal.decreases-transfers::write_line
-decreases-transfers::write_line l = 16 * l.depth + 5
-
 abbrev pub decreases-transfers::write_contents : goal.decreases-transfers::write_contents
 decreases-transfers::write_contents l = 16 * l.depth + 2
 
-abbrev pub decreases-expressions::access_component : goal.decreases-expressions::access_component
-decreases-expressions::access_component l = 16 * l.depth + 1
+abbrev pub decreases-expressions::select_all : goal.decreases-expressions::select_all
+decreases-expressions::select_all l = 16 * l.depth + 2
 
-abbrev pub decreases-expressions::take_value : goal.decreases-expressions::take_value
-decreases-expressions::take_value l = 16 * l.depth + 2
+abbrev pub decreases-expressions::select : goal.decreases-expressions::select
+decreases-expressions::select l = 16 * l.depth + 1
 
-abbrev pub decreases-expressions::take_set : goal.decreases-expressions::take_set
-decreases-expressions::take_set l = 16 * l.depth + 2
+abbrev pub decreases-expressions::combine_all : goal.decreases-expressions::combine_all
+decreases-expressions::combine_all l = 16 * l.depth + 1
 
-abbrev pub decreases-expressions::take_copy : goal.decreases-expressions::take_copy
-decreases-expressions::take_copy l = 16 * l.depth + 2
+abbrev pub invariant-expressions::select_all-loop-selector : goal.invariant-expressions::select_all-loop-selector
+invariant-expressions::select_all-loop-selector l = e.accesses (caller l.c.job.now l.fuel) (selectors_of (drop l.selector-index l.selectors)) (spot_of l.spot) (context_of l.c) (world_of l.world) ≡ e.accesses (caller l.c.job.now l.fuel) (selectors_of l.selectors) (spot_of l.fn.base) (context_of l.c) (world_of l.fn.world)
+
+abbrev pub invariant-expressions::combine_all-loop-step : goal.invariant-expressions::combine_all-loop-step
+invariant-expressions::combine_all-loop-step l = e.sets_combined (caller l.c.job.now l.fuel) (set_steps_of (drop l.step-index l.steps)) (listed l.tests.items) (context_of l.c) (world_of l.world) ≡ e.set_value (caller l.c.job.now l.fuel) (Tree.Combine (set_of l.first) (set_steps_of l.steps)) (context_of l.c) (world_of l.fn.world)
+
+abbrev pub invariant-operations::calculate-loop-step : goal.invariant-operations::calculate-loop-step
+invariant-operations::calculate-loop-step l = e.computed (caller l.c.job.now l.fuel) (arithmetic_of (drop l.step-index l.steps)) (number_of (value_of l.x)) (context_of l.c) (world_of l.world) ≡ e.value (caller l.c.job.now l.fuel) (Tree.Arithmetic (expr_of l.first) (arithmetic_of l.steps)) (context_of l.c) (world_of l.fn.world)
+
+abbrev pub invariant-operations::combine-loop-operand : goal.invariant-operations::combine-loop-operand
+invariant-operations::combine-loop-operand l = e.combined (caller l.c.job.now l.fuel) l.operator (operands_of (drop l.operand-index l.rest)) l.x (context_of l.c) (world_of l.world) ≡ e.value (caller l.c.job.now l.fuel) (Tree.Logic l.operator (expr_of l.first) (operands_of l.rest)) (context_of l.c) (world_of l.fn.world)

@@ -1,4 +1,4 @@
-use Rattle.std.proofs.Common.{◌≡◌, ◌+◌, ◌-◌, ℕ, List, ◌++◌, length, take, drop, rules}
+use Rattle.std.proofs.Common.{◌≡◌, ◌+◌, ◌-◌, ℕ, List, ◌++◌, length, take, drop, rules, arith}
 use Rattle.std.proofs.KnownBytes.{Appends-trans}
 use Rattle.std.proofs.Math.Seq.{take-add}
 use Rattle.std.proofs.lemmas.List.{take_rest}
@@ -10,5 +10,10 @@ front done count bytes = rw (take_rest bytes done) (take-add done count bytes)
 
 pub loop-turn-preserved : goal.loop-turn-preserved
 loop-turn-preserved g c =
-    let appended = Appends-trans _ _ _ _ _ c.loop-turn.invariant.2 c.in-Ok.ensures.bytes in
-    (search rules, search rules, rw (front c.loop-turn.done c.in-Ok.written c.args.bytes.now) appended)
+    let appended = Appends-trans _ _ _ _ _ c.loop-turn.invariant.written c.in-Ok.ensures.bytes in
+    record {
+      turns = omega (arith, c.in-Ok.ensures.some);
+      bound = search rules;
+      written = rw (front c.loop-turn.done c.in-Ok.written c.args.bytes.now) appended;
+      counted = search rules;
+    }

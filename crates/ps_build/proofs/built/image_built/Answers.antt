@@ -1,5 +1,8 @@
 -- The image of what is compiled of the text's program does what the program means.
+use Rattle.std.proofs.Common.{◌≡◌, sym, subst}
 use Rattle.ps_tree.specs.Checked.{program_in}
+use Rattle.ps_build.specs.Strings.{compiled_of}
+use Rattle.ps_build.specs.Code.{program_image}
 use Rattle.ps_build.specs.Headline.{Compiles}
 use Rattle.ps_build.proofs.Compiled.{compiles}
 use Rattle.ps_build.proofs.Results.{if_ok_both}

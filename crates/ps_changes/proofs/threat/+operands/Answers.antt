@@ -1,8 +1,11 @@
 use Rattle.std.proofs.Common.{refl, ◌∙◌}
-use Rattle.ps_tree.specs.View.{argument_of, member_of}
-use Rattle.ps_changes.specs.Changes.{argument_threatens, member_threatens}
+use Rattle.ps_tree.specs.declared.tree.ArithmeticStep.{out-ArithmeticStep}
+use Rattle.ps_tree.specs.declared.tree.SetStep.{out-SetStep}
+use Rattle.ps_tree.specs.View.{argument_of, member_of, selector_of, expr_of, set_of}
+use Rattle.ps_changes.specs.Changes.{argument_threatens, member_threatens, selector_threatens, expr_threatens, set_threatens}
 use Rattle.ps_changes.proofs.Walks.{passed_next, passed_found, passed_all}
-use Rattle.ps_changes.proofs.Lists.{arguments_answer, arguments_none, arguments_more, members_answer, members_none, members_more, call_threatens, call_formal_threatens}
+use Rattle.ps_changes.proofs.Lists.{arguments_answer, arguments_none, arguments_more, members_answer, members_none, members_more, selectors_answer, selectors_none, selectors_more, arithmetic_answer, arithmetic_none, arithmetic_more, operands_answer, operands_none, operands_more, set_steps_answer, set_steps_none, set_steps_more, call_threatens, call_formal_threatens}
+use Rattle.ps_changes.proofs.Chains.{place_threat, arithmetic_threat, logic_threat, combine_threat, contents_threat}
 use Rattle.ps_changes.proofs.threat.+operands.Goals as goal
 
 pub by_arguments-loop-argument-init : goal.by_arguments-loop-argument-init
@@ -34,3 +37,66 @@ by_expr-returns-in-Call t c = c.by_arguments.ensures ∙ call_threatens _ _ _ _ 
 
 pub by_expr-returns-in-CallFormal : goal.by_expr-returns-in-CallFormal
 by_expr-returns-in-CallFormal t c = c.by_arguments-in-CallFormal.ensures ∙ call_formal_threatens _ _ _ _ _ _ _ _ c.in-CallFormal.is c.deref-in-CallFormal.ensures.value
+
+pub by_selectors-loop-selector-init : goal.by_selectors-loop-selector-init
+by_selectors-loop-selector-init t c = refl
+
+pub by_selectors-returns-then-by_selector : goal.by_selectors-returns-then-by_selector
+by_selectors-returns-then-by_selector t c = passed_found (selectors_answer _ _) (λ x. selector_threatens _ _ (selector_of x)) (selectors_more _ _) _ _ _ _ c.loop-selector-test.true c.loop-selector.invariant c.selector-item.is c.by_selector.ensures c.if-by_selector.true
+
+pub by_selectors-loop-selector-preserved : goal.by_selectors-loop-selector-preserved
+by_selectors-loop-selector-preserved t c = passed_next (selectors_answer _ _) (λ x. selector_threatens _ _ (selector_of x)) (selectors_more _ _) _ _ _ _ c.loop-selector-test.true c.loop-selector.invariant c.selector-item.is c.by_selector.ensures c.if-by_selector.false
+
+pub by_selectors-returns : goal.by_selectors-returns
+by_selectors-returns t c = passed_all (selectors_answer _ _) (selectors_none _ _) _ _ c.loop-selector-test.false c.loop-selector.invariant
+
+pub by_arithmetic-loop-step-init : goal.by_arithmetic-loop-step-init
+by_arithmetic-loop-step-init t c = refl
+
+pub by_arithmetic-returns-then-by_expr : goal.by_arithmetic-returns-then-by_expr
+by_arithmetic-returns-then-by_expr t c = passed_found (arithmetic_answer _ _) (λ x. expr_threatens _ _ (expr_of (out-ArithmeticStep x).operand)) (arithmetic_more _ _) _ _ _ _ c.loop-step-test.true c.loop-step.invariant c.step-item.is c.by_expr.ensures c.if-by_expr.true
+
+pub by_arithmetic-loop-step-preserved : goal.by_arithmetic-loop-step-preserved
+by_arithmetic-loop-step-preserved t c = passed_next (arithmetic_answer _ _) (λ x. expr_threatens _ _ (expr_of (out-ArithmeticStep x).operand)) (arithmetic_more _ _) _ _ _ _ c.loop-step-test.true c.loop-step.invariant c.step-item.is c.by_expr.ensures c.if-by_expr.false
+
+pub by_arithmetic-returns : goal.by_arithmetic-returns
+by_arithmetic-returns t c = passed_all (arithmetic_answer _ _) (arithmetic_none _ _) _ _ c.loop-step-test.false c.loop-step.invariant
+
+pub by_operands-loop-operand-init : goal.by_operands-loop-operand-init
+by_operands-loop-operand-init t c = refl
+
+pub by_operands-returns-then-by_expr : goal.by_operands-returns-then-by_expr
+by_operands-returns-then-by_expr t c = passed_found (operands_answer _ _) (λ x. expr_threatens _ _ (expr_of x)) (operands_more _ _) _ _ _ _ c.loop-operand-test.true c.loop-operand.invariant c.operand-item.is c.by_expr.ensures c.if-by_expr.true
+
+pub by_operands-loop-operand-preserved : goal.by_operands-loop-operand-preserved
+by_operands-loop-operand-preserved t c = passed_next (operands_answer _ _) (λ x. expr_threatens _ _ (expr_of x)) (operands_more _ _) _ _ _ _ c.loop-operand-test.true c.loop-operand.invariant c.operand-item.is c.by_expr.ensures c.if-by_expr.false
+
+pub by_operands-returns : goal.by_operands-returns
+by_operands-returns t c = passed_all (operands_answer _ _) (operands_none _ _) _ _ c.loop-operand-test.false c.loop-operand.invariant
+
+pub by_set_steps-loop-step-init : goal.by_set_steps-loop-step-init
+by_set_steps-loop-step-init t c = refl
+
+pub by_set_steps-returns-then-by_set : goal.by_set_steps-returns-then-by_set
+by_set_steps-returns-then-by_set t c = passed_found (set_steps_answer _ _) (λ x. set_threatens _ _ (set_of (out-SetStep x).operand)) (set_steps_more _ _) _ _ _ _ c.loop-step-test.true c.loop-step.invariant c.step-item.is c.by_set.ensures c.if-by_set.true
+
+pub by_set_steps-loop-step-preserved : goal.by_set_steps-loop-step-preserved
+by_set_steps-loop-step-preserved t c = passed_next (set_steps_answer _ _) (λ x. set_threatens _ _ (set_of (out-SetStep x).operand)) (set_steps_more _ _) _ _ _ _ c.loop-step-test.true c.loop-step.invariant c.step-item.is c.by_set.ensures c.if-by_set.false
+
+pub by_set_steps-returns : goal.by_set_steps-returns
+by_set_steps-returns t c = passed_all (set_steps_answer _ _) (set_steps_none _ _) _ _ c.loop-step-test.false c.loop-step.invariant
+
+pub by_place-returns : goal.by_place-returns
+by_place-returns t c = c.by_selectors.ensures ∙ place_threat _ _ c.args.place.now _ c.deref.ensures.value
+
+pub by_expr-returns-else-by_expr : goal.by_expr-returns-else-by_expr
+by_expr-returns-else-by_expr t c = c.by_arithmetic.ensures ∙ arithmetic_threat _ _ _ _ _ _ _ _ c.in-Arithmetic.is c.deref-in-Arithmetic.ensures c.deref-else-by_expr.ensures.value c.by_expr.ensures c.if-by_expr.false
+
+pub by_expr-returns-else-by_expr-2 : goal.by_expr-returns-else-by_expr-2
+by_expr-returns-else-by_expr-2 t c = c.by_operands.ensures ∙ logic_threat _ _ _ _ _ _ _ _ _ c.in-Logic.is c.deref-in-Logic.ensures c.deref-else-by_expr-2.ensures.value c.by_expr-in-Logic.ensures c.if-by_expr-2.false
+
+pub by_set-returns-else-by_set : goal.by_set-returns-else-by_set
+by_set-returns-else-by_set t c = c.by_set_steps.ensures ∙ combine_threat _ _ _ _ _ _ _ _ c.in-Combine.is c.deref-in-Combine.ensures c.deref-else-by_set.ensures.value c.by_set.ensures c.if-by_set.false
+
+pub by_structure-returns-in-Contents : goal.by_structure-returns-in-Contents
+by_structure-returns-in-Contents t c = c.by_place.ensures ∙ contents_threat _ _ _ _ _ _ c.in-Contents.is c.deref.ensures

@@ -1,4 +1,4 @@
-use Rattle.std.proofs.Common.{◌≡◌, ◌∙◌, sym, ap, min}
+use Rattle.std.proofs.Common.{◌∙◌, sym, ap, min}
 use Rattle.ps_tree.proofs.SizeLemmas.{field_bytes_total, counted_end}
 use Rattle.ps_tree.specs.Sizes.{bytes}
 use Rattle.ps_tree.proofs.types.bytes_of_all.Goals as goal

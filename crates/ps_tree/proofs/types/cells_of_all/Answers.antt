@@ -1,4 +1,4 @@
-use Rattle.std.proofs.Common.{rules, ◌≡◌, ◌<◌, ◌∙◌, sym, ap, min, length, arith}
+use Rattle.std.proofs.Common.{rules, ◌≡◌, ◌<◌, ◌∙◌, sym, ap, min, length}
 use Rattle.ps_tree.proofs.SizeLemmas.{record_cells_none, record_cells_total, counted_end}
 use Rattle.ps_tree.specs.Sizes.{cells}
 use Rattle.ps_tree.proofs.types.cells_of_all.Goals as goal

@@ -1,4 +1,4 @@
-use Rattle.std.proofs.Common.{◌≡◌, ◌∙◌, ap, min}
+use Rattle.std.proofs.Common.{◌∙◌, ap, min}
 use Rattle.ps_tree.specs.Types.{field_list}
 use Rattle.ps_tree.specs.Sizes.{record_cells, field_bytes}
 use Rattle.ps_tree.specs.TypeView.{types_of}

@@ -1,0 +1,6 @@
+pub mod Numbers
+pub mod Spans
+pub mod Memory
+pub mod Objects
+pub mod Spots
+pub mod Frames

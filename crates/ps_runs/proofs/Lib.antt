@@ -1,0 +1,10 @@
+pub mod Runs
+pub mod Places
+pub mod Kept
+pub mod Leaves
+pub mod Values
+pub mod Checks
+pub mod Calls
+pub mod Writes
+pub mod Output
+pub mod Statements

@@ -1,0 +1,10 @@
+// The code of each construct does what the construct means.
+#![tactic(auto)]
+
+ghost use Rattle.ps_runs.specs.Tasks.{EveryFuel};
+
+/// With every fuel, the code of a block, of a loop again and of a further turn does what they mean.
+#[tactic(auto, using(crate::proofs::Statements::execute_runs))]
+pub fn every_fuel()
+    ensures { EveryFuel }
+{}

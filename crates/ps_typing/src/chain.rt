@@ -1,0 +1,150 @@
+//! The chains of the checked tree (ISO 7185, 6.5 and 6.7.2): what comes next goes to the end of the chain that stands
+//! before it.
+
+ghost use Rattle.std.specs.Prelude.{◌≡◌, ◌++◌, ◌∷◌, [], IfOk};
+ghost use Rattle.ps_tree.specs.View.{place_of, selector_of, expr_of, set_of};
+ghost use Rattle.ps_typing.specs.Chains.{selected, calculated, begun, connected, combined};
+
+use ps_tree::line::Line;
+use ps_tree::tree::{
+    ArithmeticOperator, ArithmeticStep, BooleanOperator, Expr, Place, Selector, SetExpr,
+    SetOperator, SetStep,
+};
+use std::alloc::{AllocError, Global};
+
+/// A list with one more item at its end. Most lists stay at one item, so there is room for no more at first.
+fn appended<A: Drop>(list: Vec<A>, item: A) -> Result<Vec<A>, AllocError>
+    ensures { IfOk result (λ longer. longer.items ≡ list.items ++ item ∷ []) }
+{
+    let mut longer = list;
+    if longer.is_empty() {
+        longer.reserve_exact(1)?;
+    }
+    longer.push(item)?;
+    Ok(longer)
+}
+
+/// A first operand, on the heap, and the list of the one item behind it.
+fn chain<A: Drop, B: Drop>(alloc: Global, first: A, item: B) -> Result<(Box<A>, Vec<B>), AllocError>
+    ensures first { IfOk result (λ pair. pair.0.value ≡ first) }
+    ensures rest { IfOk result (λ pair. pair.1.items ≡ item ∷ []) }
+{
+    let first = Box::new(alloc, first)?;
+    let rest = appended(Vec::new(alloc), item)?;
+    Ok((first, rest))
+}
+
+/// A variable with one more selector (6.5.3, 6.5.4).
+#[tactic(auto, using(crate::proofs::ChainLemmas::selectors_pushed))]
+pub(crate) fn selected(place: Place, selector: Selector) -> Result<Place, AllocError>
+    ensures { IfOk result (λ p. place_of p ≡ selected (place_of place) (selector_of selector)) }
+{
+    let Place { base, selectors } = place;
+    let selectors = appended(selectors, selector)?;
+    Ok(Place { base, selectors })
+}
+
+/// An operator on two integers (6.7.2.2).
+#[tactic(auto, using(crate::proofs::ChainLemmas::calculated_on, crate::proofs::ChainLemmas::calculated_begun))]
+pub(crate) fn calculated(
+    alloc: Global,
+    operator: ArithmeticOperator,
+    line: Line,
+    first: Expr,
+    operand: Expr,
+) -> Result<Expr, AllocError>
+    ensures { IfOk result (λ e. expr_of e ≡ calculated operator line.number (expr_of first) (expr_of operand)) }
+{
+    let step = ArithmeticStep {
+        operator,
+        operand,
+        line,
+    };
+    match first {
+        Expr::Arithmetic { first, steps } => {
+            let steps = appended(steps, step)?;
+            Ok(Expr::Arithmetic { first, steps })
+        }
+        first => {
+            let (first, steps) = chain(alloc, first, step)?;
+            Ok(Expr::Arithmetic { first, steps })
+        }
+    }
+}
+
+/// A chain of one operator on two Boolean operands.
+#[tactic(auto, using(crate::proofs::ChainLemmas::begun_is))]
+fn begun(
+    alloc: Global,
+    operator: BooleanOperator,
+    first: Expr,
+    operand: Expr,
+) -> Result<Expr, AllocError>
+    ensures { IfOk result (λ e. expr_of e ≡ begun operator (expr_of first) (expr_of operand)) }
+{
+    let (first, rest) = chain(alloc, first, operand)?;
+    Ok(Expr::Logic {
+        operator,
+        first,
+        rest,
+    })
+}
+
+/// An operator on two Boolean operands (6.7.2.3).
+#[tactic(auto, using(crate::proofs::ChainLemmas::connected_on, crate::proofs::ChainLemmas::connected_other, crate::proofs::ChainLemmas::connected_begun))]
+pub(crate) fn connected(
+    alloc: Global,
+    operator: BooleanOperator,
+    first: Expr,
+    operand: Expr,
+) -> Result<Expr, AllocError>
+    ensures { IfOk result (λ e. expr_of e ≡ connected operator (expr_of first) (expr_of operand)) }
+{
+    match first {
+        Expr::Logic {
+            operator: before,
+            first,
+            rest,
+        } => {
+            if before == operator {
+                let rest = appended(rest, operand)?;
+                Ok(Expr::Logic {
+                    operator,
+                    first,
+                    rest,
+                })
+            } else {
+                let first = Expr::Logic {
+                    operator: before,
+                    first,
+                    rest,
+                };
+                begun(alloc, operator, first, operand)
+            }
+        }
+        first => begun(alloc, operator, first, operand),
+    }
+}
+
+/// An operator on two sets (6.7.2.4).
+#[tactic(auto, using(crate::proofs::ChainLemmas::combined_on, crate::proofs::ChainLemmas::combined_begun))]
+pub(crate) fn combined(
+    alloc: Global,
+    operator: SetOperator,
+    first: SetExpr,
+    operand: SetExpr,
+) -> Result<SetExpr, AllocError>
+    ensures { IfOk result (λ e. set_of e ≡ combined operator (set_of first) (set_of operand)) }
+{
+    let step = SetStep { operator, operand };
+    match first {
+        SetExpr::Combine { first, steps } => {
+            let steps = appended(steps, step)?;
+            Ok(SetExpr::Combine { first, steps })
+        }
+        first => {
+            let (first, steps) = chain(alloc, first, step)?;
+            Ok(SetExpr::Combine { first, steps })
+        }
+    }
+}

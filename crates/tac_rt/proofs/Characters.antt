@@ -1,0 +1,123 @@
+-- Characters are read as the meaning says.
+use Rattle.std.proofs.Common.{◌≡◌, ℕ, ◌+◌, ℤ, pos, negsuc, Bool, true, false, not, nat_eq, if◌then◌else◌, List, [], ◌∷◌, ◌++◌, slice_get, Some, refl, sym, ap, ◌∙◌, subst, arith}
+use Rattle.tac_code.specs.declared.code.Block.{Block}
+use Rattle.tac_code.specs.declared.code.Value.TheVariants.{Number, Address}
+use Rattle.tac_code.specs.declared.code.Operand.TheVariants as operand
+use Rattle.tac_code.specs.declared.code.Relation.TheVariants.{Equal, NotEqual}
+use Rattle.tac_code.specs.declared.code.TacRoutine.{TacRoutine}
+use Rattle.tac_code.specs.Memory.{Memory, load, store, with_word}
+use Rattle.tac_code.specs.Meaning.{Temporaries, put, Tape, State, text_at, related}
+use Rattle.tac_steps.specs.Runs.{Machine, Comes}
+use Rattle.tac_steps.proofs.Runs.{one_step, a_step, leads_then, ◌>>◌}
+use Rattle.ps_meaning.specs.Text.{Input, next_of, taken_from, look_marks}
+use Rattle.tac_rt.specs.declared.reading.TheConstants.{READ_CHARACTER}
+use Rattle.tac_rt.specs.Bodies.{routine_of}
+use Rattle.tac_rt.specs.Calls.{HasRoutines, IsFresh, back}
+use Rattle.tac_rt.specs.Inputs.{first_or_end, ahead, begun, tape_of}
+use Rattle.tac_rt.specs.Laws.{Renewed, character_or_end, ReadsCharacters}
+use Rattle.tac_rt.proofs.Blocks.{stored}
+use Rattle.tac_rt.proofs.Inside.{here_at, enters, returns, literal, compares, loads, stores_word, branches, passes, takes_byte, takes_end}
+use Rattle.tac_rt.proofs.Strings.{append_nothing}
+
+abbrev routine : TacRoutine
+routine = routine_of 1 4 READ_CHARACTER
+
+module _ (m : Machine) (s : State) (has : HasRoutines m) (to line : ℕ) (block : Block) (offset : ℕ) (fresh : IsFresh s.count s.memory) where
+  abbrev at_place : ℕ → Temporaries → Memory → Tape → State
+  at_place = here_at m s 14 routine has refl to line
+
+  abbrev start : Temporaries
+  start u = slice_get (Address block offset ∷ []) u
+
+  abbrev holding : ℤ → Temporaries
+  holding z = put start 1 (Number z)
+
+  here : offset + 0 ≡ offset
+  here = omega arith
+
+  reads : (z : ℤ) (tape : Tape) → load (text_at m.code) s.memory block offset ≡ Some (Number z) → Comes m (at_place 0 start s.memory tape) (at_place 1 (holding z) s.memory tape)
+  reads z tape l = loads m s 14 routine has refl to line 0 start s.memory tape 1 0 0 block offset (Number z) refl refl fresh (ap (load (text_at m.code) s.memory block) here ∙ l)
+
+  is_taken : (left : List ℕ) → related NotEqual (Some (Number (first_or_end left))) (Some (Number (negsuc 1))) ≡ Some true
+  is_taken [] = refl
+  is_taken (b ∷ rest) = refl
+
+  -- at place 3: what stands next is known, and is taken
+  gives_it : (left : List ℕ) (in_line : Bool) (t : Temporaries) (memory : Memory) (tape : Tape) → t 0 ≡ Some (Address block offset) → t 1 ≡ Some (Number (first_or_end left)) → load (text_at m.code) s.memory block (offset + 4) ≡ Some (Number (if in_line then pos 1 else pos 0)) → Renewed s.memory block offset (taken_from left) memory → Comes m (at_place 3 t s.memory tape) (back s to (Number (character_or_end (next_of left in_line))) memory tape)
+  gives_it [] in_line t memory tape a n l w =
+      let f : IsFresh s.count w.middle = (stored s.count s.memory (λ words. with_word words offset (Number (negsuc 0))) w.middle fresh block w.first).fresh in
+      let t1 : Temporaries = put t 2 (Number (if in_line then pos 1 else pos 0)) in
+      let t2 : Temporaries = put t1 3 (Number (pos 0)) in
+      branches m s 14 routine has refl to line 3 t s.memory tape Equal 1 (operand.Number (negsuc 0)) 7 refl (ap (λ v. related Equal v (Some (Number (negsuc 0)))) n)
+      >> loads m s 14 routine has refl to line 11 t s.memory tape 2 0 4 block offset (Number (if in_line then pos 1 else pos 0)) refl a fresh l
+      >> stores_word m s 14 routine has refl to line 12 t1 s.memory tape 0 0 1 block offset (Number (negsuc 0)) w.middle refl a n fresh (ap (λ o. store s.memory block o (Number (negsuc 0))) here ∙ w.first)
+      >> literal m s 14 routine has refl to line 13 t1 w.middle tape 3 (pos 0) refl
+      >> stores_word m s 14 routine has refl to line 14 t2 w.middle tape 0 4 3 block offset (Number (pos 0)) memory refl a refl f w.second
+      >> last in_line n
+    where
+      last : (q : Bool) → t 1 ≡ Some (Number (negsuc 0)) → Comes m (at_place 15 (put (put t 2 (Number (if q then pos 1 else pos 0))) 3 (Number (pos 0))) memory tape) (back s to (Number (character_or_end (next_of [] q))) memory tape)
+      last true e =
+          passes m s 14 routine has refl to line 15 (put (put t 2 (Number (pos 1))) 3 (Number (pos 0))) memory tape Equal 2 (operand.Number (pos 0)) 1 refl refl
+          >> literal m s 14 routine has refl to line 16 (put (put t 2 (Number (pos 1))) 3 (Number (pos 0))) memory tape 1 (pos 32) refl
+          >> a_step _ _ (returns m s 14 routine has refl to line 17 (put (put (put t 2 (Number (pos 1))) 3 (Number (pos 0))) 1 (Number (pos 32))) memory tape 1 (Number (pos 32)) refl refl)
+      last false e =
+          branches m s 14 routine has refl to line 15 (put (put t 2 (Number (pos 0))) 3 (Number (pos 0))) memory tape Equal 2 (operand.Number (pos 0)) 1 refl refl
+          >> a_step _ _ (returns m s 14 routine has refl to line 17 (put (put t 2 (Number (pos 0))) 3 (Number (pos 0))) memory tape 1 (Number (negsuc 0)) refl e)
+  gives_it (b ∷ rest) in_line t memory tape a n l w =
+      let f : IsFresh s.count w.middle = (stored s.count s.memory (λ words. with_word words offset (Number (negsuc 1))) w.middle fresh block w.first).fresh in
+      let t1 : Temporaries = put t 2 (Number (negsuc 1)) in
+      passes m s 14 routine has refl to line 3 t s.memory tape Equal 1 (operand.Number (negsuc 0)) 7 refl (ap (λ v. related Equal v (Some (Number (negsuc 0)))) n)
+      >> literal m s 14 routine has refl to line 4 t s.memory tape 2 (negsuc 1) refl
+      >> stores_word m s 14 routine has refl to line 5 t1 s.memory tape 0 0 2 block offset (Number (negsuc 1)) w.middle refl a refl fresh (ap (λ o. store s.memory block o (Number (negsuc 1))) here ∙ w.first)
+      >> go w.middle f (nat_eq b 10) refl w.second
+    where
+      go : (middle : Memory) → IsFresh s.count middle → (q : Bool) → nat_eq b 10 ≡ q → store middle block (offset + 4) (Number (if not (nat_eq b 10) then pos 1 else pos 0)) ≡ Some memory → Comes m (at_place 6 (put t 2 (Number (negsuc 1))) middle tape) (back s to (Number (pos (if nat_eq b 10 then 32 else b))) memory tape)
+      go middle f true e g =
+          let t2 : Temporaries = put (put t 2 (Number (negsuc 1))) 2 (Number (pos 0)) in
+          subst (λ q. Comes m (at_place 6 (put t 2 (Number (negsuc 1))) middle tape) (back s to (Number (pos (if q then 32 else b))) memory tape)) (sym e)
+          (compares m s 14 routine has refl to line 6 (put t 2 (Number (negsuc 1))) middle tape NotEqual 2 1 (operand.Number (pos 10)) false refl (ap (λ v. related NotEqual v (Some (Number (pos 10)))) n ∙ ap (λ q. Some (not q)) e)
+          >> stores_word m s 14 routine has refl to line 7 t2 middle tape 0 4 2 block offset (Number (pos 0)) memory refl a refl f (ap (λ q. store middle block (offset + 4) (Number (if not q then pos 1 else pos 0))) (sym e) ∙ g)
+          >> passes m s 14 routine has refl to line 8 t2 memory tape NotEqual 1 (operand.Number (pos 10)) 1 refl (ap (λ v. related NotEqual v (Some (Number (pos 10)))) n ∙ ap (λ q. Some (not q)) e)
+          >> literal m s 14 routine has refl to line 9 t2 memory tape 1 (pos 32) refl
+          >> a_step _ _ (returns m s 14 routine has refl to line 10 (put t2 1 (Number (pos 32))) memory tape 1 (Number (pos 32)) refl refl))
+      go middle f false e g =
+          let t2 : Temporaries = put (put t 2 (Number (negsuc 1))) 2 (Number (pos 1)) in
+          subst (λ q. Comes m (at_place 6 (put t 2 (Number (negsuc 1))) middle tape) (back s to (Number (pos (if q then 32 else b))) memory tape)) (sym e)
+          (compares m s 14 routine has refl to line 6 (put t 2 (Number (negsuc 1))) middle tape NotEqual 2 1 (operand.Number (pos 10)) true refl (ap (λ v. related NotEqual v (Some (Number (pos 10)))) n ∙ ap (λ q. Some (not q)) e)
+          >> stores_word m s 14 routine has refl to line 7 t2 middle tape 0 4 2 block offset (Number (pos 1)) memory refl a refl f (ap (λ q. store middle block (offset + 4) (Number (if not q then pos 1 else pos 0))) (sym e) ∙ g)
+          >> branches m s 14 routine has refl to line 8 t2 memory tape NotEqual 1 (operand.Number (pos 10)) 1 refl (ap (λ v. related NotEqual v (Some (Number (pos 10)))) n ∙ ap (λ q. Some (not q)) e)
+          >> a_step _ _ (returns m s 14 routine has refl to line 10 t2 memory tape 1 (Number (pos b)) refl n))
+
+  takes_it : (left : List ℕ) (looked in_line : Bool) (memory : Memory) (transcript : List ℕ) → let i : Input = record { left = left; looked = looked; in_line = in_line } in load (text_at m.code) s.memory block offset ≡ Some (Number (ahead i)) → load (text_at m.code) s.memory block (offset + 4) ≡ Some (Number (begun i)) → Renewed s.memory block offset (taken_from left) memory → Comes m (at_place 0 start s.memory (tape_of i transcript)) (back s to (Number (character_or_end (next_of left in_line))) memory (tape_of (taken_from left) (transcript ++ look_marks i)))
+  takes_it [] true in_line memory transcript l g w =
+      let tape : Tape = tape_of (record { left = []; looked = true; in_line = in_line }) transcript in
+      reads (negsuc 0) tape l
+      >> branches m s 14 routine has refl to line 1 (holding (negsuc 0)) s.memory tape NotEqual 1 (operand.Number (negsuc 1)) 1 refl refl
+      >> subst (λ x. Comes m (at_place 3 (holding (negsuc 0)) s.memory tape) (back s to (Number (character_or_end (next_of [] in_line))) memory (record tape { transcript = x }))) (append_nothing transcript)
+      (gives_it [] in_line (holding (negsuc 0)) memory tape refl refl g w)
+  takes_it (b ∷ rest) true in_line memory transcript l g w =
+      let tape : Tape = tape_of (record { left = b ∷ rest; looked = true; in_line = in_line }) transcript in
+      reads (pos b) tape l
+      >> branches m s 14 routine has refl to line 1 (holding (pos b)) s.memory tape NotEqual 1 (operand.Number (negsuc 1)) 1 refl refl
+      >> subst (λ x. Comes m (at_place 3 (holding (pos b)) s.memory tape) (back s to (Number (character_or_end (next_of (b ∷ rest) in_line))) memory (record tape { transcript = x }))) (append_nothing transcript)
+      (gives_it (b ∷ rest) in_line (holding (pos b)) memory tape refl refl g w)
+  takes_it [] false in_line memory transcript l g w =
+      let tape : Tape = tape_of (record { left = []; looked = false; in_line = in_line }) transcript in
+      reads (negsuc 1) tape l
+      >> passes m s 14 routine has refl to line 1 (holding (negsuc 1)) s.memory tape NotEqual 1 (operand.Number (negsuc 1)) 1 refl refl
+      >> takes_end m s 14 routine has refl to line 2 (holding (negsuc 1)) s.memory tape 1 refl refl
+      >> gives_it [] in_line (put (holding (negsuc 1)) 1 (Number (negsuc 0))) memory _ refl refl g w
+  takes_it (b ∷ rest) false in_line memory transcript l g w =
+      let tape : Tape = tape_of (record { left = b ∷ rest; looked = false; in_line = in_line }) transcript in
+      reads (negsuc 1) tape l
+      >> passes m s 14 routine has refl to line 1 (holding (negsuc 1)) s.memory tape NotEqual 1 (operand.Number (negsuc 1)) 1 refl refl
+      >> takes_byte m s 14 routine has refl to line 2 (holding (negsuc 1)) s.memory tape 1 b rest refl refl
+      >> gives_it (b ∷ rest) in_line (put (holding (negsuc 1)) 1 (Number (pos b))) memory _ refl refl g w
+
+pub reads_characters : ReadsCharacters
+reads_characters m s block offset i memory has fresh h tape w = record {
+  by = λ to line operands at e.
+      leads_then (one_step s _ (enters m s 14 routine has refl to line operands (Address block offset ∷ []) at e refl refl refl))
+      (subst (λ x. Comes m (here_at m s 14 routine has refl to line 0 (λ u. slice_get (Address block offset ∷ []) u) s.memory x) (back s to (Number (character_or_end (next_of i.left i.in_line))) memory (tape_of (taken_from i.left) (s.tape.transcript ++ look_marks i)))) (sym tape)
+      (takes_it m s has to line block offset fresh i.left i.looked i.in_line memory s.tape.transcript h.ahead h.begun w));
+}
