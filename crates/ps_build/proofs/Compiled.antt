@@ -40,6 +40,8 @@ use Rattle.ps_build.specs.Refusals.{of_parse, of_rule, of_check, OnlyNotYet, Onl
 use Rattle.ps_build.specs.Accepts.{IsParsed, Accepts, IsProgramOf, HasNoTokens, HasNoTree, HasNoProgram, most_words, IsRefused, IsFaulty, IsNotAccepted}
 use Rattle.ps_build.proofs.Meant.{Only, only, shown_by, shown}
 use Rattle.risc_load.specs.Shows.{frame_bytes, object_bytes, trap_rows, image_shows, IsBudget}
+use Rattle.risc_runs.specs.Outcome.{image_outcome}
+use Rattle.risc_runs.proofs.Same.{without_calls}
 use Rattle.ps_build.specs.Headline.{DoesAsMeant, Compiles}
 use Rattle.ps_build.proofs.Simulation.{AreBytes, outcome_bytes, outcome_word, length_program, program_writes}
 
@@ -142,10 +144,10 @@ module _ (checked : Tree.Program) (line : ℕ) (bytes : List ℕ) (compiled : co
     reached true e zero = let x = ended 0 in (x.0, x.1, x.2 ∙ ap end_shown e)
     reached small e (suc n) = let x = ended (suc n) in (x.0, x.1, x.2 ∙ ap end_shown e)
 
-    same_run : Same (run_within checked (frame_bytes image) (object_bytes image) stack heap input) (image_shows image heap stack input)
+    same_run : Same (run_within checked (frame_bytes image) (object_bytes image) stack heap input) (image_outcome image heap stack input)
     same_run n =
         let x = reached (nat_lt stack 4) refl n in
-        (x.0, x.1, x.2 ∙ sym (shown checked line bytes one_block (frame_bytes image) (object_bytes image) stack heap input n))
+        (x.0, x.1, without_calls image refl heap stack input x.0 ∙ x.2 ∙ sym (shown checked line bytes one_block (frame_bytes image) (object_bytes image) stack heap input n))
 
   pub does_as_meant : DoesAsMeant checked image
   does_as_meant = record { routines = sym routine_count; types = sym type_count; bounded = bounds; same = λ heap stack budget input are_bytes. same_run heap stack budget input }

@@ -9,3 +9,4 @@ pub mod Appending
 pub mod Bytes
 pub mod Meant
 pub mod Unbudgeted
+pub mod Made

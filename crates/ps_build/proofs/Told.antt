@@ -1,5 +1,5 @@
 -- An outcome tells what the machine's run over plain lists came to.
-use Rattle.std.proofs.Common.{◌≡◌, ℕ, zero, suc, ◌+◌, ◌*◌, ◌%◌, ◌≤◌, Bool, true, false, cond, List, [], ◌∷◌, ◌++◌, length, arith, Some, None, refl, sym, ap, ◌∙◌, subst}
+use Rattle.std.proofs.Common.{◌≡◌, ℕ, zero, suc, ◌+◌, ◌*◌, ◌%◌, ◌≤◌, Bool, true, false, cond, List, [], ◌∷◌, ◌++◌, length, arith, Option, Some, None, refl, sym, ap, ◌∙◌, subst}
 use Rattle.std.specs.Prelude.{nat_lt, nat_eq, ◌==◌, ◌||◌, not}
 use Rattle.risc_load.specs.Refusal.{budget_fault}
 use Rattle.risc_load.specs.declared.budget.LoadRefusal.TheVariants.{BudgetUneven, BudgetTooLarge}
@@ -8,7 +8,7 @@ use Rattle.risc_machine.specs.declared.stop.Stop.{Stop}
 use Rattle.risc_machine.specs.declared.stop.Stop.TheVariants as m
 use Rattle.risc_machine.specs.Console.{World}
 use Rattle.risc_machine.specs.Step.{State}
-use Rattle.risc_machine.specs.Exec.{Halt, Running, Stopped, Faulted, fresh, exec, fault_kind, ending_of}
+use Rattle.risc_machine.specs.Exec.{Halt, Running, Stopped, Faulted, fresh, exec, row_at, trap_ending, fault_kind}
 use Rattle.risc_machine.specs.Laws.{stop_at, Ended, FollowsExec, Counts}
 use Rattle.risc_image.specs.Image.{Image}
 use Rattle.risc_load.specs.declared.budget.Budget.{Budget}
@@ -16,16 +16,27 @@ use Rattle.risc_load.specs.Loaded.{loaded_state}
 use Rattle.ps_build.specs.declared.outcome.Outcome.{Outcome}
 use Rattle.ps_build.specs.declared.outcome.Outcome.TheVariants.{Normal, Error, Stack, Heap, Steps, InputFault, OutputFault, Fault}
 use Rattle.risc_load.specs.Shows.{trap_rows, IsBudget}
+use Rattle.risc_runs.specs.Outcome.{calls_at, ending_of}
 use Rattle.ps_build.specs.Devices.{AsksInput, AsksOutput}
 use Rattle.ps_build.specs.Runs.{outcome_told, IsToldBy, Ends, Breaks, Tells, CountsFaults, Runs}
 use Rattle.ps_build.proofs.Asked.{Asked, Left, Shows}
 
+-- an outcome leaves the open calls out
+without_calls : (row : Option (ℕ × ℕ × ℕ)) (calls : List ℕ) → outcome_told (trap_ending row calls) ≡ outcome_told (trap_ending row [])
+without_calls None calls = refl
+without_calls (Some row) calls = by_number (nat_eq row.1 12) (nat_eq row.1 13)
+  where
+    by_number : (stack heap : Bool) → outcome_told (cond stack (ending.Stack row.2) (cond heap (ending.Heap row.2) (ending.failed row.1 row.2 calls))) ≡ outcome_told (cond stack (ending.Stack row.2) (cond heap (ending.Heap row.2) (ending.failed row.1 row.2 [])))
+    by_number true heap = refl
+    by_number false true = refl
+    by_number false false = refl
+
 -- the outcome of the stop that a halt is tells the halt's ending
-told_by : (traps : List (ℕ × ℕ × ℕ)) (h : Halt) (outcome : Outcome) → IsToldBy traps (stop_at h) outcome → outcome_told (ending_of traps h) ≡ Some outcome
-told_by traps Running outcome e = ap Some (sym e)
-told_by traps (Stopped zero at) outcome e = ap Some (sym e)
-told_by traps (Stopped (suc k) at) outcome e = e
-told_by traps (Faulted kind) outcome e = e
+told_by : (image : Image) (h : Halt) (outcome : Outcome) → IsToldBy (trap_rows image) (stop_at h) outcome → outcome_told (ending_of image h) ≡ Some outcome
+told_by image Running outcome e = ap Some (sym e)
+told_by image (Stopped zero at) outcome e = ap Some (sym e)
+told_by image (Stopped (suc k) at) outcome e = without_calls (row_at (suc k) (trap_rows image)) (calls_at image at) ∙ e
+told_by image (Faulted kind) outcome e = e
 
 -- a fault of a device is no ending
 no_input : (e : ending.Ending) → outcome_told e ≡ Some InputFault → ⊥
@@ -75,8 +86,8 @@ module _ (image : Image) (budget : Budget) (n : ℕ) (left : State) (old new : W
   ended : (stop : Stop) (input before : List ℕ) → IsToldBy (trap_rows image) stop outcome → Ended n (loaded image budget) left (fresh input) before new stop → Left n (loaded image budget) (fresh input) new → Tells outcome image budget n input before new
   ended stop input before told e rest =
       let h = (exec n (loaded image budget) (fresh input)).1 in
-      let told_end = told_by (trap_rows image) h outcome (subst (λ s. IsToldBy (trap_rows image) s outcome) e.ending told) in
-      tells_end outcome (ending_of (trap_rows image) h) image budget n input before new told_end (record {
+      let told_end = told_by image h outcome (subst (λ s. IsToldBy (trap_rows image) s outcome) e.ending told) in
+      tells_end outcome (ending_of image h) image budget n input before new told_end (record {
         moved = record { written = e.output; left = rest };
         ending = told_end;
       })
@@ -86,7 +97,7 @@ module _ (image : Image) (budget : Budget) (n : ℕ) (left : State) (old new : W
       record {
         steps = b.steps;
         fewer = b.fewer;
-        running = ap (ending_of (trap_rows image)) b.running;
+        running = ap (ending_of image) b.running;
         asking = b.asking;
         moved = record { written = b.output; left = b.left };
       }

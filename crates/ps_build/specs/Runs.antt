@@ -19,7 +19,8 @@ use Rattle.ps_build.specs.declared.refusal.Refusal.{Refusal}
 use Rattle.ps_build.specs.declared.refusal.Refusal.TheVariants.{OutOfMemory, Magic, Truncated, Trailing, TooLarge, BadTable, BudgetTooLarge, BudgetUneven}
 use Rattle.ps_build.specs.declared.outcome.Outcome.{Outcome}
 use Rattle.ps_build.specs.declared.outcome.Outcome.TheVariants.{Normal, Error, Stack, Heap, Steps, InputFault, OutputFault, Fault}
-use Rattle.risc_load.specs.Shows.{image_shows, IsBudget}
+use Rattle.risc_load.specs.Shows.{IsBudget}
+use Rattle.risc_runs.specs.Outcome.{image_outcome}
 use Rattle.ps_build.specs.Faults.{kind_told}
 use Rattle.ps_build.specs.Devices.{reached, AsksInput, AsksOutput}
 
@@ -39,20 +40,20 @@ stands_at image budget input steps = reached steps (loaded_state image budget) (
 
 -- after so many steps the console was given what the image shows, and has left what the image has not taken
 pub record Moved (image : Image) (budget : Budget) (input before : List ℕ) (steps : ℕ) (after : World) : Type 0 where
-  pub written : after.output ≡ Some (before ++ output (image_shows image budget.heap budget.stack input steps).0)
+  pub written : after.output ≡ Some (before ++ output (image_outcome image budget.heap budget.stack input steps).0)
   pub left : after.input ≡ Some (stands_at image budget input steps).1.input
 
 -- No device failed: the console is as the image leaves it after n steps, and the outcome tells how the image ends.
 pub record Ends (image : Image) (budget : Budget) (n : ℕ) (input before : List ℕ) (after : World) (outcome : Outcome) : Type 0 where
   pub moved : Moved image budget input before n after
-  pub ending : outcome_told (image_shows image budget.heap budget.stack input n).1 ≡ Some outcome
+  pub ending : outcome_told (image_outcome image budget.heap budget.stack input n).1 ≡ Some outcome
 
 -- A device failed: the console is as the image leaves it after some fewer steps, of which the next asks just that device. So nothing
 -- that was written before is held back or lost, and nothing was taken that the image had not asked for.
 pub record Breaks (Asks : State → Type 0) (image : Image) (budget : Budget) (n : ℕ) (input before : List ℕ) (after : World) : Type 0 where
   pub steps : ℕ
   pub fewer : steps < n
-  pub running : (image_shows image budget.heap budget.stack input steps).1 ≡ ending.More
+  pub running : (image_outcome image budget.heap budget.stack input steps).1 ≡ ending.More
   pub asking : Asks (stands_at image budget input steps).0
   pub moved : Moved image budget input before steps after
 

@@ -7,7 +7,7 @@ use Rattle.ps_tree.specs.declared.tree.Direction.TheVariants.{To, Downto}
 use Rattle.ps_tree.specs.declared.tree.ArithmeticOperator.TheVariants.{Add, Subtract}
 use Rattle.ps_tree.specs.declared.tree.Relation.TheVariants.{Less as IsLess, Greater as IsGreater, Equal as IsEqual}
 use Rattle.ps_tree.specs.Types.{DataType, OrdinalType, ArrayType}
-use Rattle.ps_tree.specs.Tree.{Place, Variable, Entry, Element, no_selector, selector_before, no_arithmetic_step, arithmetic_step_before, Expr, Number, Load, Arithmetic, Compare, Not, Call, CallFormal, ByValue, ByVariable, ByRoutine, no_argument, argument_before, GivenWidth, WriteInteger, Statement, Empty, Assign, CallProcedure, Compound, If, IfElse, Case, While, Repeat, For, Write, Writeln, Statements, no_statement, statement_before, no_element, element_before, no_formal, formal_before, ValueFormal, VariableFormal, RoutineFormal, Routine, Program}
+use Rattle.ps_tree.specs.Tree.{Place, Variable, Entry, Element, no_selector, selector_before, no_arithmetic_step, arithmetic_step_before, Expr, Number, Load, Arithmetic, Compare, Not, Call, CallFormal, ByValue, ByVariable, ByRoutine, no_argument, argument_before, GivenWidth, WriteInteger, Statement, Empty, Assign, CallProcedure, Compound, If, IfElse, Case, While, Repeat, For, Write, Writeln, Statements, no_statement, statement_before, no_element, element_before, no_formal, formal_before, ValueFormal, VariableFormal, RoutineFormal, Routine, Program, routine_at}
 use Rattle.ps_meaning.specs.Text.{digits}
 use Rattle.ps_meaning.specs.Run.{run_within}
 use Rattle.behavior.specs.Endings.{Normal, Error, Stack}
@@ -20,6 +20,7 @@ use Rattle.tac_code.specs.declared.code.Operator.TheVariants as operator
 use Rattle.tac_code.specs.declared.code.Instruction.TheVariants as i
 use Rattle.tac_code.specs.declared.code.TacRoutine.{TacRoutine}
 use Rattle.tac_code.specs.Run.{tac_run}
+use Rattle.ps_code.specs.Routines.{routine_code}
 use Rattle.ps_code.specs.Programs.{code_of}
 
 abbrev integer : Ordinal
@@ -98,6 +99,16 @@ counts_down_means = refl
 
 counts_down_runs : done counts_down 99 ≡ (51 ∷ 50 ∷ 49 ∷ 10 ∷ [], Normal)
 counts_down_runs = refl
+
+-- its code, which docs/LOWERING.md shows
+counts_down_code : routine_code counts_down (routine_at counts_down 0) ≡
+    i.Literal 0 (negsuc 1) ∷ i.Store base.Frame 8 0 ∷ i.Literal 0 (pos 0) ∷ i.Store base.Frame 12 0 ∷ i.Literal 0 (pos 0) ∷ i.Store base.Frame 4 0
+    ∷ i.Literal 2 (pos 3) ∷ i.Store base.Frame 4 2
+    ∷ i.Jump 6 ∷ i.Load 0 base.Frame 4 ∷ i.Literal 2 (pos 1) ∷ i.Call 0 11 (0 ∷ 2 ∷ []) 1
+    ∷ i.Load 2 base.Frame 4 ∷ i.Arithmetic operator.Subtract 2 2 (operand.Number (pos 1)) 1 4 ∷ i.Store base.Frame 4 2
+    ∷ i.Literal 0 (pos 0) ∷ i.Load 2 base.Frame 4 ∷ i.BranchBack relation.Less 0 (operand.Temporary 2) 8
+    ∷ i.Literal 0 (pos 10) ∷ i.Put 0 ∷ i.End ∷ []
+counts_down_code = refl
 
 -- for b := 1 to 3 do for a := b downto 1 do write(a); if not (a = b) then write(7) else write(8); case a of 5: ; 1, 2: write(9) end
 abbrev turns : Program

@@ -1,12 +1,13 @@
 -- What the lowering needs of a program: each part of the tree has the form that its place asks for.
 use Rattle.std.specs.Prelude.{◌≡◌, ℕ, ◌<◌, ℤ, pos, List, [], ◌∷◌, length, drop, Option, Some, None, IsTrue, int_le, ◌&&◌}
+use Rattle.std.specs.List.{All}
 use Rattle.ps_tree.specs.declared.tree.Range.{Range}
 use Rattle.ps_tree.specs.declared.tree.Range.TheVariants.{Any, Within}
 use Rattle.ps_tree.specs.declared.tree.RequiredFunction.{RequiredFunction}
 use Rattle.ps_tree.specs.declared.tree.RequiredFunction.TheVariants.{Succ, Pred}
 use Rattle.ps_tree.specs.Types.{DataType}
 use Rattle.ps_tree.specs.Sizes.{value_count}
-use Rattle.ps_tree.specs.Tree.{Place, Variable, PlaceBase, Entry, Opened, Selectors, no_selector, selector_before, ArithmeticSteps, no_arithmetic_step, arithmetic_step_before, Operands, no_operand, operand_before, Expr, Number, Nil, Load, Plus, Minus, Not, Arithmetic, Logic, Compare, Apply, Structure, Literal, Contents, Width, DefaultWidth, GivenWidth, WriteParameter, WriteInteger, WriteText, Statement, Empty, Assign, Compound, If, IfElse, Case, While, Repeat, For, Write, Writeln, Statements, no_statement, statement_before, Elements, no_element, element_before, routine_at}
+use Rattle.ps_tree.specs.Tree.{Place, Variable, PlaceBase, Entry, Opened, Selectors, no_selector, selector_before, ArithmeticSteps, no_arithmetic_step, arithmetic_step_before, Operands, no_operand, operand_before, Expr, Number, Nil, Load, Plus, Minus, Not, Arithmetic, Logic, Compare, Apply, Structure, Literal, Contents, Width, DefaultWidth, GivenWidth, WriteParameter, WriteInteger, WriteChar, WriteBoolean, WriteText, Statement, Empty, Assign, Compound, If, IfElse, Case, While, Repeat, For, Write, Writeln, Statements, no_statement, statement_before, Elements, no_element, element_before, routine_at}
 use Rattle.ps_meaning.specs.Expressions.{index_of}
 use Rattle.tac_code.specs.Numbers.{is_integer}
 use Rattle.ps_layout.specs.Shapes.{Shape, NumberShape, PointerShape, ByteShape, ArrayShape, shape_of, Part, Whole, Byte}
@@ -86,6 +87,7 @@ module _ (k : Scope) (os : List Shape) where
     ExprFits (Arithmetic e steps) sort = (sort ≡ NumberSort) × ExprFits e NumberSort × StepsFit steps
     ExprFits (Logic operator e rest) sort = (sort ≡ NumberSort) × ExprFits e NumberSort × OperandsFit rest
     ExprFits (Compare relation a b) sort = (sort ≡ NumberSort) × ExprFits a NumberSort × ExprFits b NumberSort
+    ExprFits (Apply function e line) sort = (sort ≡ NumberSort) × FunctionFits function × ExprFits e NumberSort
     ExprFits e sort = ⊥
 
     pub StepsFit : ArithmeticSteps → Type 0
@@ -100,13 +102,16 @@ module _ (k : Scope) (os : List Shape) where
   WidthFits DefaultWidth = Unit {0}
   WidthFits (GivenWidth e line) = ExprFits e NumberSort
 
+  -- a string's characters are bytes
   abbrev pub StructureFits : Structure → Type 0
-  StructureFits (Literal characters) = Unit {0}
+  StructureFits (Literal characters) = All (λ b. b < 256) characters × (length characters < 2147483648)
   StructureFits (Contents p type) = ⊥
 
   abbrev pub WriteFits : WriteParameter → Type 0
   WriteFits (WriteInteger e width) = ExprFits e NumberSort × WidthFits width
-  WriteFits p = ⊥
+  WriteFits (WriteChar e width) = ExprFits e NumberSort × WidthFits width
+  WriteFits (WriteBoolean e width) = ExprFits e NumberSort × WidthFits width
+  WriteFits (WriteText e width) = StructureFits e × WidthFits width
 
   abbrev pub WritesFit : List WriteParameter → Type 0
   WritesFit [] = Unit {0}
@@ -119,6 +124,7 @@ module _ (k : Scope) (os : List Shape) where
     StatementFits (Compound body) = StatementsFit body
     StatementFits (If e s) = ExprFits e NumberSort × StatementFits s
     StatementFits (IfElse e s t) = ExprFits e NumberSort × StatementFits s × StatementFits t
+    StatementFits (Case e elements line) = ExprFits e NumberSort × ElementsFit elements
     StatementFits (While e s) = ExprFits e NumberSort × StatementFits s
     StatementFits (Repeat body e) = StatementsFit body × ExprFits e NumberSort
     StatementFits (For variable low high a from_line direction b to_line s) = ((first : ℤ) × (kind_at k 0 variable ≡ Some (Own (NumberShape first)))) × ExprFits a NumberSort × ExprFits b NumberSort × StatementFits s

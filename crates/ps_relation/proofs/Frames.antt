@@ -1,17 +1,17 @@
 -- Frames of an environment, and their entries.
-use Rattle.std.proofs.Common.{◌≡◌, ℕ, zero, suc, ◌+◌, ◌*◌, ◌<◌, ◌≤◌, List, [], ◌∷◌, length, drop, get_or, slice_get, Option, Some, None, Bool, true, false, refl, sym, ap, ◌∙◌, subst, arith}
-use Rattle.ps_tree.specs.Tree.{Program, Routine, routine_at}
+use Rattle.std.proofs.Common.{◌≡◌, ℕ, zero, suc, ◌+◌, ◌<◌, List, [], ◌∷◌, length, drop, get_or, slice_get, Some, refl, sym, ap, ◌∙◌, subst, arith}
+use Rattle.ps_tree.specs.Tree.{Program, routine_at}
 use Rattle.tac_code.specs.declared.code.Block.{Block}
 use Rattle.tac_code.specs.declared.code.Block.TheVariants.{Frame as FrameBlock}
 use Rattle.tac_code.specs.declared.code.Value.{Value as Word}
 use Rattle.tac_code.specs.declared.code.Value.TheVariants.{Address}
-use Rattle.ps_meaning.specs.Values.{Spot, Declared, entire}
+use Rattle.ps_meaning.specs.Values.{Declared, entire}
 use Rattle.ps_meaning.specs.Worlds.{Env, Outside, Within, Frame, no_entry, variable_before, routine_before, above, frame_of, spot_in, routine_in, env_in}
 use Rattle.tac_steps.proofs.Pieces.{same_some, some_none}
-use Rattle.ps_layout.specs.Shapes.{Shape, Part, Whole}
-use Rattle.ps_layout.specs.Frames.{Kind, Own, Reference, Closure, Kinds, kind_words, places_from, is_program_block}
+use Rattle.ps_layout.specs.Shapes.{Whole}
+use Rattle.ps_layout.specs.Frames.{Kind, Own, Reference, Closure, kind_words, places_from, is_program_block}
 use Rattle.ps_code.specs.Fits.{tail}
-use Rattle.ps_relation.specs.Ghosts.{Slot, OwnSlot, ReferenceSlot, ClosureSlot, Ghost, slot_kind, slot_kinds, found, PlaceAt, FrameHere, RoutineHere, EnvAt, FrameAt}
+use Rattle.ps_relation.specs.Ghosts.{Slot, OwnSlot, ReferenceSlot, ClosureSlot, Ghost, slot_kind, slot_kinds, found, PlaceAt, RoutineHere, EnvAt, FrameAt}
 
 -- each entry has a place
 pub place_there : (ks : List Kind) (i n : ℕ) (kind : Kind) → slice_get ks i ≡ Some kind → slice_get (places_from n ks) i ≡ Some (get_or (places_from n ks) i 0)

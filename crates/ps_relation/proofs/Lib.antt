@@ -4,3 +4,5 @@ pub mod Memory
 pub mod Objects
 pub mod Spots
 pub mod Frames
+pub mod Functions
+pub mod Bytes

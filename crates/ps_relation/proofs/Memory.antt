@@ -1,23 +1,22 @@
 -- The machine's memory, read and written by the meaning's world.
 use Rattle.std.proofs.Common.{◌≡◌, ◌⊎◌, inl, inr, ℕ, zero, suc, ◌+◌, ◌*◌, ◌<◌, ◌≤◌, List, [], ◌∷◌, length, replicate, slice_get, Option, Some, None, Bool, true, false, nat_eq, if◌then◌else◌, refl, sym, ap, ◌∙◌, subst, arith, eqb-true}
-use Rattle.ps_tree.specs.Tree.{Program, Routine, routine_at}
+use Rattle.ps_tree.specs.Tree.{Program, routine_at}
 use Rattle.tac_code.specs.declared.code.Block.{Block}
-use Rattle.tac_code.specs.declared.code.Block.TheVariants.{Frame as FrameBlock, Object}
+use Rattle.tac_code.specs.declared.code.Block.TheVariants.{Frame as FrameBlock}
 use Rattle.tac_code.specs.declared.code.Value.{Value as Word}
-use Rattle.tac_code.specs.Memory.{Words, Living, Memory, Constants, known, word_at, with_word, living, changed, behind, instead, value_in, load, store, with_frames}
-use Rattle.ps_meaning.specs.Values.{Value, Declared, Made, Spot, part, with_part}
-use Rattle.ps_meaning.specs.Worlds.{World, at_name, with_root, with_contents, contents_in}
-use Rattle.tac_steps.specs.Splices.{spliced, Piece, placed, LieApart, ApartFrom, ArePlaced, with_words}
+use Rattle.tac_code.specs.Memory.{Words, Living, Memory, Constants, known, with_word, living, changed, behind, instead, value_in, load, store, with_frames}
+use Rattle.ps_meaning.specs.Values.{Value, part, with_part}
+use Rattle.ps_meaning.specs.Worlds.{World, at_name}
+use Rattle.tac_steps.specs.Splices.{spliced, Piece, placed, ApartFrom, ArePlaced, with_words}
 use Rattle.tac_steps.proofs.Temporaries.{eq_no, eq_same}
 use Rattle.tac_steps.proofs.Pieces.{same_some, some_none, placed_length, placed_reads, placed_writes}
 use Rattle.tac_steps.proofs.Blocks.{word_read, word_written}
-use Rattle.ps_layout.specs.Shapes.{Shape, word_count, Part, Whole}
+use Rattle.ps_layout.specs.Shapes.{Shape, word_count, Whole}
 use Rattle.ps_layout.specs.Words.{value_words}
-use Rattle.ps_layout.specs.Paths.{HasShape, PathIn}
-use Rattle.ps_layout.specs.Frames.{Kind, kind_words, entries, Layout, layout_of, places_from, words_of_all, is_program_block}
+use Rattle.ps_layout.specs.Paths.{HasShape}
+use Rattle.ps_layout.specs.Frames.{kind_words, entries, places_from, words_of_all, is_program_block}
 use Rattle.ps_layout.proofs.Counted.{counted}
 use Rattle.ps_relation.specs.Ghosts.{Slot, OwnSlot, ReferenceSlot, ClosureSlot, Ghost, slot_kind, slot_kinds, slot_words, first_piece, entry_pieces, layout_at, pieces, block_words, frames_of, found, SlotsFrom, Names, SlotFits, SlotsFit, GhostsFit, DeclaredAt}
-use Rattle.ps_relation.specs.Spans.{SpanIn}
 use Rattle.ps_relation.proofs.Spans.{span_in}
 
 -- ---- the pieces of a frame lie apart

@@ -1,5 +1,5 @@
 -- The operators of the meaning and of the code give the same.
-use Rattle.std.proofs.Common.{◌≡◌, ℕ, zero, suc, ◌+◌, ◌-◌, ◌*◌, ◌/◌, ◌%◌, ◌<◌, ◌≤◌, ℤ, pos, negsuc, ◌+ℤ◌, ◌-ℤ◌, ◌*ℤ◌, int_lt, int_le, int_div, unsigned_abs, Bool, true, false, not, ◌&&◌, nat_eq, nat_lt, nat_le, if◌then◌else◌, IsTrue, refl, sym, ap, ◌∙◌, subst, arith, lt-ltb, ltb-true, ltb-false, le-leb, leb-true, leb-false}
+use Rattle.std.proofs.Common.{◌≡◌, ℕ, zero, suc, ◌+◌, ◌-◌, ◌%◌, ◌<◌, ◌≤◌, ℤ, pos, negsuc, ◌+ℤ◌, ◌-ℤ◌, ◌*ℤ◌, int_lt, int_le, int_div, unsigned_abs, Bool, true, false, not, ◌&&◌, nat_lt, nat_le, if◌then◌else◌, IsTrue, refl, sym, ap, ◌∙◌, arith, lt-ltb, ltb-true, ltb-false, le-leb, leb-true}
 use Rattle.std.specs.Int.{int_rem_euclid}
 use Rattle.ps_tree.specs.declared.tree.ArithmeticOperator.{ArithmeticOperator}
 use Rattle.ps_tree.specs.declared.tree.ArithmeticOperator.TheVariants.{Add, Subtract, Multiply, Div, Mod}
@@ -15,7 +15,7 @@ use Rattle.tac_code.specs.declared.code.BitOperator.TheVariants.{Plus}
 use Rattle.ps_meaning.specs.Statements.{succeeding}
 use Rattle.ps_code.specs.Statements.{step_number}
 use Rattle.tac_steps.proofs.Temporaries.{eq_no}
-use Rattle.ps_code.specs.Scopes.{is_any, least, greatest}
+use Rattle.ps_code.specs.Scopes.{least, greatest}
 use Rattle.ps_code.specs.Values.{operator_of, relation_of, opposite}
 
 -- ---- tests

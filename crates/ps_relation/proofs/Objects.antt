@@ -1,8 +1,7 @@
 -- Objects: their words, read and written.
-use Rattle.std.proofs.Common.{◌≡◌, ℕ, zero, suc, ◌+◌, ◌*◌, ◌<◌, ◌≤◌, List, [], ◌∷◌, length, slice_get, get_or, set, Option, Some, None, refl, sym, ap, ◌∙◌, subst, arith}
+use Rattle.std.proofs.Common.{◌≡◌, ℕ, zero, suc, ◌+◌, ◌*◌, ◌<◌, List, [], ◌∷◌, slice_get, get_or, set, Option, Some, sym, ap, ◌∙◌, subst, arith}
 use Rattle.ps_tree.specs.Tree.{Program, domain_at}
 use Rattle.tac_code.specs.declared.code.Block.{Block}
-use Rattle.tac_code.specs.declared.code.Block.TheVariants.{Object}
 use Rattle.tac_code.specs.declared.code.Value.{Value as Word}
 use Rattle.tac_code.specs.Memory.{Words, Memory, Constants, known, word_at, with_word, value_in, changed_object, behind_object, instead_object, with_objects, load, store}
 use Rattle.ps_meaning.specs.Values.{Value, part, with_part}
@@ -10,7 +9,7 @@ use Rattle.ps_meaning.specs.Worlds.{World, unset}
 use Rattle.tac_steps.specs.Splices.{spliced}
 use Rattle.tac_steps.proofs.Pieces.{same_some, some_none}
 use Rattle.tac_steps.proofs.Blocks.{word_read, word_written}
-use Rattle.ps_layout.specs.Shapes.{Shape, shape_of, word_count, Part, Whole}
+use Rattle.ps_layout.specs.Shapes.{Shape, shape_of, word_count, Whole}
 use Rattle.ps_layout.specs.Words.{value_words}
 use Rattle.ps_layout.specs.Paths.{HasShape}
 use Rattle.ps_layout.proofs.Counted.{counted}

@@ -1,11 +1,11 @@
 -- Parts of variables are stretches of their words.
-use Rattle.std.proofs.Common.{◌≡◌, ℕ, zero, suc, ◌+◌, ◌*◌, ◌<◌, ◌≤◌, List, [], ◌∷◌, ◌++◌, length, slice_get, Option, Some, None, refl, sym, ap, ◌∙◌, subst, length-append, mul-le-mul_right, arith}
+use Rattle.std.proofs.Common.{◌≡◌, ℕ, zero, suc, ◌+◌, ◌*◌, ◌<◌, ◌≤◌, List, [], ◌∷◌, ◌++◌, length, slice_get, Some, refl, sym, ap, ◌∙◌, subst, mul-le-mul_right, arith}
 use Rattle.tac_code.specs.Memory.{Words}
-use Rattle.ps_meaning.specs.Values.{Value, OrdinalValue, NilValue, ObjectValue, SetValue, StructureValue, Values, no_value, value_before, nth, with_nth, values_from, components_of, component, part, with_part}
+use Rattle.ps_meaning.specs.Values.{Value, OrdinalValue, NilValue, ObjectValue, SetValue, StructureValue, Values, no_value, value_before, nth, with_nth, values_from, component, part, with_part}
 use Rattle.tac_steps.specs.Splices.{overlaid, spliced}
 use Rattle.tac_steps.proofs.Splices.{spliced_within}
 use Rattle.tac_steps.proofs.Pieces.{same_some, some_none}
-use Rattle.ps_layout.specs.Shapes.{Shape, NumberShape, PointerShape, SetShape, ByteShape, ArrayShape, RecordShape, Shapes, no_shape, shape_before, word_count, word_counts, byte_count, field_shape, words_before, Part, Whole, Byte}
+use Rattle.ps_layout.specs.Shapes.{Shape, NumberShape, PointerShape, SetShape, ByteShape, ArrayShape, RecordShape, Shapes, no_shape, shape_before, word_count, word_counts, field_shape, words_before, Whole, Byte}
 use Rattle.ps_layout.specs.Words.{each, value_words, field_words}
 use Rattle.ps_layout.specs.Paths.{PathIn, HasShape, HaveShape, HaveShapes}
 use Rattle.ps_layout.proofs.Counted.{counted}

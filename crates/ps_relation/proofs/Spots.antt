@@ -1,12 +1,12 @@
 -- Spots: a part of a variable or of an object at its address.
-use Rattle.std.proofs.Common.{◌≡◌, ℕ, ◌+◌, ◌*◌, ◌<◌, List, [], ◌∷◌, slice_get, Some, refl, ap, ◌∙◌, arith}
+use Rattle.std.proofs.Common.{◌≡◌, ℕ, ◌+◌, ◌*◌, ◌<◌, List, [], ◌∷◌, slice_get, Some, refl}
 use Rattle.ps_tree.specs.Tree.{Program}
 use Rattle.tac_code.specs.declared.code.Block.{Block}
 use Rattle.tac_code.specs.declared.code.Value.{Value as Word}
 use Rattle.tac_code.specs.Memory.{Living, Memory, Constants, known, load, store}
 use Rattle.ps_meaning.specs.Values.{Value, Root, Declared, Made, Spot}
 use Rattle.ps_meaning.specs.Worlds.{World, contents_in, with_contents}
-use Rattle.ps_layout.specs.Shapes.{Shape, word_count, Part, Whole}
+use Rattle.ps_layout.specs.Shapes.{Shape, word_count, Whole}
 use Rattle.ps_layout.specs.Words.{value_words}
 use Rattle.ps_layout.specs.Paths.{HasShape}
 use Rattle.ps_relation.specs.Ghosts.{Ghost, frames_of, objects_of, RootAt, PlaceAt, Holds}

@@ -1,7 +1,7 @@
 -- What stands behind the machine's memory: for each open activation the names of its variables, and what its words are.
 use Rattle.std.specs.Prelude.{◌≡◌, ℕ, suc, ◌+◌, ◌*◌, ◌<◌, ◌≤◌, ℤ, pos, negsuc, Bool, true, false, ◌&&◌, nat_eq, if◌then◌else◌, List, [], ◌∷◌, length, drop, replicate, slice_get, Option, Some, None}
 use Rattle.std.specs.List.{All}
-use Rattle.ps_tree.specs.Tree.{Program, Routine, routine_at, domain_at}
+use Rattle.ps_tree.specs.Tree.{Program, routine_at, domain_at}
 use Rattle.tac_code.specs.declared.code.Block.{Block}
 use Rattle.tac_code.specs.declared.code.Block.TheVariants.{Frame as FrameBlock, Object}
 use Rattle.tac_code.specs.declared.code.Value.{Value as Word}

@@ -1,5 +1,5 @@
 -- One activation that runs: what is fixed while it does, what changes, and the machine's state for both.
-use Rattle.std.specs.Prelude.{◌≡◌, ℕ, suc, ◌+◌, ◌*◌, ◌/◌, ◌<◌, ◌≤◌, List, [], ◌∷◌, ◌++◌, length, slice_get, get_or, Option, Some, None, sum_by}
+use Rattle.std.specs.Prelude.{◌≡◌, ℕ, ◌+◌, ◌*◌, ◌/◌, ◌<◌, List, [], ◌∷◌, ◌++◌, length, slice_get, get_or, Option, Some, sum_by}
 use Rattle.ps_tree.specs.Tree.{Program, routine_at}
 use Rattle.tac_code.specs.declared.code.Block.{Block}
 use Rattle.tac_code.specs.declared.code.Block.TheVariants.{Frame as FrameBlock, Scratch as ScratchBlock}
@@ -18,7 +18,7 @@ use Rattle.tac_steps.specs.Runs.{Machine}
 use Rattle.ps_layout.specs.Shapes.{Shape, Part, Whole}
 use Rattle.ps_layout.specs.Words.{pointer_word}
 use Rattle.ps_layout.specs.Paths.{Sort, NumberSort, PointerSort, HasSort}
-use Rattle.ps_code.specs.Scopes.{Site, Scope}
+use Rattle.ps_code.specs.Scopes.{Site}
 use Rattle.ps_code.specs.Routines.{routine_code}
 use Rattle.ps_code.specs.Programs.{scratch_in, code_of}
 use Rattle.ps_relation.specs.Ghosts.{Ghost, frames_of, objects_of, tape_of, PlaceAt, EnvAt, Holds}

@@ -1,6 +1,5 @@
 -- What the machine does, where the meaning has this answer.
-use Rattle.std.specs.Prelude.{◌≡◌, ℕ, suc, List}
-use Rattle.behavior.specs.Endings.{Ending}
+use Rattle.std.specs.Prelude.{ℕ}
 use Rattle.tac_code.specs.Meaning.{State}
 use Rattle.ps_meaning.specs.Worlds.{World, Answer, Gives, Ends}
 use Rattle.tac_steps.specs.Runs.{Machine, Comes, Stops}

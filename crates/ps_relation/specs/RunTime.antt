@@ -1,5 +1,6 @@
 -- What the lowering asks of the run-time routines.
-use Rattle.std.specs.Prelude.{◌≡◌, ℕ, ◌+◌, ◌<◌, ℤ, pos, IsTrue, List, [], ◌∷◌, length, slice_get, Some}
+use Rattle.std.specs.Prelude.{◌≡◌, ℕ, ◌+◌, ◌<◌, ◌%◌, ℤ, pos, unsigned_abs, IsTrue, List, [], ◌∷◌, length, slice_get, Some}
+use Rattle.std.specs.List.{All}
 use Rattle.tac_code.specs.declared.code.Block.{Block}
 use Rattle.tac_code.specs.declared.code.Value.TheVariants.{Number, Address}
 use Rattle.tac_code.specs.Numbers.{is_integer}
@@ -13,7 +14,8 @@ use Rattle.ps_relation.specs.Here.{Setting, machine_of, code_in}
 abbrev pub BytesAt : Setting → Memory → Block → ℕ → List ℕ → Type 0
 BytesAt p m b o text = (i byte : ℕ) → slice_get text i ≡ Some byte → load_byte (text_at (code_in p)) m b (o + i) ≡ Some byte
 
--- writes
+-- writes: an integer, a character by any integer that stands for it, a string
 pub record WritesDo (p : Setting) : Type 0 where
-  pub number : (x : ℤ) (width : ℕ) (memory : Memory) (tape : Tape) → IsTrue (is_integer x) → Does (machine_of p) 10 (Number x ∷ Number (pos width) ∷ []) memory tape (Number (pos 0)) memory (wrote tape (right_aligned width (integer_text x)))
-  pub string : (b : Block) (o : ℕ) (text : List ℕ) (width : ℕ) (memory : Memory) (tape : Tape) → BytesAt p memory b o text → Does (machine_of p) 12 (Address b o ∷ Number (pos (length text)) ∷ Number (pos width) ∷ []) memory tape (Number (pos 0)) memory (wrote tape (fitted width text))
+  pub number : (x : ℤ) (width : ℕ) (memory : Memory) (tape : Tape) → IsTrue (is_integer x) → width < 2147483648 → Does (machine_of p) 10 (Number x ∷ Number (pos width) ∷ []) memory tape (Number (pos 0)) memory (wrote tape (right_aligned width (integer_text x)))
+  pub character : (x : ℤ) (width : ℕ) (memory : Memory) (tape : Tape) → IsTrue (is_integer x) → width < 2147483648 → Does (machine_of p) 11 (Number x ∷ Number (pos width) ∷ []) memory tape (Number (pos 0)) memory (wrote tape (right_aligned width (unsigned_abs x % 256 ∷ [])))
+  pub string : (b : Block) (o : ℕ) (text : List ℕ) (width : ℕ) (memory : Memory) (tape : Tape) → BytesAt p memory b o text → All (λ byte. byte < 256) text → o + length text < 2147483648 → width < 2147483648 → Does (machine_of p) 12 (Address b o ∷ Number (pos (length text)) ∷ Number (pos width) ∷ []) memory tape (Number (pos 0)) memory (wrote tape (fitted width text))

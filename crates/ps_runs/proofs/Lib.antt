@@ -3,8 +3,13 @@ pub mod Places
 pub mod Kept
 pub mod Leaves
 pub mod Values
+pub mod Functions
+pub mod Expressions
 pub mod Checks
 pub mod Calls
 pub mod Writes
 pub mod Output
+pub mod Strings
 pub mod Statements
+pub mod Cases
+pub mod Execute

@@ -1,10 +1,10 @@
 -- The code of statements does what they mean.
-use Rattle.std.proofs.Common.{◌≡◌, ℕ, zero, suc, ◌+◌, ◌-◌, ◌*◌, ◌≤◌, ℤ, pos, Bool, true, false, not, if◌then◌else◌, IsTrue, List, [], ◌∷◌, ◌++◌, length, Option, Some, None, refl, sym, ap, ◌∙◌, subst, arith, append-nil}
+use Rattle.std.proofs.Common.{◌≡◌, ℕ, suc, ◌+◌, ◌-◌, ◌*◌, ◌≤◌, ℤ, pos, Bool, true, false, not, if◌then◌else◌, IsTrue, List, [], ◌∷◌, ◌++◌, length, Option, Some, None, refl, sym, ap, ◌∙◌, subst, arith, append-nil}
 use Rattle.ps_tree.specs.declared.tree.Range.{Range}
 use Rattle.ps_tree.specs.declared.tree.Range.TheVariants.{Any, Within}
 use Rattle.ps_tree.specs.declared.tree.Direction.{Direction}
 use Rattle.ps_tree.specs.declared.tree.Direction.TheVariants.{To, Downto}
-use Rattle.ps_tree.specs.Tree.{Variable, PlaceBase, no_selector, selector_before, Expr, Statement, Empty, Assign, AssignSet, AssignStructure, CallProcedure, CallFormalProcedure, Compound, If, IfElse, Case, While, Repeat, For, With, New, Pack, Unpack, Read, Readln, Write, Writeln, Statements, no_statement, statement_before}
+use Rattle.ps_tree.specs.Tree.{Variable, PlaceBase, no_selector, Expr, Statement, Assign, If, IfElse, While, Repeat, For, Writeln, Statements, no_statement, statement_before}
 use Rattle.tac_code.specs.declared.code.Value.{Value as Word}
 use Rattle.tac_code.specs.declared.code.Value.TheVariants.{Number as Numeral, Address, Routine as RoutineWord}
 use Rattle.tac_code.specs.declared.code.Operand.{Operand}
@@ -21,8 +21,7 @@ use Rattle.ps_meaning.specs.Values.{Value, OrdinalValue, Spot, number_of}
 use Rattle.ps_meaning.specs.Operators.{is_between, is_equal, is_true}
 use Rattle.ps_meaning.specs.Worlds.{spot_in, frame_of, contents_in, World, Answer, Gives, Ends, Act, Done, done, and_then, give, fault, put, with_contents, ◌>>◌}
 use Rattle.ps_meaning.specs.Expressions.{Caller, denoted, value, fitting}
-use Rattle.ps_meaning.specs.Calls.{call_routine, execute}
-use Rattle.ps_meaning.specs.Statements.{Task, Block, Again, Further, Next, succeeding, is_past, own_spot, act, acts, turn, perform}
+use Rattle.ps_meaning.specs.Statements.{Again, Further, Next, succeeding, is_past, own_spot, act, acts, turn}
 use Rattle.tac_steps.specs.Runs.{step_of, Stands, Leads, Comes}
 use Rattle.tac_steps.proofs.Runs.{split, join, stands_length, a_step, one_step, leads_comes}
 use Rattle.tac_steps.proofs.Pieces.{some_none}
@@ -49,10 +48,12 @@ use Rattle.ps_runs.proofs.Runs.{with_temporary, keeps_put, runs_word, outcome_af
 use Rattle.ps_runs.proofs.Places.{name_run, entry_there}
 use Rattle.ps_runs.proofs.Kept.{opened_kept, site_kept}
 use Rattle.ps_runs.proofs.Leaves.{fails_so}
-use Rattle.ps_runs.proofs.Values.{FrontIn, OperandIn, operand_runs, front_runs, expr_runs, related_opposite, known_is}
+use Rattle.ps_runs.proofs.Values.{FrontIn, OperandIn, operand_runs, related_opposite, known_is}
+use Rattle.ps_runs.proofs.Expressions.{front_runs, expr_runs}
 use Rattle.ps_runs.specs.Tasks.{Nothing, IsHeld, own_site, TurnStands, TaskStands, TaskFits, NextRuns}
 use Rattle.ps_runs.proofs.Checks.{check_runs, store_runs}
-use Rattle.ps_runs.proofs.Output.{write_integer_run}
+use Rattle.ps_runs.proofs.Output.{write_integer_run, write_char_run}
+use Rattle.ps_runs.proofs.Strings.{write_boolean_run, write_text_run}
 use Rattle.ps_relation.specs.RunTime.{WritesDo}
 use Rattle.ps_tree.specs.Tree.{WriteParameter, WriteInteger, WriteChar, WriteBoolean, WriteText}
 use Rattle.ps_meaning.specs.Worlds.{says, write_text}
@@ -129,7 +130,7 @@ module _ (p : Setting) (n : ℕ) (call : Caller) (next : Next) (c : Activated) (
   base_below a b base.Program l h = tt
   base_below a b (base.Temporary u) l h = omega (arith, l, h)
 
-  assign_run : (name : PlaceBase) (range : Range) (e : Expr) (line : ℕ) → StatementRuns (Assign (Variable name no_selector) range e line)
+  pub assign_run : (name : PlaceBase) (range : Range) (e : Expr) (line : ℕ) → StatementRuns (Assign (Variable name no_selector) range e line)
   assign_run name range e line d o w k pc pc' alive opened fits st =
       let code = code_of o in
       let ctx = context_in c o in
@@ -163,7 +164,7 @@ module _ (p : Setting) (n : ℕ) (call : Caller) (next : Next) (c : Activated) (
   if_not false x y w = refl
 
   -- a choice, as a test of its truth
-  if_run : (e : Expr) (s : Statement) → StatementRuns s → StatementRuns (If e s)
+  pub if_run : (e : Expr) (s : Statement) → StatementRuns s → StatementRuns (If e s)
   if_run e s rs d o w k pc pc' alive opened fits st =
       let code = code_of o in
       let ctx = context_in c o in
@@ -181,7 +182,7 @@ module _ (p : Setting) (n : ℕ) (call : Caller) (next : Next) (c : Activated) (
           let far = stands_length (code_in p) c.routine (suc m) (statement_code (code_of o) s d) pc' h.1 in
           record { work = k1; alive = alive1; keeps = keeps_refl d 0 w1 k1; comes = subst (λ z. Comes (machine_of p) (state p c w1 k1 m) (state p c w1 k1 z)) (sym far) (a_step (state p c w1 k1 m) (state p c w1 k1 (suc m + length (statement_code (code_of o) s d))) stepped); result = tt }
 
-  if_else_run : (e : Expr) (s t : Statement) → StatementRuns s → StatementRuns t → StatementRuns (IfElse e s t)
+  pub if_else_run : (e : Expr) (s t : Statement) → StatementRuns s → StatementRuns t → StatementRuns (IfElse e s t)
   if_else_run e s t rs rt d o w k pc pc' alive opened fits st =
       let code = code_of o in
       let ctx = context_in c o in
@@ -223,7 +224,7 @@ module _ (p : Setting) (n : ℕ) (call : Caller) (next : Next) (c : Activated) (
           runs_from p (suc n) c d 0 w1 w1 k1 k1 m (suc j) pc' (A t w1) Nothing (subst (λ z. Comes (machine_of p) (state p c w1 k1 m) (state p c w1 k1 z)) there (a_step (state p c w1 k1 m) (state p c w1 k1 (suc m + suc (length (statement_code (code_of o) s d)))) stepped)) (keeps_refl d 0 w1 k1) r2
 
   -- a `while` statement, from its test on
-  while_test : (e : Expr) (s : Statement) → StatementRuns s → (d : ℕ) (o : Opening) (w : World) (k : Work) (pc pc' : ℕ) → Alive p c w k → IsOpened p c w k d o → StatementFits (code_of o) o.shapes (While e s) → TaskStands p c o (Again (While e s)) d k pc pc' → Runs p (suc n) c d 0 w k pc pc' (act p.program (costs_in p) call next (While e s) (context_in c o) w) Nothing
+  pub while_test : (e : Expr) (s : Statement) → StatementRuns s → (d : ℕ) (o : Opening) (w : World) (k : Work) (pc pc' : ℕ) → Alive p c w k → IsOpened p c w k d o → StatementFits (code_of o) o.shapes (While e s) → TaskStands p c o (Again (While e s)) d k pc pc' → Runs p (suc n) c d 0 w k pc pc' (act p.program (costs_in p) call next (While e s) (context_in c o) w) Nothing
   while_test e s rs d o w k pc pc' alive opened fits st =
       let code = code_of o in
       let ctx = context_in c o in
@@ -244,7 +245,7 @@ module _ (p : Setting) (n : ℕ) (call : Caller) (next : Next) (c : Activated) (
       (sooner d 0 w1 k1 start pc (A w1) Nothing (rs d o w1 k1 start pc alive1 back fits.1 st.1))
       (λ u w2 k2 alive2 kept2 y2. nexts c active (Again (While e s)) d o w2 k2 pc pc' alive2 (opened_kept p c d 0 d w1 w2 k1 k2 o (omega arith) kept2 back) fits st)))
 
-  while_run : (e : Expr) (s : Statement) → StatementRuns s → StatementRuns (While e s)
+  pub while_run : (e : Expr) (s : Statement) → StatementRuns s → StatementRuns (While e s)
   while_run e s rs d o w k pc pc' alive opened fits st =
       let code = code_of o in
       let S = statement_code code s d in
@@ -256,7 +257,7 @@ module _ (p : Setting) (n : ℕ) (call : Caller) (next : Next) (c : Activated) (
       runs_from p (suc n) c d 0 w w k k pc cut2.0 pc' (act p.program (costs_in p) call next (While e s) (context_in c o) w) Nothing (subst (λ z. Comes (machine_of p) (state p c w k pc) (state p c w k z)) (sym ls) (a_step (state p c w k pc) (state p c w k (suc pc + length S)) (jump_step (machine_of p) (state p c w k pc) (length S) st.0))) (keeps_refl d 0 w k)
       (while_test e s rs d o w k cut2.0 pc' alive opened fits (suc pc, cut2.1, join (code_in p) c.routine cut2.0 F B cut.0 pc' cut2.2 cut.2))
 
-  repeat_run : (body : Statements) (e : Expr) → StatementsRun body → StatementRuns (Repeat body e)
+  pub repeat_run : (body : Statements) (e : Expr) → StatementsRun body → StatementRuns (Repeat body e)
   repeat_run body e rb d o w k pc pc' alive opened fits st =
       let code = code_of o in
       let ctx = context_in c o in
@@ -319,7 +320,7 @@ module _ (p : Setting) (n : ℕ) (call : Caller) (next : Next) (c : Activated) (
       nexts c active (Further variable direction last s) d o w1 k1 pc pc' alive1 (opened_kept p c d 0 d w w1 k k1 o (omega arith) (keeps_less d 0 t.depth 0 a (omega arith) kept1) opened) fits
       (record { start = t.start; depth = t.depth; t = t.t; limit = t.limit; above = t.above; free = t.free; limit_is = operand_kept t.depth 0 w w1 k k1 t.limit t.limit_held kept1 ∙ t.limit_is; limit_held = t.limit_held; step = t.step; body = t.body; test = t.test }))
 
-  turn_run : (variable : ℕ) (direction : Direction) (last : ℤ) (s : Statement) → StatementRuns s → (d : ℕ) (o : Opening) (w : World) (k : Work) (pc pc' : ℕ) → Alive p c w k → IsOpened p c w k d o → TaskFits p c o (Further variable direction last s) → TurnStands p c o variable direction last s d k pc pc'
+  pub turn_run : (variable : ℕ) (direction : Direction) (last : ℤ) (s : Statement) → StatementRuns s → (d : ℕ) (o : Opening) (w : World) (k : Work) (pc pc' : ℕ) → Alive p c w k → IsOpened p c w k d o → TaskFits p c o (Further variable direction last s) → TurnStands p c o variable direction last s d k pc pc'
       → Runs p (suc n) c d 0 w k pc pc' (turn p.program (costs_in p) call next variable direction last s (context_in c o) w) Nothing
   turn_run variable direction last s rs d o w k pc pc' alive opened fits t =
       let ctx = context_in c o in
@@ -414,7 +415,7 @@ module _ (p : Setting) (n : ℕ) (call : Caller) (next : Next) (c : Activated) (
   held_limit None t = omega arith
   held_limit (Some z) t = tt
 
-  for_run : (variable : ℕ) (low high : ℤ) (a : Expr) (fl : ℕ) (direction : Direction) (b : Expr) (tl : ℕ) (s : Statement) → StatementRuns s → StatementRuns (For variable low high a fl direction b tl s)
+  pub for_run : (variable : ℕ) (low high : ℤ) (a : Expr) (fl : ℕ) (direction : Direction) (b : Expr) (tl : ℕ) (s : Statement) → StatementRuns s → StatementRuns (For variable low high a fl direction b tl s)
   for_run variable low high a fl direction b tl s rs d o w k pc pc' alive opened fits st =
       let code = code_of o in
       let ctx = context_in c o in
@@ -485,11 +486,11 @@ module _ (p : Setting) (n : ℕ) (call : Caller) (next : Next) (c : Activated) (
 
   write_run : (q : WriteParameter) (d : ℕ) (o : Opening) (w : World) (k : Work) (pc pc' : ℕ) → Alive p c w k → IsOpened p c w k d o → WriteFits (code_of o) o.shapes q → Stands (code_in p) c.routine pc (write_code (code_of o) q d) pc' → Runs p (suc n) c d 0 w k pc pc' (write p.program (costs_in p) call next q (context_in c o) w) Nothing
   write_run (WriteInteger e width) d o w k pc pc' alive opened fits st = write_integer_run p n call next c active does e width d o w k pc pc' alive opened fits st
-  write_run (WriteChar e width) d o w k pc pc' alive opened fits st = absurd fits
-  write_run (WriteBoolean e width) d o w k pc pc' alive opened fits st = absurd fits
-  write_run (WriteText e width) d o w k pc pc' alive opened fits st = absurd fits
+  write_run (WriteChar e width) d o w k pc pc' alive opened fits st = write_char_run p n call next c active does e width d o w k pc pc' alive opened fits st
+  write_run (WriteBoolean e width) d o w k pc pc' alive opened fits st = write_boolean_run p n call next c active does e width d o w k pc pc' alive opened fits st
+  write_run (WriteText e width) d o w k pc pc' alive opened fits st = write_text_run p n call next c active does e width d o w k pc pc' alive opened fits st
 
-  writes_run : (ps : List WriteParameter) (d : ℕ) (o : Opening) (w : World) (k : Work) (pc pc' : ℕ) → Alive p c w k → IsOpened p c w k d o → WritesFit (code_of o) o.shapes ps → Stands (code_in p) c.routine pc (writes_code (code_of o) ps d) pc' → Runs p (suc n) c d 0 w k pc pc' (writes p.program (costs_in p) call next ps (context_in c o) w) Nothing
+  pub writes_run : (ps : List WriteParameter) (d : ℕ) (o : Opening) (w : World) (k : Work) (pc pc' : ℕ) → Alive p c w k → IsOpened p c w k d o → WritesFit (code_of o) o.shapes ps → Stands (code_in p) c.routine pc (writes_code (code_of o) ps d) pc' → Runs p (suc n) c d 0 w k pc pc' (writes p.program (costs_in p) call next ps (context_in c o) w) Nothing
   writes_run [] d o w k pc pc' alive opened fits st = here p (suc n) c d 0 w k pc pc' (Nothing done) st alive tt
   writes_run (q ∷ rest) d o w k pc pc' alive opened fits st =
       let ctx = context_in c o in
@@ -514,7 +515,7 @@ module _ (p : Setting) (n : ℕ) (call : Caller) (next : Next) (c : Activated) (
         result = tt;
       })
 
-  writeln_run : (ps : List WriteParameter) → StatementRuns (Writeln ps)
+  pub writeln_run : (ps : List WriteParameter) → StatementRuns (Writeln ps)
   writeln_run ps d o w k pc pc' alive opened fits st =
       let ctx = context_in c o in
       let cut = split (code_in p) c.routine pc (writes_code (code_of o) ps d) (i.Literal (even_from d) (pos 10) ∷ i.Put (even_from d) ∷ []) pc' st in
@@ -522,10 +523,10 @@ module _ (p : Setting) (n : ℕ) (call : Caller) (next : Next) (c : Activated) (
       (writes_run ps d o w k pc cut.0 alive opened fits cut.1)
       (λ u w1 k1 alive1 kept1 y. line_run d w1 k1 cut.0 pc' alive1 cut.2)
 
-  no_statements : StatementsRun no_statement
+  pub no_statements : StatementsRun no_statement
   no_statements d o w k pc pc' alive opened fits st = here p (suc n) c d 0 w k pc pc' (Nothing done) st alive tt
 
-  statements_then : (s : Statement) (rest : Statements) → StatementRuns s → StatementsRun rest → StatementsRun (statement_before s rest)
+  pub statements_then : (s : Statement) (rest : Statements) → StatementRuns s → StatementsRun rest → StatementsRun (statement_before s rest)
   statements_then s rest rs rr d o w k pc pc' alive opened fits st =
       let code = code_of o in
       let ctx = context_in c o in
@@ -533,64 +534,3 @@ module _ (p : Setting) (n : ℕ) (call : Caller) (next : Next) (c : Activated) (
       runs_bind p (suc n) c d 0 d 0 d 0 w k pc cut.0 pc' (act p.program (costs_in p) call next s ctx w) (λ u w1. acts p.program (costs_in p) call next rest ctx w1) Nothing Nothing (omega arith) (omega arith) (omega arith) (omega arith)
       (rs d o w k pc cut.0 alive opened fits.0 cut.1)
       (λ u w1 k1 alive1 kept1 y. rr d o w1 k1 cut.0 pc' alive1 (opened_kept p c d 0 d w w1 k k1 o (omega arith) kept1 opened) fits.1 cut.2)
-
-  mutual
-    pub statement_runs : (s : Statement) → StatementRuns s
-    statement_runs Empty = λ d o w k pc pc' alive opened fits st. here p (suc n) c d 0 w k pc pc' (Nothing done) st alive tt
-    statement_runs (Assign (Variable name no_selector) range e line) = assign_run name range e line
-    statement_runs (Assign (Variable name (selector_before s rest)) range e line) = λ d o w k pc pc' alive opened fits st. absurd fits.1.2
-    statement_runs (AssignSet q low high e line) = λ d o w k pc pc' alive opened fits st. absurd fits
-    statement_runs (AssignStructure q e) = λ d o w k pc pc' alive opened fits st. absurd fits
-    statement_runs (CallProcedure r up args line) = λ d o w k pc pc' alive opened fits st. absurd fits
-    statement_runs (CallFormalProcedure up index args line) = λ d o w k pc pc' alive opened fits st. absurd fits
-    statement_runs (Compound body) = λ d o w k pc pc' alive opened fits st. statements_run body d o w k pc pc' alive opened fits st
-    statement_runs (If e s) = if_run e s (statement_runs s)
-    statement_runs (IfElse e s t) = if_else_run e s t (statement_runs s) (statement_runs t)
-    statement_runs (Case e elements line) = λ d o w k pc pc' alive opened fits st. absurd fits
-    statement_runs (While e s) = while_run e s (statement_runs s)
-    statement_runs (Repeat body e) = repeat_run body e (statements_run body)
-    statement_runs (For v low high a fl dir b tl s) = for_run v low high a fl dir b tl s (statement_runs s)
-    statement_runs (With places s) = λ d o w k pc pc' alive opened fits st. absurd fits
-    statement_runs (New q pointer line) = λ d o w k pc pc' alive opened fits st. absurd fits
-    statement_runs (Pack q ft e line r tt') = λ d o w k pc pc' alive opened fits st. absurd fits
-    statement_runs (Unpack q ft r tt' e line) = λ d o w k pc pc' alive opened fits st. absurd fits
-    statement_runs (Read vs) = λ d o w k pc pc' alive opened fits st. absurd fits
-    statement_runs (Readln vs line) = λ d o w k pc pc' alive opened fits st. absurd fits
-    statement_runs (Write ps) = λ d o w k pc pc' alive opened fits st. writes_run ps d o w k pc pc' alive opened fits st
-    statement_runs (Writeln ps) = writeln_run ps
-
-    pub statements_run : (ss : Statements) → StatementsRun ss
-    statements_run no_statement = no_statements
-    statements_run (statement_before s rest) = statements_then s rest (statement_runs s) (statements_run rest)
-
-  -- a task, from where it goes on
-  task_run : (task : Task) (d : ℕ) (o : Opening) (w : World) (k : Work) (pc pc' : ℕ) → Alive p c w k → IsOpened p c w k d o → TaskFits p c o task → TaskStands p c o task d k pc pc' → Runs p (suc n) c d 0 w k pc pc' (perform p.program (costs_in p) call next task (context_in c o) w) Nothing
-  task_run (Block body) d o w k pc pc' alive opened fits st = statements_run body d o w k pc pc' alive opened fits st
-  task_run (Again (While e s)) d o w k pc pc' alive opened fits st = while_test e s (statement_runs s) d o w k pc pc' alive opened fits st
-  task_run (Again (Repeat body e)) d o w k pc pc' alive opened fits st = repeat_run body e (statements_run body) d o w k pc pc' alive opened fits st
-  task_run (Again (Empty)) d o w k pc pc' alive opened fits st = absurd st
-  task_run (Again (Assign q r e l)) d o w k pc pc' alive opened fits st = absurd st
-  task_run (Again (AssignSet q low high e l)) d o w k pc pc' alive opened fits st = absurd st
-  task_run (Again (AssignStructure q e)) d o w k pc pc' alive opened fits st = absurd st
-  task_run (Again (CallProcedure r up args l)) d o w k pc pc' alive opened fits st = absurd st
-  task_run (Again (CallFormalProcedure up index args l)) d o w k pc pc' alive opened fits st = absurd st
-  task_run (Again (Compound b)) d o w k pc pc' alive opened fits st = absurd st
-  task_run (Again (If e s)) d o w k pc pc' alive opened fits st = absurd st
-  task_run (Again (IfElse e s t)) d o w k pc pc' alive opened fits st = absurd st
-  task_run (Again (Case e els l)) d o w k pc pc' alive opened fits st = absurd st
-  task_run (Again (For v low high a fl dir b tl s)) d o w k pc pc' alive opened fits st = absurd st
-  task_run (Again (With ps s)) d o w k pc pc' alive opened fits st = absurd st
-  task_run (Again (New q pointer l)) d o w k pc pc' alive opened fits st = absurd st
-  task_run (Again (Pack q ft e l r tt')) d o w k pc pc' alive opened fits st = absurd st
-  task_run (Again (Unpack q ft r tt' e l)) d o w k pc pc' alive opened fits st = absurd st
-  task_run (Again (Read vs)) d o w k pc pc' alive opened fits st = absurd st
-  task_run (Again (Readln vs l)) d o w k pc pc' alive opened fits st = absurd st
-  task_run (Again (Write ps)) d o w k pc pc' alive opened fits st = absurd st
-  task_run (Again (Writeln ps)) d o w k pc pc' alive opened fits st = absurd st
-  task_run (Further v dir last s) d o w k pc pc' alive opened fits st = turn_run v dir last s (statement_runs s) d o w k pc pc' alive opened fits st
-
--- every task, with every fuel
-pub execute_runs : (p : Setting) → WritesDo p → (n : ℕ) → NextRuns p n (execute p.program (costs_in p) n)
-execute_runs p does zero c active task d o w k pc pc' alive opened fits st = record { by = (0, omega arith, refl) }
-execute_runs p does (suc n) c active task d o w k pc pc' alive opened fits st =
-    task_run p n (call_routine p.program (costs_in p) (execute p.program (costs_in p) n)) (execute p.program (costs_in p) n) c active (execute_runs p does n) does task d o w k pc pc' alive opened fits st

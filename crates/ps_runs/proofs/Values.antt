@@ -5,7 +5,7 @@ use Rattle.ps_tree.specs.declared.tree.ArithmeticOperator.TheVariants.{Subtract}
 use Rattle.ps_tree.specs.declared.tree.BooleanOperator.{BooleanOperator}
 use Rattle.ps_tree.specs.declared.tree.BooleanOperator.TheVariants.{And, Or}
 use Rattle.ps_tree.specs.declared.tree.Relation.{Relation as TreeRelation}
-use Rattle.ps_tree.specs.Tree.{Variable, PlaceBase, no_selector, selector_before, ArithmeticSteps, no_arithmetic_step, arithmetic_step_before, Operands, no_operand, operand_before, Expr, Number, Nil, Load, Plus, Minus, Not, Arithmetic, Logic, Compare, ComparePointers, CompareSets, CompareStrings, In, Apply, Eof, Eoln, Call, CallFormal}
+use Rattle.ps_tree.specs.Tree.{Variable, PlaceBase, no_selector, ArithmeticSteps, no_arithmetic_step, arithmetic_step_before, Operands, no_operand, operand_before, Expr, Number, Nil, Load, Plus, Minus, Not, Arithmetic, Logic, Compare, ComparePointers, CompareSets, CompareStrings, In, Apply, Eof, Eoln, Call, CallFormal}
 use Rattle.tac_code.specs.declared.code.Value.{Value as Word}
 use Rattle.tac_code.specs.declared.code.Value.TheVariants.{Number as Numeral, Address, Routine as RoutineWord}
 use Rattle.tac_code.specs.declared.code.Operator.TheVariants as operator
@@ -56,14 +56,14 @@ pub record FrontIn (e : Expr) (d : ℕ) (sort : Sort) (v : Value) (made : List �
   pub binary : is_truth e ≡ true → (b : Bool) × (number_of v ≡ truth b)
   pub binary_relation : is_relation e ≡ true → (b : Bool) × (number_of v ≡ truth b)
 
-false_true : {A : Type 0} → false ≡ true → A
+pub false_true : {A : Type 0} → false ≡ true → A
 false_true e = absurd (cc)
 
-true_false : {A : Type 0} → true ≡ false → A
+pub true_false : {A : Type 0} → true ≡ false → A
 true_false e = absurd (cc)
 
 -- a word in d, unlike 0 or not
-plain_front : (e : Expr) (d : ℕ) (sort : Sort) (v : Value) (made : List ℕ) (t : Temporaries) → is_relation e ≡ false → relation_in e ≡ NotEqual → left_in e d ≡ d → right_in e d ≡ operand.Number (pos 0) → t d ≡ Some (word_of sort v) → HasSort made v sort → (is_truth e ≡ true → (b : Bool) × (number_of v ≡ truth b)) → FrontIn e d sort v made t
+pub plain_front : (e : Expr) (d : ℕ) (sort : Sort) (v : Value) (made : List ℕ) (t : Temporaries) → is_relation e ≡ false → relation_in e ≡ NotEqual → left_in e d ≡ d → right_in e d ≡ operand.Number (pos 0) → t d ≡ Some (word_of sort v) → HasSort made v sort → (is_truth e ≡ true → (b : Bool) × (number_of v ≡ truth b)) → FrontIn e d sort v made t
 plain_front e d sort v made t plain relation left right at fits binary =
     record {
       fits = fits;
@@ -180,12 +180,12 @@ module _ (p : Setting) (n : ℕ) (call : Caller) (c : Activated) (active : IsAct
 
   -- ---- the constructs
 
-  number_front : (z : ℤ) → FrontRuns (Number z)
+  pub number_front : (z : ℤ) → FrontRuns (Number z)
   number_front z d x o w k pc pc' sort alive opened fits st =
       gives_word p n c d x w k pc pc' d (Numeral z) (λ w' k'. FrontIn (Number z) d sort (OrdinalValue z) w'.made k'.temporaries) (literal_step (machine_of p) (state p c w k pc) d z st.0) st.1 (omega arith) alive
       (plain_front (Number z) d sort (OrdinalValue z) w.made (with_temporary k d (Numeral z)).temporaries refl refl refl refl (put_same k.temporaries d (Numeral z) ∙ ap (λ s. Some (word_of s (OrdinalValue z))) (sym fits.0)) (subst (HasSort w.made (OrdinalValue z)) (sym fits.0) fits.1) (λ q. false_true q))
 
-  nil_front : FrontRuns Nil
+  pub nil_front : FrontRuns Nil
   nil_front d x o w k pc pc' sort alive opened fits st =
       gives_word p n c d x w k pc pc' d (Numeral (pos 0)) (λ w' k'. FrontIn Nil d sort NilValue w'.made k'.temporaries) (literal_step (machine_of p) (state p c w k pc) d (pos 0) st.0) st.1 (omega arith) alive
       (plain_front Nil d sort NilValue w.made (with_temporary k d (Numeral (pos 0))).temporaries refl refl refl refl (put_same k.temporaries d (Numeral (pos 0)) ∙ ap (λ s. Some (word_of s NilValue)) (sym fits.1)) (subst (HasSort w.made NilValue) (sym fits.1) tt) (λ q. false_true q))
@@ -199,7 +199,7 @@ module _ (p : Setting) (n : ℕ) (call : Caller) (c : Activated) (active : IsAct
   load_word (ArrayShape count shape) sort v made e h = absurd e
   load_word (RecordShape shapes) sort v made e h = absurd e
 
-  load_front : (name : PlaceBase) (d x : ℕ) (o : Opening) (w : World) (k : Work) (pc pc' : ℕ) (sort : Sort) (part : Part) → SortOf part sort → Alive p c w k → IsOpened p c w k d o → PlaceFits (scope_in p c o) o.shapes (Variable name no_selector) part → Stands (code_in p) c.routine pc (front_code (scope_in p c o) (Load (Variable name no_selector)) d x) pc'
+  pub load_front : (name : PlaceBase) (d x : ℕ) (o : Opening) (w : World) (k : Work) (pc pc' : ℕ) (sort : Sort) (part : Part) → SortOf part sort → Alive p c w k → IsOpened p c w k d o → PlaceFits (scope_in p c o) o.shapes (Variable name no_selector) part → Stands (code_in p) c.routine pc (front_code (scope_in p c o) (Load (Variable name no_selector)) d x) pc'
       → Runs p (suc n) c d x w k pc pc' (value call (Load (Variable name no_selector)) (context_in c o) w) (λ v w' k'. FrontIn (Load (Variable name no_selector)) d sort v w'.made k'.temporaries)
   load_front name d x o w k pc pc' sort part sorted alive opened fits st =
       let shape = fits.0 in
@@ -304,10 +304,10 @@ module _ (p : Setting) (n : ℕ) (call : Caller) (c : Activated) (active : IsAct
       (a x : ℕ) (o : Opening) (w : World) (k : Work) (pc pc' : ℕ) (z : ℤ) → Alive p c w k → IsOpened p c w k a o → StepsFit (scope_in p c o) o.shapes steps → k.temporaries a ≡ Some (Numeral z) → IsTrue (is_integer z) → Stands (code_in p) c.routine pc (steps_code (scope_in p c o) steps a x) pc'
       → Runs p (suc n) c a x w k pc pc' (computed call steps z (context_in c o) w) (λ v w' k'. WordIn k'.temporaries w'.made a NumberSort v)
 
-  no_steps : StepsRun no_arithmetic_step
+  pub no_steps : StepsRun no_arithmetic_step
   no_steps a x o w k pc pc' z alive opened fits at well st = here p (suc n) c a x w k pc pc' (λ w' k'. WordIn k'.temporaries w'.made a NumberSort (OrdinalValue z)) st alive (record { word = at; fits = well })
 
-  step_run : (op : ArithmeticOperator) (e : Expr) (line : ℕ) (rest : ArithmeticSteps) → FrontRuns e → StepsRun rest → StepsRun (arithmetic_step_before op e line rest)
+  pub step_run : (op : ArithmeticOperator) (e : Expr) (line : ℕ) (rest : ArithmeticSteps) → FrontRuns e → StepsRun rest → StepsRun (arithmetic_step_before op e line rest)
   step_run op e line rest front further a x o w k pc pc' z alive opened fits at well st =
       let t = even_from (suc a) in
       let l : suc a ≤ t = even_above (suc a) in
@@ -324,7 +324,7 @@ module _ (p : Setting) (n : ℕ) (call : Caller) (c : Activated) (active : IsAct
       let back = opened_kept p c a x a w w1 k k1 o (omega arith) (keeps_less a x t x (omega (arith, l)) (omega arith) kept1) opened in
       further a x o w2 k2 (suc cut.0) pc' (number_of u) alive2 (opened_kept p c a x a w1 w2 k1 k2 o (omega arith) kept2 back) fits.1 r2.word r2.fits cut.2.1))
 
-  arithmetic_front : (e : Expr) (steps : ArithmeticSteps) → FrontRuns e → StepsRun steps → FrontRuns (Arithmetic e steps)
+  pub arithmetic_front : (e : Expr) (steps : ArithmeticSteps) → FrontRuns e → StepsRun steps → FrontRuns (Arithmetic e steps)
   arithmetic_front e steps front further d x o w k pc pc' sort alive opened fits st =
       let a = kept (steps_call steps) d in
       let l : d ≤ a = kept_above (steps_call steps) d in
@@ -343,13 +343,13 @@ module _ (p : Setting) (n : ℕ) (call : Caller) (c : Activated) (active : IsAct
           reached_from p (suc n) c d x d x w w1 k r.work (state p c w k pc) (state p c w1 r.work mid) pc' (λ w' k'. WordIn k'.temporaries w'.made d NumberSort v) (λ w' k'. FrontIn (Arithmetic e steps) d sort v w'.made k'.temporaries) w1 (omega arith) (omega arith) r.comes (keeps_less d x a x l (omega arith) r.keeps) (moved_runs a d x w1 r.work mid pc' NumberSort v l r.alive r.result st) (λ k' a' y. g v w1 k' y)
       then_moved (Ends out en) a d x w k pc mid pc' l r st g = r
 
-  plus_front : (e : Expr) → FrontRuns e → FrontRuns (Plus e)
+  pub plus_front : (e : Expr) → FrontRuns e → FrontRuns (Plus e)
   plus_front e front d x o w k pc pc' sort alive opened fits st =
       runs_map p (suc n) c d x d x w k pc pc' (value call e (context_in c o) w) (λ v w' k'. WordIn k'.temporaries w'.made d NumberSort v) (λ v w' k'. FrontIn (Plus e) d sort v w'.made k'.temporaries) (omega arith) (omega arith)
       (expr_runs_from e front d x o w k pc pc' NumberSort alive opened fits.1 st)
       (λ v w' k' a' r. plain_front (Plus e) d sort v w'.made k'.temporaries refl refl refl refl (r.word ∙ ap (λ s. Some (word_of s v)) (sym fits.0)) (subst (HasSort w'.made v) (sym fits.0) r.fits) (λ q. false_true q))
 
-  minus_front : (e : Expr) (line : ℕ) → FrontRuns e → FrontRuns (Minus e line)
+  pub minus_front : (e : Expr) (line : ℕ) → FrontRuns e → FrontRuns (Minus e line)
   minus_front e line front d x o w k pc pc' sort alive opened fits st = go (negated e) refl st (λ h. whole h)
     where
       t : ℕ
@@ -385,7 +385,7 @@ module _ (p : Setting) (n : ℕ) (call : Caller) (c : Activated) (active : IsAct
           subst (λ a. Runs p (suc n) c d x w k pc pc' a R) (sym known_.gives_it)
           (gives_word p (suc n) c d x w k pc pc' d (Numeral z) (λ w' k'. R known_.v w' k') (literal_step (machine_of p) (state p c w k pc) d z h.0) h.1 (omega arith) alive (told known_.v w (with_temporary k d (Numeral z)) (put_same k.temporaries d (Numeral z) ∙ ap (λ y. Some (Numeral y)) (sym known_.is)) known_.fits))
 
-  not_front : (e : Expr) → FrontRuns e → FrontRuns (Not e)
+  pub not_front : (e : Expr) → FrontRuns e → FrontRuns (Not e)
   not_front e front d x o w k pc pc' sort alive opened fits st =
       runs_bind p (suc n) c d x d x d x w k pc pc' pc' (value call e (context_in c o) w) (λ y w1. Gives (OrdinalValue (truth (not (is_true (number_of y))))) w1) (λ y w' k'. FrontIn e d NumberSort y w'.made k'.temporaries) (λ v w' k'. FrontIn (Not e) d sort v w'.made k'.temporaries) (omega arith) (omega arith) (omega arith) (omega arith)
       (front d x o w k pc pc' NumberSort alive opened fits.1 st)
@@ -401,7 +401,7 @@ module _ (p : Setting) (n : ℕ) (call : Caller) (c : Activated) (active : IsAct
         binary_relation = λ q. (not b, refl);
       }))
 
-  compare_front : (r : TreeRelation) (a b : Expr) → FrontRuns a → FrontRuns b → FrontRuns (Compare r a b)
+  pub compare_front : (r : TreeRelation) (a b : Expr) → FrontRuns a → FrontRuns b → FrontRuns (Compare r a b)
   compare_front r a b fa fb d x o w k pc pc' sort alive opened fits st =
       let la = kept (expr_calls b) d in
       let l : d ≤ la = kept_above (expr_calls b) d in
@@ -447,10 +447,10 @@ module _ (p : Setting) (n : ℕ) (call : Caller) (c : Activated) (active : IsAct
       (a x : ℕ) (o : Opening) (w : World) (k : Work) (pc pc' : ℕ) (b : Bool) → Alive p c w k → IsOpened p c w k a o → OperandsFit (scope_in p c o) o.shapes rest → TruthIn a b k → Stands (code_in p) c.routine pc (operands_code (scope_in p c o) op rest a x) pc'
       → Runs p (suc n) c a x w k pc pc' (combined call op rest b (context_in c o) w) (λ v w' k'. WordIn k'.temporaries w'.made a NumberSort v × ((q : Bool) × (number_of v ≡ truth q)))
 
-  no_operands : (op : BooleanOperator) → OperandsRun op no_operand
+  pub no_operands : (op : BooleanOperator) → OperandsRun op no_operand
   no_operands op a x o w k pc pc' b alive opened fits at st = here p (suc n) c a x w k pc pc' (λ w' k'. WordIn k'.temporaries w'.made a NumberSort (OrdinalValue (truth b)) × ((q : Bool) × (truth b ≡ truth q))) st alive (record { word = at; fits = truth_integer b }, (b, refl))
 
-  operands_run : (op : BooleanOperator) (e : Expr) (rest : Operands) → FrontRuns e → OperandsRun op rest → OperandsRun op (operand_before e rest)
+  pub operands_run : (op : BooleanOperator) (e : Expr) (rest : Operands) → FrontRuns e → OperandsRun op rest → OperandsRun op (operand_before e rest)
   operands_run op e rest front further a x o w k pc pc' b alive opened fits at st =
       let t = even_from (suc a) in
       let l : suc a ≤ t = even_above (suc a) in
@@ -467,7 +467,7 @@ module _ (p : Setting) (n : ℕ) (call : Caller) (c : Activated) (active : IsAct
       (bits_step (machine_of p) (state p c w1 k1 cut.0) (bit_operator_of op) a a (operand.Temporary t) (truth b) (truth q) cut.2.0 same r1) refl (omega arith) alive1
       (λ alive2. further a x o w1 (with_temporary k1 a (Numeral z)) (suc cut.0) pc' (combine_truths op b q) alive2 (opened_kept p c a x a w1 w1 k1 (with_temporary k1 a (Numeral z)) o (omega arith) (keeps_put a x w1 k1 a (Numeral z) (omega arith)) back) fits.1 (put_same k1.temporaries a (Numeral z) ∙ ap (λ y. Some (Numeral y)) (bits_of_truths op b q)) cut.2.1))
 
-  logic_front : (op : BooleanOperator) (e : Expr) (rest : Operands) → FrontRuns e → OperandsRun op rest → FrontRuns (Logic op e rest)
+  pub logic_front : (op : BooleanOperator) (e : Expr) (rest : Operands) → FrontRuns e → OperandsRun op rest → FrontRuns (Logic op e rest)
   logic_front op e rest front further d x o w k pc pc' sort alive opened fits st =
       let a = kept (operands_call rest) d in
       let l : d ≤ a = kept_above (operands_call rest) d in
@@ -485,38 +485,3 @@ module _ (p : Setting) (n : ℕ) (call : Caller) (c : Activated) (active : IsAct
           reached_from p (suc n) c d x d x w w1 k r.work (state p c w k pc) (state p c w1 r.work mid) pc' (λ w' k'. WordIn k'.temporaries w'.made d NumberSort v) (λ w' k'. FrontIn (Logic op e rest) d sort v w'.made k'.temporaries) w1 (omega arith) (omega arith) r.comes (keeps_less d x a x l (omega arith) r.keeps) (moved_runs a d x w1 r.work mid pc' NumberSort v l r.alive r.result.0 st)
           (λ k' a' y. plain_front (Logic op e rest) d sort v w1.made k'.temporaries refl refl refl refl (y.word ∙ ap (λ s. Some (word_of s v)) (sym fits.0)) (subst (HasSort w1.made v) (sym fits.0) y.fits) (λ q. r.result.1))
       then_moved (Ends out en) a w k pc mid l r st = r
-
-  -- ---- all expressions
-
-  mutual
-    pub front_runs : (e : Expr) → FrontRuns e
-    front_runs (Number z) = number_front z
-    front_runs Nil = nil_front
-    front_runs (Load (Variable name no_selector)) = λ d x o w k pc pc' sort alive opened fits st. load_front name d x o w k pc pc' sort fits.0 fits.1 alive opened fits.2 st
-    front_runs (Load (Variable name (selector_before s rest))) = λ d x o w k pc pc' sort alive opened fits st. absurd fits.2.2
-    front_runs (Plus e) = plus_front e (front_runs e)
-    front_runs (Minus e line) = minus_front e line (front_runs e)
-    front_runs (Not e) = not_front e (front_runs e)
-    front_runs (Arithmetic e steps) = arithmetic_front e steps (front_runs e) (steps_run steps)
-    front_runs (Logic op e rest) = logic_front op e rest (front_runs e) (operands_runs op rest)
-    front_runs (Compare r a b) = compare_front r a b (front_runs a) (front_runs b)
-    front_runs (ComparePointers r a b) = λ d x o w k pc pc' sort alive opened fits st. absurd fits
-    front_runs (CompareSets r a b) = λ d x o w k pc pc' sort alive opened fits st. absurd fits
-    front_runs (CompareStrings r a b) = λ d x o w k pc pc' sort alive opened fits st. absurd fits
-    front_runs (In a b) = λ d x o w k pc pc' sort alive opened fits st. absurd fits
-    front_runs (Apply f e line) = λ d x o w k pc pc' sort alive opened fits st. absurd fits
-    front_runs Eof = λ d x o w k pc pc' sort alive opened fits st. absurd fits
-    front_runs (Eoln line) = λ d x o w k pc pc' sort alive opened fits st. absurd fits
-    front_runs (Call r up as_ line) = λ d x o w k pc pc' sort alive opened fits st. absurd fits
-    front_runs (CallFormal up index as_ line) = λ d x o w k pc pc' sort alive opened fits st. absurd fits
-
-    pub steps_run : (steps : ArithmeticSteps) → StepsRun steps
-    steps_run no_arithmetic_step = no_steps
-    steps_run (arithmetic_step_before op e line rest) = step_run op e line rest (front_runs e) (steps_run rest)
-
-    pub operands_runs : (op : BooleanOperator) (rest : Operands) → OperandsRun op rest
-    operands_runs op no_operand = no_operands op
-    operands_runs op (operand_before e rest) = operands_run op e rest (front_runs e) (operands_runs op rest)
-
-  pub expr_runs : (e : Expr) → ExprRuns e
-  expr_runs e = expr_runs_from e (front_runs e)

@@ -1,22 +1,22 @@
--- Writes of integers, by the law of their run-time routine.
-use Rattle.std.proofs.Common.{◌≡◌, ℕ, suc, ◌+◌, ◌<◌, ◌≤◌, ℤ, pos, IsTrue, List, [], ◌∷◌, length, Some, refl, sym, ap, ◌∙◌, subst, arith, append-nil}
+-- Calls of the run-time routines that only write.
+use Rattle.std.proofs.Common.{◌≡◌, ℕ, suc, ◌+◌, ◌<◌, ◌≤◌, ℤ, pos, List, [], ◌∷◌, length, Some, refl, sym, ap, ◌∙◌, subst, arith, append-nil}
 use Rattle.tac_code.specs.declared.code.Block.{Block}
 use Rattle.tac_code.specs.declared.code.Block.TheVariants.{Frame as FrameBlock, Scratch as ScratchBlock, Object as ObjectBlock, Constant as ConstantBlock}
 use Rattle.tac_code.specs.Memory.{Living}
 use Rattle.tac_code.specs.declared.code.Value.{Value as Word}
 use Rattle.tac_code.specs.declared.code.Value.TheVariants.{Number as Numeral, Address, Routine as RoutineWord}
 use Rattle.tac_code.specs.declared.code.Instruction.TheVariants as i
-use Rattle.tac_code.specs.Numbers.{is_integer}
 use Rattle.tac_code.specs.Meaning.{values_of, and_more, put}
-use Rattle.ps_meaning.specs.Text.{right_aligned, integer_text}
+use Rattle.ps_meaning.specs.Text.{fitted}
 use Rattle.ps_meaning.specs.Worlds.{World, says}
 use Rattle.tac_steps.specs.Runs.{Stands, Comes}
-use Rattle.tac_steps.specs.Routines.{AreBelow, Fresh, Does}
+use Rattle.tac_steps.specs.Routines.{AreBelow, Fresh, Does, wrote}
 use Rattle.tac_steps.proofs.Temporaries.{put_other}
 use Rattle.ps_relation.specs.Ghosts.{Ghost, Numbered, frames_of}
 use Rattle.ps_relation.specs.Here.{Setting, machine_of, code_in, Work, Activated, chain_of, IsActive, Alive, Below, state}
 use Rattle.ps_relation.specs.Outcomes.{Reached}
-use Rattle.ps_relation.specs.RunTime.{WritesDo}
+use Rattle.ps_relation.specs.RunTime.{BytesAt, WritesDo}
+use Rattle.ps_relation.proofs.Bytes.{AreBytes}
 use Rattle.ps_relation.proofs.Frames.{level}
 use Rattle.ps_runs.proofs.Calls.{found_below}
 
@@ -76,9 +76,22 @@ module _ (p : Setting) (c : Activated) (active : IsActive p c) where
         result = tt;
       }
 
-  -- an integer and its width in temporaries
-  pub integer_written : (does : WritesDo p) (d x : ℕ) (w : World) (k : Work) (pc pc' a b t line : ℕ) (z : ℤ) (width : ℕ) → d ≤ t → Alive p c w k → IsTrue (is_integer z) → k.temporaries a ≡ Some (Numeral z) → k.temporaries b ≡ Some (Numeral (pos width)) → Stands (code_in p) c.routine pc (i.Call t (length (code_in p).program + 10) (a ∷ b ∷ []) line ∷ []) pc'
-      → Reached p c d x w k (state p c w k pc) pc' (λ w' k'. Unit {0}) (says w (right_aligned width (integer_text z)))
-  integer_written does d x w k pc pc' a b t line z width l alive well ha hb st =
-      writes_so d x w k pc pc' t 10 line (a ∷ b ∷ []) (Numeral z ∷ Numeral (pos width) ∷ []) (Numeral (pos 0)) (right_aligned width (integer_text z)) l alive (does.number z width (state p c w k pc).memory (state p c w k pc).tape well)
+  -- a number and its width in temporaries
+  pub number_written : (d x : ℕ) (w : World) (k : Work) (pc pc' routine a b t line : ℕ) (z : ℤ) (width : ℕ) (bytes : List ℕ) → d ≤ t → Alive p c w k
+      → Does (machine_of p) routine (Numeral z ∷ Numeral (pos width) ∷ []) (state p c w k pc).memory (state p c w k pc).tape (Numeral (pos 0)) (state p c w k pc).memory (wrote (state p c w k pc).tape bytes)
+      → k.temporaries a ≡ Some (Numeral z) → k.temporaries b ≡ Some (Numeral (pos width)) → Stands (code_in p) c.routine pc (i.Call t (length (code_in p).program + routine) (a ∷ b ∷ []) line ∷ []) pc'
+      → Reached p c d x w k (state p c w k pc) pc' (λ w' k'. Unit {0}) (says w bytes)
+  number_written d x w k pc pc' routine a b t line z width bytes l alive law ha hb st =
+      writes_so d x w k pc pc' t routine line (a ∷ b ∷ []) (Numeral z ∷ Numeral (pos width) ∷ []) (Numeral (pos 0)) bytes l alive law
       (ap (λ v. and_more v (and_more (k.temporaries b) (Some []))) ha ∙ ap (λ v. and_more (Some (Numeral z)) (and_more v (Some []))) hb) st
+
+  -- the address of a string, its length and its width in temporaries
+  pub string_written : (does : WritesDo p) (d x : ℕ) (w : World) (k : Work) (pc pc' a b e t line : ℕ) (block : Block) (offset : ℕ) (text : List ℕ) (width : ℕ) → d ≤ t → Alive p c w k → BytesAt p (state p c w k pc).memory block offset text → AreBytes text → offset + length text < 2147483648 → width < 2147483648
+      → k.temporaries a ≡ Some (Address block offset) → k.temporaries b ≡ Some (Numeral (pos (length text))) → k.temporaries e ≡ Some (Numeral (pos width)) → Stands (code_in p) c.routine pc (i.Call t (length (code_in p).program + 12) (a ∷ b ∷ e ∷ []) line ∷ []) pc'
+      → Reached p c d x w k (state p c w k pc) pc' (λ w' k'. Unit {0}) (says w (fitted width text))
+  string_written does d x w k pc pc' a b e t line block offset text width l alive there bytes ends wide ha hb he st =
+      let address = Address block offset in
+      let count = Numeral (pos (length text)) in
+      let wanted = Numeral (pos width) in
+      writes_so d x w k pc pc' t 12 line (a ∷ b ∷ e ∷ []) (address ∷ count ∷ wanted ∷ []) (Numeral (pos 0)) (fitted width text) l alive (does.string block offset text width (state p c w k pc).memory (state p c w k pc).tape there bytes ends wide)
+      (ap (λ v. and_more v (and_more (k.temporaries b) (and_more (k.temporaries e) (Some [])))) ha ∙ ap (λ v. and_more (Some address) (and_more v (and_more (k.temporaries e) (Some [])))) hb ∙ ap (λ v. and_more (Some address) (and_more (Some count) (and_more v (Some [])))) he) st

@@ -4,7 +4,7 @@
 ghost use Rattle.ps_runs.specs.Tasks.{EveryFuel};
 
 /// With every fuel, the code of a block, of a loop again and of a further turn does what they mean.
-#[tactic(auto, using(crate::proofs::Statements::execute_runs))]
+#[tactic(auto, using(crate::proofs::Execute::execute_runs))]
 pub fn every_fuel()
     ensures { EveryFuel }
 {}

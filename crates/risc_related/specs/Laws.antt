@@ -122,7 +122,7 @@ abbrev pub WalkIsOpenCalls : Type 0
 WalkIsOpenCalls =
     (c : Context) → IsLaid c → (p : Places) → c.line 0 ≡ None → (n : ℕ) (s : State) (m : Machine) (f : ℕ)
     → Related c p s m f
-    → walk c.line n m.words (m.registers 14) ≡ take n (open_calls (length c.code.program) s.current s.callers)
+    → walk c.line c.size n m.words (m.registers 14) ≡ take n (open_calls (length c.code.program) s.current s.callers)
 
 -- the stack's budget is passed exactly where the new frame would begin below its base
 abbrev pub StackIsExact : Type 0

@@ -88,7 +88,7 @@ module _ (c : Context) (words : List ℕ) (b : Built c words) (p : Places) (s : 
       e14 : v.registers 14 ≡ f
       e14 = near.registers 14 (omega arith) (omega arith) ∙ related.stack
 
-      walks : (w : View) → ((q : ℕ) → q ≢ 15 → w.registers q ≡ v.registers q) → ((y : ℕ) → w.words y ≡ v.words y) → walk c.line 16 w.words (w.registers 14) ≡ take 16 (open_calls (length c.code.program) s.current s.callers)
+      walks : (w : View) → ((q : ℕ) → q ≢ 15 → w.registers q ≡ v.registers q) → ((y : ℕ) → w.words y ≡ v.words y) → walk c.line c.size 16 w.words (w.registers 14) ≡ take 16 (open_calls (length c.code.program) s.current s.callers)
       walks w regs mem =
           walk_near c words b p s m0 f w related (regs 14 (omega arith) ∙ near.registers 14 (omega arith) (omega arith)) (λ y. mem y ∙ near.words y)
 

@@ -45,9 +45,9 @@ pub told_first : (number line : ℕ) (calls : List ℕ) → ending_by number lin
 told_first number line calls =
     ap (λ l. cond (nat_eq number 12) (Stack line) (cond (nat_eq number 13) (Heap line) (Error number line l))) (sym (taken_twice 16 calls))
 
-link_told : (c : Context) (v : View) (w n : ℕ) → w ≡ suc n → told c w v ≡ trapped (c.trap w) (walk c.line 16 v.words (v.registers 14))
+link_told : (c : Context) (v : View) (w n : ℕ) → w ≡ suc n → told c w v ≡ trapped (c.trap w) (walk c.line c.size 16 v.words (v.registers 14))
 link_told c v w n e =
-    subst (λ w. told c w v ≡ trapped (c.trap w) (walk c.line 16 v.words (v.registers 14))) (sym e) refl
+    subst (λ w. told c w v ≡ trapped (c.trap w) (walk c.line c.size 16 v.words (v.registers 14))) (sym e) refl
 
 -- the ending of an error in a state
 abbrev pub failing : Context → State → ℕ → ℕ → Ending
@@ -249,7 +249,7 @@ module _ (c : Context) (words : List ℕ) (b : Built c words) where
       branch_passed words c.size fits condition true (Relative (distance v.place 1)) m v sh l.stands.0 e
 
   -- where the walk gives the open calls, an error is told with them
-  pub fails_walked : (s : State) (condition : Condition) (number line : ℕ) (ps : List Piece) (next : ℕ) (m : machine.State) (v : View) → walk c.line 16 v.words (v.registers 14) ≡ take 16 (open_calls (length c.code.program) s.current s.callers) → Shows words c.size m v → Left c words v.place (Fails condition number line ∷ ps) next → holds_view v condition ≡ true → Stops c words s m (failing c s number line)
+  pub fails_walked : (s : State) (condition : Condition) (number line : ℕ) (ps : List Piece) (next : ℕ) (m : machine.State) (v : View) → walk c.line c.size 16 v.words (v.registers 14) ≡ take 16 (open_calls (length c.code.program) s.current s.callers) → Shows words c.size m v → Left c words v.place (Fails condition number line ∷ ps) next → holds_view v condition ≡ true → Stops c words s m (failing c s number line)
   fails_walked s condition number line ps next m v walked sh l e =
       let goal = Relative (distance v.place 1) in
       let t1 = branch_taken words c.size fits condition true goal m v sh l.stands.0 e in
@@ -268,13 +268,13 @@ module _ (c : Context) (words : List ℕ) (b : Built c words) where
         at = st.at;
         view = at_view (v2.place + 1) v2;
         shows = st.shows;
-        is = told_first number line _ ∙ ap (ending_by number line) (sym walked) ∙ ap (λ o. trapped o (walk c.line 16 v.words (v.registers 14))) (sym row) ∙ sym (link_told c (at_view (v2.place + 1) v2) link (4 * v.place + 3) (omega arith));
+        is = told_first number line _ ∙ ap (ending_by number line) (sym walked) ∙ ap (λ o. trapped o (walk c.line c.size 16 v.words (v.registers 14))) (sym row) ∙ sym (link_told c (at_view (v2.place + 1) v2) link (4 * v.place + 3) (omega arith));
         by = λ k. let x = st.by k (tape_of s.tape) in let y = t2.runs x.0 (tape_of s.tape) in let z = t1.runs y.0 (tape_of s.tape) in (z.0, omega (arith, x.1, y.1, z.1), z.2 ∙ y.2 ∙ x.2);
       }
 
-  pub walk_near : (p : Places) (s : State) (m0 : Machine) (f : ℕ) (v : View) → Related c p s m0 f → v.registers 14 ≡ m0.registers 14 → ((a : ℕ) → v.words a ≡ m0.words a) → walk c.line 16 v.words (v.registers 14) ≡ take 16 (open_calls (length c.code.program) s.current s.callers)
+  pub walk_near : (p : Places) (s : State) (m0 : Machine) (f : ℕ) (v : View) → Related c p s m0 f → v.registers 14 ≡ m0.registers 14 → ((a : ℕ) → v.words a ≡ m0.words a) → walk c.line c.size 16 v.words (v.registers 14) ≡ take 16 (open_calls (length c.code.program) s.current s.callers)
   walk_near p s m0 f v h e14 same =
-      ap (walk c.line 16 v.words) e14 ∙ walk_same c.line 16 v.words m0.words (m0.registers 14) same ∙ walk_is c b.laid p b.stood.unlinked 16 s m0 f h
+      ap (walk c.line c.size 16 v.words) e14 ∙ walk_same c.line c.size 16 v.words m0.words (m0.registers 14) (λ a al top. same a) ∙ walk_is c b.laid p b.stood.unlinked 16 s m0 f h
 
   -- ---- ends
 

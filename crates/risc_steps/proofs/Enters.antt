@@ -29,7 +29,7 @@ use Rattle.risc_related.proofs.Calls.{related_enters}
 use Rattle.risc_related.proofs.Walk.{stack_exact}
 use Rattle.risc_steps.specs.Pieces.{Piece, Plain, Fails, Left}
 use Rattle.risc_steps.specs.Forms.{constant, parameters, frame_below, enter_form, join_form, is_entered, entry_form}
-use Rattle.risc_steps.specs.Follows.{machine_of, Built, Belongs, Comes, Stops, Follows}
+use Rattle.risc_steps.specs.Follows.{machine_of, Stood, Built, Belongs, Comes, Stops, Follows}
 use Rattle.risc_steps.proofs.Basics.{left_after, left_next, left_at}
 use Rattle.risc_steps.proofs.Runs.{Moved, step_to, constant_run}
 use Rattle.risc_steps.proofs.Comes.{left_whole, Arrives, come_to, arrive_to, arrive_way, arrive_here, stop_to, walk_near, fails_walked, fails_not}
@@ -53,14 +53,14 @@ lt_or_ge : (x y : ℕ) → (x < y) ⊎ (y ≤ x)
 lt_or_ge x y = grind arith
 
 -- a frame that begins below the base of the stack
-below_is : (f n base : ℕ) → int_lt (pos f -ℤ pos n) (pos base) ≡ nat_lt f (base + n)
+pub below_is : (f n base : ℕ) → int_lt (pos f -ℤ pos n) (pos base) ≡ nat_lt f (base + n)
 below_is f n base = go (lt_or_ge f (base + n))
   where
     go : (f < base + n) ⊎ (base + n ≤ f) → int_lt (pos f -ℤ pos n) (pos base) ≡ nat_lt f (base + n)
     go (inl lt) = less_true (pos f -ℤ pos n) (pos base) (omega (arith, ints, lt)) ∙ sym (is_lt f (base + n) lt)
     go (inr le) = less_false (pos f -ℤ pos n) (pos base) (omega (arith, ints, le)) ∙ sym (not_lt f (base + n) le)
 
-module _ (c : Context) (words : List ℕ) (b : Built c words) where
+module _ (c : Context) (words : List ℕ) (stood : Stood c words) where
   -- R12 takes the address n bytes below R14
   pub frame_run : (n f : ℕ) (ps : List Piece) (next : ℕ) (m : machine.State) (v : View) → Shows words c.size m v → v.registers 14 ≡ f → f < 16777216 → n < 16777216 → Left c words v.place (frame_below c 0 n ++ ps) next → (w : View) × (t : To words c.size m same_tape w) × (w.registers 12 ≡ word_of_int (pos f -ℤ pos n)) × Moved 12 v w × (w.place ≡ v.place + length (frame_below c 0 n))
   frame_run n f ps next m v sh e14 hf hn l = go (nat_lt n 65536) l
@@ -68,22 +68,23 @@ module _ (c : Context) (words : List ℕ) (b : Built c words) where
       go : (small : Bool) → Left c words v.place (cond small (Plain (word.Operate op.Sub 12 14 (Constant (pos n))) ∷ []) (constant 12 n ++ Plain (word.Operate op.Sub 12 14 (Content 12)) ∷ []) ++ ps) next → (w : View) × (t : To words c.size m same_tape w) × (w.registers 12 ≡ word_of_int (pos f -ℤ pos n)) × Moved 12 v w × (w.place ≡ v.place + length (cond small (Plain (word.Operate op.Sub 12 14 (Constant (pos n))) ∷ []) (constant 12 n ++ Plain (word.Operate op.Sub 12 14 (Content 12)) ∷ [])))
       go true l =
           let i = word.Operate op.Sub 12 14 (Constant (pos n)) in
-          (after i v, step_to c words b.stood i m v sh l.stands.0 tt, difference (v.registers 14) e14, record { registers = λ q ne. update_other v.registers 12 _ q ne; words = λ a. refl; high = refl }, refl)
+          (after i v, step_to c words stood i m v sh l.stands.0 tt, difference (v.registers 14) e14, record { registers = λ q ne. update_other v.registers 12 _ q ne; words = λ a. refl; high = refl }, refl)
         where
           difference : (x : ℕ) → x ≡ f → (x + 2 ^ 33 - word_of_int (pos n) - 0) % 2 ^ 32 ≡ word_of_int (pos f -ℤ pos n)
           difference x e = omega (arith, ints, e, hf, hn)
       go false l =
           let i = word.Operate op.Sub 12 14 (Content 12) in
-          let g = constant_run c words b.stood 12 n (Plain i ∷ ps) next m v sh (omega (arith, hn)) l in
+          let g = constant_run c words stood 12 n (Plain i ∷ ps) next m v sh (omega (arith, hn)) l in
           let v1 = g.view in
           let l1 = left_after c words v.place v1.place next (constant 12 n) (Plain i ∷ ps) l g.place in
-          let t2 = step_to c words b.stood i g.to.to v1 g.to.shows l1.stands.0 tt in
+          let t2 = step_to c words stood i g.to.to v1 g.to.shows l1.stands.0 tt in
           let v2 = after i v1 in
           (v2, to_join words c.size m same_tape same_tape v1 v2 g.to t2, difference (v1.registers 14) (v1.registers 12) (g.moved.registers 14 (omega arith) ∙ e14) g.value, record { registers = λ q ne. update_other v1.registers 12 _ q ne ∙ g.moved.registers q ne; words = g.moved.words; high = g.moved.high }, omega (arith, g.place))
         where
           difference : (x y : ℕ) → x ≡ f → y ≡ n → (x + 2 ^ 33 - y - 0) % 2 ^ 32 ≡ word_of_int (pos f -ℤ pos n)
           difference x y e e' = omega (arith, ints, e, e', hf, hn)
 
+module _ (c : Context) (words : List ℕ) (b : Built c words) where
   -- the test of the stack, up to the branch
   pub record Tested (n f : ℕ) (ps : List Piece) (next : ℕ) (m : machine.State) (v : View) : Type 0 where
     pub view : View
@@ -98,7 +99,7 @@ module _ (c : Context) (words : List ℕ) (b : Built c words) where
   test_run n f ps next m v sh e14 e13 lim hf hn l =
       let i2 = word.Load Word 0 13 (pos 268) in
       let i3 = word.Operate op.Sub 0 12 (Content 0) in
-      let g = frame_run n f (Plain i2 ∷ Plain i3 ∷ ps) next m v sh e14 hf hn l in
+      let g = frame_run c words b.stood n f (Plain i2 ∷ Plain i3 ∷ ps) next m v sh e14 hf hn l in
       let v1 = g.0 in
       let t1 = g.1 in
       let l1 = left_after c words v.place v1.place next (frame_below c 0 n) (Plain i2 ∷ Plain i3 ∷ ps) l g.4 in

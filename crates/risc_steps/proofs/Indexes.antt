@@ -32,10 +32,10 @@ use Rattle.risc_related.proofs.Basics.{update_same, update_other}
 use Rattle.risc_related.proofs.Steps.{home_read, value_near}
 use Rattle.risc_steps.specs.Pieces.{Piece, Plain, Left}
 use Rattle.risc_steps.specs.Forms as form
-use Rattle.risc_steps.specs.Forms.{is_small, constant, number, fetched, bring, target, save, right, right_operand, range_code, steps_code, base_address}
+use Rattle.risc_steps.specs.Forms.{is_small, exact, number, fetched, bring, target, save, right, right_operand, range_code, steps_code, base_address}
 use Rattle.risc_steps.specs.Follows.{machine_of, Built, Belongs, Follows}
 use Rattle.risc_steps.proofs.Basics.{left_after, left_next, is_read, writes_it, among_first, among_rest, integer_is}
-use Rattle.risc_steps.proofs.Runs.{Moved, step_to, constant_run, number_run, bring_run, right_run, fetched_not}
+use Rattle.risc_steps.proofs.Runs.{Moved, step_to, exact_run, number_run, bring_run, right_run, fetched_not}
 use Rattle.risc_steps.proofs.Comes.{framed, fetched_is, come_to, come_way, come_step, gives_end}
 use Rattle.risc_steps.proofs.Operands.{code, one_run}
 use Rattle.risc_steps.proofs.Memory.{innermost, ReadsBase, named_low}
@@ -110,7 +110,7 @@ module _ (c : Context) (words : List ℕ) (b : Built c words) (p : Places) (s : 
   width_run : (n : ℕ) (ps : List Piece) (next : ℕ) (m1 : machine.State) (w : View) → Shows words c.size m1 w → Left c words w.place (right c s.current.routine (operand.Number (pos n)) ++ ps) next → Width n (length (right c s.current.routine (operand.Number (pos n)))) m1 w
   width_run n ps next m1 w sh1 l = go (nat_lt n 65536) refl l
     where
-      go : (small : Bool) → nat_lt n 65536 ≡ small → Left c words w.place (cond small [] (constant 15 (word_of_int (pos n))) ++ ps) next → Width n (length (cond (nat_lt n 65536) [] (constant 15 (word_of_int (pos n))))) m1 w
+      go : (small : Bool) → nat_lt n 65536 ≡ small → Left c words w.place (cond small [] (exact 15 (word_of_int (pos n))) ++ ps) next → Width n (length (cond (nat_lt n 65536) [] (exact 15 (word_of_int (pos n))))) m1 w
       go true e l =
           let lt = ltb-true n 65536 e in
           record {
@@ -119,19 +119,19 @@ module _ (c : Context) (words : List ℕ) (b : Built c words) (p : Places) (s : 
             value = ap (λ t. operand_view w (cond t (Constant (pos n)) (Content 15))) e;
             low = omega (arith, ints, lt);
             moved = record { registers = λ q ne. refl; words = λ a. refl; high = refl };
-            place = let z = ap (λ t. length (cond t [] (constant 15 (word_of_int (pos n))))) e in omega (arith, z);
+            place = let z = ap (λ t. length (cond t [] (exact 15 (word_of_int (pos n))))) e in omega (arith, z);
           }
       go false e l =
           let half = ((l.stands.0).ranges).1 in
           let lt : word_of_int (pos n) < 4294967296 = by_half (word_of_int (pos n)) half in
-          let g = constant_run c words b.stood 15 (word_of_int (pos n)) ps next m1 w sh1 lt l in
+          let g = exact_run c words b.stood 15 (word_of_int (pos n)) ps next m1 w sh1 lt l in
           record {
             view = g.view;
             way = way_of words c.size m1 same_tape g.view g.to;
             value = ap (λ t. operand_view g.view (cond t (Constant (pos n)) (Content 15))) e ∙ g.value;
             low = lt;
             moved = g.moved;
-            place = g.place ∙ ap (λ t. w.place + length (cond t [] (constant 15 (word_of_int (pos n))))) (sym e);
+            place = g.place ∙ ap (λ t. w.place + length (cond t [] (exact 15 (word_of_int (pos n))))) (sym e);
           }
         where
           by_half : (x : ℕ) → x / 65536 < 65536 → x < 4294967296

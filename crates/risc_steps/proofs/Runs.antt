@@ -22,7 +22,7 @@ use Rattle.risc_related.specs.Related.{Machine, value_of}
 use Rattle.risc_related.specs.Changes.{update, Near, Settled}
 use Rattle.risc_related.proofs.Basics.{update_same, update_other}
 use Rattle.risc_steps.specs.Pieces.{Piece, Plain, Left}
-use Rattle.risc_steps.specs.Forms.{is_near, is_small, constant, number, load, store, fetch, fetched, bring, target, save, receive, right, right_operand}
+use Rattle.risc_steps.specs.Forms.{is_near, is_small, constant, exact, number, load, store, fetch, fetched, bring, target, save, receive, right, right_operand}
 use Rattle.risc_steps.specs.Follows.{machine_of, Stood}
 use Rattle.risc_steps.proofs.Basics.{left_after}
 
@@ -51,6 +51,32 @@ module _ (c : Context) (words : List ℕ) (stood : Stood c words) where
 
   pub constant_run : (d w : ℕ) (ps : List Piece) (next : ℕ) (m : machine.State) (v : View) → Shows words c.size m v → w < 4294967296 → Left c words v.place (constant d w ++ ps) next → Gets d w 2 m v
   constant_run d w ps next m v sh lt l =
+      let i1 = word.MoveTop d (w / 65536 % 65536) in
+      let i2 = word.Operate op.Add d d (Constant (pos (w % 65536))) in
+      let t1 = step_to i1 m v sh l.stands.0 tt in
+      let v1 = after i1 v in
+      let t2 = step_to i2 t1.to v1 t1.shows l.stands.2.0 tt in
+      let v2 = after i2 v1 in
+      let top : v1.registers d ≡ w / 65536 % 65536 * 65536 = update_same v.registers d _ in
+      record {
+        view = v2;
+        to = two m v1 v2 t1 t2;
+        value = update_same v1.registers d _ ∙ ap (λ x. (x + word_of_int (pos (w % 65536)) + 0) % 2 ^ 32) top ∙ sum w lt;
+        zero = ap (λ x. nat_eq x 0) (ap (λ x. (x + word_of_int (pos (w % 65536)) + 0) % 2 ^ 32) top ∙ sum w lt);
+        minus = ap (nat_le 2147483648) (ap (λ x. (x + word_of_int (pos (w % 65536)) + 0) % 2 ^ 32) top ∙ sum w lt);
+        moved = record {
+          registers = λ q ne. update_other v1.registers d _ q ne ∙ update_other v.registers d _ q ne;
+          words = λ a. refl;
+          high = refl;
+        };
+        place = omega arith;
+      }
+    where
+      sum : (w : ℕ) → w < 4294967296 → (w / 65536 % 65536 * 65536 + word_of_int (pos (w % 65536)) + 0) % 2 ^ 32 ≡ w
+      sum w lt = omega (arith, ints)
+
+  pub exact_run : (d w : ℕ) (ps : List Piece) (next : ℕ) (m : machine.State) (v : View) → Shows words c.size m v → w < 4294967296 → Left c words v.place (exact d w ++ ps) next → Gets d w 2 m v
+  exact_run d w ps next m v sh lt l =
       let i1 = word.MoveTop d (w / 65536) in
       let i2 = word.Operate op.Add d d (Constant (pos (w % 65536))) in
       let t1 = step_to i1 m v sh l.stands.0 tt in
@@ -313,23 +339,23 @@ module _ (c : Context) (words : List ℕ) (stood : Stood c words) (laid : IsLaid
       record { view = g.view; way = g.way; value = g.value; moved = g.moved; place = g.place }
   right_run (operand.Number z) ps next m v sh e14 is l = go (is_small z) refl l
     where
-      go : (small : Bool) → is_small z ≡ small → Left c words v.place (cond small [] (constant 15 (word_of_int z)) ++ ps) next → Rights (operand.Number z) (length (right c r (operand.Number z))) m v
+      go : (small : Bool) → is_small z ≡ small → Left c words v.place (cond small [] (exact 15 (word_of_int z)) ++ ps) next → Rights (operand.Number z) (length (right c r (operand.Number z))) m v
       go true e l =
           record {
             view = v;
             way = way_here words c.size m v sh;
             value = ap (λ s. operand_view v (cond s (Constant z) (Content 15))) e;
             moved = record { registers = λ q ne. refl; words = λ a. refl; high = refl };
-            place = let n = ap (λ s. length (cond s [] (constant 15 (word_of_int z)))) e in omega (arith, n);
+            place = let n = ap (λ s. length (cond s [] (exact 15 (word_of_int z)))) e in omega (arith, n);
           }
       go false e l =
-          let g = constant_run c words stood 15 (word_of_int z) ps next m v sh (word_narrow z is) l in
+          let g = exact_run c words stood 15 (word_of_int z) ps next m v sh (word_narrow z is) l in
           record {
             view = g.view;
             way = way_of words c.size m same_tape g.view g.to;
             value = ap (λ s. operand_view g.view (cond s (Constant z) (Content 15))) e ∙ g.value;
             moved = g.moved;
-            place = g.place ∙ ap (λ s. v.place + length (cond s [] (constant 15 (word_of_int z)))) (sym e);
+            place = g.place ∙ ap (λ s. v.place + length (cond s [] (exact 15 (word_of_int z)))) (sym e);
           }
 
   -- ---- results

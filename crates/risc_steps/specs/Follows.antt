@@ -87,7 +87,7 @@ trapped (Some row) calls = ending_by row.0 row.1 calls
 
 abbrev pub told : Context → ℕ → View → Ending
 told c zero v = Normal
-told c (suc n) v = trapped (c.trap (suc n)) (walk c.line 16 v.words (v.registers 14))
+told c (suc n) v = trapped (c.trap (suc n)) (walk c.line c.size 16 v.words (v.registers 14))
 
 -- it stops, with an ending
 pub record Stops (c : Context) (words : List ℕ) (s : State) (m : machine.State) (e : Ending) : Type 0 where

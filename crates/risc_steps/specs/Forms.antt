@@ -40,9 +40,14 @@ abbrev pub is_small : ℤ → Bool
 is_small (pos n) = nat_lt n 65536
 is_small (negsuc n) = nat_lt n 65536
 
--- register d takes a word, in two halves
+-- register d takes the lowest 32 bits of an offset, in two halves
 abbrev pub constant : ℕ → ℕ → List Piece
 constant d w =
+    Plain (word.MoveTop d (w / 65536 % 65536)) ∷ Plain (word.Operate op.Add d d (Constant (pos (w % 65536)))) ∷ []
+
+-- register d takes a word of 32 bits, in two halves
+abbrev pub exact : ℕ → ℕ → List Piece
+exact d w =
     Plain (word.MoveTop d (w / 65536)) ∷ Plain (word.Operate op.Add d d (Constant (pos (w % 65536)))) ∷ []
 
 -- register d takes a number
@@ -140,7 +145,7 @@ module _ (c : Context) (r : ℕ) where
   -- a right operand: a temporary's, an immediate, or a number in R15
   abbrev pub right : Operand → List Piece
   right (operand.Temporary t) = fetch 15 (home c r t)
-  right (operand.Number z) = if is_small z then [] else constant 15 (word_of z)
+  right (operand.Number z) = if is_small z then [] else exact 15 (word_of z)
 
   abbrev pub right_operand : Operand → machine.Operand
   right_operand (operand.Temporary t) = Content (fetched 15 (home c r t))

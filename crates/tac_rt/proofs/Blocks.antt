@@ -6,7 +6,12 @@ use Rattle.tac_code.specs.declared.code.Block.TheVariants.{Frame, Scratch, Objec
 use Rattle.tac_code.specs.declared.code.Value.{Value}
 use Rattle.tac_code.specs.Memory.{Words, Living, Memory, Constants, living, words_in, behind, instead, changed, changed_object, with_frames, with_scratch, with_objects, value_in, byte_value_in, load, load_byte, changed_in}
 use Rattle.tac_steps.proofs.Temporaries.{eq_no}
-use Rattle.tac_rt.specs.Calls.{AreBelow, IsFresh}
+use Rattle.tac_steps.specs.Routines.{AreBelow}
+
+-- no block that lives has the next activation's number
+pub record IsFresh (next : ℕ) (memory : Memory) : Type 0 where
+  pub frames : AreBelow next memory.frames
+  pub scratch : AreBelow next memory.scratch
 
 abbrev pub empty_at : ℕ → Living
 empty_at n = record { number = n; words = [] }

@@ -12,11 +12,11 @@ use Rattle.tac_steps.proofs.Runs.{one_step, a_step, leads_then, ◌>>◌}
 use Rattle.ps_meaning.specs.Text.{Input, next_of, taken_from, look_marks}
 use Rattle.tac_rt.specs.declared.reading.TheConstants.{READ_CHARACTER}
 use Rattle.tac_rt.specs.Bodies.{routine_of}
-use Rattle.tac_rt.specs.Calls.{HasRoutines, IsFresh, back}
+use Rattle.tac_rt.specs.Calls.{HasRoutines}
 use Rattle.tac_rt.specs.Inputs.{first_or_end, ahead, begun, tape_of}
 use Rattle.tac_rt.specs.Laws.{Renewed, character_or_end, ReadsCharacters}
-use Rattle.tac_rt.proofs.Blocks.{stored}
-use Rattle.tac_rt.proofs.Inside.{here_at, enters, returns, literal, compares, loads, stores_word, branches, passes, takes_byte, takes_end}
+use Rattle.tac_rt.proofs.Blocks.{IsFresh, stored}
+use Rattle.tac_rt.proofs.Inside.{back, does_so, here_at, enters, returns, literal, compares, loads, stores_word, branches, passes, takes_byte, takes_end}
 use Rattle.tac_rt.proofs.Strings.{append_nothing}
 
 abbrev routine : TacRoutine
@@ -115,9 +115,10 @@ module _ (m : Machine) (s : State) (has : HasRoutines m) (to line : ℕ) (block 
       >> gives_it (b ∷ rest) in_line (put (holding (negsuc 1)) 1 (Number (pos b))) memory _ refl refl g w
 
 pub reads_characters : ReadsCharacters
-reads_characters m s block offset i memory has fresh h tape w = record {
-  by = λ to line operands at e.
-      leads_then (one_step s _ (enters m s 14 routine has refl to line operands (Address block offset ∷ []) at e refl refl refl))
-      (subst (λ x. Comes m (here_at m s 14 routine has refl to line 0 (λ u. slice_get (Address block offset ∷ []) u) s.memory x) (back s to (Number (character_or_end (next_of i.left i.in_line))) memory (tape_of (taken_from i.left) (s.tape.transcript ++ look_marks i)))) (sym tape)
-      (takes_it m s has to line block offset fresh i.left i.looked i.in_line memory s.tape.transcript h.ahead h.begun w));
-}
+reads_characters m block offset i before after transcript has h w = does_so m 14 (Address block offset ∷ []) before (tape_of i transcript) (Number (character_or_end (next_of i.left i.in_line))) after (tape_of (taken_from i.left) (transcript ++ look_marks i)) (λ s fresh.
+    let s1 : State = record s { memory = before; tape = tape_of i transcript } in
+    record {
+      by = λ to line operands at e.
+          leads_then (one_step s1 _ (enters m s1 14 routine has refl to line operands (Address block offset ∷ []) at e refl refl refl))
+          (takes_it m s1 has to line block offset fresh i.left i.looked i.in_line after transcript h.ahead h.begun w);
+    })

@@ -15,10 +15,10 @@ use Rattle.tac_steps.proofs.Runs.{one_step, a_step, leads_then, ◌>>◌}
 use Rattle.tac_steps.proofs.Temporaries.{eq_no}
 use Rattle.tac_rt.specs.declared.words.TheConstants.{COPY}
 use Rattle.tac_rt.specs.Bodies.{routine_of}
-use Rattle.tac_rt.specs.Calls.{HasRoutines, IsFresh, back}
+use Rattle.tac_rt.specs.Calls.{HasRoutines}
 use Rattle.tac_rt.specs.Laws.{CopiedUp, CopiesWords}
-use Rattle.tac_rt.proofs.Blocks.{stored}
-use Rattle.tac_rt.proofs.Inside.{here_at, enters, returns, computes, offsets, loads, stores_word, jumps, branches_back, passes_back}
+use Rattle.tac_rt.proofs.Blocks.{IsFresh, stored}
+use Rattle.tac_rt.proofs.Inside.{back, does_so, here_at, enters, returns, computes, offsets, loads, stores_word, jumps, branches_back, passes_back}
 use Rattle.tac_rt.proofs.Arithmetic.{difference}
 
 abbrev routine : TacRoutine
@@ -55,10 +55,13 @@ module _ (m : Machine) (s : State) (has : HasRoutines m) (to line : ℕ) (upper 
       >> copies k (place + 4) (start + 4) t4 middle memory refl refl refl (stored s.count before (λ words. with_word words place v) middle f upper c.3).fresh c.4 (omega arith) (omega arith)
 
 pub copies_words : CopiesWords
-copies_words m s upper place lower start n memory has fresh c l h = record {
-  by = λ to line operands at e.
-      let values : List Value = Address upper place ∷ Address lower start ∷ Number (pos (4 * n)) ∷ [] in
-      leads_then (one_step s _ (enters m s 0 routine has refl to line operands values at e refl refl refl))
-      (jumps m s 0 routine has refl to line 0 (λ u. slice_get values u) s.memory s.tape 5 refl
-      >> copies m s has to line upper lower n place start (λ u. slice_get values u) s.memory memory refl refl refl fresh c l h);
-}
+copies_words m upper place lower start n before after tape has c l h =
+    let values : List Value = Address upper place ∷ Address lower start ∷ Number (pos (4 * n)) ∷ [] in
+    does_so m 0 values before tape (Number (pos 0)) after tape (λ s fresh.
+    let s1 : State = record s { memory = before; tape = tape } in
+    record {
+      by = λ to line operands at e.
+          leads_then (one_step s1 _ (enters m s1 0 routine has refl to line operands values at e refl refl refl))
+          (jumps m s1 0 routine has refl to line 0 (λ u. slice_get values u) before tape 5 refl
+          >> copies m s1 has to line upper lower n place start (λ u. slice_get values u) before after refl refl refl fresh c l h);
+    })

@@ -1,5 +1,5 @@
 -- A run-time routine, from its call to its return.
-use Rattle.std.proofs.Common.{◌≡◌, ℕ, suc, ◌+◌, ◌-◌, ◌<◌, ℤ, pos, negsuc, Bool, true, false, not, ◌&&◌, nat_eq, nat_lt, if◌then◌else◌, List, [], ◌∷◌, ◌++◌, length, slice_get, Some, refl, ap, ◌∙◌, arith}
+use Rattle.std.proofs.Common.{◌≡◌, ℕ, suc, ◌+◌, ◌-◌, ◌<◌, ℤ, pos, negsuc, Bool, true, false, not, ◌&&◌, nat_eq, nat_lt, if◌then◌else◌, List, [], ◌∷◌, ◌++◌, length, slice_get, Some, refl, sym, ap, ◌∙◌, subst, arith}
 use Rattle.std.proofs.lemmas.Bool.{ltb-true, lt-ltb}
 use Rattle.behavior.specs.Transcripts.{mark}
 use Rattle.behavior.specs.Endings.{Stack, Stuck}
@@ -11,17 +11,18 @@ use Rattle.tac_code.specs.declared.code.Base.TheVariants as base
 use Rattle.tac_code.specs.declared.code.Operator.{Operator}
 use Rattle.tac_code.specs.declared.code.BitOperator.{BitOperator}
 use Rattle.tac_code.specs.declared.code.Relation.{Relation}
-use Rattle.tac_code.specs.declared.code.Instruction.TheVariants.{Literal, Copy, Arithmetic, Bits, Compare, Offset, Load, Store, LoadByte, Jump, JumpBack, Branch, BranchBack, Call, Return, Take, Put}
+use Rattle.tac_code.specs.declared.code.Instruction.TheVariants.{Literal, Copy, Arithmetic, Bits, Compare, Offset, Load, Store, LoadByte, StoreByte, Jump, JumpBack, Branch, BranchBack, Call, Return, Take, Put}
 use Rattle.tac_code.specs.declared.code.TacRoutine.{TacRoutine}
 use Rattle.tac_code.specs.Numbers.{truth, computed, Gives, bits}
-use Rattle.tac_code.specs.Memory.{Words, Memory, load, load_byte, store, with_word}
-use Rattle.tac_code.specs.Meaning.{Temporaries, put, Tape, State, Step, Goes, Over, routines, body_at, fetch, text_at, onward, with_some, values_of, operand_value, related, gives_computed, told, end_taken, takes, unwritten, open_bytes, entered, enter}
-use Rattle.tac_steps.specs.Runs.{Machine, step_of, Comes}
-use Rattle.tac_steps.proofs.Runs.{a_step}
-use Rattle.tac_steps.proofs.Instructions.{At, literal_step, copy_step, arithmetic_step, bits_step, compare_step, offset_step, load_step, load_byte_step, store_step, jump_step, jump_back_step, branch_step, branch_back_step, take_step, put_step, call_step, return_step}
+use Rattle.tac_code.specs.Memory.{Words, Memory, load, load_byte, store, store_byte, with_word, with_byte_at}
+use Rattle.tac_code.specs.Meaning.{Temporaries, put, Tape, State, Step, Goes, Over, routines, body_at, fetch, text_at, onward, giving, with_some, values_of, operand_value, related, gives_computed, told, end_taken, takes, unwritten, open_bytes, entered, enter}
+use Rattle.tac_steps.specs.Runs.{Machine, step_of, Leads, Comes}
+use Rattle.tac_steps.specs.Routines.{Does}
+use Rattle.tac_steps.proofs.Runs.{a_step, leads_comes}
+use Rattle.tac_steps.proofs.Instructions.{At, literal_step, copy_step, arithmetic_step, bits_step, compare_step, offset_step, load_step, load_byte_step, store_step, store_byte_step, jump_step, jump_back_step, branch_step, branch_back_step, take_step, put_step, call_step, return_step}
 use Rattle.tac_rt.specs.Bodies.{run_time_routines}
-use Rattle.tac_rt.specs.Calls.{HasRoutines, IsFresh, back}
-use Rattle.tac_rt.proofs.Blocks.{pushed, load_pushed, load_byte_pushed, stored}
+use Rattle.tac_rt.specs.Calls.{HasRoutines}
+use Rattle.tac_rt.proofs.Blocks.{IsFresh, pushed, load_pushed, load_byte_pushed, stored}
 
 -- behind others, by the number among themselves
 pub get_behind : {X : Type 0} (xs ys : List X) (k : ℕ) → slice_get (xs ++ ys) (length xs + k) ≡ slice_get ys k
@@ -34,6 +35,24 @@ not_below n k = go (nat_lt (n + k) n) refl
     go : (t : Bool) → nat_lt (n + k) n ≡ t → t ≡ false
     go true e = let l = ltb-true (n + k) n e in absurd (omega (arith, l))
     go false e = refl
+
+-- the caller behind its call, with a result in a temporary
+abbrev pub back : State → (to : ℕ) → Value → Memory → Tape → State
+back s to v memory tape = record s { current = giving to v s.current; memory = memory; tape = tape; count = suc s.count }
+
+-- In this state a call of the routine of this number with these values gives v, and leaves this memory and this tape.
+pub record Called (m : Machine) (s : State) (number : ℕ) (values : List Value) (v : Value) (memory : Memory) (tape : Tape) : Type 0 where
+  pub by : (to line : ℕ) (operands : List ℕ) → At m s (Call to (length m.code.program + number) operands line) → values_of s.current.temporaries operands ≡ Some values → Leads m s (back s to v memory tape)
+
+-- so it does in each state with this memory and this tape
+pub does_so : (m : Machine) (number : ℕ) (values : List Value) (before : Memory) (tape : Tape) (v : Value) (after : Memory) (tape' : Tape) → ((s : State) → IsFresh s.count before → Called m (record s { memory = before; tape = tape }) number values v after tape') → Does m number values before tape v after tape'
+does_so m number values before tape v after tape' called = record {
+  by = λ s to line operands same_memory same_tape fresh e at.
+      let f : IsFresh s.count before = subst (IsFresh s.count) same_memory (record { frames = fresh.0; scratch = fresh.1 }) in
+      let c : Comes m (record s { memory = before; tape = tape }) (back s to v after tape') = leads_comes ((called s f).by to line operands at e) in
+      let c' : Comes m (record s { tape = tape }) (back s to v after tape') = subst (λ x. Comes m (record s { memory = x; tape = tape }) (back s to v after tape')) (sym same_memory) c in
+      subst (λ x. Comes m (record s { tape = x }) (back s to v after tape')) (sym same_tape) c';
+}
 
 -- where a run-time routine stands that was called in state s
 module _ (s : State) (r to line : ℕ) where
@@ -111,6 +130,9 @@ module _ (m : Machine) (s : State) (k : ℕ) (routine : TacRoutine) (has : HasRo
 
       pub stores_word : (a n b : ℕ) (block : Block) (offset : ℕ) (v : Value) (memory' : Memory) → slice_get routine.body pc ≡ Some (Store (base.Temporary a) n b) → temporaries a ≡ Some (Address block offset) → temporaries b ≡ Some v → IsFresh s.count memory → store memory block (offset + n) v ≡ Some memory' → Comes m now (here_at (suc pc) temporaries memory' tape)
       stores_word a n b block offset v memory' i e g f w = a_step now _ (store_step m now (base.Temporary a) n b block offset v (pushed s.count memory') (at pc ∙ i) e g (stored s.count memory (λ words. with_word words (offset + n) v) memory' f block w).same)
+
+      pub stores_byte : (a n b : ℕ) (block : Block) (offset byte : ℕ) (memory' : Memory) → slice_get routine.body pc ≡ Some (StoreByte (base.Temporary a) n b) → temporaries a ≡ Some (Address block offset) → temporaries b ≡ Some (Number (pos byte)) → byte < 256 → IsFresh s.count memory → store_byte memory block (offset + n) byte ≡ Some memory' → Comes m now (here_at (suc pc) temporaries memory' tape)
+      stores_byte a n b block offset byte memory' i e g l f w = a_step now _ (store_byte_step m now (base.Temporary a) n b block offset byte (pushed s.count memory') (at pc ∙ i) e g (lt-ltb byte 256 l) (stored s.count memory (λ words. with_byte_at words (offset + n) byte) memory' f block w).same)
 
       pub jumps : (n : ℕ) → slice_get routine.body pc ≡ Some (Jump n) → Comes m now (here_at (suc pc + n) temporaries memory tape)
       jumps n i = a_step now _ (jump_step m now n (at pc ∙ i))

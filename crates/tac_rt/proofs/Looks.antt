@@ -12,11 +12,11 @@ use Rattle.tac_steps.proofs.Runs.{one_step, a_step, leads_then, ◌>>◌}
 use Rattle.ps_meaning.specs.Text.{Input, next_of, looked_at, look_marks}
 use Rattle.tac_rt.specs.declared.reading.TheConstants.{LOOK}
 use Rattle.tac_rt.specs.Bodies.{routine_of}
-use Rattle.tac_rt.specs.Calls.{HasRoutines, IsFresh, back}
+use Rattle.tac_rt.specs.Calls.{HasRoutines}
 use Rattle.tac_rt.specs.Inputs.{first_or_end, ahead, begun, tape_of, kind_of}
 use Rattle.tac_rt.specs.Laws.{LookedIn, LooksAhead}
-use Rattle.tac_rt.proofs.Blocks.{stored}
-use Rattle.tac_rt.proofs.Inside.{here_at, enters, returns, literal, loads, stores_word, branches, passes, takes_byte, takes_end}
+use Rattle.tac_rt.proofs.Blocks.{IsFresh, stored}
+use Rattle.tac_rt.proofs.Inside.{back, does_so, here_at, enters, returns, literal, loads, stores_word, branches, passes, takes_byte, takes_end}
 use Rattle.tac_rt.proofs.Strings.{append_nothing}
 
 abbrev routine : TacRoutine
@@ -100,9 +100,10 @@ module _ (m : Machine) (s : State) (has : HasRoutines m) (to line : ℕ) (block 
       >> keeps (b ∷ rest) in_line memory _ fresh w g
 
 pub looks_ahead : LooksAhead
-looks_ahead m s block offset i memory has fresh h tape w g = record {
-  by = λ to line operands at e.
-      leads_then (one_step s _ (enters m s 13 routine has refl to line operands (Address block offset ∷ []) at e refl refl refl))
-      (subst (λ x. Comes m (here_at m s 13 routine has refl to line 0 (λ u. slice_get (Address block offset ∷ []) u) s.memory x) (back s to (Number (kind_of (next_of i.left i.in_line))) memory (tape_of (looked_at i) (s.tape.transcript ++ look_marks i)))) (sym tape)
-      (looks m s has to line block offset i.left i.looked i.in_line memory s.tape.transcript fresh h.ahead w g.begun));
-}
+looks_ahead m block offset i before after transcript has h w g = does_so m 13 (Address block offset ∷ []) before (tape_of i transcript) (Number (kind_of (next_of i.left i.in_line))) after (tape_of (looked_at i) (transcript ++ look_marks i)) (λ s fresh.
+    let s1 : State = record s { memory = before; tape = tape_of i transcript } in
+    record {
+      by = λ to line operands at e.
+          leads_then (one_step s1 _ (enters m s1 13 routine has refl to line operands (Address block offset ∷ []) at e refl refl refl))
+          (looks m s1 has to line block offset i.left i.looked i.in_line after transcript fresh h.ahead w g.begun);
+    })

@@ -10,14 +10,16 @@ use Rattle.tac_code.specs.declared.code.TacRoutine.{TacRoutine}
 use Rattle.tac_code.specs.Memory.{Memory, load_byte}
 use Rattle.tac_code.specs.Meaning.{Temporaries, put, Tape, State, text_at, related, told}
 use Rattle.tac_steps.specs.Runs.{Machine, Comes}
+use Rattle.tac_steps.specs.Routines.{wrote}
 use Rattle.tac_steps.proofs.Runs.{one_step, a_step, leads_then, ◌>>◌}
 use Rattle.tac_steps.proofs.Temporaries.{eq_no}
 use Rattle.ps_meaning.specs.Text.{right_aligned, fitted}
 use Rattle.tac_rt.specs.declared.writing.TheConstants.{WRITE_STRING}
 use Rattle.tac_rt.specs.Bodies.{routine_of}
-use Rattle.tac_rt.specs.Calls.{HasRoutines, IsFresh, written, BytesAt, back}
+use Rattle.tac_rt.specs.Calls.{HasRoutines, BytesAt}
 use Rattle.tac_rt.specs.Laws.{WritesStrings}
-use Rattle.tac_rt.proofs.Inside.{here_at, enters, returns, literal, copies, computes, offsets, loads_byte, jumps, branches, passes, branches_back, passes_back, writes}
+use Rattle.tac_rt.proofs.Blocks.{IsFresh}
+use Rattle.tac_rt.proofs.Inside.{back, Called, does_so, here_at, enters, returns, literal, copies, computes, offsets, loads_byte, jumps, branches, passes, branches_back, passes_back, writes}
 use Rattle.tac_rt.proofs.Arithmetic.{difference, shortfall, one_less}
 
 -- ---- bytes, one after another
@@ -34,7 +36,7 @@ pub append_nothing : (xs : List ℕ) → xs ≡ xs ++ []
 append_nothing [] = refl
 append_nothing (x ∷ xs) = ap (λ l. x ∷ l) (append_nothing xs)
 
-pub told_written : (bs : List ℕ) (tape : Tape) → told_all bs tape ≡ written tape bs
+pub told_written : (bs : List ℕ) (tape : Tape) → told_all bs tape ≡ wrote tape bs
 told_written [] tape = ap (λ t. record tape { transcript = t }) (append_nothing tape.transcript)
 told_written (b ∷ bs) tape = told_written bs (told b tape) ∙ ap (λ t. record tape { transcript = t }) (append_after tape.transcript (b ∷ []) bs)
 
@@ -154,11 +156,14 @@ module _ (m : Machine) (s : State) (has : HasRoutines m) (fresh : IsFresh s.coun
         go true e = cut e
         go false e = padded e
 
-pub writes_strings : WritesStrings
-writes_strings m s block o text w has fresh h l narrow = record {
+writes_here : (m : Machine) (s : State) (block : Block) (o : ℕ) (text : List ℕ) (w : ℕ) → HasRoutines m → IsFresh s.count s.memory → BytesAt (text_at m.code) s.memory block o text → o + length text < 2147483648 → w < 2147483648 → Called m s 12 (Address block o ∷ Number (pos (length text)) ∷ Number (pos w) ∷ []) (Number (pos 0)) s.memory (wrote s.tape (fitted w text))
+writes_here m s block o text w has fresh h l narrow = record {
   by = λ to line operands i e.
       let r = ended m s has fresh to line block o text w h l narrow in
       leads_then (one_step s _ (enters m s 12 routine has refl to line operands (Address block o ∷ Number (pos (length text)) ∷ Number (pos w) ∷ []) i e refl refl refl))
       (r.2 >> subst (λ x. Comes m (at_place m s has fresh to line 14 r.0 (told_all (fitted w text) s.tape)) (back s to (Number (pos 0)) s.memory x)) (told_written (fitted w text) s.tape)
       (a_step _ _ (returns m s 12 routine has refl to line 14 r.0 s.memory (told_all (fitted w text) s.tape) 1 (Number (pos 0)) refl r.1)));
 }
+
+pub writes_strings : WritesStrings
+writes_strings m block o text w memory tape has h l narrow = does_so m 12 (Address block o ∷ Number (pos (length text)) ∷ Number (pos w) ∷ []) memory tape (Number (pos 0)) memory (wrote tape (fitted w text)) (λ s fresh. writes_here m (record s { memory = memory; tape = tape }) block o text w has fresh h l narrow)

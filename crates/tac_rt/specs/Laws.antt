@@ -1,22 +1,42 @@
 -- What the run-time routines do, in the words of what programs mean.
-use Rattle.std.specs.Prelude.{zero, suc, ◌*◌, ◌≡◌, ℤ, Bool, true, false, ◌++◌, Option, Some, None, negsuc, ℕ, ◌+◌, ◌<◌, pos, List, [], ◌∷◌, length}
+use Rattle.std.specs.Prelude.{◌==◌, ◌-ℤ◌, if◌then◌else◌, zero, suc, ◌*◌, ◌%◌, ◌≡◌, ℤ, unsigned_abs, IsTrue, Bool, true, false, ◌++◌, Option, Some, None, negsuc, ℕ, ◌+◌, ◌<◌, pos, List, [], ◌∷◌, length}
 use Rattle.tac_code.specs.declared.code.Block.{Block}
+use Rattle.tac_code.specs.declared.code.BitOperator.{BitOperator}
+use Rattle.tac_code.specs.declared.code.BitOperator.TheVariants.{And, Or, AndNot}
 use Rattle.tac_code.specs.declared.code.Value.{Value}
 use Rattle.tac_code.specs.declared.code.Value.TheVariants.{Number, Address}
-use Rattle.tac_code.specs.Memory.{Memory, Constants, load, store}
-use Rattle.tac_code.specs.Meaning.{State, text_at}
+use Rattle.tac_code.specs.Memory.{Memory, Constants, load, load_byte, store, store_byte}
+use Rattle.tac_code.specs.Numbers.{is_integer, bits}
+use Rattle.tac_code.specs.Meaning.{Code, Tape, text_at}
+use Rattle.tac_code.specs.Sound.{AreSoundRoutines, AreLeaves}
 use Rattle.tac_steps.specs.Runs.{Machine}
-use Rattle.ps_meaning.specs.Text.{Input, next_character, looked_at, look_marks, taken, as_character, fitted}
-use Rattle.tac_rt.specs.Calls.{HasRoutines, IsFresh, Does, written, BytesAt}
+use Rattle.tac_steps.specs.Routines.{Does, wrote}
+use Rattle.ps_meaning.specs.Text.{Input, next_character, looked_at, look_marks, taken, as_character, right_aligned, fitted, integer_text}
+use Rattle.tac_rt.specs.Bodies.{run_time_routines}
+use Rattle.tac_rt.specs.Calls.{HasRoutines, BytesAt}
 use Rattle.tac_rt.specs.Inputs.{ahead, begun, tape_of, InputAt, kind_of}
+
+-- An integer right-aligned in a field, which is wider if needed (6.9.3.2): the integer and the width of the field.
+abbrev pub WritesNumbers : Type 0
+WritesNumbers =
+    (m : Machine) (x : ℤ) (width : ℕ) (memory : Memory) (tape : Tape) →
+    HasRoutines m → IsTrue (is_integer x) → width < 2147483648 →
+    Does m 10 (Number x ∷ Number (pos width) ∷ []) memory tape (Number (pos 0)) memory (wrote tape (right_aligned width (integer_text x)))
+
+-- A character right-aligned in a field (6.9.3.3): an integer, of which the absolute value modulo 256 counts, and the width of the field.
+abbrev pub WritesCharacters : Type 0
+WritesCharacters =
+    (m : Machine) (x : ℤ) (width : ℕ) (memory : Memory) (tape : Tape) →
+    HasRoutines m → IsTrue (is_integer x) → width < 2147483648 →
+    Does m 11 (Number x ∷ Number (pos width) ∷ []) memory tape (Number (pos 0)) memory (wrote tape (right_aligned width (unsigned_abs x % 256 ∷ [])))
 
 -- A string right-aligned in a field, or its first characters (6.9.3.6): its address, its length and the width of the field.
 abbrev pub WritesStrings : Type 0
 WritesStrings =
-    (m : Machine) (s : State) (block : Block) (offset : ℕ) (text : List ℕ) (width : ℕ) →
-    HasRoutines m → IsFresh s.count s.memory → BytesAt (text_at m.code) s.memory block offset text →
+    (m : Machine) (block : Block) (offset : ℕ) (text : List ℕ) (width : ℕ) (memory : Memory) (tape : Tape) →
+    HasRoutines m → BytesAt (text_at m.code) memory block offset text →
     offset + length text < 2147483648 → width < 2147483648 →
-    Does m s 12 (Address block offset ∷ Number (pos (length text)) ∷ Number (pos width) ∷ []) (Number (pos 0)) s.memory (written s.tape (fitted width text))
+    Does m 12 (Address block offset ∷ Number (pos (length text)) ∷ Number (pos width) ∷ []) memory tape (Number (pos 0)) memory (wrote tape (fitted width text))
 
 -- the memory after a look: the first word is another one, unless it was looked before
 abbrev pub LookedIn : (looked : Bool) (before : Memory) (block : Block) (offset : ℕ) → ℤ → (memory : Memory) → Type 0
@@ -26,10 +46,10 @@ LookedIn false before block offset z memory = store before block offset (Number 
 -- A look at the next character (6.6.6.5): the address of the words of the input.
 abbrev pub LooksAhead : Type 0
 LooksAhead =
-    (m : Machine) (s : State) (block : Block) (offset : ℕ) (i : Input) (memory : Memory) →
-    HasRoutines m → IsFresh s.count s.memory → InputAt (text_at m.code) s.memory block offset i → s.tape ≡ tape_of i s.tape.transcript →
-    LookedIn i.looked s.memory block offset (ahead (looked_at i)) memory → InputAt (text_at m.code) memory block offset (looked_at i) →
-    Does m s 13 (Address block offset ∷ []) (Number (kind_of (next_character i))) memory (tape_of (looked_at i) (s.tape.transcript ++ look_marks i))
+    (m : Machine) (block : Block) (offset : ℕ) (i : Input) (before after : Memory) (transcript : List ℕ) →
+    HasRoutines m → InputAt (text_at m.code) before block offset i →
+    LookedIn i.looked before block offset (ahead (looked_at i)) after → InputAt (text_at m.code) after block offset (looked_at i) →
+    Does m 13 (Address block offset ∷ []) before (tape_of i transcript) (Number (kind_of (next_character i))) after (tape_of (looked_at i) (transcript ++ look_marks i))
 
 -- the memory with both words of the input replaced
 pub record Renewed (before : Memory) (block : Block) (offset : ℕ) (i : Input) (memory : Memory) : Type 0 where
@@ -44,10 +64,10 @@ character_or_end (Some b) = pos (as_character b)
 -- The next character, looked at and taken (6.9.1), or -1 at the end of the input.
 abbrev pub ReadsCharacters : Type 0
 ReadsCharacters =
-    (m : Machine) (s : State) (block : Block) (offset : ℕ) (i : Input) (memory : Memory) →
-    HasRoutines m → IsFresh s.count s.memory → InputAt (text_at m.code) s.memory block offset i → s.tape ≡ tape_of i s.tape.transcript →
-    Renewed s.memory block offset (taken i) memory →
-    Does m s 14 (Address block offset ∷ []) (Number (character_or_end (next_character i))) memory (tape_of (taken i) (s.tape.transcript ++ look_marks i))
+    (m : Machine) (block : Block) (offset : ℕ) (i : Input) (before after : Memory) (transcript : List ℕ) →
+    HasRoutines m → InputAt (text_at m.code) before block offset i →
+    Renewed before block offset (taken i) after →
+    Does m 14 (Address block offset ∷ []) before (tape_of i transcript) (Number (character_or_end (next_character i))) after (tape_of (taken i) (transcript ++ look_marks i))
 
 -- so many words, one after another: each is read, where those before it may have been written already
 abbrev pub CopiedUp : Constants → (before : Memory) → (to : Block) (place : ℕ) → (from : Block) (start : ℕ) → (count : ℕ) → (memory : Memory) → Type 0
@@ -58,7 +78,78 @@ CopiedUp constants before to place from start (suc n) memory =
 -- Words are copied: the address to which, the address from which, and how many bytes.
 abbrev pub CopiesWords : Type 0
 CopiesWords =
-    (m : Machine) (s : State) (to : Block) (place : ℕ) (from : Block) (start n : ℕ) (memory : Memory) →
-    HasRoutines m → IsFresh s.count s.memory → CopiedUp (text_at m.code) s.memory to place from start n memory →
+    (m : Machine) (to : Block) (place : ℕ) (from : Block) (start n : ℕ) (before after : Memory) (tape : Tape) →
+    HasRoutines m → CopiedUp (text_at m.code) before to place from start n after →
     place + 4 * n < 2147483648 → start + 4 * n < 2147483648 →
-    Does m s 0 (Address to place ∷ Address from start ∷ Number (pos (4 * n)) ∷ []) (Number (pos 0)) memory s.tape
+    Does m 0 (Address to place ∷ Address from start ∷ Number (pos (4 * n)) ∷ []) before tape (Number (pos 0)) after tape
+
+-- the first bytes that differ, the left less the right one, or 0
+abbrev pub first_difference : List ℕ → List ℕ → ℤ
+first_difference [] right = pos 0
+first_difference (a ∷ left) [] = pos 0
+first_difference (a ∷ left) (b ∷ right) = if a == b then first_difference left right else pos a -ℤ pos b
+
+-- Two strings of one length are compared (6.7.2.5): their addresses, and how many bytes they have.
+abbrev pub ComparesBytes : Type 0
+ComparesBytes =
+    (m : Machine) (x : Block) (place : ℕ) (y : Block) (start : ℕ) (left right : List ℕ) (memory : Memory) (tape : Tape) →
+    HasRoutines m → BytesAt (text_at m.code) memory x place left → BytesAt (text_at m.code) memory y start right → length left ≡ length right →
+    place + length left < 2147483648 → start + length right < 2147483648 →
+    Does m 7 (Address x place ∷ Address y start ∷ Number (pos (length left)) ∷ []) memory tape (Number (first_difference left right)) memory tape
+
+-- words that hold bytes, one after another, to bytes; each is read where those before it may have been written already
+abbrev pub PackedUp : Constants → (before : Memory) → (to : Block) (place : ℕ) → (from : Block) (start : ℕ) → List ℕ → (after : Memory) → Type 0
+PackedUp constants before to place from start [] after = before ≡ after
+PackedUp constants before to place from start (b ∷ bytes) after =
+    (middle : Memory) × (load constants before from start ≡ Some (Number (pos b))) × (b < 256) × (store_byte before to place b ≡ Some middle) × PackedUp constants middle to (place + 1) from (start + 4) bytes after
+
+-- Words are packed to bytes (6.6.5.4): the address to which, the address from which, and how many.
+abbrev pub PacksBytes : Type 0
+PacksBytes =
+    (m : Machine) (to : Block) (place : ℕ) (from : Block) (start : ℕ) (bytes : List ℕ) (before after : Memory) (tape : Tape) →
+    HasRoutines m → PackedUp (text_at m.code) before to place from start bytes after →
+    place + length bytes < 2147483648 → start + 4 * length bytes < 2147483648 →
+    Does m 8 (Address to place ∷ Address from start ∷ Number (pos (length bytes)) ∷ []) before tape (Number (pos 0)) after tape
+
+-- bytes, one after another, to words
+abbrev pub UnpackedUp : Constants → (before : Memory) → (to : Block) (place : ℕ) → (from : Block) (start : ℕ) → List ℕ → (after : Memory) → Type 0
+UnpackedUp constants before to place from start [] after = before ≡ after
+UnpackedUp constants before to place from start (b ∷ bytes) after =
+    (middle : Memory) × (load_byte constants before from start ≡ Some b) × (store before to place (Number (pos b)) ≡ Some middle) × UnpackedUp constants middle to (place + 4) from (start + 1) bytes after
+
+-- Bytes are unpacked to words (6.6.5.4): the address to which, the address from which, and how many.
+abbrev pub UnpacksBytes : Type 0
+UnpacksBytes =
+    (m : Machine) (to : Block) (place : ℕ) (from : Block) (start : ℕ) (bytes : List ℕ) (before after : Memory) (tape : Tape) →
+    HasRoutines m → UnpackedUp (text_at m.code) before to place from start bytes after →
+    place + 4 * length bytes < 2147483648 → start + length bytes < 2147483648 →
+    Does m 9 (Address to place ∷ Address from start ∷ Number (pos (length bytes)) ∷ []) before tape (Number (pos 0)) after tape
+
+-- each of so many words, joined with one of another block
+abbrev pub JoinedUp : BitOperator → Constants → (before : Memory) → (to : Block) (place : ℕ) → (from : Block) (start : ℕ) → (count : ℕ) → (after : Memory) → Type 0
+JoinedUp operator constants before to place from start zero after = before ≡ after
+JoinedUp operator constants before to place from start (suc n) after =
+    (x : ℤ) × (y : ℤ) × (middle : Memory) × (load constants before to place ≡ Some (Number x)) × (load constants before from start ≡ Some (Number y)) × (store before to place (Number (bits operator x y)) ≡ Some middle) × JoinedUp operator constants middle to (place + 4) from (start + 4) n after
+
+-- The eight words of one set are joined with those of another, bit by bit (6.7.2.4): the address of the one, which becomes the result, and that of the other.
+abbrev pub JoinsSets : (number : ℕ) → BitOperator → Type 0
+JoinsSets number operator =
+    (m : Machine) (to : Block) (place : ℕ) (from : Block) (start : ℕ) (before after : Memory) (tape : Tape) →
+    HasRoutines m → JoinedUp operator (text_at m.code) before to place from start 8 after →
+    place + 32 < 2147483648 → start + 32 < 2147483648 →
+    Does m number (Address to place ∷ Address from start ∷ []) before tape (Number (pos 0)) after tape
+
+-- union, difference and intersection
+pub record JoinedSets : Type 0 where
+  pub union : JoinsSets 2 Or
+  pub difference : JoinsSets 3 AndNot
+  pub intersection : JoinsSets 4 And
+
+-- what the invariant of three-address code asks of its run-time routines: each target and each operand exists, and they call none
+pub record KeepInvariant (code : Code) : Type 0 where
+  pub sound : AreSoundRoutines code run_time_routines
+  pub leaves : AreLeaves run_time_routines
+
+-- The routines keep it in any code.
+abbrev pub RoutinesAreSound : Type 0
+RoutinesAreSound = (code : Code) → KeepInvariant code

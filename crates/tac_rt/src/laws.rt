@@ -1,6 +1,6 @@
 // Laws of the run-time routines. Each is the contract of a function that does nothing when it runs.
 
-ghost use Rattle.tac_rt.specs.Laws.{WritesStrings, LooksAhead, ReadsCharacters, CopiesWords};
+ghost use Rattle.tac_rt.specs.Laws.{RoutinesAreSound, ComparesBytes, PacksBytes, UnpacksBytes, JoinedSets, WritesNumbers, WritesCharacters, WritesStrings, LooksAhead, ReadsCharacters, CopiesWords};
 
 /// The routine that writes a string writes what the meaning says: the string right-aligned in its field, or its first characters (6.9.3.6).
 #[tactic(auto, using(crate::proofs::Strings::writes_strings))]
@@ -24,4 +24,45 @@ pub fn reads_characters()
 #[tactic(auto, using(crate::proofs::Copies::copies_words))]
 pub fn copies_words()
     ensures { CopiesWords }
+{}
+
+/// The routine that writes an integer writes its decimal digits right-aligned in the field (6.9.3.2).
+#[tactic(auto, using(crate::proofs::Numbers::writes_numbers))]
+pub fn writes_numbers()
+    ensures { WritesNumbers }
+{}
+
+/// The routine that writes a character writes the byte that an integer stands for, right-aligned in the field (6.9.3.3).
+#[tactic(auto, using(crate::proofs::Letters::writes_characters))]
+pub fn writes_characters()
+    ensures { WritesCharacters }
+{}
+
+/// The routines keep the invariant of three-address code behind any program, and call none.
+pub fn routines_are_sound()
+    ensures { RoutinesAreSound }
+{}
+
+/// The routine that compares strings gives the first bytes that differ, the left less the right one, or 0 (6.7.2.5).
+#[tactic(auto, using(crate::proofs::Comparisons::compares_bytes))]
+pub fn compares_bytes()
+    ensures { ComparesBytes }
+{}
+
+/// Words that hold bytes are packed one after another, from the lowest on (6.6.5.4).
+#[tactic(auto, using(crate::proofs::Packs::packs_bytes))]
+pub fn packs_bytes()
+    ensures { PacksBytes }
+{}
+
+/// Bytes are unpacked to words one after another, from the lowest on (6.6.5.4).
+#[tactic(auto, using(crate::proofs::Unpacks::unpacks_bytes))]
+pub fn unpacks_bytes()
+    ensures { UnpacksBytes }
+{}
+
+/// Union, difference and intersection join the words of two sets (6.7.2.4).
+#[tactic(auto, using(crate::proofs::Joins::joined_sets))]
+pub fn joined_sets()
+    ensures { JoinedSets }
 {}

@@ -1,0 +1,34 @@
+-- Images that were made through three-address code.
+use Rattle.std.specs.Prelude.{◌≡◌, ℕ, List, length, get_or}
+use Rattle.behavior.specs.Endings.{Stuck}
+use Rattle.behavior.specs.Transcripts.{AreBytes}
+use Rattle.behavior.specs.Same.{Same}
+use Rattle.ps_tree.specs.Tree.{Program}
+use Rattle.ps_meaning.specs.Run.{run_within}
+use Rattle.ps_meaning.specs.Costs.{Bounded}
+use Rattle.tac_code.specs.Meaning.{Code}
+use Rattle.tac_code.specs.Sound.{IsSound}
+use Rattle.tac_code.specs.Run.{tac_run}
+use Rattle.risc_alloc.specs.declared.homes.Home.{Home}
+use Rattle.risc_alloc.specs.Valid.{Valid}
+use Rattle.risc_image.specs.Image.{Image}
+use Rattle.risc_load.specs.Shows.{frame_bytes, object_bytes}
+use Rattle.risc_runs.specs.Emits.{Emits}
+
+-- The code does what the program means, under any costs and budgets and on any input of bytes, and there is a next step wherever it has
+-- not come to its end.
+pub record IsCodeOf (checked : Program) (code : Code) : Type 0 where
+  pub same : (F G : List ℕ) (S H : ℕ) (input : List ℕ) → AreBytes input → Same (run_within checked F G S H input) (tac_run code (λ r. get_or F r 0) (λ t. get_or G t 0) S H input)
+  pub goes_on : (F G : List ℕ) (S H : ℕ) (input : List ℕ) → AreBytes input → (n : ℕ) → (tac_run code (λ r. get_or F r 0) (λ t. get_or G t 0) S H input n).1 ≡ Stuck → ⊥
+
+-- The image is that of code of the program, whose temporaries have homes, and its tables keep the bounds on frames and objects.
+pub record IsMadeOf (checked : Program) (image : Image) : Type 0 where
+  pub code : Code
+  pub lowered : IsCodeOf checked code
+  pub sound : IsSound code
+  pub homes : List Home
+  pub placed : Valid code homes
+  pub emitted : Emits code homes image
+  pub routines : length image.frames ≡ length checked.routines
+  pub types : length image.objects ≡ length checked.domains
+  pub bounded : Bounded checked (frame_bytes image) (object_bytes image)

@@ -1,0 +1,4 @@
+pub mod Entering
+pub mod Binding
+pub mod First
+pub mod Begin

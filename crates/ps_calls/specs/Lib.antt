@@ -1,0 +1,5 @@
+pub mod Entering
+pub mod First
+pub mod Binding
+pub mod Begin
+pub mod Laws

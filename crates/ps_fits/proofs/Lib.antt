@@ -1,0 +1,6 @@
+pub mod Tell
+pub mod Numbers
+pub mod Places
+pub mod Blocks
+pub mod Lists
+pub mod Chains

@@ -1,0 +1,82 @@
+-- All statements, and every task with every fuel.
+use Rattle.std.proofs.Common.{ℕ, zero, suc, refl, arith}
+use Rattle.ps_tree.specs.Tree.{Variable, no_selector, selector_before, Statement, Empty, Assign, AssignSet, AssignStructure, CallProcedure, CallFormalProcedure, Compound, If, IfElse, Case, While, Repeat, For, With, New, Pack, Unpack, Read, Readln, Write, Writeln, Statements, no_statement, statement_before}
+use Rattle.ps_meaning.specs.Worlds.{World, done}
+use Rattle.ps_meaning.specs.Expressions.{Caller}
+use Rattle.ps_meaning.specs.Calls.{call_routine, execute}
+use Rattle.ps_meaning.specs.Statements.{Task, Block, Again, Further, Next, perform}
+use Rattle.ps_relation.specs.Here.{Setting, costs_in, Work, Activated, IsActive, Alive}
+use Rattle.ps_relation.specs.Outcomes.{Runs}
+use Rattle.ps_runs.specs.Openings.{Opening, context_in, IsOpened}
+use Rattle.ps_runs.proofs.Runs.{here}
+use Rattle.ps_runs.specs.Tasks.{Nothing, TaskStands, TaskFits, NextRuns}
+use Rattle.ps_relation.specs.RunTime.{WritesDo}
+use Rattle.ps_tree.specs.Tree.{Elements, no_element, element_before}
+use Rattle.ps_runs.proofs.Statements.{StatementRuns, StatementsRun, assign_run, if_run, if_else_run, while_test, while_run, repeat_run, turn_run, for_run, writes_run, writeln_run, no_statements, statements_then}
+use Rattle.ps_runs.proofs.Cases.{ElementsRun, case_run, no_elements, elements_then}
+
+module _ (p : Setting) (n : ℕ) (call : Caller) (next : Next) (c : Activated) (active : IsActive p c) (nexts : NextRuns p n next) (does : WritesDo p) where
+  mutual
+    pub statement_runs : (s : Statement) → StatementRuns p n call next c active nexts does s
+    statement_runs Empty = λ d o w k pc pc' alive opened fits st. here p (suc n) c d 0 w k pc pc' (Nothing done) st alive tt
+    statement_runs (Assign (Variable name no_selector) range e line) = assign_run p n call next c active nexts does name range e line
+    statement_runs (Assign (Variable name (selector_before s rest)) range e line) = λ d o w k pc pc' alive opened fits st. absurd fits.1.2
+    statement_runs (AssignSet q low high e line) = λ d o w k pc pc' alive opened fits st. absurd fits
+    statement_runs (AssignStructure q e) = λ d o w k pc pc' alive opened fits st. absurd fits
+    statement_runs (CallProcedure r up args line) = λ d o w k pc pc' alive opened fits st. absurd fits
+    statement_runs (CallFormalProcedure up index args line) = λ d o w k pc pc' alive opened fits st. absurd fits
+    statement_runs (Compound body) = λ d o w k pc pc' alive opened fits st. statements_run body d o w k pc pc' alive opened fits st
+    statement_runs (If e s) = if_run p n call next c active nexts does e s (statement_runs s)
+    statement_runs (IfElse e s t) = if_else_run p n call next c active nexts does e s t (statement_runs s) (statement_runs t)
+    statement_runs (Case e elements line) = case_run p n call next c active nexts does e elements line (elements_run elements)
+    statement_runs (While e s) = while_run p n call next c active nexts does e s (statement_runs s)
+    statement_runs (Repeat body e) = repeat_run p n call next c active nexts does body e (statements_run body)
+    statement_runs (For v low high a fl dir b tl s) = for_run p n call next c active nexts does v low high a fl dir b tl s (statement_runs s)
+    statement_runs (With places s) = λ d o w k pc pc' alive opened fits st. absurd fits
+    statement_runs (New q pointer line) = λ d o w k pc pc' alive opened fits st. absurd fits
+    statement_runs (Pack q ft e line r tt') = λ d o w k pc pc' alive opened fits st. absurd fits
+    statement_runs (Unpack q ft r tt' e line) = λ d o w k pc pc' alive opened fits st. absurd fits
+    statement_runs (Read vs) = λ d o w k pc pc' alive opened fits st. absurd fits
+    statement_runs (Readln vs line) = λ d o w k pc pc' alive opened fits st. absurd fits
+    statement_runs (Write ps) = λ d o w k pc pc' alive opened fits st. writes_run p n call next c active nexts does ps d o w k pc pc' alive opened fits st
+    statement_runs (Writeln ps) = writeln_run p n call next c active nexts does ps
+
+    pub statements_run : (ss : Statements) → StatementsRun p n call next c active nexts does ss
+    statements_run no_statement = no_statements p n call next c active nexts does
+    statements_run (statement_before s rest) = statements_then p n call next c active nexts does s rest (statement_runs s) (statements_run rest)
+
+    pub elements_run : (els : Elements) → ElementsRun p n call next c active nexts does els
+    elements_run no_element = no_elements p n call next c active nexts does
+    elements_run (element_before constants s rest) = elements_then p n call next c active nexts does constants s rest (statement_runs s) (elements_run rest)
+
+  -- a task, from where it goes on
+  task_run : (task : Task) (d : ℕ) (o : Opening) (w : World) (k : Work) (pc pc' : ℕ) → Alive p c w k → IsOpened p c w k d o → TaskFits p c o task → TaskStands p c o task d k pc pc' → Runs p (suc n) c d 0 w k pc pc' (perform p.program (costs_in p) call next task (context_in c o) w) Nothing
+  task_run (Block body) d o w k pc pc' alive opened fits st = statements_run body d o w k pc pc' alive opened fits st
+  task_run (Again (While e s)) d o w k pc pc' alive opened fits st = while_test p n call next c active nexts does e s (statement_runs s) d o w k pc pc' alive opened fits st
+  task_run (Again (Repeat body e)) d o w k pc pc' alive opened fits st = repeat_run p n call next c active nexts does body e (statements_run body) d o w k pc pc' alive opened fits st
+  task_run (Again (Empty)) d o w k pc pc' alive opened fits st = absurd st
+  task_run (Again (Assign q r e l)) d o w k pc pc' alive opened fits st = absurd st
+  task_run (Again (AssignSet q low high e l)) d o w k pc pc' alive opened fits st = absurd st
+  task_run (Again (AssignStructure q e)) d o w k pc pc' alive opened fits st = absurd st
+  task_run (Again (CallProcedure r up args l)) d o w k pc pc' alive opened fits st = absurd st
+  task_run (Again (CallFormalProcedure up index args l)) d o w k pc pc' alive opened fits st = absurd st
+  task_run (Again (Compound b)) d o w k pc pc' alive opened fits st = absurd st
+  task_run (Again (If e s)) d o w k pc pc' alive opened fits st = absurd st
+  task_run (Again (IfElse e s t)) d o w k pc pc' alive opened fits st = absurd st
+  task_run (Again (Case e els l)) d o w k pc pc' alive opened fits st = absurd st
+  task_run (Again (For v low high a fl dir b tl s)) d o w k pc pc' alive opened fits st = absurd st
+  task_run (Again (With ps s)) d o w k pc pc' alive opened fits st = absurd st
+  task_run (Again (New q pointer l)) d o w k pc pc' alive opened fits st = absurd st
+  task_run (Again (Pack q ft e l r tt')) d o w k pc pc' alive opened fits st = absurd st
+  task_run (Again (Unpack q ft r tt' e l)) d o w k pc pc' alive opened fits st = absurd st
+  task_run (Again (Read vs)) d o w k pc pc' alive opened fits st = absurd st
+  task_run (Again (Readln vs l)) d o w k pc pc' alive opened fits st = absurd st
+  task_run (Again (Write ps)) d o w k pc pc' alive opened fits st = absurd st
+  task_run (Again (Writeln ps)) d o w k pc pc' alive opened fits st = absurd st
+  task_run (Further v dir last s) d o w k pc pc' alive opened fits st = turn_run p n call next c active nexts does v dir last s (statement_runs s) d o w k pc pc' alive opened fits st
+
+-- every task, with every fuel
+pub execute_runs : (p : Setting) → WritesDo p → (n : ℕ) → NextRuns p n (execute p.program (costs_in p) n)
+execute_runs p does zero c active task d o w k pc pc' alive opened fits st = record { by = (0, omega arith, refl) }
+execute_runs p does (suc n) c active task d o w k pc pc' alive opened fits st =
+    task_run p n (call_routine p.program (costs_in p) (execute p.program (costs_in p) n)) (execute p.program (costs_in p) n) c active (execute_runs p does n) does task d o w k pc pc' alive opened fits st

@@ -1,0 +1,116 @@
+-- Characters are written as the meaning says.
+use Rattle.std.proofs.Common.{◌≡◌, ℕ, zero, suc, ◌-◌, ◌%◌, ◌<◌, ℤ, pos, negsuc, unsigned_abs, ◌-ℤ◌, true, if◌then◌else◌, [], ◌∷◌, replicate, slice_get, Some, refl, ap, ◌∙◌, subst, arith, lt-ltb, ltb-true}
+use Rattle.std.proofs.lemmas.Int.{ints}
+use Rattle.std.proofs.lemmas.Grind.{and_numeral}
+use Rattle.tac_code.specs.declared.code.Value.TheVariants.{Number}
+use Rattle.tac_code.specs.declared.code.Operand.TheVariants as operand
+use Rattle.tac_code.specs.declared.code.Operator.TheVariants.{Subtract}
+use Rattle.tac_code.specs.declared.code.BitOperator.TheVariants.{And}
+use Rattle.tac_code.specs.declared.code.Relation.TheVariants.{Greater, GreaterEqual}
+use Rattle.tac_code.specs.declared.code.TacRoutine.{TacRoutine}
+use Rattle.tac_code.specs.Numbers.{is_integer, bits, word_of, number_of}
+use Rattle.tac_code.specs.Meaning.{Temporaries, put, Tape, State, related, told}
+use Rattle.tac_steps.specs.Runs.{Machine, Comes}
+use Rattle.tac_steps.specs.Routines.{wrote}
+use Rattle.tac_steps.proofs.Runs.{one_step, a_step, leads_then, ◌>>◌}
+use Rattle.ps_meaning.specs.Text.{right_aligned}
+use Rattle.tac_rt.specs.declared.writing.TheConstants.{WRITE_CHARACTER}
+use Rattle.tac_rt.specs.Bodies.{routine_of}
+use Rattle.tac_rt.specs.Calls.{HasRoutines}
+use Rattle.tac_rt.specs.Laws.{WritesCharacters}
+use Rattle.tac_rt.proofs.Inside.{back, does_so, here_at, enters, returns, literal, computes, joins, jumps, branches, passes, branches_back, passes_back, writes}
+use Rattle.tac_rt.proofs.Arithmetic.{minus, negated, remains, one_less, not_negative}
+use Rattle.tac_rt.proofs.Strings.{told_all, told_both, told_written}
+
+abbrev routine : TacRoutine
+routine = routine_of 2 4 WRITE_CHARACTER
+
+-- ---- the lowest byte of a number's word
+
+byte_is : (n : ℕ) → number_of (n % 256) ≡ pos (n % 256)
+byte_is n = ap (λ b. if b then pos (n % 256) else negsuc (4294967296 - suc (n % 256))) (lt-ltb (n % 256) 2147483648 (omega arith))
+
+low_byte : (x : ℤ) → bits And x (pos 255) ≡ pos (word_of x % 256)
+low_byte x = ap number_of (and_numeral (word_of x) 254 refl) ∙ byte_is (word_of x)
+
+-- of minus the lowest byte of a negative number: the lowest byte of its absolute value
+low_again : (k n : ℕ) → k < 2147483648 → n ≡ (4294967296 - suc k) % 256 → word_of (minus n) % 256 ≡ suc k % 256
+low_again k zero l e = omega arith
+low_again k (suc n) l e = let w : (4294967296 - suc n) % 256 ≡ suc k % 256 = omega arith in w
+
+module _ (m : Machine) (s : State) (has : HasRoutines m) (to line : ℕ) where
+  abbrev at_place : ℕ → Temporaries → Tape → State
+  at_place pc t tape = here_at m s 11 routine has refl to line pc t s.memory tape
+
+  abbrev Spaced : ℕ → Temporaries → Tape → Type 0
+  Spaced k t tape = (t' : Temporaries) × (t' 2 ≡ t 2) × Comes m (at_place 9 t tape) (at_place 10 t' (told_all (replicate k 32) tape))
+
+  spaces : (k : ℕ) (t : Temporaries) (tape : Tape) → t 1 ≡ Some (Number (pos k)) → t 3 ≡ Some (Number (pos 32)) → k < 2147483648 → Spaced k t tape
+  spaces zero t tape n space l = (t, refl, passes_back m s 11 routine has refl to line 9 t s.memory tape Greater 1 (operand.Number (pos 0)) 2 refl (ap (λ v. related Greater v (Some (Number (pos 0)))) n))
+  spaces (suc k) t tape n space l =
+      let t1 : Temporaries = put t 1 (Number (pos k)) in
+      let rest = spaces k t1 (told 32 tape) refl space (omega arith) in (
+        rest.0,
+        rest.1,
+        branches_back m s 11 routine has refl to line 9 t s.memory tape Greater 1 (operand.Number (pos 0)) 2 refl (ap (λ v. related Greater v (Some (Number (pos 0)))) n ∙ ap Some (lt-ltb 0 (suc k) (omega arith)))
+            >> writes m s 11 routine has refl to line 7 t s.memory tape 3 32 refl space (omega arith)
+            >> computes m s 11 routine has refl to line 8 t s.memory (told 32 tape) Subtract 1 1 (operand.Number (pos 1)) (pos (suc k)) (pos 1) (pos k) refl n refl (one_less k l)
+            >> rest.2,
+      )
+
+  padding : (w : ℕ) (t : Temporaries) (tape : Tape) → t 1 ≡ Some (Number (pos w -ℤ pos 1)) → t 3 ≡ Some (Number (pos 32)) → w < 2147483648 → Spaced (w - 1) t tape
+  padding zero t tape narrow space l = (t, refl, passes_back m s 11 routine has refl to line 9 t s.memory tape Greater 1 (operand.Number (pos 0)) 2 refl (ap (λ v. related Greater v (Some (Number (pos 0)))) narrow))
+  padding (suc w) t tape narrow space l =
+      let z : pos (suc w) -ℤ pos 1 ≡ pos (suc w - 1) = omega (arith, ints) in
+      spaces (suc w - 1) t tape (narrow ∙ ap (λ x. Some (Number x)) z) space (omega arith)
+
+  abbrev start : (x : ℤ) (w : ℕ) → Temporaries
+  start x w u = slice_get (Number x ∷ Number (pos w) ∷ []) u
+
+  -- from place 5 on, with the byte in temporary 2
+  ends : (w b : ℕ) (t : Temporaries) → t 1 ≡ Some (Number (pos w)) → t 2 ≡ Some (Number (pos b)) → b < 256 → w < 2147483648 → Comes m (at_place 5 t s.tape) (back s to (Number (pos 0)) s.memory (wrote s.tape (right_aligned w (b ∷ []))))
+  ends w b t width byte low l =
+      let t1 : Temporaries = put t 3 (Number (pos 32)) in
+      let t2 : Temporaries = put t1 1 (Number (pos w -ℤ pos 1)) in
+      let front = padding w t2 s.tape refl refl l in
+      let tape : Tape = told_all (replicate (w - 1) 32) s.tape in
+      literal m s 11 routine has refl to line 5 t s.memory s.tape 3 (pos 32) refl
+      >> jumps m s 11 routine has refl to line 6 t1 s.memory s.tape 1 refl
+      >> computes m s 11 routine has refl to line 8 t1 s.memory s.tape Subtract 1 1 (operand.Number (pos 1)) (pos w) (pos 1) (pos w -ℤ pos 1) refl width refl (remains w 1 l (omega arith))
+      >> front.2
+      >> writes m s 11 routine has refl to line 10 front.0 s.memory tape 2 b refl (front.1 ∙ byte) low
+      >> literal m s 11 routine has refl to line 11 front.0 s.memory (told b tape) 3 (pos 0) refl
+      >> subst (λ u. Comes m (at_place 12 (put front.0 3 (Number (pos 0))) (told b tape)) (back s to (Number (pos 0)) s.memory u)) (told_both (replicate (w - 1) 32) (b ∷ []) s.tape ∙ told_written (right_aligned w (b ∷ [])) s.tape)
+      (a_step _ _ (returns m s 11 routine has refl to line 12 (put front.0 3 (Number (pos 0))) s.memory (told b tape) 3 (Number (pos 0)) refl refl))
+
+  whole : (x : ℤ) (w : ℕ) → is_integer x ≡ true → w < 2147483648 → Comes m (at_place 0 (start x w) s.tape) (back s to (Number (pos 0)) s.memory (wrote s.tape (right_aligned w (unsigned_abs x % 256 ∷ []))))
+  whole (pos n) w h l =
+      let x : ℤ = pos n in
+      let t1 : Temporaries = put (start x w) 2 (Number (bits And x (pos 255))) in
+      joins m s 11 routine has refl to line 0 (start x w) s.memory s.tape And 2 0 (operand.Number (pos 255)) x (pos 255) refl refl refl
+      >> branches m s 11 routine has refl to line 1 t1 s.memory s.tape GreaterEqual 0 (operand.Number (pos 0)) 3 refl (ap Some (not_negative n))
+      >> ends w (n % 256) t1 refl (ap (λ z. Some (Number z)) (low_byte x)) (omega arith) l
+  whole (negsuc k) w h l =
+      let x : ℤ = negsuc k in
+      let small = ltb-true k 2147483648 h in
+      let n : ℕ = word_of x % 256 in
+      let t1 : Temporaries = put (start x w) 2 (Number (bits And x (pos 255))) in
+      let t2 : Temporaries = put t1 3 (Number (pos 0)) in
+      let t3 : Temporaries = put t2 2 (Number (minus n)) in
+      let t4 : Temporaries = put t3 2 (Number (bits And (minus n) (pos 255))) in
+      let again : word_of (minus n) % 256 ≡ suc k % 256 = low_again k n small refl in
+      joins m s 11 routine has refl to line 0 (start x w) s.memory s.tape And 2 0 (operand.Number (pos 255)) x (pos 255) refl refl refl
+      >> passes m s 11 routine has refl to line 1 t1 s.memory s.tape GreaterEqual 0 (operand.Number (pos 0)) 3 refl refl
+      >> literal m s 11 routine has refl to line 2 t1 s.memory s.tape 3 (pos 0) refl
+      >> computes m s 11 routine has refl to line 3 t2 s.memory s.tape Subtract 2 3 (operand.Temporary 2) (pos 0) (pos n) (minus n) refl refl (ap (λ z. Some (Number z)) (low_byte x)) (negated n (omega arith))
+      >> joins m s 11 routine has refl to line 4 t3 s.memory s.tape And 2 2 (operand.Number (pos 255)) (minus n) (pos 255) refl refl refl
+      >> ends w (suc k % 256) t4 refl (ap (λ z. Some (Number z)) (low_byte (minus n)) ∙ ap (λ z. Some (Number (pos z))) again) (omega arith) l
+
+pub writes_characters : WritesCharacters
+writes_characters m x w memory tape has h l = does_so m 11 (Number x ∷ Number (pos w) ∷ []) memory tape (Number (pos 0)) memory (wrote tape (right_aligned w (unsigned_abs x % 256 ∷ []))) (λ s fresh.
+    let s1 : State = record s { memory = memory; tape = tape } in
+    record {
+      by = λ to line operands at e.
+          leads_then (one_step s1 _ (enters m s1 11 routine has refl to line operands (Number x ∷ Number (pos w) ∷ []) at e refl refl refl))
+          (whole m s1 has to line x w h l);
+    })
