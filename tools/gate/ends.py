@@ -10,7 +10,9 @@ CASES = (
     ("cases", "pascal", "cases"),
     ("compiled", "pascal", "compiled"),
     ("compiled, by the slow runner", "pascal_reference", "compiled"),
+    ("programs, those that compile", "pascal", "programs", "--reached"),
     ("programs, by the slow runner", "pascal_reference", "programs"),
+    ("stops, of programs that compile", "pascal", "stops", "--reached"),
 )
 PROGRAMS = ("pascal", "pascal_reference", "bench_phases")
 
@@ -23,8 +25,8 @@ def count_in(text):
 def run_cases(tree):
     """Runs each folder of cases over a program of the run. One that ends with a bad status, or holds no case, is a failure."""
     passed = failed = 0
-    for what, program, folder in CASES:
-        words = [f"{tree}/tests/run", "--folder", folder, "--program", f"{tree}/{program}"]
+    for what, program, folder, *more in CASES:
+        words = [f"{tree}/tests/run", "--folder", folder, "--program", f"{tree}/{program}", *more]
         ran = subprocess.run(words, env={**os.environ, "PASCAL_BUILT": f"{tree}/crates"}, stdout=subprocess.PIPE, stderr=subprocess.STDOUT, text=True, errors="replace")
         well, bad = count_in(ran.stdout)
         if ran.returncode and not bad or not well + bad:

@@ -1,5 +1,5 @@
 -- The characters of a string of bytes.
-use Rattle.std.proofs.Common.{◌≡◌, ℕ, zero, suc, ◌%◌, List, [], ◌∷◌, get_or, Fits, w8, refl, ap, ◌∙◌, arith}
+use Rattle.std.proofs.Common.{◌≡◌, ℕ, suc, ◌%◌, List, [], ◌∷◌, get_or, Fits, w8, refl, ap, ◌∙◌, arith}
 use Rattle.ps_meaning.specs.Values.{text_values}
 use Rattle.ps_meaning.specs.Statements.{characters}
 

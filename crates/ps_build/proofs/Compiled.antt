@@ -30,14 +30,14 @@ use Rattle.ps_scan.specs.Lexis.{IsTokens}
 use Rattle.ps_syntax.specs.declared.program.Program.{Program}
 use Rattle.ps_grammar.specs.Trees.{IsTreeOf}
 use Rattle.ps_text.specs.Lines.{IsSource}
-use Rattle.ps_build.specs.Strings.{only_block, compiled_of}
+use Rattle.ps_build.specs.Strings.{compiled_of}
 use Rattle.ps_build.specs.Code.{program_code, code_words, frame_bytes as block_bytes, entry_link, program_image}
 use Rattle.ps_parse.specs.declared.error.ParseRefusal.{ParseRefusal}
 use Rattle.ps_parse.specs.declared.error.ParseRefusal.TheVariants as p
 use Rattle.ps_build.specs.declared.refusal.Refusal.{Refusal}
 use Rattle.ps_build.specs.declared.refusal.Refusal.TheVariants.{TooLong, TooManyLines, NotYet, OutOfMemory, BadByte, OpenComment, OpenString, EmptyString, SeparatorMissing, NumberTooLarge, RealNumber, NotAProgram, TooDeep, NotInProfile, Unknown, Twice, UsedBefore, WrongKind, WrongType, NotAssignable, BadSubrange, SetBase, CaseTwice, ControlVariable, PackedVariable, NotCongruous, ForwardOpen, NoResultAssigned, NoInputOutput, Limit, CodeTooLarge}
-use Rattle.ps_build.specs.Refusals.{of_parse, of_rule, of_check, OnlyNotYet, OnlyTooLarge}
-use Rattle.ps_build.specs.Accepts.{IsParsed, Accepts, IsProgramOf, HasNoTokens, HasNoTree, HasNoProgram, most_words, IsRefused, IsFaulty, IsNotAccepted}
+use Rattle.ps_build.specs.Refusals.{of_parse, of_rule, of_check, OnlyNotYet, OnlyTooLarge, OnlyLeft}
+use Rattle.ps_build.specs.Accepts.{IsParsed, Accepts, IsProgramOf, HasNoTokens, HasNoTree, HasNoProgram, HasTooManyWords, most_words, IsRefused, IsFaulty, IsNotAccepted}
 use Rattle.ps_build.proofs.Meant.{Only, only, shown_by, shown}
 use Rattle.risc_load.specs.Shows.{frame_bytes, object_bytes, trap_rows, image_shows, IsBudget}
 use Rattle.risc_runs.specs.Outcome.{image_outcome}
@@ -206,10 +206,17 @@ module _ (text : List ℕ) (checked : Tree.Program) (of_text : IsProgramOf text 
   not_yet NotYet h = record { checked = checked; accepts = of_text.accepts; none = h }
   not_yet _ h = absurd h
 
+  -- why no image was made through three-address code
+  pub left : (refusal : Refusal) → compiled_of checked ≡ None → OnlyLeft refusal (HasTooManyWords checked) → IsRefused text refusal
+  left OutOfMemory none h = of_text.accepts.parsed.limits
+  left NotYet none h = record { checked = checked; accepts = of_text.accepts; none = none }
+  left CodeTooLarge none h = inr (record { checked = checked; accepts = of_text.accepts; none = none; words = h })
+  left _ none h = absurd h
+
   module _ (line : ℕ) (bytes : List ℕ) (compiled : compiled_of checked ≡ Some (line, bytes)) where
     pub too_large : (refusal : Refusal) → OnlyTooLarge refusal (most_words < code_words (length bytes)) → IsRefused text refusal
     too_large OutOfMemory h = of_text.accepts.parsed.limits
-    too_large CodeTooLarge h = record { checked = checked; accepts = of_text.accepts; line = line; bytes = bytes; compiled = compiled; words = h }
+    too_large CodeTooLarge h = inl (record { checked = checked; accepts = of_text.accepts; line = line; bytes = bytes; compiled = compiled; words = h })
     too_large _ h = absurd h
 
     pub compiles : (image_bytes : List ℕ) → ((k : ℕ) → get_or bytes k 0 < 256) → IsImage image_bytes (program_image line bytes) → Compiles text image_bytes

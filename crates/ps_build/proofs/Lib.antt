@@ -9,4 +9,6 @@ pub mod Appending
 pub mod Bytes
 pub mod Meant
 pub mod Unbudgeted
+pub mod Pairs
+pub mod Lowered
 pub mod Made

@@ -1,21 +1,25 @@
 -- An image that was made through three-address code does what its program means.
-use Rattle.std.proofs.Common.{◌≡◌, ℕ, zero, suc, ◌+◌, ◌<◌, ◌^◌, List, [], ◌∷◌, ◌++◌, length, All, Some, slice_get, refl, subst, arith}
+use Rattle.std.proofs.Common.{◌≡◌, ℕ, zero, suc, ◌<◌, ◌^◌, List, [], ◌∷◌, ◌++◌, All, Some, slice_get, sym, ◌∙◌, subst, arith}
 use Rattle.std.specs.Prelude.{get_or}
 use Rattle.behavior.specs.Transcripts.{AreBytes}
 use Rattle.behavior.specs.Same.{Same}
 use Rattle.behavior.proofs.Sameness.{same_composes}
 use Rattle.ps_tree.specs.Tree as Tree
 use Rattle.ps_meaning.specs.Run.{run_within}
+use Rattle.tac_code.specs.Meaning.{Code}
+use Rattle.tac_code.specs.Sound.{IsSound}
 use Rattle.tac_code.specs.Run.{tac_run}
 use Rattle.risc_view.specs.Start as view
 use Rattle.risc_image.specs.Image.{Image}
-use Rattle.risc_image.specs.Format.{IsImage, header, image_words}
+use Rattle.risc_image.specs.Format.{IsImage, header}
 use Rattle.risc_load.specs.Shows.{frame_bytes, object_bytes, IsBudget}
 use Rattle.risc_runs.specs.Outcome.{image_outcome}
 use Rattle.risc_runs.proofs.Same.{emission_keeps}
 use Rattle.ps_build.specs.Accepts.{IsProgramOf}
 use Rattle.ps_build.specs.Headline.{DoesAsMeant, Compiles}
-use Rattle.ps_build.specs.Made.{IsMadeOf}
+use Rattle.ps_build.specs.Bounds.{KeepsBounds}
+use Rattle.ps_build.specs.Made.{IsCodeOf, IsMadeOf, IsEmitted, AreMadeOf}
+use Rattle.ps_build.proofs.Pairs.{length_mapped}
 
 -- ---- the words of an image's code
 
@@ -53,3 +57,23 @@ module _ (checked : Tree.Program) (bytes : List ℕ) (image : Image) (is : IsIma
 
   pub made_compiles : (text : List ℕ) → IsProgramOf text checked → Compiles text bytes
   made_compiles text of_text = record { checked = checked; program = of_text; image = image; is_image = is; does = made_as_meant }
+
+-- ---- what an image is made of
+
+pub made_of : (checked : Tree.Program) (code : Code) (image : Image) (bytes : List ℕ) → IsCodeOf checked code → IsSound code → IsEmitted code image → KeepsBounds checked image → IsImage bytes image → AreMadeOf checked bytes
+made_of checked code image bytes lowered sound emitted bounds is =
+    record {
+      image = image;
+      is_image = is;
+      made = record {
+        code = code;
+        lowered = lowered;
+        sound = sound;
+        homes = emitted.homes;
+        placed = emitted.placed;
+        emitted = emitted.emitted;
+        routines = sym (length_mapped (λ row. row.bytes) image.frames) ∙ bounds.frames.count;
+        types = sym (length_mapped (λ row. row.bytes) image.objects) ∙ bounds.objects.count;
+        bounded = record { frames = bounds.frames.each; objects = bounds.objects.each };
+      };
+    }

@@ -1,5 +1,5 @@
 -- What a program of strings means: it writes its bytes and ends, or is stopped for stack at once.
-use Rattle.std.proofs.Common.{◌≡◌, ℕ, ℤ, pos, negsuc, zero, suc, ◌+◌, ◌-◌, ◌%◌, ◌<◌, Bool, true, false, cond, List, [], ◌∷◌, ◌++◌, Option, Some, None, length, replicate, take, nat_lt, get_or, refl, sym, ap, ◌∙◌, arith, append_assoc}
+use Rattle.std.proofs.Common.{◌≡◌, ℕ, ℤ, pos, negsuc, zero, suc, ◌+◌, ◌-◌, ◌%◌, Bool, true, false, cond, List, [], ◌∷◌, ◌++◌, Option, Some, None, length, replicate, take, nat_lt, get_or, refl, sym, ap, ◌∙◌, arith, append_assoc}
 use Rattle.std.specs.Prelude.{option_and_then}
 use Rattle.std.proofs.lemmas.List.{append-nil}
 use Rattle.ps_tree.specs.Tree as Tree
@@ -9,11 +9,11 @@ use Rattle.ps_meaning.specs.Values.{text_values}
 use Rattle.ps_tree.specs.Types.{DataType}
 use Rattle.behavior.specs.Endings as ending
 use Rattle.behavior.specs.Transcripts.{Shown}
-use Rattle.ps_meaning.specs.Worlds.{Context, World, Outside, Within, Answer, Gives, Ends, Act, Done, done, and_then, stop, says}
+use Rattle.ps_meaning.specs.Worlds.{Context, World, Outside, Within, Answer, Gives, Act, Done, done, and_then, stop, says}
 use Rattle.ps_meaning.specs.Expressions.{Caller}
 use Rattle.ps_meaning.specs.Statements.{Costs, Next, Block, characters, write, writes, act, acts}
 use Rattle.ps_meaning.specs.Calls.{Bound, bind, call_routine, execute}
-use Rattle.ps_meaning.specs.Run.{first_world, first_context, costs_of, shown as shown_of, run_within}
+use Rattle.ps_meaning.specs.Run.{first_world, costs_of, shown as shown_of, run_within}
 use Rattle.ps_meaning.proofs.Limits.{bind_quiet}
 use Rattle.ps_build.specs.Strings.{joined, character_text, parameter_text, parameters_text, statement_text, statements_text, only_block, compiled_of}
 

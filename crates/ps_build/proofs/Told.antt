@@ -1,5 +1,5 @@
 -- An outcome tells what the machine's run over plain lists came to.
-use Rattle.std.proofs.Common.{◌≡◌, ℕ, zero, suc, ◌+◌, ◌*◌, ◌%◌, ◌≤◌, Bool, true, false, cond, List, [], ◌∷◌, ◌++◌, length, arith, Option, Some, None, refl, sym, ap, ◌∙◌, subst}
+use Rattle.std.proofs.Common.{◌≡◌, ℕ, zero, suc, ◌+◌, ◌*◌, ◌%◌, ◌≤◌, Bool, true, false, cond, List, [], length, arith, Option, Some, None, refl, sym, ap, ◌∙◌, subst}
 use Rattle.std.specs.Prelude.{nat_lt, nat_eq, ◌==◌, ◌||◌, not}
 use Rattle.risc_load.specs.Refusal.{budget_fault}
 use Rattle.risc_load.specs.declared.budget.LoadRefusal.TheVariants.{BudgetUneven, BudgetTooLarge}

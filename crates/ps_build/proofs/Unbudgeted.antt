@@ -1,5 +1,5 @@
 -- The headline over the meaning without budgets.
-use Rattle.std.proofs.Common.{◌≡◌, inl, inr, ℕ, ◌≤◌, List, refl, sym, ap, subst, ◌∙◌}
+use Rattle.std.proofs.Common.{◌≡◌, inl, inr, ℕ, List, refl, sym, ap, subst, ◌∙◌}
 use Rattle.behavior.specs.Endings.{IsMore}
 use Rattle.behavior.specs.Transcripts.{GoesOn}
 use Rattle.behavior.specs.Same.{Grows}

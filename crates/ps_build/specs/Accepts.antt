@@ -1,5 +1,5 @@
 -- Which texts are accepted, each as which checked program, and why the others are refused.
-use Rattle.std.specs.Prelude.{◌≡◌, ◌⊎◌, ℕ, ◌<◌, ◌≤◌, List, length, Some, None}
+use Rattle.std.specs.Prelude.{◌≡◌, ◌⊎◌, ℕ, ◌<◌, ◌≤◌, true, List, length, Some, None}
 use Rattle.ps_text.specs.declared.TheConstants.{MAX_LENGTH, MAX_LINES}
 use Rattle.ps_text.specs.Lines.{IsSource, line_count}
 use Rattle.ps_scan.specs.declared.token.Token.{Token}
@@ -10,6 +10,13 @@ use Rattle.ps_build.specs.declared.refusal.Refusal.{Refusal}
 use Rattle.ps_build.specs.declared.refusal.Refusal.TheVariants.{TooLong, TooManyLines, NotYet, OutOfMemory, BadByte, OpenComment, OpenString, EmptyString, SeparatorMissing, NumberTooLarge, RealNumber, NotAProgram, TooDeep, NotInProfile, Unknown, Twice, UsedBefore, WrongKind, WrongType, NotAssignable, BadSubrange, SetBase, CaseTwice, ControlVariable, PackedVariable, NotCongruous, ForwardOpen, NoResultAssigned, NoInputOutput, Limit, CodeTooLarge}
 use Rattle.ps_tree.specs.Tree as Tree
 use Rattle.ps_check.specs.Programs.{program}
+use Rattle.ps_code.specs.Programs.{code_of}
+use Rattle.ps_fits.specs.Tests.{program_fits}
+use Rattle.tac_rt.specs.Bodies.{run_time_routines}
+use Rattle.tac_code.specs.Meaning.{Code}
+use Rattle.risc_alloc.specs.declared.homes.Home.{Home}
+use Rattle.risc_alloc.specs.Valid.{Valid}
+use Rattle.risc_emit.specs.Emitted.{code_words as placed_words}
 use Rattle.ps_build.specs.Strings.{compiled_of}
 use Rattle.ps_build.specs.Code.{code_words}
 
@@ -60,14 +67,35 @@ pub record IsNotYet (text : List ℕ) : Type 0 where
 abbrev pub most_words : ℕ
 most_words = 1048576
 
--- the text is accepted, but its code would be too large
-pub record IsTooLarge (text : List ℕ) : Type 0 where
+-- the code has homes for its temporaries with which its words are too many
+pub record HasNoRoom (code : Code) : Type 0 where
+  pub homes : List Home
+  pub placed : Valid code homes
+  pub words : most_words < placed_words code homes
+
+-- The three-address code of a program that is lowered so far has too many words.
+pub record HasTooManyWords (checked : Tree.Program) : Type 0 where
+  pub fits : program_fits checked ≡ true
+  pub no_room : HasNoRoom (code_of run_time_routines checked)
+
+-- the text is accepted as a program that writes strings, but its code would be too large
+pub record AreStringsTooLarge (text : List ℕ) : Type 0 where
   pub checked : Tree.Program
   pub accepts : Accepts text checked
   pub line : ℕ
   pub bytes : List ℕ
   pub compiled : compiled_of checked ≡ Some (line, bytes)
   pub words : most_words < code_words (length bytes)
+
+-- the text is accepted as another program, but the words of its three-address code would be too many
+pub record IsCodeTooLarge (text : List ℕ) : Type 0 where
+  pub checked : Tree.Program
+  pub accepts : Accepts text checked
+  pub none : compiled_of checked ≡ None
+  pub words : HasTooManyWords checked
+
+abbrev pub IsTooLarge : List ℕ → Type 0
+IsTooLarge text = AreStringsTooLarge text ⊎ IsCodeTooLarge text
 
 -- What each refusal of a text says of it; the others are never told. Memory is wanted only for a text within the limits.
 abbrev pub IsRefused : List ℕ → Refusal → Type 0

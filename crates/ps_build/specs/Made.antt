@@ -12,6 +12,7 @@ use Rattle.tac_code.specs.Run.{tac_run}
 use Rattle.risc_alloc.specs.declared.homes.Home.{Home}
 use Rattle.risc_alloc.specs.Valid.{Valid}
 use Rattle.risc_image.specs.Image.{Image}
+use Rattle.risc_image.specs.Format.{IsImage}
 use Rattle.risc_load.specs.Shows.{frame_bytes, object_bytes}
 use Rattle.risc_runs.specs.Emits.{Emits}
 
@@ -32,3 +33,15 @@ pub record IsMadeOf (checked : Program) (image : Image) : Type 0 where
   pub routines : length image.frames ≡ length checked.routines
   pub types : length image.objects ≡ length checked.domains
   pub bounded : Bounded checked (frame_bytes image) (object_bytes image)
+
+-- the image is that of the code, with homes for its temporaries
+pub record IsEmitted (code : Code) (image : Image) : Type 0 where
+  pub homes : List Home
+  pub placed : Valid code homes
+  pub emitted : Emits code homes image
+
+-- the bytes are an image that was made so of the program
+pub record AreMadeOf (checked : Program) (bytes : List ℕ) : Type 0 where
+  pub image : Image
+  pub is_image : IsImage bytes image
+  pub made : IsMadeOf checked image

@@ -10,6 +10,10 @@ use Rattle.ps_regions.specs.declared.refusal.Rule.{Rule}
 use Rattle.ps_regions.specs.declared.refusal.Rule.TheVariants as r
 use Rattle.ps_regions.specs.declared.refusal.CheckRefusal.{CheckRefusal}
 use Rattle.ps_regions.specs.declared.refusal.CheckRefusal.TheVariants as c
+use Rattle.ps_lower.specs.declared.refusal.LowerRefusal.{LowerRefusal}
+use Rattle.ps_lower.specs.declared.refusal.LowerRefusal.TheVariants as w
+use Rattle.risc_emit.specs.declared.emit.EmitRefusal.{EmitRefusal}
+use Rattle.risc_emit.specs.declared.emit.EmitRefusal.TheVariants as e
 use Rattle.risc_image.specs.declared.refusal.ImageRefusal.{ImageRefusal}
 use Rattle.risc_image.specs.declared.refusal.ImageRefusal.TheVariants as i
 use Rattle.risc_load.specs.declared.budget.LoadRefusal.{LoadRefusal}
@@ -140,6 +144,13 @@ OnlyTooLarge OutOfMemory fact = Unit {0}
 OnlyTooLarge CodeTooLarge fact = fact
 OnlyTooLarge _ fact = ⊥
 
+-- NotYet may be told too, CodeTooLarge only where a fact holds
+abbrev pub OnlyLeft : Refusal → Type 0 → Type 0
+OnlyLeft OutOfMemory fact = Unit {0}
+OnlyLeft NotYet fact = Unit {0}
+OnlyLeft CodeTooLarge fact = fact
+OnlyLeft _ fact = ⊥
+
 -- ---- the refusals of the layers
 
 abbrev pub of_text : TextRefusal → Refusal
@@ -184,6 +195,16 @@ of_rule r.Limit line = Limit line
 abbrev pub of_check : CheckRefusal → Refusal
 of_check c.OutOfMemory = OutOfMemory
 of_check (c.Broken rule line) = of_rule rule line
+
+-- what is too large for the code is not compiled yet
+abbrev pub of_lower : LowerRefusal → Refusal
+of_lower w.OutOfMemory = OutOfMemory
+of_lower w.TooLarge = NotYet
+of_lower w.NotYet = NotYet
+
+abbrev pub of_emit : EmitRefusal → Refusal
+of_emit e.CodeTooLarge = CodeTooLarge
+of_emit e.OutOfMemory = OutOfMemory
 
 abbrev pub of_image : ImageRefusal → Refusal
 of_image i.Magic = Magic

@@ -9,6 +9,7 @@ ghost use Rattle.ps_build.specs.Accepts.{IsProgramOf, IsRefused, IsFaulty, IsNot
 ghost use Rattle.ps_build.specs.Headline.{Compiles};
 
 use crate::emit::{ENTRY_LINK, FRAME_BYTES, MAX_BYTES, OUT_OF_STACK, emit};
+use crate::making::image_made;
 use crate::refusal::Refusal;
 use crate::strings::{StringProgram, strings_of};
 use ps_check::check;
@@ -103,14 +104,17 @@ fn program_of(alloc: Global, text: &[u8]) -> Result<Checked, Refusal>
     }
 }
 
-// The bytes of the image of a text.
+// The bytes of the image of a text: that of what it writes, where it only writes strings, and else that of its three-address code.
 fn image_built(alloc: Global, text: &[u8]) -> Result<Vec<u8>, Refusal>
     ensures ok { IfOk result (λ bytes. Compiles text.now bytes.items) }
     ensures err { IfErr result (IsRefused text.now) }
 {
     let checked = program_of(alloc, text)?;
-    let program = strings_of(alloc, &checked)?;
-    image_of(alloc, &program)
+    match strings_of(alloc, &checked) {
+        Ok(program) => image_of(alloc, &program),
+        Err(Refusal::NotYet) => image_made(alloc, &checked),
+        Err(refusal) => Err(refusal),
+    }
 }
 
 /// Builds the program of a text: the image does on every input and under every budget what the program means.

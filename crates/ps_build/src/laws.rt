@@ -1,9 +1,29 @@
-//! The headline over the meaning without budgets, as the contract of a function that does nothing when it runs.
+//! Laws of images, as the contracts of functions that do nothing when they run.
 
-ghost use Rattle.ps_build.specs.Laws.{ComesToTheMeaning};
+ghost use Rattle.ps_build.specs.Laws.{ComesToTheMeaning, CodeDoes, MadeCompiles};
+
+use ps_fits::tests_tell;
+use ps_lowers::{programs_go_on, programs_lower};
+use ps_run_time::writes_are_done;
 
 /// An image that was built comes to all that its program means without budgets, or is stopped for stack or heap on the way; and what it
 /// shows is what the program shows, or a part of it.
 pub fn comes_to_the_meaning()
     ensures { ComesToTheMeaning }
+{}
+
+/// The three-address code of a program that is lowered so far does what the program means, and there is a next step wherever it has not
+/// come to its end.
+pub fn code_does()
+    ensures { CodeDoes }
+{
+    tests_tell();
+    writes_are_done();
+    programs_lower();
+    programs_go_on();
+}
+
+/// An image that was made of code that does what a program means, with homes of its temporaries, does what the program means.
+pub fn made_compiles()
+    ensures { MadeCompiles }
 {}

@@ -1,9 +1,11 @@
 //! Builds Pascal programs, and runs images.
 #![tactic(auto)]
 
+mod bounds;
 mod built;
 mod emit;
 pub mod laws;
+mod making;
 mod outcome;
 mod refusal;
 mod run;

@@ -1,13 +1,15 @@
 //! Why a text, an image or a budget is refused.
 
 ghost use Rattle.std.specs.Prelude.{◌≡◌};
-ghost use Rattle.ps_build.specs.Refusals.{number_of, name_of, line_of, of_text, of_scan, of_parse, of_rule, of_check, of_image, of_load};
+ghost use Rattle.ps_build.specs.Refusals.{number_of, name_of, line_of, of_text, of_scan, of_parse, of_rule, of_check, of_lower, of_emit, of_image, of_load};
 ghost use Rattle.ps_build.specs.declared.refusal.Refusal.TheVariants.{OutOfMemory};
 
+use ps_lower::refusal::LowerRefusal;
 use ps_parse::ParseRefusal;
 use ps_regions::refusal::{CheckRefusal, Rule};
 use ps_scan::ScanRefusal;
 use ps_text::TextRefusal;
+use risc_emit::emit::EmitRefusal;
 use risc_image::ImageRefusal;
 use risc_load::LoadRefusal;
 use std::alloc::{AllocError, AllocFailed};
@@ -355,6 +357,28 @@ impl From<CheckRefusal> for Refusal {
         match refusal {
             CheckRefusal::OutOfMemory => Refusal::OutOfMemory,
             CheckRefusal::Broken { rule, line } => of_rule(rule, line),
+        }
+    }
+}
+
+impl From<LowerRefusal> for Refusal {
+    ghost from_gives = { λ e r. r ≡ of_lower e };
+
+    fn from(refusal: LowerRefusal) -> Refusal {
+        match refusal {
+            LowerRefusal::OutOfMemory => Refusal::OutOfMemory,
+            LowerRefusal::TooLarge | LowerRefusal::NotYet => Refusal::NotYet,
+        }
+    }
+}
+
+impl From<EmitRefusal> for Refusal {
+    ghost from_gives = { λ e r. r ≡ of_emit e };
+
+    fn from(refusal: EmitRefusal) -> Refusal {
+        match refusal {
+            EmitRefusal::CodeTooLarge => Refusal::CodeTooLarge,
+            EmitRefusal::OutOfMemory => Refusal::OutOfMemory,
         }
     }
 }

@@ -47,13 +47,13 @@ pub firsts_fit : (made : List ℕ) (store : ℕ → Value) (types : List DataTyp
 firsts_fit made store [] n h f = tt
 firsts_fit made store (type ∷ rest) n h f = (subst (λ v. HasShape made v (shape_of type)) (sym h.0) (first_has_shape made type f.0), firsts_fit made store rest (suc n) h.1 f.1)
 
-dropped_first : (xs ys : List ℕ) (j x : ℕ) → drop j xs ≡ x ∷ ys → get_or xs j 0 ≡ x
+pub dropped_first : (xs ys : List ℕ) (j x : ℕ) → drop j xs ≡ x ∷ ys → get_or xs j 0 ≡ x
 dropped_first [] ys zero x e = absurd (cc)
 dropped_first [] ys (suc j) x e = absurd (cc)
 dropped_first (z ∷ xs) ys zero x e = ap (λ l. get_or l 0 0) e
 dropped_first (z ∷ xs) ys (suc j) x e = dropped_first xs ys j x e
 
-dropped_rest : (xs ys : List ℕ) (j x : ℕ) → drop j xs ≡ x ∷ ys → drop (suc j) xs ≡ ys
+pub dropped_rest : (xs ys : List ℕ) (j x : ℕ) → drop j xs ≡ x ∷ ys → drop (suc j) xs ≡ ys
 dropped_rest [] ys zero x e = absurd (cc)
 dropped_rest [] ys (suc j) x e = absurd (cc)
 dropped_rest (z ∷ xs) ys zero x e = ap (drop 1) e

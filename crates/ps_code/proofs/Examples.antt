@@ -26,41 +26,41 @@ use Rattle.ps_code.specs.Programs.{code_of}
 abbrev integer : Ordinal
 integer = record { host = Integer; subrange = None; low = negsuc 2147483647; high = pos 2147483647 }
 
-abbrev subrange : ℤ → ℤ → Ordinal
+abbrev pub subrange : ℤ → ℤ → Ordinal
 subrange low high = record { host = Integer; subrange = Some 7; low = low; high = high }
 
-abbrev int : DataType
+abbrev pub int : DataType
 int = OrdinalType integer
 
-abbrev own : ℕ → Place
+abbrev pub own : ℕ → Place
 own n = Variable (Entry 0 n) no_selector
 
-abbrev outer : ℕ → ℕ → Place
+abbrev pub outer : ℕ → ℕ → Place
 outer up n = Variable (Entry up n) no_selector
 
-abbrev n : ℕ → Expr
+abbrev pub n : ℕ → Expr
 n k = Number (pos k)
 
-abbrev v : ℕ → Expr
+abbrev pub v : ℕ → Expr
 v k = Load (own k)
 
-abbrev set : Place → Expr → (line : ℕ) → Statement
+abbrev pub set : Place → Expr → (line : ℕ) → Statement
 set p e line = Assign p (Within (negsuc 2147483647) (pos 2147483647)) e line
 
-abbrev digit : Expr → Statement
+abbrev pub digit : Expr → Statement
 digit e = Write (WriteInteger e (GivenWidth (n 1) 1) ∷ [])
 
-abbrev plus : Expr → Expr → Expr
+abbrev pub plus : Expr → Expr → Expr
 plus a b = Arithmetic a (arithmetic_step_before Add b 3 no_arithmetic_step)
 
-abbrev minus : Expr → Expr → Expr
+abbrev pub minus : Expr → Expr → Expr
 minus a b = Arithmetic a (arithmetic_step_before Subtract b 4 no_arithmetic_step)
 
-abbrev statements : List Statement → Statements
+abbrev pub statements : List Statement → Statements
 statements [] = no_statement
 statements (s ∷ rest) = statement_before s (statements rest)
 
-abbrev block : List DataType → List Statement → Routine
+abbrev pub block : List DataType → List Statement → Routine
 block variables body = record { chain = 0 ∷ []; formals = no_formal; result = None; variables = variables; body = statements body; line = 1 }
 
 abbrev alone : List DataType → List Statement → Program
@@ -76,7 +76,7 @@ digit_routine = record { parameters = 2; temporaries = 2; frame = 0; scratch = 0
 abbrev copy_routine : TacRoutine
 copy_routine = record { parameters = 3; temporaries = 4; frame = 0; scratch = 0; line = 1; body = i.Branch relation.Equal 2 (operand.Number (pos 0)) 6 ∷ i.Load 3 (base.Temporary 1) 0 ∷ i.Store (base.Temporary 0) 0 3 ∷ i.Offset 0 (base.Temporary 0) 4 0 ∷ i.Offset 1 (base.Temporary 1) 4 0 ∷ i.Bits bits.Plus 2 2 (operand.Number (negsuc 3)) ∷ i.BranchBack relation.NotEqual 2 (operand.Number (pos 0)) 5 ∷ i.Return 2 ∷ [] }
 
-abbrev run_time : List TacRoutine
+abbrev pub run_time : List TacRoutine
 run_time = copy_routine ∷ nothing ∷ nothing ∷ nothing ∷ nothing ∷ nothing ∷ nothing ∷ nothing ∷ nothing ∷ nothing ∷ digit_routine ∷ []
 
 abbrev cost : ℕ → ℕ
@@ -177,7 +177,7 @@ passes_runs : tac_run (code_of run_time passes) (λ r. 0) (λ t. 0) 0 0 [] 199 �
 passes_runs = refl
 
 -- an index outside its range, in a called procedure: a[3] := 1 and a[a[1]] for an array [1..2]
-abbrev element : ℕ → Expr → Place
+abbrev pub element : ℕ → Expr → Place
 element up e = Variable (Entry up 0) (selector_before (Element (ArrayType 9 true (subrange (pos 1) (pos 2)) int) e 8) no_selector)
 
 abbrev indexes : Program

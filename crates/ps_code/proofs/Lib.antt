@@ -1,2 +1,3 @@
 pub mod Depths
 mod Examples
+mod Orders

@@ -1,16 +1,16 @@
 -- What the lowering needs of a program: each part of the tree has the form that its place asks for.
-use Rattle.std.specs.Prelude.{◌≡◌, ℕ, ◌<◌, ℤ, pos, List, [], ◌∷◌, length, drop, Option, Some, None, IsTrue, int_le, ◌&&◌}
+use Rattle.std.specs.Prelude.{◌≡◌, ℕ, ◌<◌, ℤ, pos, List, [], ◌∷◌, length, drop, Option, Some, None, IsTrue, int_le, ◌&&◌, slice_get}
 use Rattle.std.specs.List.{All}
 use Rattle.ps_tree.specs.declared.tree.Range.{Range}
 use Rattle.ps_tree.specs.declared.tree.Range.TheVariants.{Any, Within}
 use Rattle.ps_tree.specs.declared.tree.RequiredFunction.{RequiredFunction}
 use Rattle.ps_tree.specs.declared.tree.RequiredFunction.TheVariants.{Succ, Pred}
-use Rattle.ps_tree.specs.Types.{DataType}
+use Rattle.ps_tree.specs.Types.{DataType, string_length}
 use Rattle.ps_tree.specs.Sizes.{value_count}
-use Rattle.ps_tree.specs.Tree.{Place, Variable, PlaceBase, Entry, Opened, Selectors, no_selector, selector_before, ArithmeticSteps, no_arithmetic_step, arithmetic_step_before, Operands, no_operand, operand_before, Expr, Number, Nil, Load, Plus, Minus, Not, Arithmetic, Logic, Compare, Apply, Structure, Literal, Contents, Width, DefaultWidth, GivenWidth, WriteParameter, WriteInteger, WriteChar, WriteBoolean, WriteText, Statement, Empty, Assign, Compound, If, IfElse, Case, While, Repeat, For, Write, Writeln, Statements, no_statement, statement_before, Elements, no_element, element_before, routine_at}
+use Rattle.ps_tree.specs.Tree.{Place, Variable, PlaceBase, Entry, Opened, Selector, Element, Field, Target, Selectors, no_selector, selector_before, ArithmeticSteps, no_arithmetic_step, arithmetic_step_before, Operands, no_operand, operand_before, Expr, Number, Nil, Load, Plus, Minus, Not, Arithmetic, Logic, Compare, ComparePointers, Apply, Structure, Literal, Contents, Width, DefaultWidth, GivenWidth, WriteParameter, WriteInteger, WriteChar, WriteBoolean, WriteText, Statement, Empty, Assign, Compound, If, IfElse, Case, While, Repeat, For, With, Write, Writeln, Statements, no_statement, statement_before, Elements, no_element, element_before, routine_at, domain_at}
 use Rattle.ps_meaning.specs.Expressions.{index_of}
 use Rattle.tac_code.specs.Numbers.{is_integer}
-use Rattle.ps_layout.specs.Shapes.{Shape, NumberShape, PointerShape, ByteShape, ArrayShape, shape_of, Part, Whole, Byte}
+use Rattle.ps_layout.specs.Shapes.{Shape, NumberShape, PointerShape, ByteShape, ArrayShape, shape_of, field_part, Part, Whole, Byte, component_part}
 use Rattle.ps_layout.specs.Paths.{Sort, NumberSort, PointerSort}
 use Rattle.ps_layout.specs.Frames.{Kind, Own, Reference}
 use Rattle.ps_code.specs.Scopes.{Scope, kind_at}
@@ -60,82 +60,96 @@ FunctionFits _ = Unit {0}
 abbrev pub IsArray : DataType → Type 0
 IsArray type = CountIs (shape_of type) (value_count (index_of type)) × IsInteger (index_of type).low × IsInteger (index_of type).high
 
-module _ (k : Scope) (os : List Shape) where
+-- Within records of these shapes that `with` opened, the innermost first. Where they stand counts for nothing here.
+module _ (k : Scope) where
   -- a routine that is declared so many levels up
   abbrev pub DeclaredAt : (routine up : ℕ) → Type 0
   DeclaredAt r up = (r < length k.program.routines) × (up < length k.chain) × ((routine_at k.program r).chain ≡ r ∷ drop up k.chain)
 
-  abbrev pub BaseFits : PlaceBase → Shape → Type 0
-  BaseFits (Entry up index) shape = (up < length k.chain) × (shape_in (kind_at k up index) ≡ Some shape)
-  BaseFits (Opened which type number) shape = ⊥
+  abbrev pub BaseFits : List Shape → PlaceBase → Shape → Type 0
+  BaseFits os (Entry up index) shape = (up < length k.chain) × (shape_in (kind_at k up index) ≡ Some shape)
+  BaseFits os (Opened which type number) shape = (slice_get os which ≡ Some (shape_of type)) × (field_part (shape_of type) number ≡ Some shape)
 
   abbrev mutual
-    pub PlaceFits : Place → Part → Type 0
-    PlaceFits (Variable name selectors) part = (shape : Shape) × BaseFits name shape × SelectorsFit selectors (Whole shape) part
+    pub PlaceFits : List Shape → Place → Part → Type 0
+    PlaceFits os (Variable name selectors) part = (shape : Shape) × BaseFits os name shape × SelectorsFit os selectors (Whole shape) part
 
-    pub SelectorsFit : Selectors → Part → Part → Type 0
-    SelectorsFit no_selector part part' = part ≡ part'
-    SelectorsFit (selector_before s rest) part part' = ⊥
+    pub SelectorsFit : List Shape → Selectors → Part → Part → Type 0
+    SelectorsFit os no_selector part part' = part ≡ part'
+    SelectorsFit os (selector_before s rest) part part' = (shape : Shape) × (part ≡ Whole shape) × ((next : Part) × SelectorFits os s shape next × SelectorsFit os rest next part')
 
-    pub ExprFits : Expr → Sort → Type 0
-    ExprFits (Number n) sort = (sort ≡ NumberSort) × IsInteger n
-    ExprFits Nil sort = (t : ℕ) × (sort ≡ PointerSort t)
-    ExprFits (Load p) sort = (part : Part) × SortOf part sort × PlaceFits p part
-    ExprFits (Plus e) sort = (sort ≡ NumberSort) × ExprFits e NumberSort
-    ExprFits (Minus e line) sort = (sort ≡ NumberSort) × ExprFits e NumberSort
-    ExprFits (Not e) sort = (sort ≡ NumberSort) × ExprFits e NumberSort
-    ExprFits (Arithmetic e steps) sort = (sort ≡ NumberSort) × ExprFits e NumberSort × StepsFit steps
-    ExprFits (Logic operator e rest) sort = (sort ≡ NumberSort) × ExprFits e NumberSort × OperandsFit rest
-    ExprFits (Compare relation a b) sort = (sort ≡ NumberSort) × ExprFits a NumberSort × ExprFits b NumberSort
-    ExprFits (Apply function e line) sort = (sort ≡ NumberSort) × FunctionFits function × ExprFits e NumberSort
-    ExprFits e sort = ⊥
+    -- from a variable of a shape to its part
+    pub SelectorFits : List Shape → Selector → Shape → Part → Type 0
+    SelectorFits os (Element type e line) shape next = (shape ≡ shape_of type) × (next ≡ component_part (shape_of type)) × IsArray type × ExprFits os e NumberSort
+    SelectorFits os (Field type number) shape next = (shape ≡ shape_of type) × ((inner : Shape) × (field_part (shape_of type) number ≡ Some inner) × (next ≡ Whole inner))
+    SelectorFits os (Target pointer line) shape next = (shape ≡ PointerShape pointer) × (next ≡ Whole (shape_of (domain_at k.program pointer)))
 
-    pub StepsFit : ArithmeticSteps → Type 0
-    StepsFit no_arithmetic_step = Unit {0}
-    StepsFit (arithmetic_step_before operator e line rest) = ExprFits e NumberSort × StepsFit rest
+    pub ExprFits : List Shape → Expr → Sort → Type 0
+    ExprFits os (Number n) sort = (sort ≡ NumberSort) × IsInteger n
+    ExprFits os Nil sort = (t : ℕ) × (sort ≡ PointerSort t)
+    ExprFits os (Load p) sort = (part : Part) × SortOf part sort × PlaceFits os p part
+    ExprFits os (Plus e) sort = (sort ≡ NumberSort) × ExprFits os e NumberSort
+    ExprFits os (Minus e line) sort = (sort ≡ NumberSort) × ExprFits os e NumberSort
+    ExprFits os (Not e) sort = (sort ≡ NumberSort) × ExprFits os e NumberSort
+    ExprFits os (Arithmetic e steps) sort = (sort ≡ NumberSort) × ExprFits os e NumberSort × StepsFit os steps
+    ExprFits os (Logic operator e rest) sort = (sort ≡ NumberSort) × ExprFits os e NumberSort × OperandsFit os rest
+    ExprFits os (Compare relation a b) sort = (sort ≡ NumberSort) × ExprFits os a NumberSort × ExprFits os b NumberSort
+    ExprFits os (ComparePointers relation a b) sort = (sort ≡ NumberSort) × ((t : ℕ) × ExprFits os a (PointerSort t) × ExprFits os b (PointerSort t))
+    ExprFits os (Apply function e line) sort = (sort ≡ NumberSort) × FunctionFits function × ExprFits os e NumberSort
+    ExprFits os e sort = ⊥
 
-    pub OperandsFit : Operands → Type 0
-    OperandsFit no_operand = Unit {0}
-    OperandsFit (operand_before e rest) = ExprFits e NumberSort × OperandsFit rest
+    pub StepsFit : List Shape → ArithmeticSteps → Type 0
+    StepsFit os no_arithmetic_step = Unit {0}
+    StepsFit os (arithmetic_step_before operator e line rest) = ExprFits os e NumberSort × StepsFit os rest
 
-  abbrev pub WidthFits : Width → Type 0
-  WidthFits DefaultWidth = Unit {0}
-  WidthFits (GivenWidth e line) = ExprFits e NumberSort
+    pub OperandsFit : List Shape → Operands → Type 0
+    OperandsFit os no_operand = Unit {0}
+    OperandsFit os (operand_before e rest) = ExprFits os e NumberSort × OperandsFit os rest
 
-  -- a string's characters are bytes
-  abbrev pub StructureFits : Structure → Type 0
-  StructureFits (Literal characters) = All (λ b. b < 256) characters × (length characters < 2147483648)
-  StructureFits (Contents p type) = ⊥
+  -- the shapes of opened records, with those that `with` opens one after another
+  abbrev pub OpenedFit : List Shape → List Place → List Shape → Type 0
+  OpenedFit os [] os' = os' ≡ os
+  OpenedFit os (p ∷ rest) os' = (shape : Shape) × PlaceFits os p (Whole shape) × OpenedFit (shape ∷ os) rest os'
 
-  abbrev pub WriteFits : WriteParameter → Type 0
-  WriteFits (WriteInteger e width) = ExprFits e NumberSort × WidthFits width
-  WriteFits (WriteChar e width) = ExprFits e NumberSort × WidthFits width
-  WriteFits (WriteBoolean e width) = ExprFits e NumberSort × WidthFits width
-  WriteFits (WriteText e width) = StructureFits e × WidthFits width
+  abbrev pub WidthFits : List Shape → Width → Type 0
+  WidthFits os DefaultWidth = Unit {0}
+  WidthFits os (GivenWidth e line) = ExprFits os e NumberSort
 
-  abbrev pub WritesFit : List WriteParameter → Type 0
-  WritesFit [] = Unit {0}
-  WritesFit (p ∷ rest) = WriteFits p × WritesFit rest
+  -- a string's characters are bytes, and those of a string variable too
+  abbrev pub StructureFits : List Shape → Structure → Type 0
+  StructureFits os (Literal characters) = All (λ b. b < 256) characters × (length characters < 2147483648)
+  StructureFits os (Contents p type) = (count : ℕ) × (first : ℤ) × (shape_of type ≡ ByteShape count first) × (string_length type ≡ Some count) × PlaceFits os p (Whole (ByteShape count first))
+
+  abbrev pub WriteFits : List Shape → WriteParameter → Type 0
+  WriteFits os (WriteInteger e width) = ExprFits os e NumberSort × WidthFits os width
+  WriteFits os (WriteChar e width) = ExprFits os e NumberSort × WidthFits os width
+  WriteFits os (WriteBoolean e width) = ExprFits os e NumberSort × WidthFits os width
+  WriteFits os (WriteText e width) = StructureFits os e × WidthFits os width
+
+  abbrev pub WritesFit : List Shape → List WriteParameter → Type 0
+  WritesFit os [] = Unit {0}
+  WritesFit os (p ∷ rest) = WriteFits os p × WritesFit os rest
 
   abbrev mutual
-    pub StatementFits : Statement → Type 0
-    StatementFits Empty = Unit {0}
-    StatementFits (Assign p range e line) = (part : Part) × PlaceFits p part × RangeFits range part × ((sort : Sort) × SortOf part sort × ExprFits e sort)
-    StatementFits (Compound body) = StatementsFit body
-    StatementFits (If e s) = ExprFits e NumberSort × StatementFits s
-    StatementFits (IfElse e s t) = ExprFits e NumberSort × StatementFits s × StatementFits t
-    StatementFits (Case e elements line) = ExprFits e NumberSort × ElementsFit elements
-    StatementFits (While e s) = ExprFits e NumberSort × StatementFits s
-    StatementFits (Repeat body e) = StatementsFit body × ExprFits e NumberSort
-    StatementFits (For variable low high a from_line direction b to_line s) = ((first : ℤ) × (kind_at k 0 variable ≡ Some (Own (NumberShape first)))) × ExprFits a NumberSort × ExprFits b NumberSort × StatementFits s
-    StatementFits (Write parameters) = WritesFit parameters
-    StatementFits (Writeln parameters) = WritesFit parameters
-    StatementFits s = ⊥
+    pub StatementFits : List Shape → Statement → Type 0
+    StatementFits os Empty = Unit {0}
+    StatementFits os (Assign p range e line) = (part : Part) × PlaceFits os p part × RangeFits range part × ((sort : Sort) × SortOf part sort × ExprFits os e sort)
+    StatementFits os (Compound body) = StatementsFit os body
+    StatementFits os (If e s) = ExprFits os e NumberSort × StatementFits os s
+    StatementFits os (IfElse e s t) = ExprFits os e NumberSort × StatementFits os s × StatementFits os t
+    StatementFits os (Case e elements line) = ExprFits os e NumberSort × ElementsFit os elements
+    StatementFits os (While e s) = ExprFits os e NumberSort × StatementFits os s
+    StatementFits os (Repeat body e) = StatementsFit os body × ExprFits os e NumberSort
+    StatementFits os (For variable low high a from_line direction b to_line s) = ((first : ℤ) × (kind_at k 0 variable ≡ Some (Own (NumberShape first)))) × ExprFits os a NumberSort × ExprFits os b NumberSort × StatementFits os s
+    StatementFits os (With places s) = (os' : List Shape) × OpenedFit os places os' × StatementFits os' s
+    StatementFits os (Write parameters) = WritesFit os parameters
+    StatementFits os (Writeln parameters) = WritesFit os parameters
+    StatementFits os s = ⊥
 
-    pub StatementsFit : Statements → Type 0
-    StatementsFit no_statement = Unit {0}
-    StatementsFit (statement_before s rest) = StatementFits s × StatementsFit rest
+    pub StatementsFit : List Shape → Statements → Type 0
+    StatementsFit os no_statement = Unit {0}
+    StatementsFit os (statement_before s rest) = StatementFits os s × StatementsFit os rest
 
-    pub ElementsFit : Elements → Type 0
-    ElementsFit no_element = Unit {0}
-    ElementsFit (element_before constants s rest) = StatementFits s × ElementsFit rest
+    pub ElementsFit : List Shape → Elements → Type 0
+    ElementsFit os no_element = Unit {0}
+    ElementsFit os (element_before constants s rest) = StatementFits os s × ElementsFit os rest

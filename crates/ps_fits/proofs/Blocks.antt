@@ -1,9 +1,11 @@
 -- Chains, formal parameters and routines by their lists.
-use Rattle.std.proofs.Common.{◌≡◌, ℕ, true, false, ◌==◌, List, [], ◌∷◌, length, get_or, map, refl}
+use Rattle.std.proofs.Common.{◌≡◌, ℕ, true, false, ◌==◌, List, [], ◌∷◌, length, get_or, map, refl, IsTrue, ap, ◌&&◌}
 use Rattle.ps_tree.specs.declared.tree.Formal.{Formal}
 use Rattle.ps_tree.specs.declared.tree.Routine.{Routine}
+use Rattle.ps_tree.specs.Counts.{is_within_limits}
+use Rattle.ps_tree.specs.Tree.{Program}
 use Rattle.ps_tree.specs.View.{formals_of, routine_of}
-use Rattle.ps_fits.specs.Tests.{is_outermost, has_no_formals, block_fits, routines_fit}
+use Rattle.ps_fits.specs.Tests.{is_outermost, has_no_formals, block_fits, routines_fit, program_fits}
 
 pub one_there : (chain : List ℕ) → length chain ≡ 1 → is_outermost chain ≡ (get_or chain 0 0 == 0)
 one_there [] e = absurd (cc)
@@ -34,3 +36,7 @@ pub other_routines : (rs : List Routine) → (length rs ≡ 1 → ⊥) → routi
 other_routines [] h = refl
 other_routines (r ∷ []) h = absurd (h refl)
 other_routines (r ∷ s ∷ rest) h = refl
+
+-- where the limits are kept, the routines decide
+pub within : (program : Program) → IsTrue (is_within_limits program) → program_fits program ≡ routines_fit program.routines
+within program e = ap (λ b. b && routines_fit program.routines) e

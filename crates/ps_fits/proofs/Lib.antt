@@ -1,3 +1,5 @@
+pub mod Both
+pub mod Limits
 pub mod Tell
 pub mod Numbers
 pub mod Places

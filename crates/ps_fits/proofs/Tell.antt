@@ -9,6 +9,7 @@ use Rattle.ps_tree.specs.declared.tree.Range.{Range}
 use Rattle.ps_tree.specs.declared.tree.Range.TheVariants.{Any, Within}
 use Rattle.ps_tree.specs.Types.{DataType, OrdinalType, PointerType, NilType, SetType, EmptySetType, TextType, ArrayType, RecordType, is_same_host}
 use Rattle.ps_tree.specs.Tree.{Place, Variable, Entry, Opened, no_selector, selector_before, ArithmeticSteps, no_arithmetic_step, arithmetic_step_before, Operands, no_operand, operand_before, Expr, Number, Nil, Load, Plus, Minus, Not, Arithmetic, Logic, Compare, ComparePointers, CompareSets, CompareStrings, In, Apply, Eof, Eoln, Call, CallFormal, Width, DefaultWidth, GivenWidth, WriteParameter, WriteInteger, WriteChar, WriteBoolean, WriteText, Statement, Empty, Assign, AssignSet, AssignStructure, CallProcedure, CallFormalProcedure, Compound, If, IfElse, Case, While, Repeat, For, With, New, Pack, Unpack, Read, Readln, Write, Writeln, Statements, no_statement, statement_before, Formals, no_formal, formal_before, Routine, Program, no_routine, routine_at, Structure, Literal, Contents, Elements, no_element, element_before}
+use Rattle.ps_tree.specs.Counts.{is_within_limits}
 use Rattle.tac_code.specs.Numbers.{is_integer}
 use Rattle.ps_meaning.specs.Values.{first_ordinal}
 use Rattle.ps_layout.specs.Shapes.{NumberShape, Whole}
@@ -20,18 +21,9 @@ use Rattle.ps_code.specs.Fits.{shape_in, PlaceFits, ExprFits, StepsFit, Operands
 use Rattle.ps_calls.specs.Begin.{IsOutermost}
 use Rattle.ps_calls.specs.Binding.{FirstsFit}
 use Rattle.ps_lowers.specs.Fits.{RoutineFits, ProgramFits}
+use Rattle.ps_fits.proofs.Both.{left, right, never}
+use Rattle.ps_fits.proofs.Limits.{limits_small}
 use Rattle.ps_fits.specs.Tests.{are_ordinals, is_ordinal_there, place_fits, range_fits, expr_fits, steps_fit, operands_fit, width_fits, parameter_fits, parameters_fit, statement_fits, statements_fit, is_outermost, has_no_formals, block_fits, routines_fit, program_fits, function_fits, are_bytes, structure_fits, elements_fit}
-
-left : (a b : Bool) → (a && b) ≡ true → a ≡ true
-left true b e = refl
-left false b e = absurd (cc)
-
-right : (a b : Bool) → (a && b) ≡ true → b ≡ true
-right true b e = e
-right false b e = absurd (cc)
-
-never : {A : Type 0} → false ≡ true → A
-never e = absurd (cc)
 
 -- an ordinal type's first value is an integer
 first_integer : (o : Ordinal) → is_integer o.low ≡ true → IsTrue (is_integer (first_ordinal o))
@@ -245,7 +237,7 @@ block_entries r t =
     ap (λ f. result_kinds r.result ++ listed_kinds (kinds_of f) ++ variable_kinds r.variables) t.formals
     ∙ ap (λ o. result_kinds o ++ [] ++ variable_kinds r.variables) t.result
 
-module _ (program : Program) (block : Routine) (one : program.routines ≡ block ∷ []) (told : BlockTold block) where
+module _ (program : Program) (within : is_within_limits program ≡ true) (block : Routine) (one : program.routines ≡ block ∷ []) (told : BlockTold block) where
   first_is : routine_at program 0 ≡ block
   first_is = ap (λ rs. get_or rs 0 no_routine) one
 
@@ -263,6 +255,7 @@ module _ (program : Program) (block : Routine) (one : program.routines ≡ block
   one_fits : ProgramFits program
   one_fits =
       record {
+        small = limits_small program within;
         begins = let e = ap length one in omega (arith, e);
         chain = ap (λ r. r.chain) first_is ∙ told.chain;
         outermost = subst IsOutermost (sym first_is) (record { block = ap is_program_block told.chain; formals = told.formals; result = told.result });
@@ -270,9 +263,9 @@ module _ (program : Program) (block : Routine) (one : program.routines ≡ block
       }
 
 pub program_tells : (program : Program) → program_fits program ≡ true → ProgramFits program
-program_tells program e = go program.routines refl e
+program_tells program e = go program.routines refl (right (is_within_limits program) (routines_fit program.routines) e)
   where
     go : (rs : List Routine) → program.routines ≡ rs → routines_fit rs ≡ true → ProgramFits program
     go [] q h = never h
-    go (r ∷ []) q h = one_fits program r q (block_told r h)
+    go (r ∷ []) q h = one_fits program (left (is_within_limits program) (routines_fit program.routines) e) r q (block_told r h)
     go (r ∷ s ∷ rest) q h = never h

@@ -5,6 +5,7 @@ use Rattle.ps_tree.specs.declared.tree.Range.{Range}
 use Rattle.ps_tree.specs.declared.tree.Range.TheVariants.{Any, Within}
 use Rattle.ps_tree.specs.declared.tree.RequiredFunction.{RequiredFunction}
 use Rattle.ps_tree.specs.declared.tree.RequiredFunction.TheVariants.{Succ, Pred}
+use Rattle.ps_tree.specs.Counts.{is_within_limits}
 use Rattle.ps_tree.specs.Types.{DataType, OrdinalType}
 use Rattle.ps_tree.specs.Tree.{Place, Variable, Entry, no_selector, ArithmeticSteps, no_arithmetic_step, arithmetic_step_before, Operands, no_operand, operand_before, Expr, Number, Load, Plus, Minus, Not, Arithmetic, Logic, Compare, Apply, Structure, Literal, Width, DefaultWidth, GivenWidth, WriteParameter, WriteInteger, WriteChar, WriteBoolean, WriteText, Statement, Empty, Assign, Compound, If, IfElse, Case, While, Repeat, For, Write, Writeln, Statements, no_statement, statement_before, Elements, no_element, element_before, Formals, no_formal, formal_before, Routine, Program}
 use Rattle.tac_code.specs.Numbers.{is_integer}
@@ -124,5 +125,6 @@ abbrev pub routines_fit : List Routine → Bool
 routines_fit (r ∷ []) = block_fits r
 routines_fit _ = false
 
+-- a checked program is within its limits
 abbrev pub program_fits : Program → Bool
-program_fits program = routines_fit program.routines
+program_fits program = is_within_limits program && routines_fit program.routines

@@ -9,7 +9,6 @@ mod value;
 mod variable;
 
 /// A program that passes the test has what the lowering needs.
-#[tactic(auto, using(crate::proofs::Tell::program_tells))]
 pub fn tests_tell()
     ensures { TestsTell }
 {}

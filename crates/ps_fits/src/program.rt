@@ -32,7 +32,7 @@ fn block_fits(routine: &Routine) -> bool
 
 /// Whether a checked program is lowered so far: it has one block, whose variables are ordinals, and its statements are
 /// assignments, control (without `with`) and writing.
-#[tactic(auto, using(crate::proofs::Blocks::one_routine, crate::proofs::Blocks::other_routines))]
+#[tactic(auto, using(crate::proofs::Blocks::one_routine, crate::proofs::Blocks::other_routines, crate::proofs::Blocks::within))]
 pub fn fits(checked: &Checked) -> bool
     ensures { result ≡ tests.program_fits (program_in checked.now) }
 {

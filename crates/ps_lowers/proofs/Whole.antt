@@ -113,6 +113,7 @@ module _ (p : Setting) (fits : ProgramFits p.program) (does : WritesDo p) (input
   active : IsActive p outermost
   active =
       record {
+        small = fits.small;
         within = fits.begins;
         chain = fits.chain;
         spent = λ pc t. ap (λ m. m + 0) cost_first ∙ sym sum_first;

@@ -1,5 +1,5 @@
 -- Bytes of words that hold numbers.
-use Rattle.std.proofs.Common.{◌≡◌, ℕ, zero, suc, ◌+◌, ◌-◌, ◌*◌, ◌/◌, ◌%◌, ◌<◌, ℤ, pos, negsuc, Bool, true, false, nat_lt, if◌then◌else◌, List, [], ◌∷◌, length, slice_get, Option, Some, refl, ap, ◌∙◌, arith, ltb-false}
+use Rattle.std.proofs.Common.{◌≡◌, ℕ, zero, suc, ◌+◌, ◌-◌, ◌*◌, ◌/◌, ◌%◌, ◌<◌, pos, negsuc, Bool, true, false, nat_lt, if◌then◌else◌, List, [], ◌∷◌, slice_get, Option, Some, refl, ap, ◌∙◌, arith, ltb-false}
 use Rattle.std.specs.List.{All}
 use Rattle.tac_code.specs.declared.code.Value.{Value as Word}
 use Rattle.tac_code.specs.declared.code.Value.TheVariants.{Number}
@@ -11,7 +11,7 @@ use Rattle.tac_code.specs.Meaning.{fetch, text_of}
 use Rattle.ps_layout.specs.Words.{filled}
 use Rattle.ps_relation.specs.Here.{Setting, code_in}
 use Rattle.ps_relation.specs.RunTime.{BytesAt}
-use Rattle.tac_steps.proofs.Pieces.{same_some, some_none}
+use Rattle.tac_steps.proofs.Pieces.{some_none}
 
 abbrev pub AreBytes : List ℕ → Type 0
 AreBytes bytes = All (λ b. b < 256) bytes

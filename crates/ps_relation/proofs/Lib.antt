@@ -6,3 +6,6 @@ pub mod Spots
 pub mod Frames
 pub mod Functions
 pub mod Bytes
+pub mod Places
+pub mod ByteParts
+pub mod ByteWrites

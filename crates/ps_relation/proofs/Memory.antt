@@ -17,7 +17,7 @@ use Rattle.ps_layout.specs.Paths.{HasShape}
 use Rattle.ps_layout.specs.Frames.{kind_words, entries, places_from, words_of_all, is_program_block}
 use Rattle.ps_layout.proofs.Counted.{counted}
 use Rattle.ps_relation.specs.Ghosts.{Slot, OwnSlot, ReferenceSlot, ClosureSlot, Ghost, slot_kind, slot_kinds, slot_words, first_piece, entry_pieces, layout_at, pieces, block_words, frames_of, found, SlotsFrom, Names, SlotFits, SlotsFit, GhostsFit, DeclaredAt}
-use Rattle.ps_relation.proofs.Spans.{span_in}
+use Rattle.ps_relation.proofs.Spans.{nested, span_in}
 
 -- ---- the pieces of a frame lie apart
 
@@ -72,7 +72,7 @@ module _ (program : Program) where
   pub block_length : (w : World) (g : Ghost) → length (block_words program w g) ≡ (layout_at program g.routine).size
   block_length w g = placed_length (pieces program w g) (replicate (layout_at program g.routine).size None) ∙ size_length (layout_at program g.routine).size
 
-piece_at : (st : ℕ → Value) (places : List ℕ) (xs : List Slot) (i k : ℕ) (x : Slot) → slice_get places i ≡ Some k → slice_get xs i ≡ Some x → slice_get (entry_pieces st places xs) i ≡ Some (record { place = k; words = slot_words st x })
+pub piece_at : (st : ℕ → Value) (places : List ℕ) (xs : List Slot) (i k : ℕ) (x : Slot) → slice_get places i ≡ Some k → slice_get xs i ≡ Some x → slice_get (entry_pieces st places xs) i ≡ Some (record { place = k; words = slot_words st x })
 piece_at st [] xs i k x p h = some_none p
 piece_at st (l ∷ places) [] i k x p h = some_none h
 piece_at st (l ∷ places) (y ∷ xs) zero k x p h = ap (λ m. Some (record { place = m; words = slot_words st y })) (same_some p) ∙ ap (λ z. Some (record { place = k; words = slot_words st z })) (same_some h)
@@ -286,7 +286,7 @@ module _ (program : Program) where
       go true r ih = (x.base, (h.0, subst (λ y. SlotsFrom y.slots x.base h.0) (same_some r) h.1))
       go false r ih = ih r
 
-  placed_piece : (n : ℕ) (ps : List Piece) (i : ℕ) (p : Piece) → ArePlaced n ps → slice_get ps i ≡ Some p → p.place + length p.words ≤ n
+  pub placed_piece : (n : ℕ) (ps : List Piece) (i : ℕ) (p : Piece) → ArePlaced n ps → slice_get ps i ≡ Some p → p.place + length p.words ≤ n
   placed_piece n [] i p a h = some_none h
   placed_piece n (q ∷ qs) zero p a h = subst (λ z. z.place + length z.words ≤ n) (same_some h) a.0
   placed_piece n (q ∷ qs) (suc i) p a h = placed_piece n qs i p a.2 h
@@ -315,6 +315,40 @@ module _ (program : Program) where
       ∙ word_written (block_words program w g) (at.place + s.place) word (omega (arith, size, limit, wide, inside, one))
       ∙ ap Some (block_written w g from.0 from.1.0 at.index at.place s.place at.shape name new (Some word ∷ []) fits.0 from.1.1 at.stands at.slot (omega (arith, inside, one)) written) in
       ap (λ c. store m c o word) at.block
+      ∙ ap (λ bs. with_frames m (changed bs g.number change)) fm
+      ∙ ap (with_frames m) (changed_found w gs next g.number at.index at.place g at.shape name new change names at.there at.stands at.slot changes)
+    where
+      named : (xs : List Ghost) (n : ℕ) (g : Ghost) → Names xs n → found xs g.number ≡ Some g → (k : ℕ) × ((l : ℕ) × SlotsFrom g.slots k l)
+      named xs n g h q = named_in xs n g.number g h q
+
+      piece_within : (w : World) (g : Ghost) (i k : ℕ) (x : Slot) → slot_kinds g.slots ≡ entries (routine_at program g.routine) → slice_get (layout_at program g.routine).places i ≡ Some k → slice_get g.slots i ≡ Some x → k + length (slot_words w.store x) ≤ (layout_at program g.routine).size
+      piece_within w g i k x e p h = (placed_piece (layout_at program g.routine).size (pieces program w g) (suc i) (record { place = k; words = slot_words w.store x }) (pieces_placed program w g e) (piece_at w.store (layout_at program g.routine).places g.slots i k x p h))
+
+  -- one word of a part of a variable is replaced
+  pub part_word_written : (m : Memory) (w : World) (gs : List Ghost) (next : ℕ) (name : ℕ) (path : List ℕ) (b : Block) (o : ℕ) (inner : Shape) (v : Value) (i : ℕ) (word : Word) → m.frames ≡ frames_of program w gs → GhostsFit program w.made w.store gs → Names gs next → DeclaredAt program gs w.made name path b o (Whole inner) → HasShape w.made v inner → i < word_count inner → value_words inner v ≡ spliced i (Some word ∷ []) (value_words inner (part (w.store name) path)) → store m b (o + 4 * i) word ≡ Some (record m { frames = frames_of program (renewed w name (with_part (w.store name) path v)) gs })
+  part_word_written m w gs next name path b o inner v i word fm f names at h in_part ws =
+      let g = at.ghost in
+      let fits = ghost_fits w.made w.store gs g.number g f at.there in
+      let shaped : HasShape w.made (w.store name) at.shape = slot_fits w.made w.store g.slots at.index (OwnSlot at.shape name) fits.1 at.slot in
+      let s = span_in w.made (w.store name) path at.shape inner at.inner shaped at.inside in
+      let is = s.is in
+      let off = at.offset in
+      let inside = s.within in
+      let new = with_part (w.store name) path v in
+      let wide = counted at.shape (w.store name) in
+      let narrow = counted inner (part (w.store name) path) in
+      let written = (s.writes v h).0 ∙ ap (λ l. spliced s.place l (value_words at.shape (w.store name))) ws ∙ nested s.place i (Some word ∷ []) (value_words inner (part (w.store name) path)) (value_words at.shape (w.store name)) (λ j l. s.reads j (omega (arith, narrow, l))) (omega (arith, inside, wide, narrow)) (omega (arith, in_part, narrow)) in
+      let from = named gs next g names at.there in
+      let size = block_length program w g in
+      let total = (layout_at program g.routine).size in
+      let limit = piece_within w g at.index at.place (OwnSlot at.shape name) fits.0 at.stands at.slot in
+      let q : o + 4 * i ≡ 4 * (at.place + (s.place + i)) = omega (arith, is, off) in
+      let change : Words → Option Words = λ words. with_word words (o + 4 * i) word in
+      let changes : change (block_words program w g) ≡ Some (block_words program (renewed w name new) g) =
+      ap (λ n. with_word (block_words program w g) n word) q
+      ∙ word_written (block_words program w g) (at.place + (s.place + i)) word (omega (arith, size, limit, wide, inside, in_part))
+      ∙ ap Some (block_written w g from.0 from.1.0 at.index at.place (s.place + i) at.shape name new (Some word ∷ []) fits.0 from.1.1 at.stands at.slot (omega (arith, inside, in_part)) written) in
+      ap (λ c. store m c (o + 4 * i) word) at.block
       ∙ ap (λ bs. with_frames m (changed bs g.number change)) fm
       ∙ ap (with_frames m) (changed_found w gs next g.number at.index at.place g at.shape name new change names at.there at.stands at.slot changes)
     where

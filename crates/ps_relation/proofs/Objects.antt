@@ -14,7 +14,7 @@ use Rattle.ps_layout.specs.Words.{value_words}
 use Rattle.ps_layout.specs.Paths.{HasShape}
 use Rattle.ps_layout.proofs.Counted.{counted}
 use Rattle.ps_relation.specs.Ghosts.{objects_of, ObjectsFit, ObjectAt, Ghost}
-use Rattle.ps_relation.proofs.Spans.{span_in}
+use Rattle.ps_relation.proofs.Spans.{nested, span_in}
 
 module _ (program : Program) where
   object_words : (all made : List ℕ) (vs : List Value) (k t : ℕ) → ObjectsFit program all made vs → slice_get made k ≡ Some t → slice_get (objects_of program made vs) k ≡ Some (value_words (shape_of (domain_at program t)) (get_or vs k unset))
@@ -79,6 +79,25 @@ module _ (program : Program) where
         ap (λ c. store m c o word) at.block
         ∙ ap (λ bs. with_objects m (changed_object bs k (λ words. with_word words o word))) om
         ∙ ap (with_objects m) (object_changed w.made w.made w.objects k at.pointer new (λ words. with_word words o word) f at.of_type changes)
+
+    pub object_word_written : (m : Memory) (k : ℕ) (path : List ℕ) (b : Block) (o : ℕ) (inner : Shape) (v : Value) (i : ℕ) (word : Word) → m.objects ≡ objects_of program w.made w.objects → ObjectsFit program w.made w.made w.objects → ObjectAt program gs w.made k path b o (Whole inner) → HasShape w.made v inner → i < word_count inner → value_words inner v ≡ spliced i (Some word ∷ []) (value_words inner (part (get_or w.objects k unset) path)) → store m b (o + 4 * i) word ≡ Some (record m { objects = objects_of program w.made (set w.objects k (with_part (get_or w.objects k unset) path v)) })
+    object_word_written m k path b o inner v i word om f at h in_part ws =
+        let shape = shape_of (domain_at program at.pointer) in
+        let old = get_or w.objects k unset in
+        let s = span_in w.made old path shape inner o (object_fits w.made w.made w.objects k at.pointer f at.of_type) at.inside in
+        let is = s.is in
+        let inside = s.within in
+        let wide = counted shape old in
+        let new = with_part old path v in
+        let narrow = counted inner (part old path) in
+        let q : o + 4 * i ≡ 4 * (s.place + i) = omega (arith, is) in
+        let changes : with_word (value_words shape old) (o + 4 * i) word ≡ Some (value_words shape new) =
+        ap (λ n. with_word (value_words shape old) n word) q
+        ∙ word_written (value_words shape old) (s.place + i) word (omega (arith, inside, in_part, wide))
+        ∙ ap Some (sym ((s.writes v h).0 ∙ ap (λ l. spliced s.place l (value_words shape old)) ws ∙ nested s.place i (Some word ∷ []) (value_words inner (part old path)) (value_words shape old) (λ j l. s.reads j (omega (arith, narrow, l))) (omega (arith, inside, wide, narrow)) (omega (arith, in_part, narrow)))) in
+        ap (λ c. store m c (o + 4 * i) word) at.block
+        ∙ ap (λ bs. with_objects m (changed_object bs k (λ words. with_word words (o + 4 * i) word))) om
+        ∙ ap (with_objects m) (object_changed w.made w.made w.objects k at.pointer new (λ words. with_word words (o + 4 * i) word) f at.of_type changes)
 
     pub object_kept : (k : ℕ) (path : List ℕ) (b : Block) (o : ℕ) (inner : Shape) (v : Value) → ObjectsFit program w.made w.made w.objects → ObjectAt program gs w.made k path b o (Whole inner) → HasShape w.made v inner → ObjectsFit program w.made w.made (set w.objects k (with_part (get_or w.objects k unset) path v))
     object_kept k path b o inner v f at h =

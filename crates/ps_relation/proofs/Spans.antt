@@ -36,7 +36,7 @@ splice_back : (n k : ℕ) (ns xs ys : Words) → n ≡ length xs → spliced (n 
 splice_back n k ns [] ys e = let a : n + k ≡ k = omega arith in ap (λ i. spliced i ns ys) a
 splice_back n k ns (x ∷ xs) ys e = let a : n + k ≡ suc (length xs + k) = omega arith in ap (λ i. spliced i ns (x ∷ (xs ++ ys))) a ∙ ap (λ l. x ∷ l) (splice_back (length xs) k ns xs ys refl)
 
-nth_from : (vs : Values) (k : ℕ) → nth (values_from vs 1) k ≡ nth vs (suc k)
+pub nth_from : (vs : Values) (k : ℕ) → nth (values_from vs 1) k ≡ nth vs (suc k)
 nth_from no_value k = refl
 nth_from (value_before v vs) k = refl
 
@@ -107,7 +107,7 @@ field_set made (value_before v vs) no_shape k shape u h e f = absurd h
 field_set made (value_before v vs) (shape_before s rest) zero shape u h e f = (subst (HasShape made u) (sym (same_some e)) f, h.1)
 field_set made (value_before v vs) (shape_before s rest) (suc k) shape u h e f = (h.0, field_set made vs rest k shape u h.1 e f)
 
-field_within : (shapes : Shapes) (k : ℕ) (shape : Shape) → field_shape shapes k ≡ Some shape → words_before shapes k + word_count shape ≤ word_counts shapes
+pub field_within : (shapes : Shapes) (k : ℕ) (shape : Shape) → field_shape shapes k ≡ Some shape → words_before shapes k + word_count shape ≤ word_counts shapes
 field_within no_shape k shape e = some_none e
 field_within (shape_before s rest) zero shape e = let q = ap word_count (same_some e) in omega (arith, q)
 field_within (shape_before s rest) (suc k) shape e = let r = field_within rest k shape e in omega (arith, r)
@@ -151,10 +151,10 @@ fields_write made (shape_before s rest) (suc k) shape (value_before v vs) u h e 
 
 -- ---- paths
 
-whole_same : {s t : Shape} → Whole s ≡ Whole t → s ≡ t
+pub whole_same : {s t : Shape} → Whole s ≡ Whole t → s ≡ t
 whole_same {s} {t} e = ap (λ q. elim q as (λ y. Shape) [ Whole z ↦ z | Byte ↦ s ]) e
 
-byte_whole : {s : Shape} {A : Type 0} → Whole s ≡ Byte → A
+pub byte_whole : {s : Shape} {A : Type 0} → Whole s ≡ Byte → A
 byte_whole e = absurd (cc)
 
 span_here : (made : List ℕ) (v : Value) (outer inner : Shape) (j : ℕ) → HasShape made v outer → (Whole inner ≡ Whole outer) → j ≡ 0 → SpanIn made v [] outer inner j
@@ -183,7 +183,7 @@ spliced_self zero ms ws h l = overlaid_self ms ws (λ i b. let e : i ≡ 0 + i =
 spliced_self (suc a) ms [] h l = refl
 spliced_self (suc a) ms (w ∷ ws) h l = ap (λ l. w ∷ l) (spliced_self a ms ws (λ i b. let e : suc (a + i) ≡ suc a + i = omega arith in ap (slice_get (w ∷ ws)) e ∙ h i b) (omega arith))
 
-nested : (a b : ℕ) (ns ms ws : Words) → ((i : ℕ) → i < length ms → slice_get ws (a + i) ≡ slice_get ms i) → a + length ms ≤ length ws → b + length ns ≤ length ms → spliced a (spliced b ns ms) ws ≡ spliced (a + b) ns ws
+pub nested : (a b : ℕ) (ns ms ws : Words) → ((i : ℕ) → i < length ms → slice_get ws (a + i) ≡ slice_get ms i) → a + length ms ≤ length ws → b + length ns ≤ length ms → spliced a (spliced b ns ms) ws ≡ spliced (a + b) ns ws
 nested a b ns ms ws h l k = sym (spliced_within a b ns ms ws k) ∙ ap (spliced (a + b) ns) (spliced_self a ms ws h l)
 
 -- a span within a component

@@ -1,6 +1,6 @@
 -- One activation that runs: what is fixed while it does, what changes, and the machine's state for both.
 use Rattle.std.specs.Prelude.{◌≡◌, ℕ, ◌+◌, ◌*◌, ◌/◌, ◌<◌, List, [], ◌∷◌, ◌++◌, length, slice_get, get_or, Option, Some, sum_by}
-use Rattle.ps_tree.specs.Tree.{Program, routine_at}
+use Rattle.ps_tree.specs.Tree.{Program, routine_at, domain_at}
 use Rattle.tac_code.specs.declared.code.Block.{Block}
 use Rattle.tac_code.specs.declared.code.Block.TheVariants.{Frame as FrameBlock, Scratch as ScratchBlock}
 use Rattle.tac_code.specs.declared.code.Value.{Value as Word}
@@ -15,7 +15,8 @@ use Rattle.ps_meaning.specs.Worlds.{Env, Context, World}
 use Rattle.ps_meaning.specs.Statements.{Costs}
 use Rattle.ps_meaning.specs.Run.{costs_of}
 use Rattle.tac_steps.specs.Runs.{Machine}
-use Rattle.ps_layout.specs.Shapes.{Shape, Part, Whole}
+use Rattle.ps_layout.specs.Shapes.{Shape, shape_of, byte_count, Part, Whole}
+use Rattle.ps_layout.specs.Frames.{layout_of}
 use Rattle.ps_layout.specs.Words.{pointer_word}
 use Rattle.ps_layout.specs.Paths.{Sort, NumberSort, PointerSort, HasSort}
 use Rattle.ps_code.specs.Scopes.{Site}
@@ -87,8 +88,14 @@ abbrev pub Below : ℕ → List Living → Type 0
 Below n [] = Unit {0}
 Below n (b ∷ bs) = (b.number < n) × Below n bs
 
+-- every frame and every object has less than 2 ^ 31 bytes
+pub record AreSmall (program : Program) : Type 0 where
+  pub frames : (r : ℕ) → 4 * (layout_of (routine_at program r)).size < 2147483648
+  pub objects : (t : ℕ) → byte_count (shape_of (domain_at program t)) < 2147483648
+
 -- what is fixed of an activation that runs
 pub record IsActive (p : Setting) (c : Activated) : Type 0 where
+  pub small : AreSmall p.program
   pub within : c.routine < length p.program.routines
   pub chain : (routine_at p.program c.routine).chain ≡ chain_of c
   -- the costs of the open frames, and the lines of the open calls

@@ -69,6 +69,7 @@ module _ (p : Setting) (c : Activated) (active : IsActive p c) where
   pub called_active : (k : Work) (pc t line r : ℕ) (outer : List ℕ) (env : Env) (ghost mine : Ghost) → r < length p.program.routines → (routine_at p.program r).chain ≡ r ∷ outer → found c.ghosts c.number ≡ Some mine → Numbered c.ghosts k.count → IsActive p (called c k pc t line r outer env ghost)
   called_active k pc t line r outer env ghost mine within chain there numbered =
       record {
+        small = active.small;
         within = within;
         chain = chain;
         spent = λ pc' t'. ap (λ m. m + open_bytes (code_in p) (machine_of p).frames (activation c (suc pc) k.temporaries ∷ c.callers)) (cost_of r within) ∙ spent_more r (suc pc) k.temporaries;

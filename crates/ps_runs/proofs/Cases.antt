@@ -21,7 +21,7 @@ use Rattle.ps_relation.specs.Here.{Setting, machine_of, code_in, costs_in, Work,
 use Rattle.ps_relation.specs.Outcomes.{Runs}
 use Rattle.ps_relation.specs.RunTime.{WritesDo}
 use Rattle.ps_relation.proofs.Numbers.{same_numbers}
-use Rattle.ps_runs.specs.Openings.{Opening, scope_in, context_in, IsOpened}
+use Rattle.ps_runs.specs.Openings.{plain_scope, Opening, scope_in, context_in, IsOpened}
 use Rattle.ps_runs.specs.Tasks.{Nothing, NextRuns}
 use Rattle.ps_runs.proofs.Runs.{runs_bind, runs_from, reached_from, keeps_refl}
 use Rattle.ps_runs.proofs.Kept.{opened_kept}
@@ -73,7 +73,7 @@ module _ (p : Setting) (n : ℕ) (call : Caller) (next : Next) (c : Activated) (
 
   abbrev pub ElementsRun : Elements → Type 0
   ElementsRun els =
-      (d line : ℕ) (o : Opening) (w : World) (k : Work) (pc pc' : ℕ) (z : ℤ) → Alive p c w k → IsOpened p c w k d o → ElementsFit (scope_in p c o) o.shapes els → k.temporaries d ≡ Some (Numeral z) → Stands (code_in p) c.routine pc (elements_code (scope_in p c o) els d line) pc'
+      (d line : ℕ) (o : Opening) (w : World) (k : Work) (pc pc' : ℕ) (z : ℤ) → Alive p c w k → IsOpened p c w k d o → ElementsFit (plain_scope p c) o.shapes els → k.temporaries d ≡ Some (Numeral z) → Stands (code_in p) c.routine pc (elements_code (scope_in p c o) els d line) pc'
       → Runs p (suc n) c d 0 w k pc pc' (selected p.program (costs_in p) call next els z line (context_in c o) w) Nothing
 
   pub no_elements : ElementsRun no_element

@@ -1,17 +1,19 @@
 -- Tests of ranges, and stores to variables.
-use Rattle.std.proofs.Common.{◌≡◌, ℕ, suc, ◌+◌, ◌≤◌, ℤ, pos, negsuc, Bool, true, false, ◌&&◌, if◌then◌else◌, IsTrue, List, [], ◌∷◌, Option, Some, None, refl, sym, ap, ◌∙◌, subst, append-nil, eqb-true}
-use Rattle.tac_code.specs.declared.code.Value.TheVariants.{Address}
+use Rattle.std.proofs.Common.{◌≡◌, ℕ, suc, ◌+◌, ◌≤◌, ℤ, pos, negsuc, Bool, true, false, ◌&&◌, if◌then◌else◌, IsTrue, List, [], ◌∷◌, Option, Some, None, refl, sym, ap, ◌∙◌, subst, append-nil, eqb-true, lt-ltb}
+use Rattle.tac_code.specs.declared.code.Value.TheVariants.{Number, Address}
 use Rattle.tac_code.specs.declared.code.Instruction.TheVariants as i
 use Rattle.tac_code.specs.Numbers.{is_integer}
-use Rattle.tac_code.specs.Meaning.{Goes, checks, stores}
+use Rattle.tac_code.specs.Meaning.{Goes, text_at, checks, stores}
 use Rattle.ps_meaning.specs.Values.{Value, Root, Declared, Made, Spot, number_of}
 use Rattle.ps_meaning.specs.Operators.{is_between, is_equal}
 use Rattle.ps_meaning.specs.Worlds.{World, give, fault, with_contents}
 use Rattle.tac_steps.specs.Runs.{step_of, Stands, Comes}
 use Rattle.tac_steps.proofs.Runs.{a_step}
-use Rattle.tac_steps.proofs.Instructions.{range_step, store_step}
-use Rattle.ps_layout.specs.Shapes.{Shape, NumberShape, PointerShape, SetShape, ByteShape, ArrayShape, RecordShape, Whole, word_count}
-use Rattle.ps_layout.specs.Words.{value_words}
+use Rattle.tac_steps.proofs.Instructions.{range_step, store_step, store_byte_step}
+use Rattle.ps_layout.specs.Shapes.{Shape, NumberShape, PointerShape, SetShape, ByteShape, ArrayShape, RecordShape, Whole, Byte, word_count}
+use Rattle.ps_layout.specs.Words.{byte_of, value_words}
+use Rattle.ps_relation.proofs.ByteParts.{byte_small, byte_number}
+use Rattle.ps_relation.proofs.ByteWrites.{spot_byte_written, spot_byte_holds}
 use Rattle.ps_layout.specs.Paths.{Sort, NumberSort, HasSort, HasShape}
 use Rattle.ps_code.specs.Scopes.{least, greatest, is_any, check_code, Site}
 use Rattle.ps_code.specs.Fits.{SortOf}
@@ -115,3 +117,23 @@ module _ (p : Setting) (n : ℕ) (c : Activated) (active : IsActive p c) where
       stored_word (ByteShape count first) q e h = absurd e
       stored_word (ArrayShape count shape) q e h = absurd e
       stored_word (RecordShape shapes) q e h = absurd e
+
+  -- a number of 0..255 in t goes to a byte
+  pub store_byte_runs : (d x : ℕ) (w : World) (k : Work) (pc pc' t : ℕ) (site : Site) (s : Spot) (v : Value) → Alive p c w k → SiteAt p c w.made k.temporaries site s Byte → IsTrue (is_between (pos 0) (number_of v) (pos 255)) → WordIn k.temporaries w.made t NumberSort v → Stands (code_in p) c.routine pc (i.StoreByte site.base site.offset t ∷ []) pc' → Reached p c d x w k (state p c w k pc) pc' (λ w' k'. Unit {0}) (with_contents w s v)
+  store_byte_runs d x w k pc pc' t site s v alive at between r st =
+      let byte = byte_of v in
+      let scratch = record { number = c.number; words = k.scratch } ∷ c.waiting in
+      let w' = with_contents w s v in
+      let same = written_made w s.root s.path v in
+      let word = r.word ∙ ap (λ z. Some (Number z)) (byte_number (number_of v) between) in
+      let stepped = store_byte_step (machine_of p) (state p c w k pc) site.base site.offset t at.block at.offset byte (memory_of p.program w' c.ghosts scratch) st.0 (base_is c pc k.temporaries site.base ∙ at.base) word (lt-ltb byte 256 (byte_small v)) (spot_byte_written p.program w c.ghosts k.count alive.holds (text_at (code_in p)) scratch s at.block (at.offset + site.offset) v at.place between) ∙ written_state w k pc s.root s.path v in
+      record {
+        work = k;
+        alive = record { holds = spot_byte_holds p.program w c.ghosts k.count alive.holds s at.block (at.offset + site.offset) v at.place between; stands = subst (λ m. EnvHere m) (sym same) alive.stands; room = alive.room };
+        keeps = record { temporaries = λ j l. refl; scratch = λ j l. refl; grown = ([], same ∙ sym (append-nil w.made)) };
+        comes = subst (λ q. Comes (machine_of p) (state p c w k pc) (state p c w' k q)) st.1 (a_step (state p c w k pc) (state p c w' k (suc pc)) stepped);
+        result = tt;
+      }
+    where
+      EnvHere : List ℕ → Type 0
+      EnvHere m = EnvAt p.program c.ghosts m c.env (Address (FrameBlock c.number) 0) (chain_of c)

@@ -1,6 +1,6 @@
 -- All statements, and every task with every fuel.
 use Rattle.std.proofs.Common.{ℕ, zero, suc, refl, arith}
-use Rattle.ps_tree.specs.Tree.{Variable, no_selector, selector_before, Statement, Empty, Assign, AssignSet, AssignStructure, CallProcedure, CallFormalProcedure, Compound, If, IfElse, Case, While, Repeat, For, With, New, Pack, Unpack, Read, Readln, Write, Writeln, Statements, no_statement, statement_before}
+use Rattle.ps_tree.specs.Tree.{Statement, Empty, Assign, AssignSet, AssignStructure, CallProcedure, CallFormalProcedure, Compound, If, IfElse, Case, While, Repeat, For, With, New, Pack, Unpack, Read, Readln, Write, Writeln, Statements, no_statement, statement_before}
 use Rattle.ps_meaning.specs.Worlds.{World, done}
 use Rattle.ps_meaning.specs.Expressions.{Caller}
 use Rattle.ps_meaning.specs.Calls.{call_routine, execute}
@@ -13,14 +13,14 @@ use Rattle.ps_runs.specs.Tasks.{Nothing, TaskStands, TaskFits, NextRuns}
 use Rattle.ps_relation.specs.RunTime.{WritesDo}
 use Rattle.ps_tree.specs.Tree.{Elements, no_element, element_before}
 use Rattle.ps_runs.proofs.Statements.{StatementRuns, StatementsRun, assign_run, if_run, if_else_run, while_test, while_run, repeat_run, turn_run, for_run, writes_run, writeln_run, no_statements, statements_then}
+use Rattle.ps_runs.proofs.Withs.{with_run}
 use Rattle.ps_runs.proofs.Cases.{ElementsRun, case_run, no_elements, elements_then}
 
 module _ (p : Setting) (n : ℕ) (call : Caller) (next : Next) (c : Activated) (active : IsActive p c) (nexts : NextRuns p n next) (does : WritesDo p) where
   mutual
     pub statement_runs : (s : Statement) → StatementRuns p n call next c active nexts does s
     statement_runs Empty = λ d o w k pc pc' alive opened fits st. here p (suc n) c d 0 w k pc pc' (Nothing done) st alive tt
-    statement_runs (Assign (Variable name no_selector) range e line) = assign_run p n call next c active nexts does name range e line
-    statement_runs (Assign (Variable name (selector_before s rest)) range e line) = λ d o w k pc pc' alive opened fits st. absurd fits.1.2
+    statement_runs (Assign q range e line) = assign_run p n call next c active nexts does q range e line
     statement_runs (AssignSet q low high e line) = λ d o w k pc pc' alive opened fits st. absurd fits
     statement_runs (AssignStructure q e) = λ d o w k pc pc' alive opened fits st. absurd fits
     statement_runs (CallProcedure r up args line) = λ d o w k pc pc' alive opened fits st. absurd fits
@@ -32,7 +32,7 @@ module _ (p : Setting) (n : ℕ) (call : Caller) (next : Next) (c : Activated) (
     statement_runs (While e s) = while_run p n call next c active nexts does e s (statement_runs s)
     statement_runs (Repeat body e) = repeat_run p n call next c active nexts does body e (statements_run body)
     statement_runs (For v low high a fl dir b tl s) = for_run p n call next c active nexts does v low high a fl dir b tl s (statement_runs s)
-    statement_runs (With places s) = λ d o w k pc pc' alive opened fits st. absurd fits
+    statement_runs (With places s) = with_run p n call next c active nexts does places s (statement_runs s)
     statement_runs (New q pointer line) = λ d o w k pc pc' alive opened fits st. absurd fits
     statement_runs (Pack q ft e line r tt') = λ d o w k pc pc' alive opened fits st. absurd fits
     statement_runs (Unpack q ft r tt' e line) = λ d o w k pc pc' alive opened fits st. absurd fits

@@ -1,14 +1,16 @@
 -- Facts about places outlive what follows, since objects are only added.
-use Rattle.std.proofs.Common.{◌≡◌, ℕ, zero, suc, ◌+◌, ◌<◌, ◌≤◌, List, [], ◌∷◌, ◌++◌, slice_get, Some, refl, sym, ◌∙◌, subst, arith}
+use Rattle.std.proofs.Common.{◌≡◌, ℕ, zero, suc, ◌+◌, ◌<◌, ◌≤◌, List, [], ◌∷◌, ◌++◌, slice_get, get_or, Some, refl, sym, ◌∙◌, subst, arith}
 use Rattle.tac_code.specs.declared.code.Block.{Block}
 use Rattle.tac_code.specs.declared.code.Base.{Base}
 use Rattle.tac_code.specs.declared.code.Base.TheVariants as base
 use Rattle.tac_code.specs.Meaning.{Temporaries}
-use Rattle.ps_meaning.specs.Values.{Root, Declared, Made, Spot}
-use Rattle.ps_meaning.specs.Worlds.{World}
-use Rattle.tac_steps.proofs.Pieces.{some_none}
+use Rattle.ps_meaning.specs.Values.{Root, Declared, Made, Spot, step}
+use Rattle.ps_meaning.specs.Worlds.{World, no_spot}
+use Rattle.tac_steps.proofs.Pieces.{same_some, some_none}
 use Rattle.ps_layout.specs.Shapes.{Shape, Part, Whole}
+use Rattle.ps_layout.specs.Paths.{PathIn}
 use Rattle.ps_code.specs.Scopes.{Site}
+use Rattle.ps_relation.proofs.Places.{place_step}
 use Rattle.ps_relation.specs.Ghosts.{RootAt, PlaceAt}
 use Rattle.ps_relation.specs.Here.{Setting, Work, Activated, base_at, IsBelow, SiteAt, OpenedAt, Keeps}
 use Rattle.ps_runs.specs.Openings.{Opening, IsOpened}
@@ -32,7 +34,7 @@ module _ (p : Setting) (c : Activated) where
   base_same t t' d base.Program l h = refl
   base_same t t' d (base.Temporary u) l h = h u l
 
-  below_more : (d e : ℕ) (b : Base) → d ≤ e → IsBelow d b → IsBelow e b
+  pub below_more : (d e : ℕ) (b : Base) → d ≤ e → IsBelow d b → IsBelow e b
   below_more d e base.Frame l h = tt
   below_more d e base.Scratch l h = tt
   below_more d e base.Program l h = tt
@@ -57,3 +59,22 @@ module _ (p : Setting) (c : Activated) where
 
   pub opened_kept : (d x e : ℕ) (w w' : World) (k k' : Work) (o : Opening) → d ≤ e → Keeps d x w k w' k' → IsOpened p c w k d o → IsOpened p c w' k' e o
   opened_kept d x e w w' k k' o l a h = opened_lists d x e w w' k k' o.sites o.spots o.shapes l a h
+
+  -- a site one step further
+  abbrev pub moved_by : Site → ℕ → Site
+  moved_by site m = record { base = site.base; offset = site.offset + m }
+
+  pub stepped : (made : List ℕ) (t : Temporaries) (site : Site) (s : Spot) (k m : ℕ) (shape : Shape) (part : Part) → SiteAt p c made t site s (Whole shape) → PathIn (k ∷ []) shape part m → SiteAt p c made t (moved_by site m) (step s k) part
+  stepped made t site s k m shape part at path =
+      let z : at.offset + site.offset + m ≡ at.offset + (site.offset + m) = omega arith in
+      record { block = at.block; offset = at.offset; base = at.base; place = subst (λ q. PlaceAt p.program c.ghosts made (step s k) at.block q part) z (place_step p.program c.ghosts made s at.block (at.offset + site.offset) m k shape part at.place path) }
+
+  -- a record that was opened
+  pub opened_get : (made : List ℕ) (t : Temporaries) (d : ℕ) (xs : List Site) (ss : List Spot) (hs : List Shape) (which : ℕ) (h : Shape) → OpenedAt p c made t d xs ss hs → slice_get hs which ≡ Some h → (y : Site) × (slice_get xs which ≡ Some y) × SiteAt p c made t y (get_or ss which no_spot) (Whole h) × IsBelow d y.base
+  opened_get made t d [] [] [] which h o e = some_none e
+  opened_get made t d (y ∷ xs) (s ∷ ss) (g ∷ hs) zero h o e = (y, refl, subst (λ z. SiteAt p c made t y s (Whole z)) (same_some e) o.0, o.1)
+  opened_get made t d (y ∷ xs) (s ∷ ss) (g ∷ hs) (suc which) h o e = opened_get made t d xs ss hs which h o.2 e
+  opened_get made t d [] [] (g ∷ hs) which h o e = absurd o
+  opened_get made t d [] (s ∷ ss) hs which h o e = absurd o
+  opened_get made t d (y ∷ xs) [] hs which h o e = absurd o
+  opened_get made t d (y ∷ xs) (s ∷ ss) [] which h o e = absurd o

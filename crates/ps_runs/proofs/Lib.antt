@@ -4,6 +4,8 @@ pub mod Kept
 pub mod Leaves
 pub mod Values
 pub mod Functions
+pub mod Pointers
+pub mod Selectors
 pub mod Expressions
 pub mod Checks
 pub mod Calls
@@ -12,4 +14,5 @@ pub mod Output
 pub mod Strings
 pub mod Statements
 pub mod Cases
+pub mod Withs
 pub mod Execute

@@ -29,7 +29,7 @@ use Rattle.ps_relation.specs.Here.{Setting, machine_of, code_in, costs_in, Work,
 use Rattle.ps_relation.specs.Outcomes.{Reached, Runs}
 use Rattle.ps_relation.specs.RunTime.{WritesDo}
 use Rattle.ps_relation.proofs.Numbers.{at_most, between_integers}
-use Rattle.ps_runs.specs.Openings.{Opening, scope_in, context_in, IsOpened}
+use Rattle.ps_runs.specs.Openings.{plain_scope, Opening, scope_in, context_in, IsOpened}
 use Rattle.ps_runs.proofs.Runs.{runs_bind, runs_told, gives_word, keeps_refl, keeps_less}
 use Rattle.ps_runs.proofs.Kept.{opened_kept}
 use Rattle.ps_runs.proofs.Values.{known_is}
@@ -63,7 +63,7 @@ module _ (p : Setting) (n : ℕ) (call : Caller) (next : Next) (c : Activated) (
   WidthIn t width k = (k.temporaries t ≡ Some (Numeral (pos width))) × (width < 2147483648)
 
   -- the width in t
-  pub width_runs : (width : Width) (default d x t : ℕ) (o : Opening) (w : World) (k : Work) (pc pc' : ℕ) → default < 2147483648 → d ≤ t → Alive p c w k → IsOpened p c w k d o → WidthFits (scope_in p c o) o.shapes width → Stands (code_in p) c.routine pc (width_code (scope_in p c o) width default t) pc'
+  pub width_runs : (width : Width) (default d x t : ℕ) (o : Opening) (w : World) (k : Work) (pc pc' : ℕ) → default < 2147483648 → d ≤ t → Alive p c w k → IsOpened p c w k d o → WidthFits (plain_scope p c) o.shapes width → Stands (code_in p) c.routine pc (width_code (scope_in p c o) width default t) pc'
       → Runs p (suc n) c t 0 w k pc pc' (width_value p.program (costs_in p) call next width (context_in c o) w) (λ u w' k'. WidthIn t (unwrap_or u default) k')
   width_runs DefaultWidth default d x t o w k pc pc' small l alive opened fits st =
       gives_word p (suc n) c t 0 w k pc pc' t (Numeral (pos default)) (λ w' k'. WidthIn t default k') (literal_step (machine_of p) (state p c w k pc) t (pos default) st.0) st.1 (omega arith) alive (put_same k.temporaries t (Numeral (pos default)), small)
@@ -87,7 +87,7 @@ module _ (p : Setting) (n : ℕ) (call : Caller) (next : Next) (c : Activated) (
 
   -- a number and its width, then the routine
   number_run : (routine default : ℕ) (text : ℤ → ℕ → List ℕ) → ((z : ℤ) (width : ℕ) (memory : Memory) (tape : Tape) → IsTrue (is_integer z) → width < 2147483648 → Does (machine_of p) routine (Numeral z ∷ Numeral (pos width) ∷ []) memory tape (Numeral (pos 0)) memory (wrote tape (text z width))) → default < 2147483648
-      → (e : Expr) (width : Width) (d a t : ℕ) (o : Opening) (w : World) (k : Work) (pc pc' : ℕ) → d ≤ a → suc a ≤ t → Alive p c w k → IsOpened p c w k d o → ExprFits (scope_in p c o) o.shapes e NumberSort → WidthFits (scope_in p c o) o.shapes width
+      → (e : Expr) (width : Width) (d a t : ℕ) (o : Opening) (w : World) (k : Work) (pc pc' : ℕ) → d ≤ a → suc a ≤ t → Alive p c w k → IsOpened p c w k d o → ExprFits (plain_scope p c) o.shapes e NumberSort → WidthFits (plain_scope p c) o.shapes width
       → Stands (code_in p) c.routine pc (expr_code (scope_in p c o) e a 0 ++ width_code (scope_in p c o) width default t ++ i.Call (even_from d) (length p.program.routines + routine) (a ∷ t ∷ []) 1 ∷ []) pc'
       → Runs p (suc n) c d 0 w k pc pc' (and_then (value call e (context_in c o) w) (λ v w1. and_then (width_value p.program (costs_in p) call next width (context_in c o) w1) (λ u w2. write_text (text (number_of v) (unwrap_or u default)) w2))) (λ u w' k'. Unit {0})
   number_run routine default text law small e width d a t o w k pc pc' la lt alive opened fits wide st =
@@ -105,13 +105,13 @@ module _ (p : Setting) (n : ℕ) (call : Caller) (next : Next) (c : Activated) (
       (λ u w2 k2 alive2 kept2 r2.
       number_written p c active d 0 w2 k2 cut2.0 pc' routine a t (even_from d) 1 (number_of v) (unwrap_or u default) (text (number_of v) (unwrap_or u default)) (even_above d) alive2 (law (number_of v) (unwrap_or u default) (state p c w2 k2 cut2.0).memory (state p c w2 k2 cut2.0).tape r1.fits r2.1) (kept2.temporaries a (omega (arith, lt)) ∙ r1.word) r2.0 (subst (λ q. Stands (code_in p) c.routine cut2.0 (i.Call (even_from d) q (a ∷ t ∷ []) 1 ∷ []) pc') behind cut2.2)))
 
-  pub write_integer_run : (e : Expr) (width : Width) (d : ℕ) (o : Opening) (w : World) (k : Work) (pc pc' : ℕ) → Alive p c w k → IsOpened p c w k d o → WriteFits (scope_in p c o) o.shapes (WriteInteger e width) → Stands (code_in p) c.routine pc (write_code (scope_in p c o) (WriteInteger e width) d) pc'
+  pub write_integer_run : (e : Expr) (width : Width) (d : ℕ) (o : Opening) (w : World) (k : Work) (pc pc' : ℕ) → Alive p c w k → IsOpened p c w k d o → WriteFits (plain_scope p c) o.shapes (WriteInteger e width) → Stands (code_in p) c.routine pc (write_code (scope_in p c o) (WriteInteger e width) d) pc'
       → Runs p (suc n) c d 0 w k pc pc' (write p.program (costs_in p) call next (WriteInteger e width) (context_in c o) w) (λ u w' k'. Unit {0})
   write_integer_run e width d o w k pc pc' alive opened fits st =
       let a = held (width_calls width) d in
       number_run 10 11 (λ z m. right_aligned m (integer_text z)) (λ z m memory tape h l. does.number z m memory tape h l) (omega arith) e width d a (even_from (suc a)) o w k pc pc' (held_above (width_calls width) d) (even_above (suc a)) alive opened fits.0 fits.1 st
 
-  pub write_char_run : (e : Expr) (width : Width) (d : ℕ) (o : Opening) (w : World) (k : Work) (pc pc' : ℕ) → Alive p c w k → IsOpened p c w k d o → WriteFits (scope_in p c o) o.shapes (WriteChar e width) → Stands (code_in p) c.routine pc (write_code (scope_in p c o) (WriteChar e width) d) pc'
+  pub write_char_run : (e : Expr) (width : Width) (d : ℕ) (o : Opening) (w : World) (k : Work) (pc pc' : ℕ) → Alive p c w k → IsOpened p c w k d o → WriteFits (plain_scope p c) o.shapes (WriteChar e width) → Stands (code_in p) c.routine pc (write_code (scope_in p c o) (WriteChar e width) d) pc'
       → Runs p (suc n) c d 0 w k pc pc' (write p.program (costs_in p) call next (WriteChar e width) (context_in c o) w) (λ u w' k'. Unit {0})
   write_char_run e width d o w k pc pc' alive opened fits st =
       let a = held (width_calls width) d in

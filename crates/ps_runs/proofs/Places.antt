@@ -9,24 +9,27 @@ use Rattle.tac_code.specs.declared.code.Base.TheVariants as base
 use Rattle.tac_code.specs.declared.code.Instruction.TheVariants.{Load}
 use Rattle.tac_code.specs.Memory.{load}
 use Rattle.tac_code.specs.Meaning.{Temporaries, base_value, text_at}
-use Rattle.ps_meaning.specs.Worlds.{Env, World, above, frame_of, spot_in}
+use Rattle.ps_meaning.specs.Worlds.{no_spot, Env, World, above, frame_of, spot_in}
 use Rattle.ps_meaning.specs.Expressions.{denoted}
 use Rattle.tac_steps.specs.Runs.{Stands, Comes}
 use Rattle.tac_steps.proofs.Runs.{split}
 use Rattle.tac_steps.proofs.Temporaries.{put_same}
 use Rattle.tac_steps.proofs.Pieces.{same_some, some_none}
 use Rattle.tac_steps.proofs.Instructions.{At, load_step}
-use Rattle.ps_layout.specs.Shapes.{Shape, Part, Whole}
+use Rattle.ps_layout.specs.Shapes.{Shape, shape_of, field_offset, Part, Whole}
 use Rattle.ps_layout.specs.Frames.{Kind, Own, Reference, Closure, entries, layout_of, entry_offset, link_offset, is_program_block}
 use Rattle.ps_code.specs.Scopes.{routine_up, kind_at, is_outermost, hops, frame_code, frame_base}
-use Rattle.ps_code.specs.Values.{reference_code, entry_site, name_code, name_site}
+use Rattle.ps_code.specs.Values.{field_site, reference_code, entry_site, name_code, name_site}
 use Rattle.ps_code.specs.Fits.{tail, shape_in, BaseFits}
 use Rattle.ps_relation.specs.Ghosts.{Ghost, ReferenceSlot, layout_at, found, PlaceAt, EnvAt}
 use Rattle.ps_relation.specs.Here.{Setting, machine_of, code_in, Work, Activated, chain_of, Alive, activation, state, base_at, IsBelow, SiteAt}
 use Rattle.ps_relation.specs.Outcomes.{Reached}
 use Rattle.ps_relation.proofs.Memory.{ghost_fits, frame_read, link_read}
 use Rattle.ps_relation.proofs.Frames.{place_there, EntryAt, entry, level, above_one, env_above}
-use Rattle.ps_runs.specs.Openings.{Opening, scope_in, context_in}
+use Rattle.ps_runs.specs.Openings.{plain_scope, Opening, scope_in, context_in, IsOpened}
+use Rattle.ps_runs.proofs.Kept.{below_more, stepped, opened_get}
+use Rattle.ps_relation.proofs.Places.{field_path}
+use Rattle.ps_meaning.specs.Values.{step}
 use Rattle.ps_runs.proofs.Runs.{reached_from, here, gives_word}
 
 pub base_is : (c : Activated) (pc : ℕ) (t : Temporaries) (b : Base) → base_value (activation c pc t) b ≡ base_at c.number t b
@@ -216,7 +219,14 @@ module _ (p : Setting) (n : ℕ) (c : Activated) where
       reached_from p n c d x d x w w k r.work (state p c w k pc) (state p c w r.work cut.0) pc' _ _ w (omega arith) (omega arith) r.comes r.keeps one (λ k' a' y. y)
 
   -- the code of a name
-  pub name_run : (d x : ℕ) (o : Opening) (w : World) (k : Work) (t pc pc' : ℕ) (name : PlaceBase) (shape : Shape) → Alive p c w k → d ≤ t → BaseFits (scope_in p c o) o.shapes name shape → Stands (code_in p) c.routine pc (name_code (scope_in p c o) name t) pc'
+  pub name_run : (d x : ℕ) (o : Opening) (w : World) (k : Work) (t pc pc' : ℕ) (name : PlaceBase) (shape : Shape) → Alive p c w k → IsOpened p c w k d o → d ≤ t → BaseFits (plain_scope p c) o.shapes name shape → Stands (code_in p) c.routine pc (name_code (scope_in p c o) name t) pc'
       → Reached p c d x w k (state p c w k pc) pc' (NameIn o name t (Whole shape)) w
-  name_run d x o w k t pc pc' (Entry up i) shape alive l fits st = entry_run d x o w k t up i pc pc' shape (kind_at (scope_in p c o) up i) refl fits.1 alive l fits.0 st
-  name_run d x o w k t pc pc' (Opened which type number) shape alive l fits st = absurd fits
+  name_run d x o w k t pc pc' (Entry up i) shape alive opened l fits st = entry_run d x o w k t up i pc pc' shape (kind_at (scope_in p c o) up i) refl fits.1 alive l fits.0 st
+  name_run d x o w k t pc pc' (Opened which type number) shape alive opened l fits st =
+      let found_ = opened_get p c w.made k.temporaries d o.sites o.spots o.shapes which (shape_of type) opened fits.0 in
+      let y = found_.0 in
+      let m = field_offset (shape_of type) number in
+      let s = step (get_or o.spots which no_spot) number in
+      let at = stepped p c w.made k.temporaries y (get_or o.spots which no_spot) number m (shape_of type) (Whole shape) found_.2 (field_path (shape_of type) number shape fits.1) in
+      here p n c d x w k pc pc' (NameIn o (Opened which type number) t (Whole shape)) st alive
+      (subst (λ z. SiteAt p c w.made k.temporaries (field_site (scope_in p c o) z m) s (Whole shape) × IsBelow (suc t) (field_site (scope_in p c o) z m).base) (sym found_.1) (at, below_more p c d (suc t) y.base (omega (arith, l)) found_.3))

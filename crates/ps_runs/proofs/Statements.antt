@@ -1,10 +1,10 @@
 -- The code of statements does what they mean.
-use Rattle.std.proofs.Common.{◌≡◌, ℕ, suc, ◌+◌, ◌-◌, ◌*◌, ◌≤◌, ℤ, pos, Bool, true, false, not, if◌then◌else◌, IsTrue, List, [], ◌∷◌, ◌++◌, length, Option, Some, None, refl, sym, ap, ◌∙◌, subst, arith, append-nil}
+use Rattle.std.proofs.Common.{◌≡◌, ℕ, suc, ◌+◌, ◌-◌, ◌*◌, ◌≤◌, ℤ, pos, Bool, true, false, not, if◌then◌else◌, IsTrue, List, [], ◌∷◌, ◌++◌, length, Option, Some, None, refl, sym, ap, ◌∙◌, subst, arith, append-nil, ◌&&◌, int_le}
 use Rattle.ps_tree.specs.declared.tree.Range.{Range}
 use Rattle.ps_tree.specs.declared.tree.Range.TheVariants.{Any, Within}
 use Rattle.ps_tree.specs.declared.tree.Direction.{Direction}
 use Rattle.ps_tree.specs.declared.tree.Direction.TheVariants.{To, Downto}
-use Rattle.ps_tree.specs.Tree.{Variable, PlaceBase, no_selector, Expr, Statement, Assign, If, IfElse, While, Repeat, For, Writeln, Statements, no_statement, statement_before}
+use Rattle.ps_tree.specs.Tree.{Variable, Expr, Statement, Assign, If, IfElse, While, Repeat, For, Writeln, Statements, no_statement, statement_before}
 use Rattle.tac_code.specs.declared.code.Value.{Value as Word}
 use Rattle.tac_code.specs.declared.code.Value.TheVariants.{Number as Numeral, Address, Routine as RoutineWord}
 use Rattle.tac_code.specs.declared.code.Operand.{Operand}
@@ -20,20 +20,20 @@ use Rattle.tac_code.specs.Meaning.{text_at, fetch, goes_on, goes_to, related, op
 use Rattle.ps_meaning.specs.Values.{Value, OrdinalValue, Spot, number_of}
 use Rattle.ps_meaning.specs.Operators.{is_between, is_equal, is_true}
 use Rattle.ps_meaning.specs.Worlds.{spot_in, frame_of, contents_in, World, Answer, Gives, Ends, Act, Done, done, and_then, give, fault, put, with_contents, ◌>>◌}
-use Rattle.ps_meaning.specs.Expressions.{Caller, denoted, value, fitting}
+use Rattle.ps_meaning.specs.Expressions.{Caller, value, fitting}
 use Rattle.ps_meaning.specs.Statements.{Again, Further, Next, succeeding, is_past, own_spot, act, acts, turn}
 use Rattle.tac_steps.specs.Runs.{step_of, Stands, Leads, Comes}
 use Rattle.tac_steps.proofs.Runs.{split, join, stands_length, a_step, one_step, leads_comes}
 use Rattle.tac_steps.proofs.Pieces.{some_none}
 use Rattle.tac_steps.proofs.Instructions.{trap_step, bits_step, load_step, jump_step, branch_step, branch_back_step}
-use Rattle.ps_layout.specs.Shapes.{Shape, NumberShape, PointerShape, SetShape, ByteShape, ArrayShape, RecordShape, Whole}
+use Rattle.ps_layout.specs.Shapes.{Shape, NumberShape, PointerShape, SetShape, ByteShape, ArrayShape, RecordShape, Part, Whole, Byte}
 use Rattle.ps_layout.specs.Paths.{Sort, NumberSort}
 use Rattle.ps_layout.specs.Frames.{Own}
 use Rattle.tac_code.specs.Memory.{load}
 use Rattle.tac_steps.proofs.Temporaries.{put_same}
 use Rattle.ps_code.specs.Scopes.{kind_at, held, operand_of, operand_check, unless_known, even_from, kept, check_code, fitting_code, Scope, Site}
 use Rattle.ps_code.specs.Calling.{expr_calls, statement_calls}
-use Rattle.ps_code.specs.Values.{literal_of, relation_in, left_in, right_in, opposite, front_code, name_code, name_site, store_code}
+use Rattle.ps_code.specs.Values.{literal_of, relation_in, left_in, right_in, opposite, front_code, store_code}
 use Rattle.ps_code.specs.Statements.{expr_code, step_number, past_relation, body_depth, turns_code, for_code, statement_code, statements_code}
 use Rattle.ps_code.specs.Fits.{SortOf, RangeFits, ExprFits, StatementFits, StatementsFit}
 use Rattle.ps_code.proofs.Depths.{even_above, held_above, kept_above}
@@ -43,15 +43,21 @@ use Rattle.ps_relation.specs.Here.{Setting, machine_of, code_in, costs_in, Work,
 use Rattle.ps_relation.specs.Outcomes.{Reached, Runs}
 use Rattle.ps_relation.proofs.Numbers.{same_numbers, steps_on, succeeding_integer}
 use Rattle.ps_relation.proofs.Spots.{spot_value, spot_read}
-use Rattle.ps_runs.specs.Openings.{Opening, scope_in, context_in, IsOpened}
+use Rattle.ps_relation.proofs.Places.{both_parts, le_through}
+use Rattle.ps_runs.specs.Openings.{plain_scope, Opening, scope_in, context_in, IsOpened}
 use Rattle.ps_runs.proofs.Runs.{with_temporary, keeps_put, runs_word, outcome_after, outcome_sooner, reached_from, runs_bind, runs_map, runs_from, runs_told, here, passes, keeps_refl, keeps_trans, keeps_less}
-use Rattle.ps_runs.proofs.Places.{name_run, entry_there}
+use Rattle.ps_runs.proofs.Places.{entry_there}
 use Rattle.ps_runs.proofs.Kept.{opened_kept, site_kept}
 use Rattle.ps_runs.proofs.Leaves.{fails_so}
 use Rattle.ps_runs.proofs.Values.{FrontIn, OperandIn, operand_runs, related_opposite, known_is}
-use Rattle.ps_runs.proofs.Expressions.{front_runs, expr_runs}
+use Rattle.ps_runs.proofs.Expressions.{front_runs, place_run, expr_runs}
+use Rattle.ps_runs.proofs.Selectors.{PlaceIn, is_byte_part, place_byte}
+use Rattle.ps_tree.specs.Tree.{Place}
+use Rattle.ps_meaning.specs.Expressions.{access}
+use Rattle.ps_code.specs.Calling.{selectors_call}
+use Rattle.ps_code.specs.Values.{is_byte, place_temporary, place_site, place_code}
 use Rattle.ps_runs.specs.Tasks.{Nothing, IsHeld, own_site, TurnStands, TaskStands, TaskFits, NextRuns}
-use Rattle.ps_runs.proofs.Checks.{check_runs, store_runs}
+use Rattle.ps_runs.proofs.Checks.{check_runs, store_runs, store_byte_runs}
 use Rattle.ps_runs.proofs.Output.{write_integer_run, write_char_run}
 use Rattle.ps_runs.proofs.Strings.{write_boolean_run, write_text_run}
 use Rattle.ps_relation.specs.RunTime.{WritesDo}
@@ -64,6 +70,15 @@ use Rattle.tac_steps.proofs.Instructions.{literal_step, put_step}
 
 -- ---- statements, over what fuel is spent on
 
+pub place_above : (q : Place) (d : ℕ) → d ≤ place_temporary q d
+place_above (Variable name selectors) d = kept_above (selectors_call selectors) d
+
+byte_range : (low z high : ℤ) → IsTrue (int_le (pos 0) low && int_le high (pos 255)) → is_between low z high ≡ true → IsTrue (is_between (pos 0) z (pos 255))
+byte_range low z high h e =
+    let a = both_parts (int_le (pos 0) low) (int_le high (pos 255)) h in
+    let b = both_parts (int_le low z) (int_le z high) e in
+    ap (λ t. t && int_le z (pos 255)) (le_through (pos 0) low z a.0 b.0) ∙ le_through z high (pos 255) b.1 a.1
+
 operand_kept : (d x : ℕ) (w w' : World) (k k' : Work) (a : Operand) → IsHeld d a → Keeps d x w k w' k' → operand_value k'.temporaries a ≡ operand_value k.temporaries a
 operand_kept d x w w' k k' (operand.Temporary u) h a = a.temporaries u h
 operand_kept d x w w' k k' (operand.Number z) h a = refl
@@ -75,12 +90,12 @@ held_more d e (operand.Number z) l h = tt
 module _ (p : Setting) (n : ℕ) (call : Caller) (next : Next) (c : Activated) (active : IsActive p c) (nexts : NextRuns p n next) (does : WritesDo p) where
   abbrev pub StatementRuns : Statement → Type 0
   StatementRuns s =
-      (d : ℕ) (o : Opening) (w : World) (k : Work) (pc pc' : ℕ) → Alive p c w k → IsOpened p c w k d o → StatementFits (scope_in p c o) o.shapes s → Stands (code_in p) c.routine pc (statement_code (scope_in p c o) s d) pc'
+      (d : ℕ) (o : Opening) (w : World) (k : Work) (pc pc' : ℕ) → Alive p c w k → IsOpened p c w k d o → StatementFits (plain_scope p c) o.shapes s → Stands (code_in p) c.routine pc (statement_code (scope_in p c o) s d) pc'
       → Runs p (suc n) c d 0 w k pc pc' (act p.program (costs_in p) call next s (context_in c o) w) Nothing
 
   abbrev pub StatementsRun : Statements → Type 0
   StatementsRun ss =
-      (d : ℕ) (o : Opening) (w : World) (k : Work) (pc pc' : ℕ) → Alive p c w k → IsOpened p c w k d o → StatementsFit (scope_in p c o) o.shapes ss → Stands (code_in p) c.routine pc (statements_code (scope_in p c o) ss d) pc'
+      (d : ℕ) (o : Opening) (w : World) (k : Work) (pc pc' : ℕ) → Alive p c w k → IsOpened p c w k d o → StatementsFit (plain_scope p c) o.shapes ss → Stands (code_in p) c.routine pc (statements_code (scope_in p c o) ss d) pc'
       → Runs p (suc n) c d 0 w k pc pc' (acts p.program (costs_in p) call next ss (context_in c o) w) Nothing
 
   abbrev code_of : Opening → Scope
@@ -124,40 +139,51 @@ module _ (p : Setting) (n : ℕ) (call : Caller) (next : Next) (c : Activated) (
   fitted (Within low high) (ArrayShape a b) sort v d w k o pc mid pc' t line literal site s l below sorted ranged alive at r known fit st = absurd ranged
   fitted (Within low high) (RecordShape a) sort v d w k o pc mid pc' t line literal site s l below sorted ranged alive at r known fit st = absurd ranged
 
+  -- the same for a part of either kind
+  fitted_part : (range : Range) (part : Part) (sort : Sort) (v : Value) (d : ℕ) (w : World) (k : Work) (o : Opening) (pc mid pc' t line : ℕ) (literal : Option ℤ) (site : Site) (s : Spot) → d ≤ suc t → IsBelow (suc t) site.base → SortOf part sort → RangeFits range part → Alive p c w k → SiteAt p c w.made k.temporaries site s part → WordIn k.temporaries w.made t sort v → ((z : ℤ) → sort ≡ NumberSort → literal ≡ Some z → number_of v ≡ z) → Stands (code_in p) c.routine pc (fitting_code literal t range line) mid → Stands (code_in p) c.routine mid (store_code (is_byte_part p n call c active part) site t) pc'
+      → Runs p (suc n) c d 0 w k pc pc' (and_then (fitting range v line (context_in c o) w) (λ u. put s u)) Nothing
+  fitted_part range (Whole shape) sort v d w k o pc mid pc' t line literal site s l below sorted ranged alive at r known fit st = fitted range shape sort v d w k o pc mid pc' t line literal site s l below sorted ranged alive at r known fit st
+  fitted_part Any Byte sort v d w k o pc mid pc' t line literal site s l below sorted ranged alive at r known fit st = absurd ranged
+  fitted_part (Within low high) Byte sort v d w k o pc mid pc' t line literal site s l below sorted ranged alive at r known fit st =
+      runs_bind p (suc n) c d 0 (suc t) 0 d 0 w k pc mid pc' (fitting (Within low high) v line (context_in c o) w) (λ u. put s u) (λ u w' k'. (u ≡ v) × WordIn k'.temporaries w'.made t NumberSort v × (is_between low (number_of v) high ≡ true)) Nothing l (omega arith) (omega arith) (omega arith)
+      (check_runs p (suc n) c active (suc t) 0 o w k pc mid t low high 4 line literal v (omega arith) alive (λ z q. known z sorted q) (subst (λ q. WordIn k.temporaries w.made t q v) sorted r) fit)
+      (λ u w1 k1 alive1 kept1 y.
+      subst (λ q. Reached p c d 0 w1 k1 (state p c w1 k1 mid) pc' (λ w' k'. Unit {0}) (with_contents w1 s q)) (sym y.0)
+      (store_byte_runs p (suc n) c active d 0 w1 k1 mid pc' t site s v alive1 (site_kept p c (suc t) 0 w w1 k k1 site s Byte below kept1 at) (byte_range low (number_of v) high ranged y.2) y.1 st))
+
   base_below : (a b : ℕ) (x : Base) → a ≤ b → IsBelow a x → IsBelow b x
   base_below a b base.Frame l h = tt
   base_below a b base.Scratch l h = tt
   base_below a b base.Program l h = tt
   base_below a b (base.Temporary u) l h = omega (arith, l, h)
 
-  pub assign_run : (name : PlaceBase) (range : Range) (e : Expr) (line : ℕ) → StatementRuns (Assign (Variable name no_selector) range e line)
-  assign_run name range e line d o w k pc pc' alive opened fits st =
+  pub assign_run : (q : Place) (range : Range) (e : Expr) (line : ℕ) → StatementRuns (Assign q range e line)
+  assign_run q range e line d o w k pc pc' alive opened fits st =
       let code = code_of o in
       let ctx = context_in c o in
       let d0 = kept (expr_calls e) d in
       let l0 : d ≤ d0 = kept_above (expr_calls e) d in
-      let t = even_from (suc d0) in
-      let lt : suc d0 ≤ t = even_above (suc d0) in
-      let place = fits.1 in
-      let shape = place.0 in
-      let s = denoted name ctx in
-      let site = name_site code name d0 in
-      let cut3 = split (code_in p) c.routine pc (((name_code code name d0 ++ []) ++ expr_code code e t 0) ++ fitting_code (literal_of e) t range line) (store_code false site t) pc' st in
-      let cut2 = split (code_in p) c.routine pc ((name_code code name d0 ++ []) ++ expr_code code e t 0) (fitting_code (literal_of e) t range line) cut3.0 cut3.1 in
-      let cut1 = split (code_in p) c.routine pc (name_code code name d0 ++ []) (expr_code code e t 0) cut2.0 cut2.1 in
-      let cut0 = split (code_in p) c.routine pc (name_code code name d0) [] cut1.0 cut1.1 in
-      let named = name_run p n c d0 0 o w k d0 pc cut0.0 name shape alive (omega arith) place.1 cut0.1 in
+      let tp = place_temporary q d0 in
+      let lp : d0 ≤ tp = place_above q d0 in
+      let t = even_from (suc tp) in
+      let lt : suc tp ≤ t = even_above (suc tp) in
+      let site = place_site code q d0 in
+      let cut3 = split (code_in p) c.routine pc (place_code code q d0 0 ++ expr_code code e t 0 ++ fitting_code (literal_of e) t range line) (store_code (is_byte q) site t) pc' st in
+      let cut2 = split (code_in p) c.routine pc (place_code code q d0 0 ++ expr_code code e t 0) (fitting_code (literal_of e) t range line) cut3.0 cut3.1 in
+      let cut1 = split (code_in p) c.routine pc (place_code code q d0 0) (expr_code code e t 0) cut2.0 cut2.1 in
+      let part = fits.0 in
       let sort = fits.3.0 in
-      let sorted : SortOf (Whole shape) sort = subst (λ q. SortOf q sort) (sym place.2) fits.3.1 in
-      let ranged : RangeFits range (Whole shape) = subst (λ q. RangeFits range q) (sym place.2) fits.2 in
-      let rest : Value → Act Done = λ x w1. and_then (fitting range x line ctx w1) (λ v. put s v) in
-      runs_from p (suc n) c d 0 w w k named.work pc cut1.0 pc' (and_then (value call e ctx w) rest) Nothing (subst (λ q. Comes (machine_of p) (state p c w k pc) (state p c w named.work q)) cut0.2 named.comes) (keeps_less d 0 d0 0 l0 (omega arith) named.keeps)
-      (runs_bind p (suc n) c d 0 t 0 d 0 w named.work cut1.0 cut2.0 pc' (value call e ctx w) rest (λ v w' k'. WordIn k'.temporaries w'.made t sort v × ((v0 : Value) (w0 : World) → value call e ctx w ≡ Gives v0 w0 → v ≡ v0)) Nothing (omega (arith, l0, lt)) (omega arith) (omega arith) (omega arith)
-      (runs_told p (suc n) c t 0 w named.work cut1.0 cut2.0 (value call e ctx w) (λ v w' k'. WordIn k'.temporaries w'.made t sort v) (expr_runs p n call c active e t 0 o w named.work cut1.0 cut2.0 sort named.alive (opened_kept p c d 0 t w w k named.work o (omega (arith, l0, lt)) (keeps_less d 0 d0 0 l0 (omega arith) named.keeps) opened) fits.3.2 cut1.2))
-      (λ v w1 k1 alive1 kept1 r1.
-      let at = site_kept p c t 0 w w1 named.work k1 site s (Whole shape) (base_below (suc d0) t site.base lt named.result.1) kept1 named.result.0 in
-      fitted range shape sort v d w1 k1 o cut2.0 cut3.0 pc' t line (literal_of e) site s (omega (arith, l0, lt)) (base_below (suc d0) (suc t) site.base (omega (arith, lt)) named.result.1) sorted ranged alive1 at r1.0
-      (λ z qs ql. let known_ = known_is p n call c active e z o w ql (subst (λ q. ExprFits code o.shapes e q) qs fits.3.2) in ap number_of (r1.1 known_.v w known_.gives_it) ∙ known_.is) cut2.2 cut3.2))
+      runs_bind p (suc n) c d 0 d0 0 d 0 w k pc cut1.0 pc' (access call q ctx w) (λ s w1. and_then (value call e ctx w1) (λ y w2. and_then (fitting range y line ctx w2) (λ v. put s v))) (λ s w' k'. PlaceIn p n call c active site tp s fits.0 w' k') Nothing l0 (omega arith) (omega arith) (omega arith)
+      (place_run p n call c active q d0 0 o w k pc cut1.0 fits.0 alive (opened_kept p c d 0 d0 w w k k o l0 (keeps_refl d 0 w k) opened) fits.1 cut1.1)
+      (λ s w1 k1 alive1 kept1 r1.
+      let open1 = opened_kept p c d 0 t w w1 k k1 o (omega (arith, l0, lp, lt)) (keeps_less d 0 d0 0 l0 (omega arith) kept1) opened in
+      runs_bind p (suc n) c d 0 t 0 d 0 w1 k1 cut1.0 cut2.0 pc' (value call e ctx w1) (λ y w2. and_then (fitting range y line ctx w2) (λ v. put s v)) (λ v w' k'. WordIn k'.temporaries w'.made t sort v × ((v0 : Value) (w0 : World) → value call e ctx w1 ≡ Gives v0 w0 → v ≡ v0)) Nothing (omega (arith, l0, lp, lt)) (omega arith) (omega arith) (omega arith)
+      (runs_told p (suc n) c t 0 w1 k1 cut1.0 cut2.0 (value call e ctx w1) (λ v w' k'. WordIn k'.temporaries w'.made t sort v) (expr_runs p n call c active e t 0 o w1 k1 cut1.0 cut2.0 sort alive1 open1 fits.3.2 cut1.2))
+      (λ v w2 k2 alive2 kept2 r2.
+      let at = site_kept p c t 0 w1 w2 k1 k2 site s part (base_below (suc tp) t site.base lt r1.1) kept2 r1.0 in
+      fitted_part range part sort v d w2 k2 o cut2.0 cut3.0 pc' t line (literal_of e) site s (omega (arith, l0, lp, lt)) (base_below (suc tp) (suc t) site.base (omega (arith, lt)) r1.1) fits.3.1 fits.2 alive2 at r2.0
+      (λ z qs ql. let known_ = known_is p n call c active e z o w1 ql (subst (λ y. ExprFits (plain_scope p c) o.shapes e y) qs fits.3.2) in ap number_of (r2.1 known_.v w1 known_.gives_it) ∙ known_.is) cut2.2
+      (subst (λ b. Stands (code_in p) c.routine cut3.0 (store_code b site t) pc') (place_byte p n call c active o q fits.0 fits.1) cut3.2)))
 
   if_not : (b : Bool) (x y : Act Done) (w : World) → (if b then x else y) w ≡ (if not b then y else x) w
   if_not true x y w = refl
@@ -224,7 +250,7 @@ module _ (p : Setting) (n : ℕ) (call : Caller) (next : Next) (c : Activated) (
           runs_from p (suc n) c d 0 w1 w1 k1 k1 m (suc j) pc' (A t w1) Nothing (subst (λ z. Comes (machine_of p) (state p c w1 k1 m) (state p c w1 k1 z)) there (a_step (state p c w1 k1 m) (state p c w1 k1 (suc m + suc (length (statement_code (code_of o) s d)))) stepped)) (keeps_refl d 0 w1 k1) r2
 
   -- a `while` statement, from its test on
-  pub while_test : (e : Expr) (s : Statement) → StatementRuns s → (d : ℕ) (o : Opening) (w : World) (k : Work) (pc pc' : ℕ) → Alive p c w k → IsOpened p c w k d o → StatementFits (code_of o) o.shapes (While e s) → TaskStands p c o (Again (While e s)) d k pc pc' → Runs p (suc n) c d 0 w k pc pc' (act p.program (costs_in p) call next (While e s) (context_in c o) w) Nothing
+  pub while_test : (e : Expr) (s : Statement) → StatementRuns s → (d : ℕ) (o : Opening) (w : World) (k : Work) (pc pc' : ℕ) → Alive p c w k → IsOpened p c w k d o → StatementFits (plain_scope p c) o.shapes (While e s) → TaskStands p c o (Again (While e s)) d k pc pc' → Runs p (suc n) c d 0 w k pc pc' (act p.program (costs_in p) call next (While e s) (context_in c o) w) Nothing
   while_test e s rs d o w k pc pc' alive opened fits st =
       let code = code_of o in
       let ctx = context_in c o in
@@ -283,7 +309,7 @@ module _ (p : Setting) (n : ℕ) (call : Caller) (next : Next) (c : Activated) (
   -- ---- `for`
 
   abbrev Control : Opening → ℕ → Type 0
-  Control o variable = (first : ℤ) × (kind_at (code_of o) 0 variable ≡ Some (Own (NumberShape first)))
+  Control o variable = (first : ℤ) × (kind_at (plain_scope p c) 0 variable ≡ Some (Own (NumberShape first)))
 
   -- the control variable's place
   control_at : (o : Opening) (w : World) (k : Work) (variable : ℕ) → Alive p c w k → (v : Control o variable) → SiteAt p c w.made k.temporaries (own_site p c o variable) (spot_in (frame_of c.env) variable) (Whole (NumberShape v.0))
@@ -484,13 +510,13 @@ module _ (p : Setting) (n : ℕ) (call : Caller) (next : Next) (c : Activated) (
 
   -- ---- output
 
-  write_run : (q : WriteParameter) (d : ℕ) (o : Opening) (w : World) (k : Work) (pc pc' : ℕ) → Alive p c w k → IsOpened p c w k d o → WriteFits (code_of o) o.shapes q → Stands (code_in p) c.routine pc (write_code (code_of o) q d) pc' → Runs p (suc n) c d 0 w k pc pc' (write p.program (costs_in p) call next q (context_in c o) w) Nothing
+  write_run : (q : WriteParameter) (d : ℕ) (o : Opening) (w : World) (k : Work) (pc pc' : ℕ) → Alive p c w k → IsOpened p c w k d o → WriteFits (plain_scope p c) o.shapes q → Stands (code_in p) c.routine pc (write_code (code_of o) q d) pc' → Runs p (suc n) c d 0 w k pc pc' (write p.program (costs_in p) call next q (context_in c o) w) Nothing
   write_run (WriteInteger e width) d o w k pc pc' alive opened fits st = write_integer_run p n call next c active does e width d o w k pc pc' alive opened fits st
   write_run (WriteChar e width) d o w k pc pc' alive opened fits st = write_char_run p n call next c active does e width d o w k pc pc' alive opened fits st
   write_run (WriteBoolean e width) d o w k pc pc' alive opened fits st = write_boolean_run p n call next c active does e width d o w k pc pc' alive opened fits st
   write_run (WriteText e width) d o w k pc pc' alive opened fits st = write_text_run p n call next c active does e width d o w k pc pc' alive opened fits st
 
-  pub writes_run : (ps : List WriteParameter) (d : ℕ) (o : Opening) (w : World) (k : Work) (pc pc' : ℕ) → Alive p c w k → IsOpened p c w k d o → WritesFit (code_of o) o.shapes ps → Stands (code_in p) c.routine pc (writes_code (code_of o) ps d) pc' → Runs p (suc n) c d 0 w k pc pc' (writes p.program (costs_in p) call next ps (context_in c o) w) Nothing
+  pub writes_run : (ps : List WriteParameter) (d : ℕ) (o : Opening) (w : World) (k : Work) (pc pc' : ℕ) → Alive p c w k → IsOpened p c w k d o → WritesFit (plain_scope p c) o.shapes ps → Stands (code_in p) c.routine pc (writes_code (code_of o) ps d) pc' → Runs p (suc n) c d 0 w k pc pc' (writes p.program (costs_in p) call next ps (context_in c o) w) Nothing
   writes_run [] d o w k pc pc' alive opened fits st = here p (suc n) c d 0 w k pc pc' (Nothing done) st alive tt
   writes_run (q ∷ rest) d o w k pc pc' alive opened fits st =
       let ctx = context_in c o in

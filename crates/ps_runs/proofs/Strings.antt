@@ -27,17 +27,40 @@ use Rattle.ps_code.specs.Statements.{expr_code, width_code, truth_text, write_co
 use Rattle.ps_code.specs.Fits.{WriteFits}
 use Rattle.ps_code.proofs.Depths.{even_above, held_above}
 use Rattle.ps_relation.specs.Here.{Setting, machine_of, code_in, costs_in, Work, Activated, IsActive, Alive, state, WordIn}
-use Rattle.ps_relation.specs.Outcomes.{Runs}
+use Rattle.ps_relation.specs.Outcomes.{Reached, Runs}
 use Rattle.ps_relation.specs.RunTime.{WritesDo}
 use Rattle.ps_relation.proofs.Numbers.{same_numbers}
 use Rattle.ps_relation.proofs.Bytes.{AreBytes, first_byte, other_bytes, text_bytes}
-use Rattle.ps_runs.specs.Openings.{Opening, scope_in, context_in, IsOpened}
+use Rattle.ps_runs.specs.Openings.{plain_scope, Opening, scope_in, context_in, IsOpened}
 use Rattle.ps_runs.proofs.Runs.{with_temporary, runs_bind, runs_word, runs_from, keeps_refl, keeps_less, keeps_put}
 use Rattle.ps_runs.proofs.Kept.{opened_kept}
 use Rattle.ps_runs.proofs.Expressions.{expr_runs}
 use Rattle.ps_runs.proofs.Calls.{length_map}
 use Rattle.ps_runs.proofs.Writes.{string_written}
 use Rattle.ps_runs.proofs.Output.{WidthIn, width_runs}
+use Rattle.std.proofs.Common.{None, lt-ltb}
+use Rattle.ps_tree.specs.Types.{DataType}
+use Rattle.ps_tree.specs.Tree.{Place}
+use Rattle.tac_code.specs.declared.code.Block.{Block}
+use Rattle.tac_code.specs.Meaning.{text_at}
+use Rattle.ps_meaning.specs.Values.{Spot, components_of}
+use Rattle.ps_meaning.specs.Worlds.{Gives, contents_in}
+use Rattle.ps_meaning.specs.Expressions.{HeldSpot, contents_of, access}
+use Rattle.tac_steps.proofs.Instructions.{offset_step}
+use Rattle.ps_layout.specs.Shapes.{ByteShape, Whole, shape_of, byte_count}
+use Rattle.ps_layout.specs.Words.{bytes_of}
+use Rattle.ps_code.specs.Scopes.{Site}
+use Rattle.ps_code.specs.Values.{text_length, place_temporary, place_site, place_code}
+use Rattle.ps_relation.specs.Ghosts.{PlaceAt}
+use Rattle.ps_relation.specs.Here.{SiteAt}
+use Rattle.ps_relation.proofs.Spots.{spot_value}
+use Rattle.ps_relation.proofs.Places.{place_below, place_end}
+use Rattle.ps_relation.proofs.ByteParts.{array_bytes, string_characters, bytes_count, bytes_small}
+use Rattle.ps_runs.proofs.Runs.{gives_word}
+use Rattle.ps_runs.proofs.Places.{base_is}
+use Rattle.ps_runs.proofs.Kept.{place_grows}
+use Rattle.ps_runs.proofs.Selectors.{PlaceIn}
+use Rattle.ps_runs.proofs.Expressions.{place_run}
 
 -- ---- lists of bytes
 
@@ -114,7 +137,7 @@ module _ (p : Setting) (n : ℕ) (call : Caller) (next : Next) (c : Activated) (
           st.1.1.1.1.0 st.1.1.1.1.1.0
           (λ k'. subst (λ q. Comes (machine_of p) (state p c w k' (suc (suc (suc (suc (suc (suc pc))))))) (state p c w k' q)) st.1.1.1.1.1.1 (stay (state p c w k' (suc (suc (suc (suc (suc (suc pc))))))))) last)
 
-  pub write_boolean_run : (e : Expr) (width : Width) (d : ℕ) (o : Opening) (w : World) (k : Work) (pc pc' : ℕ) → Alive p c w k → IsOpened p c w k d o → WriteFits (scope_in p c o) o.shapes (WriteBoolean e width) → Stands (code_in p) c.routine pc (write_code (scope_in p c o) (WriteBoolean e width) d) pc'
+  pub write_boolean_run : (e : Expr) (width : Width) (d : ℕ) (o : Opening) (w : World) (k : Work) (pc pc' : ℕ) → Alive p c w k → IsOpened p c w k d o → WriteFits (plain_scope p c) o.shapes (WriteBoolean e width) → Stands (code_in p) c.routine pc (write_code (scope_in p c o) (WriteBoolean e width) d) pc'
       → Runs p (suc n) c d 0 w k pc pc' (write p.program (costs_in p) call next (WriteBoolean e width) (context_in c o) w) (λ u w' k'. Unit {0})
   write_boolean_run e width d o w k pc pc' alive opened fits st =
       let code = scope_in p c o in
@@ -135,7 +158,7 @@ module _ (p : Setting) (n : ℕ) (call : Caller) (next : Next) (c : Activated) (
       truth_run code d a t w2 k2 cut2.0 cut3.0 pc' (number_of v) (unwrap_or u 5) (omega (arith, la, lt)) alive2 (kept2.temporaries a (omega (arith, lt)) ∙ r1.word) r2 cut2.2 cut3.2))
 
   -- a string's address, its width and its length
-  write_literal_run : (text : List ℕ) (width : Width) (d : ℕ) (o : Opening) (w : World) (k : Work) (pc pc' : ℕ) → Alive p c w k → IsOpened p c w k d o → WriteFits (scope_in p c o) o.shapes (WriteText (Literal text) width) → Stands (code_in p) c.routine pc (write_code (scope_in p c o) (WriteText (Literal text) width) d) pc'
+  write_literal_run : (text : List ℕ) (width : Width) (d : ℕ) (o : Opening) (w : World) (k : Work) (pc pc' : ℕ) → Alive p c w k → IsOpened p c w k d o → WriteFits (plain_scope p c) o.shapes (WriteText (Literal text) width) → Stands (code_in p) c.routine pc (write_code (scope_in p c o) (WriteText (Literal text) width) d) pc'
       → Runs p (suc n) c d 0 w k pc pc' (write p.program (costs_in p) call next (WriteText (Literal text) width) (context_in c o) w) (λ u w' k'. Unit {0})
   write_literal_run text width d o w k pc pc' alive opened fits st =
       let code = scope_in p c o in
@@ -167,7 +190,75 @@ module _ (p : Setting) (n : ℕ) (call : Caller) (next : Next) (c : Activated) (
       (put_other k2.temporaries b count a nab ∙ kept2.temporaries a (omega (arith, lt)) ∙ put_same k.temporaries a address) (put_same k2.temporaries b count) (put_other k2.temporaries b count t ntb ∙ r2.0)
       (subst (λ m. Stands (code_in p) c.routine (suc cut.0) (i.Call (even_from d) m (a ∷ b ∷ t ∷ []) 1 ∷ []) pc') (behind 12) cut.2.1)))))
 
-  pub write_text_run : (e : Structure) (width : Width) (d : ℕ) (o : Opening) (w : World) (k : Work) (pc pc' : ℕ) → Alive p c w k → IsOpened p c w k d o → WriteFits (scope_in p c o) o.shapes (WriteText e width) → Stands (code_in p) c.routine pc (write_code (scope_in p c o) (WriteText e width) d) pc'
+  -- the address of a string variable
+  abbrev TextIn : (a count : ℕ) (first : ℤ) → Spot → World → Work → Type 0
+  TextIn a count first s w k = (block : Block) × ((offset : ℕ) × (k.temporaries a ≡ Some (Address block offset)) × PlaceAt p.program c.ghosts w.made s block offset (Whole (ByteShape count first)))
+
+  address_run : (a d extent count : ℕ) (first : ℤ) (w : World) (k : Work) (pc pc' : ℕ) (site : Site) (s : Spot) → d ≤ a → Alive p c w k → SiteAt p c w.made k.temporaries site s (Whole (ByteShape count first)) → Stands (code_in p) c.routine pc (i.Offset a site.base site.offset extent ∷ []) pc' → Reached p c d 0 w k (state p c w k pc) pc' (λ w' k'. TextIn a count first s w' k') w
+  address_run a d extent count first w k pc pc' site s l alive at st =
+      let place = at.offset + site.offset in
+      let below = place_below p.program c.ghosts active.small w k.count alive.holds s at.block place (Whole (ByteShape count first)) at.place in
+      gives_word p (suc n) c d 0 w k pc pc' a (Address at.block place) (λ w' k'. TextIn a count first s w' k') (offset_step (machine_of p) (state p c w k pc) a site.base site.offset extent at.block at.offset st.0 (base_is c pc k.temporaries site.base ∙ at.base) (lt-ltb place 2147483648 below)) st.1 l alive
+      (at.block, (place, put_same k.temporaries a (Address at.block place), at.place))
+
+  write_contents_run : (q : Place) (type : DataType) (width : Width) (d : ℕ) (o : Opening) (w : World) (k : Work) (pc pc' : ℕ) → Alive p c w k → IsOpened p c w k d o → WriteFits (plain_scope p c) o.shapes (WriteText (Contents q type) width) → Stands (code_in p) c.routine pc (write_code (scope_in p c o) (WriteText (Contents q type) width) d) pc'
+      → Runs p (suc n) c d 0 w k pc pc' (write p.program (costs_in p) call next (WriteText (Contents q type) width) (context_in c o) w) (λ u w' k'. Unit {0})
+  write_contents_run q type width d o w k pc pc' alive opened fits st =
+      let code = scope_in p c o in
+      let ctx = context_in c o in
+      let a = held (width_calls width) d in
+      let la : d ≤ a = held_above (width_calls width) d in
+      let t = even_from (suc a) in
+      let lt : suc a ≤ t = even_above (suc a) in
+      let b = beside t in
+      let count = fits.0.0 in
+      let first = fits.0.1 in
+      let known_length : text_length (Contents q type) ≡ count = ap (λ y. elim y as (λ z. ℕ) [ Some m ↦ m | None ↦ 0 ]) fits.0.3 in
+      let m = text_length (Contents q type) in
+      let site = place_site code q a in
+      let cut2 = split (code_in p) c.routine pc ((place_code code q a 0 ++ i.Offset a site.base site.offset (byte_count (shape_of type)) ∷ []) ++ width_code code width m t) (i.Literal b (pos m) ∷ i.Call (even_from d) (length p.program.routines + 12) (a ∷ b ∷ t ∷ []) 1 ∷ []) pc' st in
+      let cut1 = split (code_in p) c.routine pc (place_code code q a 0 ++ i.Offset a site.base site.offset (byte_count (shape_of type)) ∷ []) (width_code code width m t) cut2.0 cut2.1 in
+      let cut = split (code_in p) c.routine pc (place_code code q a 0) (i.Offset a site.base site.offset (byte_count (shape_of type)) ∷ []) cut1.0 cut1.1 in
+      let rest : Spot → World → Answer Done = λ s w1. and_then (width_value p.program (costs_in p) call next width ctx w1) (λ u w2. write_text (fitted (unwrap_or u (length (characters (components_of (contents_in w2 s))))) (characters (components_of (contents_in w2 s)))) w2) in
+      runs_bind p (suc n) c d 0 a 0 d 0 w k pc cut1.0 pc' (and_then (access call q ctx w) (λ s w1. Gives (HeldSpot s) w1)) (λ h w1. and_then (width_value p.program (costs_in p) call next width ctx w1) (λ u w2. and_then (contents_of h w2) (λ v w3. write_text (fitted (unwrap_or u (length (characters (components_of v)))) (characters (components_of v))) w3)))
+      (λ h w' k'. (s : Spot) × (h ≡ HeldSpot s) × TextIn a count first s w' k') (λ u w' k'. Unit {0}) la (omega arith) (omega arith) (omega arith)
+      (runs_bind p (suc n) c a 0 a 0 a 0 w k pc cut.0 cut1.0 (access call q ctx w) (λ s w1. Gives (HeldSpot s) w1) (λ s w' k'. PlaceIn p n call c active site (place_temporary q a) s (Whole (ByteShape count first)) w' k') (λ h w' k'. (s : Spot) × (h ≡ HeldSpot s) × TextIn a count first s w' k') (omega arith) (omega arith) (omega arith) (omega arith)
+      (place_run p n call c active q a 0 o w k pc cut.0 (Whole (ByteShape count first)) alive (opened_kept p c d 0 a w w k k o la (keeps_refl d 0 w k) opened) fits.0.4 cut.1)
+      (λ s w1 k1 alive1 kept1 r1.
+      let r = address_run a a (byte_count (shape_of type)) count first w1 k1 cut.0 cut1.0 site s (omega arith) alive1 r1.0 cut.2 in
+      record { work = r.work; alive = r.alive; keeps = r.keeps; comes = r.comes; result = (s, refl, r.result) }))
+      (λ h w1 k1 alive1 kept1 r1.
+      let s = r1.0 in
+      let open1 = opened_kept p c d 0 d w w1 k k1 o (omega arith) (keeps_less d 0 a 0 la (omega arith) kept1) opened in
+      let size = place_end p.program c.ghosts active.small w1 k1.count alive1.holds s r1.2.0 r1.2.1.0 (Whole (ByteShape count first)) r1.2.1.2 in
+      subst (λ y. Runs p (suc n) c d 0 w1 k1 cut1.0 pc' (and_then (width_value p.program (costs_in p) call next width ctx w1) (λ u w2. and_then (contents_of y w2) (λ v w3. write_text (fitted (unwrap_or u (length (characters (components_of v)))) (characters (components_of v))) w3))) (λ u w' k'. Unit {0})) (sym r1.1)
+      (runs_bind p (suc n) c d 0 t 0 d 0 w1 k1 cut1.0 cut2.0 pc' (width_value p.program (costs_in p) call next width ctx w1) (λ u w2. write_text (fitted (unwrap_or u (length (characters (components_of (contents_in w2 s))))) (characters (components_of (contents_in w2 s)))) w2) (λ u w' k'. WidthIn p n call next c active does t (unwrap_or u m) k') (λ u w' k'. Unit {0}) (omega (arith, la, lt)) (omega arith) (omega arith) (omega arith)
+      (width_runs p n call next c active does width m d 0 t o w1 k1 cut1.0 cut2.0 (omega (arith, size, known_length)) (omega (arith, la, lt)) alive1 open1 fits.1 cut1.2)
+      (λ u w2 k2 alive2 kept2 r2.
+      let block = r1.2.0 in
+      let offset = r1.2.1.0 in
+      let place = subst (λ made. PlaceAt p.program c.ghosts made s block offset (Whole (ByteShape count first))) (sym kept2.grown.1) (place_grows p c w1.made kept2.grown.0 s block offset (Whole (ByteShape count first)) r1.2.1.2) in
+      let v = contents_in w2 s in
+      let text = bytes_of count (components_of v) in
+      let shaped = spot_value p.program w2 c.ghosts k2.count alive2.holds s block offset (ByteShape count first) place in
+      let told = string_characters w2.made count first v shaped in
+      let long : length text ≡ count = bytes_count count (components_of v) in
+      let same : m ≡ length text = known_length ∙ sym long in
+      let word = Numeral (pos m) in
+      let k3 = with_temporary k2 b word in
+      let nab : a ≡ b → ⊥ = λ e. omega (arith, lt, e) in
+      let ntb : t ≡ b → ⊥ = λ e. omega (arith, e) in
+      subst (λ y. Runs p (suc n) c d 0 w2 k2 cut2.0 pc' (write_text (fitted (unwrap_or u (length y)) y) w2) (λ u w' k'. Unit {0})) (sym told)
+      (subst (λ y. Runs p (suc n) c d 0 w2 k2 cut2.0 pc' (write_text (fitted (unwrap_or u y) text) w2) (λ u w' k'. Unit {0})) same
+      (runs_word p (suc n) c d 0 w2 k2 cut2.0 (suc cut2.0) pc' b word (write_text (fitted (unwrap_or u m) text) w2) (λ u w' k'. Unit {0}) (literal_step (machine_of p) (state p c w2 k2 cut2.0) b (pos m) cut2.2.0) refl (omega (arith, la, lt)) alive2
+      (λ alive3.
+      string_written p c active does d 0 w2 k3 (suc cut2.0) pc' a b t (even_from d) 1 block offset text (unwrap_or u m) (even_above d) alive3
+      (λ j byte e. array_bytes p.program w2 c.ghosts k2.count alive2.holds (text_at (code_in p)) (record { number = c.number; words = k3.scratch } ∷ c.waiting) s block offset count j byte first place e)
+      (bytes_small count (components_of v)) (omega (arith, size, long)) r2.1
+      (put_other k2.temporaries b word a nab ∙ kept2.temporaries a (omega (arith, lt)) ∙ r1.2.1.1) (put_same k2.temporaries b word ∙ ap (λ y. Some (Numeral (pos y))) same) (put_other k2.temporaries b word t ntb ∙ r2.0)
+      (subst (λ y. Stands (code_in p) c.routine (suc cut2.0) (i.Call (even_from d) y (a ∷ b ∷ t ∷ []) 1 ∷ []) pc') (behind 12) cut2.2.1)))))))
+
+  pub write_text_run : (e : Structure) (width : Width) (d : ℕ) (o : Opening) (w : World) (k : Work) (pc pc' : ℕ) → Alive p c w k → IsOpened p c w k d o → WriteFits (plain_scope p c) o.shapes (WriteText e width) → Stands (code_in p) c.routine pc (write_code (scope_in p c o) (WriteText e width) d) pc'
       → Runs p (suc n) c d 0 w k pc pc' (write p.program (costs_in p) call next (WriteText e width) (context_in c o) w) (λ u w' k'. Unit {0})
   write_text_run (Literal text) width d o w k pc pc' alive opened fits st = write_literal_run text width d o w k pc pc' alive opened fits st
-  write_text_run (Contents q type) width d o w k pc pc' alive opened fits st = absurd fits.0
+  write_text_run (Contents q type) width d o w k pc pc' alive opened fits st = write_contents_run q type width d o w k pc pc' alive opened fits st

@@ -1,11 +1,11 @@
 -- The code of expressions does what they mean.
-use Rattle.std.proofs.Common.{◌≡◌, ℕ, suc, ◌+◌, ◌*◌, ◌≤◌, ℤ, pos, ◌-ℤ◌, Bool, true, false, not, ◌&&◌, if◌then◌else◌, IsTrue, List, [], ◌∷◌, ◌++◌, Option, Some, None, nat_eq, slice_get, refl, sym, ap, ◌∙◌, subst, arith, eqb-true}
+use Rattle.std.proofs.Common.{◌≡◌, ℕ, suc, ◌≤◌, ℤ, pos, ◌-ℤ◌, Bool, true, false, not, ◌&&◌, if◌then◌else◌, IsTrue, List, [], ◌∷◌, ◌++◌, Option, Some, None, nat_eq, refl, sym, ap, ◌∙◌, subst, arith, eqb-true}
 use Rattle.ps_tree.specs.declared.tree.ArithmeticOperator.{ArithmeticOperator}
 use Rattle.ps_tree.specs.declared.tree.ArithmeticOperator.TheVariants.{Subtract}
 use Rattle.ps_tree.specs.declared.tree.BooleanOperator.{BooleanOperator}
 use Rattle.ps_tree.specs.declared.tree.BooleanOperator.TheVariants.{And, Or}
 use Rattle.ps_tree.specs.declared.tree.Relation.{Relation as TreeRelation}
-use Rattle.ps_tree.specs.Tree.{Variable, PlaceBase, no_selector, ArithmeticSteps, no_arithmetic_step, arithmetic_step_before, Operands, no_operand, operand_before, Expr, Number, Nil, Load, Plus, Minus, Not, Arithmetic, Logic, Compare, ComparePointers, CompareSets, CompareStrings, In, Apply, Eof, Eoln, Call, CallFormal}
+use Rattle.ps_tree.specs.Tree.{ArithmeticSteps, no_arithmetic_step, arithmetic_step_before, Operands, no_operand, operand_before, Expr, Number, Nil, Load, Plus, Minus, Not, Arithmetic, Logic, Compare, ComparePointers, CompareSets, CompareStrings, In, Apply, Eof, Eoln, Call, CallFormal}
 use Rattle.tac_code.specs.declared.code.Value.{Value as Word}
 use Rattle.tac_code.specs.declared.code.Value.TheVariants.{Number as Numeral, Address, Routine as RoutineWord}
 use Rattle.tac_code.specs.declared.code.Operator.TheVariants as operator
@@ -14,33 +14,30 @@ use Rattle.tac_code.specs.declared.code.Relation.{Relation}
 use Rattle.tac_code.specs.declared.code.Relation.TheVariants.{Equal, NotEqual, Less, LessEqual, Greater, GreaterEqual}
 use Rattle.tac_code.specs.declared.code.Instruction.TheVariants as i
 use Rattle.tac_code.specs.Numbers.{is_integer, truth as truth_word, bits}
-use Rattle.tac_code.specs.Meaning.{Temporaries, pointers_related, pointer_of, same_pointer, related, operand_value, gives_computed, text_at}
-use Rattle.tac_code.specs.Memory.{load, known}
+use Rattle.tac_code.specs.Meaning.{Temporaries, pointers_related, pointer_of, same_pointer, related, operand_value, gives_computed}
 use Rattle.ps_meaning.specs.Values.{Value, OrdinalValue, NilValue, number_of}
 use Rattle.ps_meaning.specs.Operators.{Result, Fault, integer, compute, truth, is_true, holds, combine_truths, is_between}
-use Rattle.ps_meaning.specs.Worlds.{World, Answer, Gives, Ends, and_then, settled, contents_in}
-use Rattle.ps_meaning.specs.Expressions.{Caller, denoted, value, computed, combined}
-use Rattle.tac_steps.specs.Runs.{Stands, Comes}
+use Rattle.ps_meaning.specs.Worlds.{World, Answer, Gives, Ends, and_then, settled}
+use Rattle.ps_meaning.specs.Expressions.{Caller, value, computed, combined}
+use Rattle.tac_steps.specs.Runs.{Stands}
 use Rattle.tac_steps.proofs.Runs.{split}
 use Rattle.tac_steps.proofs.Temporaries.{put_same, put_other}
 use Rattle.tac_steps.proofs.Pieces.{same_some, some_none}
-use Rattle.tac_steps.proofs.Instructions.{literal_step, copy_step, arithmetic_step, bits_step, compare_step, load_step}
-use Rattle.ps_layout.specs.Shapes.{Shape, NumberShape, PointerShape, SetShape, ByteShape, ArrayShape, RecordShape, Part, Whole, word_count}
+use Rattle.tac_steps.proofs.Instructions.{literal_step, copy_step, arithmetic_step, bits_step, compare_step}
+use Rattle.ps_layout.specs.Shapes.{Shape, NumberShape, PointerShape, SetShape, ByteShape, ArrayShape, RecordShape, Whole, word_count}
 use Rattle.ps_layout.specs.Words.{value_words}
 use Rattle.ps_layout.specs.Paths.{Sort, NumberSort, HasSort, HasShape}
 use Rattle.ps_code.specs.Scopes.{even_from, kept, moved, least, greatest, operand_of, unless_known}
 use Rattle.ps_code.specs.Calling.{expr_calls, steps_call, operands_call}
-use Rattle.ps_code.specs.Values.{negated, literal_of, operator_of, bit_operator_of, relation_of, opposite, is_relation, is_truth, relation_in, left_in, right_in, relation_code, finish, truth_finish, minus_code, name_code, name_site, front_code, steps_code, operands_code}
+use Rattle.ps_code.specs.Values.{negated, literal_of, operator_of, bit_operator_of, relation_of, opposite, is_relation, is_truth, relation_in, left_in, right_in, relation_code, finish, truth_finish, minus_code, front_code, steps_code, operands_code}
 use Rattle.ps_code.specs.Statements.{expr_code}
-use Rattle.ps_code.specs.Fits.{SortOf, ExprFits, StepsFit, OperandsFit, PlaceFits}
+use Rattle.ps_code.specs.Fits.{SortOf, ExprFits, StepsFit, OperandsFit}
 use Rattle.ps_code.proofs.Depths.{even_above, kept_above}
 use Rattle.ps_relation.specs.Here.{Setting, machine_of, code_in, Work, Activated, IsActive, Alive, state, word_of, WordIn}
 use Rattle.ps_relation.specs.Outcomes.{Reached, Runs}
 use Rattle.ps_relation.proofs.Numbers.{computes, related_same, opposite_compares, truths, truth_is, truth_integer, unlike_zero, between_integers}
-use Rattle.ps_relation.proofs.Spots.{spot_value, spot_read}
-use Rattle.ps_runs.specs.Openings.{Opening, scope_in, context_in, IsOpened}
+use Rattle.ps_runs.specs.Openings.{plain_scope, Opening, scope_in, context_in, IsOpened}
 use Rattle.ps_runs.proofs.Runs.{with_temporary, reached_from, runs_bind, runs_map, runs_word, here, gives_word, keeps_refl, keeps_less, keeps_put}
-use Rattle.ps_runs.proofs.Places.{base_is, name_run}
 use Rattle.ps_runs.proofs.Kept.{opened_kept}
 use Rattle.ps_runs.proofs.Leaves.{integer_well, compute_well, settles}
 
@@ -128,12 +125,12 @@ bits_of_truths Or false false = refl
 module _ (p : Setting) (n : ℕ) (call : Caller) (c : Activated) (active : IsActive p c) where
   abbrev pub FrontRuns : Expr → Type 0
   FrontRuns e =
-      (d x : ℕ) (o : Opening) (w : World) (k : Work) (pc pc' : ℕ) (sort : Sort) → Alive p c w k → IsOpened p c w k d o → ExprFits (scope_in p c o) o.shapes e sort → Stands (code_in p) c.routine pc (front_code (scope_in p c o) e d x) pc'
+      (d x : ℕ) (o : Opening) (w : World) (k : Work) (pc pc' : ℕ) (sort : Sort) → Alive p c w k → IsOpened p c w k d o → ExprFits (plain_scope p c) o.shapes e sort → Stands (code_in p) c.routine pc (front_code (scope_in p c o) e d x) pc'
       → Runs p (suc n) c d x w k pc pc' (value call e (context_in c o) w) (λ v w' k'. FrontIn e d sort v w'.made k'.temporaries)
 
   abbrev pub ExprRuns : Expr → Type 0
   ExprRuns e =
-      (d x : ℕ) (o : Opening) (w : World) (k : Work) (pc pc' : ℕ) (sort : Sort) → Alive p c w k → IsOpened p c w k d o → ExprFits (scope_in p c o) o.shapes e sort → Stands (code_in p) c.routine pc (expr_code (scope_in p c o) e d x) pc'
+      (d x : ℕ) (o : Opening) (w : World) (k : Work) (pc pc' : ℕ) (sort : Sort) → Alive p c w k → IsOpened p c w k d o → ExprFits (plain_scope p c) o.shapes e sort → Stands (code_in p) c.routine pc (expr_code (scope_in p c o) e d x) pc'
       → Runs p (suc n) c d x w k pc pc' (value call e (context_in c o) w) (λ v w' k'. WordIn k'.temporaries w'.made d sort v)
 
   -- from a relation to its truth as a word
@@ -190,36 +187,14 @@ module _ (p : Setting) (n : ℕ) (call : Caller) (c : Activated) (active : IsAct
       gives_word p n c d x w k pc pc' d (Numeral (pos 0)) (λ w' k'. FrontIn Nil d sort NilValue w'.made k'.temporaries) (literal_step (machine_of p) (state p c w k pc) d (pos 0) st.0) st.1 (omega arith) alive
       (plain_front Nil d sort NilValue w.made (with_temporary k d (Numeral (pos 0))).temporaries refl refl refl refl (put_same k.temporaries d (Numeral (pos 0)) ∙ ap (λ s. Some (word_of s NilValue)) (sym fits.1)) (subst (HasSort w.made NilValue) (sym fits.1) tt) (λ q. false_true q))
 
-  -- a variable without selectors
-  load_word : (shape : Shape) (sort : Sort) (v : Value) (made : List ℕ) → SortOf (Whole shape) sort → HasShape made v shape → (1 ≡ word_count shape) × (value_words shape v ≡ Some (word_of sort v) ∷ []) × HasSort made v sort
+  -- what a variable of one word holds
+  pub load_word : (shape : Shape) (sort : Sort) (v : Value) (made : List ℕ) → SortOf (Whole shape) sort → HasShape made v shape → (1 ≡ word_count shape) × (value_words shape v ≡ Some (word_of sort v) ∷ []) × HasSort made v sort
   load_word (NumberShape first) sort v made e h = (refl, ap (λ s. Some (word_of s v) ∷ []) (sym e), subst (HasSort made v) (sym e) h)
   load_word (PointerShape t) sort v made e h = (refl, ap (λ s. Some (word_of s v) ∷ []) (sym e), subst (HasSort made v) (sym e) h)
   load_word SetShape sort v made e h = absurd e
   load_word (ByteShape count first) sort v made e h = absurd e
   load_word (ArrayShape count shape) sort v made e h = absurd e
   load_word (RecordShape shapes) sort v made e h = absurd e
-
-  pub load_front : (name : PlaceBase) (d x : ℕ) (o : Opening) (w : World) (k : Work) (pc pc' : ℕ) (sort : Sort) (part : Part) → SortOf part sort → Alive p c w k → IsOpened p c w k d o → PlaceFits (scope_in p c o) o.shapes (Variable name no_selector) part → Stands (code_in p) c.routine pc (front_code (scope_in p c o) (Load (Variable name no_selector)) d x) pc'
-      → Runs p (suc n) c d x w k pc pc' (value call (Load (Variable name no_selector)) (context_in c o) w) (λ v w' k'. FrontIn (Load (Variable name no_selector)) d sort v w'.made k'.temporaries)
-  load_front name d x o w k pc pc' sort part sorted alive opened fits st =
-      let shape = fits.0 in
-      let code = scope_in p c o in
-      let spot = denoted name (context_in c o) in
-      let v = contents_in w spot in
-      let cut = split (code_in p) c.routine pc (name_code code name d ++ []) _ pc' st in
-      let cut0 = split (code_in p) c.routine pc (name_code code name d) [] cut.0 cut.1 in
-      let r = name_run p n c d x o w k d pc cut0.0 name shape alive (omega arith) fits.1 cut0.1 in
-      let at = r.result.0 in
-      let whole : SortOf (Whole shape) sort = subst (λ q. SortOf q sort) (sym fits.2) sorted in
-      let shaped = spot_value p.program w c.ghosts r.work.count r.alive.holds spot at.block (at.offset + (name_site code name d).offset) shape at.place in
-      let words = load_word shape sort v w.made whole shaped in
-      let z : at.offset + (name_site code name d).offset ≡ at.offset + (name_site code name d).offset + 4 * 0 = omega arith in
-      let m = (state p c w r.work cut.0).memory in
-      let loaded : load (text_at (code_in p)) m at.block (at.offset + (name_site code name d).offset) ≡ Some (word_of sort v) = ap (load (text_at (code_in p)) m at.block) z ∙ spot_read p.program w c.ghosts r.work.count r.alive.holds (text_at (code_in p)) (record { number = c.number; words = r.work.scratch } ∷ c.waiting) spot at.block (at.offset + (name_site code name d).offset) shape 0 at.place (omega (arith, words.0)) ∙ ap (λ l. known (slice_get l 0)) words.1 in
-      let address = base_is c cut.0 r.work.temporaries (name_site code name d).base ∙ at.base in
-      let one = gives_word p n c d x w r.work cut.0 pc' d (word_of sort v) (λ w' k'. FrontIn (Load (Variable name no_selector)) d sort v w'.made k'.temporaries) (load_step (machine_of p) (state p c w r.work cut.0) d (name_site code name d).base (name_site code name d).offset at.block at.offset (word_of sort v) cut.2.0 address loaded) cut.2.1 (omega arith) r.alive
-      (plain_front (Load (Variable name no_selector)) d sort v w.made (with_temporary r.work d (word_of sort v)).temporaries refl refl refl refl (put_same r.work.temporaries d (word_of sort v)) words.2 (λ q. false_true q)) in
-      reached_from p n c d x d x w w k r.work (state p c w k pc) (state p c w r.work cut.0) pc' (λ w' k'. FrontIn (Load (Variable name no_selector)) d sort v w'.made k'.temporaries) (λ w' k'. FrontIn (Load (Variable name no_selector)) d sort v w'.made k'.temporaries) w (omega arith) (omega arith) (subst (λ q. Comes (machine_of p) (state p c w k pc) (state p c w r.work q)) cut0.2 r.comes) r.keeps one (λ k' a' y. y)
 
   -- ---- numbers that are known
 
@@ -256,7 +231,7 @@ module _ (p : Setting) (n : ℕ) (call : Caller) (c : Activated) (active : IsAct
   negated_cases (Call r u a l) z line o w q = some_none q
   negated_cases (CallFormal u i' a l) z line o w q = some_none q
 
-  pub known_is : (e : Expr) (z : ℤ) (o : Opening) (w : World) → literal_of e ≡ Some z → ExprFits (scope_in p c o) o.shapes e NumberSort → KnownIs e o w z
+  pub known_is : (e : Expr) (z : ℤ) (o : Opening) (w : World) → literal_of e ≡ Some z → ExprFits (plain_scope p c) o.shapes e NumberSort → KnownIs e o w z
   known_is (Number m) z o w q fits = record { v = OrdinalValue m; gives_it = refl; is = same_some q; fits = fits.1 }
   known_is Nil z o w q fits = record { v = NilValue; gives_it = refl; is = same_some q; fits = refl }
   known_is (Minus e line) z o w q fits = negated_cases e z line o w q
@@ -280,7 +255,7 @@ module _ (p : Setting) (n : ℕ) (call : Caller) (c : Activated) (active : IsAct
   abbrev pub OperandIn : Option ℤ → (t : ℕ) → Value → World → Work → Type 0
   OperandIn literal t v w k = (operand_value k.temporaries (operand_of literal t) ≡ Some (Numeral (number_of v))) × IsTrue (is_integer (number_of v))
 
-  pub operand_runs : (e : Expr) → FrontRuns e → (t x : ℕ) (o : Opening) (w : World) (k : Work) (pc pc' : ℕ) → Alive p c w k → IsOpened p c w k t o → ExprFits (scope_in p c o) o.shapes e NumberSort → Stands (code_in p) c.routine pc (unless_known (literal_of e) (expr_code (scope_in p c o) e t x)) pc' → Runs p (suc n) c t x w k pc pc' (value call e (context_in c o) w) (λ v w' k'. OperandIn (literal_of e) t v w' k')
+  pub operand_runs : (e : Expr) → FrontRuns e → (t x : ℕ) (o : Opening) (w : World) (k : Work) (pc pc' : ℕ) → Alive p c w k → IsOpened p c w k t o → ExprFits (plain_scope p c) o.shapes e NumberSort → Stands (code_in p) c.routine pc (unless_known (literal_of e) (expr_code (scope_in p c o) e t x)) pc' → Runs p (suc n) c t x w k pc pc' (value call e (context_in c o) w) (λ v w' k'. OperandIn (literal_of e) t v w' k')
   operand_runs e front t x o w k pc pc' alive opened fits st = go (literal_of e) refl st (λ h. runs_map p (suc n) c t x t x w k pc pc' (value call e (context_in c o) w) (λ v w' k'. WordIn k'.temporaries w'.made t NumberSort v) (λ v w' k'. OperandIn None t v w' k') (omega arith) (omega arith) (expr_runs_from e front t x o w k pc pc' NumberSort alive opened fits h) (λ v w' k' a' r. (r.word, r.fits)))
     where
       go : (literal : Option ℤ) → literal_of e ≡ literal → Stands (code_in p) c.routine pc (unless_known literal (expr_code (scope_in p c o) e t x)) pc' → (Stands (code_in p) c.routine pc (expr_code (scope_in p c o) e t x) pc' → Runs p (suc n) c t x w k pc pc' (value call e (context_in c o) w) (λ v w' k'. OperandIn None t v w' k')) → Runs p (suc n) c t x w k pc pc' (value call e (context_in c o) w) (λ v w' k'. OperandIn literal t v w' k')
@@ -301,7 +276,7 @@ module _ (p : Setting) (n : ℕ) (call : Caller) (c : Activated) (active : IsAct
 
   abbrev pub StepsRun : ArithmeticSteps → Type 0
   StepsRun steps =
-      (a x : ℕ) (o : Opening) (w : World) (k : Work) (pc pc' : ℕ) (z : ℤ) → Alive p c w k → IsOpened p c w k a o → StepsFit (scope_in p c o) o.shapes steps → k.temporaries a ≡ Some (Numeral z) → IsTrue (is_integer z) → Stands (code_in p) c.routine pc (steps_code (scope_in p c o) steps a x) pc'
+      (a x : ℕ) (o : Opening) (w : World) (k : Work) (pc pc' : ℕ) (z : ℤ) → Alive p c w k → IsOpened p c w k a o → StepsFit (plain_scope p c) o.shapes steps → k.temporaries a ≡ Some (Numeral z) → IsTrue (is_integer z) → Stands (code_in p) c.routine pc (steps_code (scope_in p c o) steps a x) pc'
       → Runs p (suc n) c a x w k pc pc' (computed call steps z (context_in c o) w) (λ v w' k'. WordIn k'.temporaries w'.made a NumberSort v)
 
   pub no_steps : StepsRun no_arithmetic_step
@@ -433,7 +408,7 @@ module _ (p : Setting) (n : ℕ) (call : Caller) (c : Activated) (active : IsAct
   TruthIn t b k = k.temporaries t ≡ Some (Numeral (truth b))
 
   -- the truth of an expression in t
-  truth_expr : (e : Expr) → FrontRuns e → (t x : ℕ) (o : Opening) (w : World) (k : Work) (pc pc' : ℕ) → Alive p c w k → IsOpened p c w k t o → ExprFits (scope_in p c o) o.shapes e NumberSort → Stands (code_in p) c.routine pc (front_code (scope_in p c o) e t x ++ truth_finish e t) pc' → Runs p (suc n) c t x w k pc pc' (value call e (context_in c o) w) (λ v w' k'. TruthIn t (is_true (number_of v)) k')
+  truth_expr : (e : Expr) → FrontRuns e → (t x : ℕ) (o : Opening) (w : World) (k : Work) (pc pc' : ℕ) → Alive p c w k → IsOpened p c w k t o → ExprFits (plain_scope p c) o.shapes e NumberSort → Stands (code_in p) c.routine pc (front_code (scope_in p c o) e t x ++ truth_finish e t) pc' → Runs p (suc n) c t x w k pc pc' (value call e (context_in c o) w) (λ v w' k'. TruthIn t (is_true (number_of v)) k')
   truth_expr e front t x o w k pc pc' alive opened fits st =
       let cut = split (code_in p) c.routine pc (front_code (scope_in p c o) e t x) (truth_finish e t) pc' st in
       then_truth (value call e (context_in c o) w) cut.0 (front t x o w k pc cut.0 NumberSort alive opened fits cut.1) cut.2
@@ -444,7 +419,7 @@ module _ (p : Setting) (n : ℕ) (call : Caller) (c : Activated) (active : IsAct
 
   abbrev pub OperandsRun : BooleanOperator → Operands → Type 0
   OperandsRun op rest =
-      (a x : ℕ) (o : Opening) (w : World) (k : Work) (pc pc' : ℕ) (b : Bool) → Alive p c w k → IsOpened p c w k a o → OperandsFit (scope_in p c o) o.shapes rest → TruthIn a b k → Stands (code_in p) c.routine pc (operands_code (scope_in p c o) op rest a x) pc'
+      (a x : ℕ) (o : Opening) (w : World) (k : Work) (pc pc' : ℕ) (b : Bool) → Alive p c w k → IsOpened p c w k a o → OperandsFit (plain_scope p c) o.shapes rest → TruthIn a b k → Stands (code_in p) c.routine pc (operands_code (scope_in p c o) op rest a x) pc'
       → Runs p (suc n) c a x w k pc pc' (combined call op rest b (context_in c o) w) (λ v w' k'. WordIn k'.temporaries w'.made a NumberSort v × ((q : Bool) × (number_of v ≡ truth q)))
 
   pub no_operands : (op : BooleanOperator) → OperandsRun op no_operand

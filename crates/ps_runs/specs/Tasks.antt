@@ -23,7 +23,7 @@ use Rattle.ps_code.specs.Fits.{StatementFits, StatementsFit}
 use Rattle.ps_relation.specs.Here.{Setting, code_in, costs_in, Work, Activated, IsActive, Alive}
 use Rattle.ps_relation.specs.Outcomes.{Runs}
 use Rattle.ps_relation.specs.RunTime.{WritesDo}
-use Rattle.ps_runs.specs.Openings.{Opening, scope_in, context_in, IsOpened}
+use Rattle.ps_runs.specs.Openings.{plain_scope, Opening, scope_in, context_in, IsOpened}
 
 abbrev pub Nothing : Done → World → Work → Type 0
 Nothing u w k = Unit {0}
@@ -61,9 +61,9 @@ module _ (p : Setting) where
   TaskStands c o task d k pc pc' = ⊥
 
   abbrev pub TaskFits : Activated → Opening → Task → Type 0
-  TaskFits c o (Block body) = StatementsFit (scope_in p c o) o.shapes body
-  TaskFits c o (Again s) = StatementFits (scope_in p c o) o.shapes s
-  TaskFits c o (Further variable direction last s) = ((first : ℤ) × (kind_at (scope_in p c o) 0 variable ≡ Some (Own (NumberShape first)))) × StatementFits (scope_in p c o) o.shapes s
+  TaskFits c o (Block body) = StatementsFit (plain_scope p c) o.shapes body
+  TaskFits c o (Again s) = StatementFits (plain_scope p c) o.shapes s
+  TaskFits c o (Further variable direction last s) = ((first : ℤ) × (kind_at (plain_scope p c) 0 variable ≡ Some (Own (NumberShape first)))) × StatementFits (plain_scope p c) o.shapes s
 
   -- what is known of the tasks with one fuel less, in every activation
   abbrev pub NextRuns : (n : ℕ) → Next → Type 0

@@ -52,7 +52,7 @@ stands_of c words (p ∷ ps) at h =
 module _ (c : Context) where
   -- ---- lengths
 
-  routine_step : (r : ℕ) (xs : List TacRoutine) (j : ℕ) (x : TacRoutine) → slice_get xs j ≡ Some x → length (routines_pieces c r (take j xs)) + length (routine_pieces c (r + j) x) ≤ length (routines_pieces c r xs)
+  pub routine_step : (r : ℕ) (xs : List TacRoutine) (j : ℕ) (x : TacRoutine) → slice_get xs j ≡ Some x → length (routines_pieces c r (take j xs)) + length (routine_pieces c (r + j) x) ≤ length (routines_pieces c r xs)
   routine_step r [] j x e = absurd (cc e)
   routine_step r (y ∷ xs) zero x e =
       let is : y ≡ x = cc e in

@@ -6,3 +6,7 @@ pub mod Alike
 pub mod Rows
 pub mod Drawn
 pub mod Growing
+pub mod Good
+pub mod Formed
+pub mod Charged
+pub mod Texts

@@ -1,14 +1,18 @@
 -- A program's words in their order: the start, then each routine's entry and instructions, then the constants. Its places are sums of
 -- counts, and the rows of its tables are read off the pieces.
-use Rattle.std.specs.Prelude.{◌≡◌, ℕ, suc, ◌+◌, ◌*◌, ◌%◌, ◌<◌, ◌≤◌, false, List, [], ◌∷◌, ◌++◌, length, take, slice_get, Some, ℤ}
+use Rattle.std.specs.Prelude.{◌≡◌, ℕ, suc, ◌+◌, ◌*◌, ◌%◌, ◌<◌, ◌≤◌, false, List, [], ◌∷◌, ◌++◌, length, map, take, slice_get, Option, Some, ℤ}
 use Rattle.tac_code.specs.declared.code.Instruction.{Instruction}
+use Rattle.tac_code.specs.declared.code.Instruction.TheVariants.{Text}
+use Rattle.tac_code.specs.declared.code.Value.{Value}
 use Rattle.tac_code.specs.declared.code.TacRoutine.{TacRoutine}
 use Rattle.tac_code.specs.declared.code.Value.TheVariants.{Number}
 use Rattle.tac_code.specs.Numbers.{word_of}
-use Rattle.tac_code.specs.Memory.{Words, constant_at}
+use Rattle.tac_code.specs.Memory.{Words, constant_words, constant_at}
 use Rattle.tac_code.specs.Meaning.{Code, routines, text_at}
 use Rattle.risc_alloc.specs.declared.homes.Home.{Home}
 use Rattle.risc_view.specs.View.{IsAt}
+use Rattle.risc_image.specs.declared.rows.FrameRow.{FrameRow}
+use Rattle.risc_image.specs.declared.rows.ObjectRow.{ObjectRow}
 use Rattle.risc_image.specs.declared.rows.TrapRow.{TrapRow}
 use Rattle.risc_image.specs.declared.rows.CallRow.{CallRow}
 use Rattle.risc_image.specs.Image.{Image}
@@ -80,6 +84,59 @@ call_row_of at _ = []
 abbrev pub call_rows_of : ℕ → List Piece → List CallRow
 call_rows_of at [] = []
 call_rows_of at (p ∷ ps) = call_row_of at p ++ call_rows_of (at + 1) ps
+
+-- ---- the words of the constants, behind the pieces
+
+abbrev pub value_word : Option Value → ℕ
+value_word (Some (Number x)) = word_of x
+value_word _ = 0
+
+abbrev pub text_words : List ℕ → List ℕ
+text_words bytes = map value_word (constant_words bytes)
+
+abbrev pub instruction_texts : Instruction → List ℕ
+instruction_texts (Text t bytes) = text_words bytes
+instruction_texts _ = []
+
+abbrev pub body_texts : List Instruction → List ℕ
+body_texts [] = []
+body_texts (i ∷ is) = instruction_texts i ++ body_texts is
+
+abbrev pub routines_texts : List TacRoutine → List ℕ
+routines_texts [] = []
+routines_texts (x ∷ xs) = body_texts x.body ++ routines_texts xs
+
+-- the first word of an instruction's constant among all
+abbrev pub text_place : Code → ℕ → TacRoutine → ℕ → ℕ
+text_place code r routine k =
+    length (routines_texts (take r (routines code))) + length (body_texts (take k routine.body))
+
+-- the words of an image's code are so many and then those of the constants, and the plan tells where these are
+pub record IsTexted (code : Code) (image : Image) (constant : ℕ → ℕ → ℕ) (first : List ℕ) : Type 0 where
+  pub words : image.code ≡ first ++ routines_texts (routines code)
+  pub places : (r k : ℕ) (routine : TacRoutine) → slice_get (routines code) r ≡ Some routine → k < length routine.body → constant r k ≡ length first + text_place code r routine k
+
+-- a row for each routine of the program, from a number on, and for each type of objects
+module _ (c : Context) where
+  abbrev pub frame_rows_of : ℕ → List TacRoutine → List FrameRow
+  frame_rows_of r [] = []
+  frame_rows_of r (x ∷ xs) = record { entry = 4 * entry_place c r; bytes = c.costs r } ∷ frame_rows_of (suc r) xs
+
+  abbrev pub object_rows_of : ℕ → List ℕ → List ObjectRow
+  object_rows_of t [] = []
+  object_rows_of t (x ∷ xs) = record { pointer_type = t; bytes = c.sizes t } ∷ object_rows_of (suc t) xs
+
+  -- the tables of an image are these
+  pub record IsTabled (image : Image) : Type 0 where
+    pub global : image.global ≡ 0
+    pub most : length image.code ≤ 1048576
+    pub pieces : length (program_pieces c) ≤ length image.code
+    pub frames : image.frames ≡ frame_rows_of 0 c.code.program
+    pub objects : image.objects ≡ object_rows_of 0 c.code.objects
+    pub traps : image.traps ≡ trap_rows_of 0 (program_pieces c)
+    pub calls : image.calls ≡ Some (call_rows_of 0 (program_pieces c))
+    pub costs : (r : ℕ) → c.costs r % 4 ≡ 0
+    pub sizes : (t : ℕ) → c.sizes t % 4 ≡ 0
 
 -- ---- an image that is drawn so
 

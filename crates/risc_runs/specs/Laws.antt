@@ -15,7 +15,7 @@ use Rattle.risc_runs.specs.Outcome.{image_outcome}
 use Rattle.risc_related.specs.Context.{Context}
 use Rattle.risc_runs.specs.Plan.{frame_cost, object_cost, Plan}
 use Rattle.risc_runs.specs.Emits.{Emits}
-use Rattle.risc_runs.specs.Drawn.{IsDrawn}
+use Rattle.risc_runs.specs.Drawn.{IsTabled, IsDrawn}
 
 -- The loaded image does what the code means, under each budget and on each input of bytes on which the code is never stuck: the same
 -- transcripts and endings, errors with their numbers, lines and open calls, stops for stack and heap, and runs without end.
@@ -35,3 +35,7 @@ WithoutCalls =
 abbrev pub DrawnEmits : Type 0
 DrawnEmits =
     (code : Code) (homes : List Home) (image : Image) (plan : Plan) (c : Context) → IsDrawn code homes image plan c → Emits code homes image
+
+-- and it is well formed, of sound code
+abbrev pub TabledIsFormed : Type 0
+TabledIsFormed = (c : Context) → IsSound c.code → (image : Image) → IsTabled c image → IsWellFormed image

@@ -2,7 +2,7 @@
 // contract. specs/Emits says what is asked of the image, and specs/Outcome what a loaded image shows.
 #![tactic(auto)]
 
-ghost use Rattle.risc_runs.specs.Laws.{EmissionKeeps, DrawnEmits, WithoutCalls};
+ghost use Rattle.risc_runs.specs.Laws.{EmissionKeeps, DrawnEmits, TabledIsFormed, WithoutCalls};
 
 /// The loaded image does what the code means.
 pub fn emission_keeps()
@@ -12,6 +12,11 @@ pub fn emission_keeps()
 /// An image that is drawn of pieces is the code's.
 pub fn drawn_emits()
     ensures { DrawnEmits }
+{}
+
+/// An image with such tables is well formed.
+pub fn tabled_is_formed()
+    ensures { TabledIsFormed }
 {}
 
 /// An image without a table of calls tells no open calls.

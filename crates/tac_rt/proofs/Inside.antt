@@ -1,5 +1,6 @@
 -- A run-time routine, from its call to its return.
-use Rattle.std.proofs.Common.{◌≡◌, ℕ, suc, ◌+◌, ◌-◌, ◌<◌, ℤ, pos, negsuc, Bool, true, false, not, ◌&&◌, nat_eq, nat_lt, if◌then◌else◌, List, [], ◌∷◌, ◌++◌, length, slice_get, Some, refl, sym, ap, ◌∙◌, subst, arith}
+use Rattle.std.proofs.Common.{◌≡◌, ℕ, suc, ◌+◌, ◌-◌, ◌*◌, ◌<◌, ◌≤◌, ◌-ℤ◌, ℤ, pos, negsuc, Bool, true, false, not, ◌&&◌, nat_eq, nat_lt, if◌then◌else◌, List, [], ◌∷◌, ◌++◌, length, slice_get, Some, refl, sym, ap, ◌∙◌, subst, arith}
+use Rattle.std.proofs.lemmas.Int.{ints}
 use Rattle.std.proofs.lemmas.Bool.{ltb-true, lt-ltb}
 use Rattle.behavior.specs.Transcripts.{mark}
 use Rattle.behavior.specs.Endings.{Stack, Stuck}
@@ -11,17 +12,18 @@ use Rattle.tac_code.specs.declared.code.Base.TheVariants as base
 use Rattle.tac_code.specs.declared.code.Operator.{Operator}
 use Rattle.tac_code.specs.declared.code.BitOperator.{BitOperator}
 use Rattle.tac_code.specs.declared.code.Relation.{Relation}
-use Rattle.tac_code.specs.declared.code.Instruction.TheVariants.{Literal, Copy, Arithmetic, Bits, Compare, Offset, Load, Store, LoadByte, StoreByte, Jump, JumpBack, Branch, BranchBack, Call, Return, Take, Put}
+use Rattle.tac_code.specs.declared.code.Instruction.TheVariants.{Literal, Copy, Arithmetic, Bits, Compare, Offset, Index, Load, Store, LoadByte, StoreByte, Jump, JumpBack, Branch, BranchBack, Call, Return, Take, Put}
 use Rattle.tac_code.specs.declared.code.TacRoutine.{TacRoutine}
-use Rattle.tac_code.specs.Numbers.{truth, computed, Gives, bits}
+use Rattle.tac_code.specs.Numbers.{truth, computed, Gives, bits, is_in_range, natural, steps_above}
 use Rattle.tac_code.specs.Memory.{Words, Memory, load, load_byte, store, store_byte, with_word, with_byte_at}
-use Rattle.tac_code.specs.Meaning.{Temporaries, put, Tape, State, Step, Goes, Over, routines, body_at, fetch, text_at, onward, giving, with_some, values_of, operand_value, related, gives_computed, told, end_taken, takes, unwritten, open_bytes, entered, enter}
+use Rattle.tac_code.specs.Meaning.{Temporaries, put, Tape, State, Step, Goes, Over, routines, body_at, fetch, text_at, onward, giving, with_some, values_of, operand_value, related, gives, gives_address, gives_component, gives_computed, told, end_taken, takes, unwritten, open_bytes, entered, enter}
 use Rattle.tac_steps.specs.Runs.{Machine, step_of, Leads, Comes}
 use Rattle.tac_steps.specs.Routines.{Does}
 use Rattle.tac_steps.proofs.Runs.{a_step, leads_comes}
-use Rattle.tac_steps.proofs.Instructions.{At, literal_step, copy_step, arithmetic_step, bits_step, compare_step, offset_step, load_step, load_byte_step, store_step, store_byte_step, jump_step, jump_back_step, branch_step, branch_back_step, take_step, put_step, call_step, return_step}
+use Rattle.tac_steps.proofs.Instructions.{At, literal_step, copy_step, arithmetic_step, bits_step, compare_step, offset_step, index_step, load_step, load_byte_step, store_step, store_byte_step, jump_step, jump_back_step, branch_step, branch_back_step, take_step, put_step, call_step, return_step}
 use Rattle.tac_rt.specs.Bodies.{run_time_routines}
 use Rattle.tac_rt.specs.Calls.{HasRoutines}
+use Rattle.tac_rt.proofs.Arithmetic.{lt-ltb-no}
 use Rattle.tac_rt.proofs.Blocks.{IsFresh, pushed, load_pushed, load_byte_pushed, stored}
 
 -- behind others, by the number among themselves
@@ -35,6 +37,13 @@ not_below n k = go (nat_lt (n + k) n) refl
     go : (t : Bool) → nat_lt (n + k) n ≡ t → t ≡ false
     go true e = let l = ltb-true (n + k) n e in absurd (omega (arith, l))
     go false e = refl
+
+-- a set's words are numbered from 0 to 7
+in_set : (q : ℕ) → q < 8 → is_in_range (pos 0) (pos 7) (pos q) ≡ true
+in_set q l = ap (λ b. not b && not (nat_lt 7 q)) (lt-ltb-no q 0 (omega arith)) ∙ ap (λ b. not false && not b) (lt-ltb-no 7 q (omega arith))
+
+above_zero : (q : ℕ) → steps_above (pos 0) (pos q) ≡ q
+above_zero q = let e : pos q -ℤ pos 0 ≡ pos q = omega (arith, ints) in ap natural e
 
 -- the caller behind its call, with a result in a temporary
 abbrev pub back : State → (to : ℕ) → Value → Memory → Tape → State
@@ -133,6 +142,15 @@ module _ (m : Machine) (s : State) (k : ℕ) (routine : TacRoutine) (has : HasRo
 
       pub stores_byte : (a n b : ℕ) (block : Block) (offset byte : ℕ) (memory' : Memory) → slice_get routine.body pc ≡ Some (StoreByte (base.Temporary a) n b) → temporaries a ≡ Some (Address block offset) → temporaries b ≡ Some (Number (pos byte)) → byte < 256 → IsFresh s.count memory → store_byte memory block (offset + n) byte ≡ Some memory' → Comes m now (here_at (suc pc) temporaries memory' tape)
       stores_byte a n b block offset byte memory' i e g l f w = a_step now _ (store_byte_step m now (base.Temporary a) n b block offset byte (pushed s.count memory') (at pc ∙ i) e g (lt-ltb byte 256 l) (stored s.count memory (λ words. with_byte_at words (offset + n) byte) memory' f block w).same)
+
+      -- the address of one of a set's eight words
+      pub indexes : (t a i : ℕ) (block : Block) (offset q : ℕ) → slice_get routine.body pc ≡ Some (Index t (base.Temporary a) i (pos 0) (pos 7) 4 1 1) → temporaries a ≡ Some (Address block offset) → temporaries i ≡ Some (Number (pos q)) → q < 8 → offset + 32 < 2147483648 → Comes m now (here_at (suc pc) (put temporaries t (Address block (offset + q * 4))) memory tape)
+      indexes t a i block offset q f e g l h =
+          a_step now _
+          (index_step m now t (base.Temporary a) i (pos 0) (pos 7) 4 1 1 block offset (pos q) (at pc ∙ f) e g
+          ∙ ap (λ b. gives_component m.code b t block (offset + steps_above (pos 0) (pos q) * 4) 1 1 now) (in_set q l)
+          ∙ ap (λ k. gives_address t block (offset + k * 4) now) (above_zero q)
+          ∙ ap (λ b. if b then gives t (Address block (offset + q * 4)) now else Over Stuck) (lt-ltb (offset + q * 4) 2147483648 (omega arith)))
 
       pub jumps : (n : ℕ) → slice_get routine.body pc ≡ Some (Jump n) → Comes m now (here_at (suc pc + n) temporaries memory tape)
       jumps n i = a_step now _ (jump_step m now n (at pc ∙ i))

@@ -9,6 +9,9 @@ pub mod Comparisons
 pub mod Packs
 pub mod Unpacks
 pub mod Joins
+pub mod Inclusions
+pub mod Members
+pub mod Lines
 pub mod Soundness
 pub mod Looks
 pub mod Copies

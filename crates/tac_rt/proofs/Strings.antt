@@ -28,7 +28,7 @@ abbrev pub told_all : List ℕ → Tape → Tape
 told_all [] tape = tape
 told_all (b ∷ bs) tape = told_all bs (told b tape)
 
-append_after : (xs ys zs : List ℕ) → (xs ++ ys) ++ zs ≡ xs ++ (ys ++ zs)
+pub append_after : (xs ys zs : List ℕ) → (xs ++ ys) ++ zs ≡ xs ++ (ys ++ zs)
 append_after [] ys zs = refl
 append_after (x ∷ xs) ys zs = ap (λ l. x ∷ l) (append_after xs ys zs)
 

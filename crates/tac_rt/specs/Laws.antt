@@ -1,17 +1,17 @@
 -- What the run-time routines do, in the words of what programs mean.
-use Rattle.std.specs.Prelude.{◌==◌, ◌-ℤ◌, if◌then◌else◌, zero, suc, ◌*◌, ◌%◌, ◌≡◌, ℤ, unsigned_abs, IsTrue, Bool, true, false, ◌++◌, Option, Some, None, negsuc, ℕ, ◌+◌, ◌<◌, pos, List, [], ◌∷◌, length}
+use Rattle.std.specs.Prelude.{◌==◌, ◌/◌, not, ◌-ℤ◌, if◌then◌else◌, zero, suc, ◌*◌, ◌%◌, ◌≡◌, ℤ, unsigned_abs, IsTrue, Bool, true, false, ◌++◌, Option, Some, None, negsuc, ℕ, ◌+◌, ◌<◌, pos, List, [], ◌∷◌, length}
 use Rattle.tac_code.specs.declared.code.Block.{Block}
 use Rattle.tac_code.specs.declared.code.BitOperator.{BitOperator}
-use Rattle.tac_code.specs.declared.code.BitOperator.TheVariants.{And, Or, AndNot}
+use Rattle.tac_code.specs.declared.code.BitOperator.TheVariants.{And, Or, AndNot, ShiftLeft}
 use Rattle.tac_code.specs.declared.code.Value.{Value}
 use Rattle.tac_code.specs.declared.code.Value.TheVariants.{Number, Address}
 use Rattle.tac_code.specs.Memory.{Memory, Constants, load, load_byte, store, store_byte}
-use Rattle.tac_code.specs.Numbers.{is_integer, bits}
+use Rattle.tac_code.specs.Numbers.{is_integer, bits, truth, same_number, is_in_range}
 use Rattle.tac_code.specs.Meaning.{Code, Tape, text_at}
 use Rattle.tac_code.specs.Sound.{AreSoundRoutines, AreLeaves}
 use Rattle.tac_steps.specs.Runs.{Machine}
 use Rattle.tac_steps.specs.Routines.{Does, wrote}
-use Rattle.ps_meaning.specs.Text.{Input, next_character, looked_at, look_marks, taken, as_character, right_aligned, fitted, integer_text}
+use Rattle.ps_meaning.specs.Text.{Input, next_character, looked_at, look_marks, taken, as_character, after_line, line_marks, right_aligned, fitted, integer_text}
 use Rattle.tac_rt.specs.Bodies.{run_time_routines}
 use Rattle.tac_rt.specs.Calls.{HasRoutines, BytesAt}
 use Rattle.tac_rt.specs.Inputs.{ahead, begun, tape_of, InputAt, kind_of}
@@ -68,6 +68,19 @@ ReadsCharacters =
     HasRoutines m → InputAt (text_at m.code) before block offset i →
     Renewed before block offset (taken i) after →
     Does m 14 (Address block offset ∷ []) before (tape_of i transcript) (Number (character_or_end (next_character i))) after (tape_of (taken i) (transcript ++ look_marks i))
+
+-- 1 where nothing is left to read
+abbrev pub nothing_left : Option ℕ → ℤ
+nothing_left None = pos 1
+nothing_left (Some b) = pos 0
+
+-- The rest of a line and its end are passed (6.9.2): the address of the words of the input. The result tells whether nothing was left.
+abbrev pub ReadsLines : Type 0
+ReadsLines =
+    (m : Machine) (block : Block) (offset : ℕ) (i : Input) (before after : Memory) (transcript : List ℕ) →
+    HasRoutines m → InputAt (text_at m.code) before block offset i →
+    Renewed before block offset (after_line i) after →
+    Does m 16 (Address block offset ∷ []) before (tape_of i transcript) (Number (nothing_left (next_character i))) after (tape_of (after_line i) (transcript ++ line_marks i))
 
 -- so many words, one after another: each is read, where those before it may have been written already
 abbrev pub CopiedUp : Constants → (before : Memory) → (to : Block) (place : ℕ) → (from : Block) (start : ℕ) → (count : ℕ) → (memory : Memory) → Type 0
@@ -144,6 +157,30 @@ pub record JoinedSets : Type 0 where
   pub union : JoinsSets 2 Or
   pub difference : JoinsSets 3 AndNot
   pub intersection : JoinsSets 4 And
+
+-- numbers stand in the words of a block from an offset on
+abbrev pub WordsAt : Constants → Memory → Block → (offset : ℕ) → List ℤ → Type 0
+WordsAt constants memory block o [] = Unit {0}
+WordsAt constants memory block o (z ∷ words) = (load constants memory block o ≡ Some (Number z)) × WordsAt constants memory block (o + 4) words
+
+-- no bit of the one's words is missing in the other's
+abbrev pub is_included : List ℤ → List ℤ → Bool
+is_included [] right = true
+is_included (x ∷ left) [] = true
+is_included (x ∷ left) (y ∷ right) = if same_number (bits AndNot x y) (pos 0) then is_included left right else false
+
+-- Whether each member of a set is one of another (6.7.2.5): the addresses of their eight words.
+abbrev pub IncludesSets : Type 0
+IncludesSets =
+    (m : Machine) (x : Block) (place : ℕ) (y : Block) (start : ℕ) (left right : List ℤ) (memory : Memory) (tape : Tape) →
+    HasRoutines m → WordsAt (text_at m.code) memory x place left → WordsAt (text_at m.code) memory y start right → length left ≡ 8 → length right ≡ 8 →
+    place + 32 < 2147483648 → start + 32 < 2147483648 →
+    Does m 5 (Address x place ∷ Address y start ∷ []) memory tape (Number (truth (is_included left right))) memory tape
+
+-- Whether an integer is a member of a set (6.7.2.5): the integer, and the address of the set's words. Outside 0..255 it is none; else its bit tells.
+pub record FindsMembers : Type 0 where
+  pub outside : (m : Machine) (x : ℤ) (block : Block) (offset : ℕ) (memory : Memory) (tape : Tape) → HasRoutines m → is_in_range (pos 0) (pos 255) x ≡ false → Does m 6 (Number x ∷ Address block offset ∷ []) memory tape (Number (pos 0)) memory tape
+  pub inside : (m : Machine) (n : ℕ) (block : Block) (offset : ℕ) (w : ℤ) (memory : Memory) (tape : Tape) → HasRoutines m → n < 256 → load (text_at m.code) memory block (offset + 4 * (n / 32)) ≡ Some (Number w) → offset + 32 < 2147483648 → Does m 6 (Number (pos n) ∷ Address block offset ∷ []) memory tape (Number (truth (not (same_number (bits And w (bits ShiftLeft (pos 1) (pos n))) (pos 0))))) memory tape
 
 -- what the invariant of three-address code asks of its run-time routines: each target and each operand exists, and they call none
 pub record KeepInvariant (code : Code) : Type 0 where

@@ -1,6 +1,6 @@
 // Laws of the run-time routines. Each is the contract of a function that does nothing when it runs.
 
-ghost use Rattle.tac_rt.specs.Laws.{RoutinesAreSound, ComparesBytes, PacksBytes, UnpacksBytes, JoinedSets, WritesNumbers, WritesCharacters, WritesStrings, LooksAhead, ReadsCharacters, CopiesWords};
+ghost use Rattle.tac_rt.specs.Laws.{RoutinesAreSound, ComparesBytes, ReadsLines, PacksBytes, UnpacksBytes, JoinedSets, IncludesSets, FindsMembers, WritesNumbers, WritesCharacters, WritesStrings, LooksAhead, ReadsCharacters, CopiesWords};
 
 /// The routine that writes a string writes what the meaning says: the string right-aligned in its field, or its first characters (6.9.3.6).
 #[tactic(auto, using(crate::proofs::Strings::writes_strings))]
@@ -65,4 +65,22 @@ pub fn unpacks_bytes()
 #[tactic(auto, using(crate::proofs::Joins::joined_sets))]
 pub fn joined_sets()
     ensures { JoinedSets }
+{}
+
+/// The rest of a line is passed up to and with its end, or the end of the input (6.9.2).
+#[tactic(auto, using(crate::proofs::Lines::reads_lines))]
+pub fn reads_lines()
+    ensures { ReadsLines }
+{}
+
+/// A set is included in another where no bit of its words is missing there (6.7.2.5).
+#[tactic(auto, using(crate::proofs::Inclusions::includes_sets))]
+pub fn includes_sets()
+    ensures { IncludesSets }
+{}
+
+/// An integer is a member of a set where it lies in 0..255 and its bit is set (6.7.2.5).
+#[tactic(auto, using(crate::proofs::Members::finds_members))]
+pub fn finds_members()
+    ensures { FindsMembers }
 {}

@@ -1,7 +1,7 @@
 -- What is appended is what the parts write.
 use Rattle.std.proofs.Common.{◌≡◌, None, map, rules}
 use Rattle.ps_tree.specs.View.{write_of}
-use Rattle.ps_build.specs.Strings.{parameter_text, parameters_text}
+use Rattle.ps_build.specs.Strings.{parameters_text}
 use Rattle.ps_build.specs.Refusals.{OnlyNotYet}
 use Rattle.ps_build.proofs.Appending.{parameters_fault, parameters_end, only_more}
 use Rattle.ps_build.proofs.strings.append_parameters.Goals as goal

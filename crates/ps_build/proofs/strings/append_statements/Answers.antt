@@ -1,7 +1,7 @@
 -- What is appended is what the parts write.
 use Rattle.std.proofs.Common.{◌≡◌, None, rules}
-use Rattle.ps_tree.specs.View.{statement_of, statements_of}
-use Rattle.ps_build.specs.Strings.{statement_text, statements_text}
+use Rattle.ps_tree.specs.View.{statements_of}
+use Rattle.ps_build.specs.Strings.{statements_text}
 use Rattle.ps_build.specs.Refusals.{OnlyNotYet}
 use Rattle.ps_build.proofs.Appending.{statements_fault, statements_end, only_more}
 use Rattle.ps_build.proofs.strings.append_statements.Goals as goal

@@ -1,0 +1,92 @@
+-- The code that reaches the frames of the routines round a routine.
+use Rattle.std.proofs.Common.{◌≡◌, ℕ, zero, suc, ◌-◌, ◌<◌, ◌≤◌, true, false, if◌then◌else◌, List, [], ◌∷◌, ◌++◌, length, get_or, map, Result, IfOk, refl, sym, ap, ◌∙◌, append_assoc, arith}
+use Rattle.std.specs.Prelude.{Ok, Err}
+use Rattle.std.proofs.lemmas.List.{append-nil}
+use Rattle.ps_tree.specs.Tree as t
+use Rattle.ps_tree.specs.declared.tree.Routine.{Routine}
+use Rattle.ps_tree.specs.View.{routine_of}
+use Rattle.tac_code.specs.declared.code.Base.TheVariants as base
+use Rattle.tac_code.specs.declared.code.Instruction.{Instruction}
+use Rattle.tac_code.specs.declared.code.Instruction.TheVariants as i
+use Rattle.ps_layout.specs.Frames.{Kind, kind_words}
+use Rattle.ps_code.specs.Scopes.{Scope, is_outermost, hops, frame_code, frame_base}
+use Rattle.ps_lower.specs.Walks.{is_reference, passed, walked}
+use Rattle.ps_lower.specs.declared.frame.Walk.{Walk}
+use Rattle.ps_lower.proofs.Appends.{and_then, unchanged}
+
+abbrev pub again : (a n : ℕ) → List Instruction
+again a zero = []
+again a (suc n) = i.Load a (base.Temporary a) 0 ∷ again a n
+
+-- each link stands at the beginning of its frame
+pub hops_again : (k : Scope) (a level n : ℕ) → hops k a level n ≡ again a n
+hops_again k a level zero = refl
+hops_again k a level (suc n) = ap (λ l. i.Load a (base.Temporary a) 0 ∷ l) (hops_again k a (suc level) n)
+
+pub record Hopped (a count : ℕ) (start : List Instruction) (n : ℕ) (now : List Instruction) : Type 0 where
+  pub left : now ++ again a (count - n) ≡ start ++ again a count
+
+pub hopped_start : (a count : ℕ) (start : List Instruction) → Hopped a count start 0 start
+hopped_start a count start = record { left = let j : count - 0 ≡ count = omega arith in ap (λ y. start ++ again a y) j }
+
+pub hopped_next : (a count : ℕ) (start : List Instruction) (n m : ℕ) (now next : List Instruction) → n < count → m ≡ suc n → Hopped a count start n now → next ≡ now ++ i.Load a (base.Temporary a) 0 ∷ [] → Hopped a count start m next
+hopped_next a count start n m now next h is s e = record {
+  left =
+      ap (λ o. o ++ again a (count - m)) e
+      ∙ append_assoc now (i.Load a (base.Temporary a) 0 ∷ []) (again a (count - m))
+      ∙ (let j : suc (count - m) ≡ count - n = omega (arith, is) in ap (λ y. now ++ again a y) j)
+      ∙ s.left;
+}
+
+pub hopped_all : (k : Scope) (a count : ℕ) (start : List Instruction) (n : ℕ) (now : List Instruction) → count ≤ n → Hopped a count start n now → now ≡ start ++ hops k a 1 count
+hopped_all k a count start n now h s =
+    sym (append-nil now)
+    ∙ (let j : 0 ≡ count - n = omega arith in ap (λ y. now ++ again a y) j)
+    ∙ s.left ∙ ap (λ l. start ++ l) (sym (hops_again k a 1 count))
+
+-- ---- the frame so many levels up
+
+pub own_code : (k : Scope) (a up : ℕ) (old : List Instruction) → up ≡ 0 → old ≡ old ++ frame_code k a up
+own_code k a up old e = unchanged old ∙ ap (λ n. old ++ frame_code k a n) (sym e)
+
+pub own_base : (k : Scope) (a up : ℕ) → up ≡ 0 → base.Frame ≡ frame_base k a up
+own_base k a up e = ap (λ n. frame_base k a n) (sym e)
+
+pub outer_code : (k : Scope) (a up : ℕ) (old : List Instruction) → ¬ (up ≡ 0) → true ≡ is_outermost k up → old ≡ old ++ frame_code k a up
+outer_code k a zero old h e = absurd (h refl)
+outer_code k a (suc up) old h e = unchanged old ∙ ap (λ b. old ++ (if b then [] else (i.Load a base.Frame 0 ∷ hops k a 1 up))) e
+
+pub outer_base : (k : Scope) (a up : ℕ) → ¬ (up ≡ 0) → true ≡ is_outermost k up → base.Program ≡ frame_base k a up
+outer_base k a zero h e = absurd (h refl)
+outer_base k a (suc up) h e = ap (λ b. if b then base.Program else base.Temporary a) e
+
+pub between_code : (k : Scope) (a up less : ℕ) (old middle new : List Instruction) → ¬ (up ≡ 0) → false ≡ is_outermost k up → less ≡ up - 1 → middle ≡ old ++ i.Load a base.Frame 0 ∷ [] → new ≡ middle ++ hops k a 1 less → new ≡ old ++ frame_code k a up
+between_code k a zero less old middle new h e l p q = absurd (h refl)
+between_code k a (suc up) less old middle new h e l p q =
+    and_then old middle new (i.Load a base.Frame 0 ∷ []) (hops k a 1 less) p q
+    ∙ (let j : less ≡ up = omega (arith, l) in ap (λ n. old ++ i.Load a base.Frame 0 ∷ hops k a 1 n) j)
+    ∙ ap (λ b. old ++ (if b then [] else (i.Load a base.Frame 0 ∷ hops k a 1 up))) e
+
+pub between_base : (k : Scope) (a up : ℕ) → ¬ (up ≡ 0) → false ≡ is_outermost k up → base.Temporary a ≡ frame_base k a up
+between_base k a zero h e = absurd (h refl)
+between_base k a (suc up) h e = ap (λ b. if b then base.Program else base.Temporary a) e
+
+-- ---- the routine so many levels up
+
+mapped : (rs : List Routine) (n : ℕ) (r : Routine) → n < length rs → get_or (map routine_of rs) n t.no_routine ≡ routine_of (get_or rs n r)
+mapped [] n r h = absurd (omega arith)
+mapped (x ∷ xs) zero r h = refl
+mapped (x ∷ xs) (suc n) r h = mapped xs n r (omega arith)
+
+pub outer_found : (chain : List ℕ) (rs : List Routine) (up n : ℕ) (r : Routine) → n ≡ get_or chain up 0 → n < length rs → r ≡ get_or rs n r → get_or (map routine_of rs) (get_or chain up 0) t.no_routine ≡ routine_of r
+outer_found chain rs up n r e h g = ap (λ m. get_or (map routine_of rs) m t.no_routine) (sym e) ∙ mapped rs n r h ∙ ap routine_of (sym g)
+
+-- ---- walks over entries of several sorts
+
+pub walked_on : (a b : List Kind) (w : Walk) → walked w (a ++ b) ≡ walked (walked w a) b
+walked_on [] b w = refl
+walked_on (kind ∷ rest) b w = walked_on rest b (passed w (kind_words kind) (is_reference kind))
+
+pub all_walked : {E : Type 0} (w0 w1 w2 : Walk) (a b d : List Kind) (r : Result Walk E) → w1 ≡ walked w0 a → w2 ≡ walked w1 b → IfOk r (λ w. w ≡ walked w2 d) → IfOk r (λ w. w ≡ walked w0 ((a ++ b) ++ d))
+all_walked w0 w1 w2 a b d (Ok v) p q h = h ∙ ap (λ w. walked w d) (q ∙ ap (λ w. walked w b) p ∙ sym (walked_on a b w0)) ∙ sym (walked_on (a ++ b) d w0)
+all_walked w0 w1 w2 a b d (Err e) p q h = h

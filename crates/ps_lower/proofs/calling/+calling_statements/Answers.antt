@@ -1,0 +1,35 @@
+use Rattle.std.proofs.Common.{sym, ap, ◌∙◌}
+use Rattle.ps_tree.specs.View.{expr_of, statement_of}
+use Rattle.ps_tree.proofs.StatementLemmas.{statement_of_Case}
+use Rattle.ps_code.specs.Calling as code
+use Rattle.ps_lower.proofs.Searches.{passed_start, passed_next, passed_found, passed_all, or_second, statements_in, statements_none, statements_more, element_in, elements_in, elements_none, elements_more}
+use Rattle.ps_lower.proofs.calling.+calling_statements.Goals as goal
+
+pub statements_call-loop-statement-init : goal.statements_call-loop-statement-init
+statements_call-loop-statement-init t c = passed_start statements_in _
+
+pub statements_call-loop-statement-preserved : goal.statements_call-loop-statement-preserved
+statements_call-loop-statement-preserved t c = passed_next statements_in (λ x. code.statement_calls (statement_of x)) statements_more _ _ _ c.statement-item.result c.loop-statement-test.true c.loop-statement.invariant (c.statement_calls.ensures ∙ ap (λ x. code.statement_calls (statement_of x)) c.statement-item.is) c.if-statement_calls.false
+
+pub statements_call-returns-then-statement_calls : goal.statements_call-returns-then-statement_calls
+statements_call-returns-then-statement_calls t c = passed_found statements_in (λ x. code.statement_calls (statement_of x)) statements_more _ _ _ c.statement-item.result c.loop-statement-test.true c.loop-statement.invariant (c.statement_calls.ensures ∙ ap (λ x. code.statement_calls (statement_of x)) c.statement-item.is) c.if-statement_calls.true
+
+pub statements_call-returns : goal.statements_call-returns
+statements_call-returns t c = passed_all statements_in statements_none _ _ c.loop-statement-test.false c.loop-statement.invariant
+
+pub elements_call-loop-element-init : goal.elements_call-loop-element-init
+elements_call-loop-element-init t c = passed_start elements_in _
+
+pub elements_call-loop-element-preserved : goal.elements_call-loop-element-preserved
+elements_call-loop-element-preserved t c = passed_next elements_in element_in elements_more _ _ _ c.element-item.result c.loop-element-test.true c.loop-element.invariant (c.statement_calls.ensures ∙ ap element_in c.element-item.is) c.if-statement_calls.false
+
+pub elements_call-returns-then-statement_calls : goal.elements_call-returns-then-statement_calls
+elements_call-returns-then-statement_calls t c = passed_found elements_in element_in elements_more _ _ _ c.element-item.result c.loop-element-test.true c.loop-element.invariant (c.statement_calls.ensures ∙ ap element_in c.element-item.is) c.if-statement_calls.true
+
+pub elements_call-returns : goal.elements_call-returns
+elements_call-returns t c = passed_all elements_in elements_none _ _ c.loop-element-test.false c.loop-element.invariant
+
+pub statement_calls-returns-else-expr_calls-2 : goal.statement_calls-returns-else-expr_calls-2
+statement_calls-returns-else-expr_calls-2 t c =
+    c.elements_call.ensures ∙ ap elements_in c.deref-else-expr_calls-2.ensures.value
+    ∙ or_second (code.expr_calls (expr_of c.in-Case.index)) (elements_in c.in-Case.elements.items) _ (sym c.expr_calls-in-Case.ensures ∙ c.if-expr_calls-2.false) (sym (ap code.statement_calls (ap statement_of c.in-Case.is ∙ statement_of_Case c.in-Case.index c.in-Case.elements c.in-Case.line)))

@@ -1,0 +1,97 @@
+use Rattle.std.proofs.Common.{[], ◌∷◌, ◌++◌, length, ap, ◌∙◌}
+use Rattle.ps_tree.specs.View.{expr_of, statement_of, elements_of}
+use Rattle.ps_tree.specs.declared.tree.CaseElement.{out-CaseElement}
+use Rattle.ps_code.specs.Statements.{statement_code}
+use Rattle.ps_lower.specs.Levels.{scope_of}
+use Rattle.ps_lower.proofs.Appends.{added_start, added_next, added_all}
+use Rattle.ps_lower.proofs.Rows.{statements_added, statements_nothing, statements_further}
+use Rattle.ps_lower.proofs.Acts.{act, told_empty, assign_is, compound_is, if_is, if_else_is, while_is, repeat_is, write_is, writeln_is}
+use Rattle.ps_lower.proofs.Jumps.{jump_behind}
+use Rattle.ps_lower.specs.Loops.{turns_of, loop_code}
+use Rattle.ps_lower.specs.declared.turns.Control.{Control}
+use Rattle.ps_lower.specs.declared.turns.Turns.{Turns}
+use Rattle.ps_lower.proofs.Loops.{for_is, loop_made}
+use Rattle.ps_lower.proofs.Elements.{case_is, element_made, element_end, one_element, opened_start, opened_next, opened_all, ends_all, case_made}
+use Rattle.ps_tree.specs.Tree as tree
+use Rattle.tac_code.specs.declared.code.Instruction.TheVariants as i
+use Rattle.ps_lower.proofs.statements.+statements.Goals as goal
+
+pub statements-loop-one-init : goal.statements-loop-one-init
+statements-loop-one-init t c = added_start (statements_added (scope_of c.args.k.now) c.args.d) _ _
+
+pub statements-loop-one-preserved : goal.statements-loop-one-preserved
+statements-loop-one-preserved t c = added_next (statements_added (scope_of c.args.k.now) c.args.d) (λ s. statement_code (scope_of c.args.k.now) (statement_of s) c.args.d) (statements_further (scope_of c.args.k.now) c.args.d) _ _ _ _ _ c.one-item.result c.loop-one-test.true c.loop-one.invariant (c.in_ok-statement.ensures ∙ ap (λ s. c.loop-one.out ++ statement_code (scope_of c.args.k.now) (statement_of s) c.args.d) c.one-item.is)
+
+pub statements-returns : goal.statements-returns
+statements-returns t c = added_all (statements_added (scope_of c.args.k.now) c.args.d) (statements_nothing (scope_of c.args.k.now) c.args.d) _ _ _ _ c.loop-one-test.false c.loop-one.invariant
+
+pub statement-returns-in-Empty : goal.statement-returns-in-Empty
+statement-returns-in-Empty t c = told_empty (scope_of c.args.k.now) c.args.action.now c.args.d c.args.out.now c.in-Empty.is
+
+pub statement-returns-in-Assign : goal.statement-returns-in-Assign
+statement-returns-in-Assign t c = act (scope_of c.args.k.now) c.args.action.now _ c.args.d c.assign.result c.assign.new.out c.args.out.now (assign_is _ _ _ _ _ c.in-Assign.is) c.assign.ensures
+
+pub statement-returns-in-Compound : goal.statement-returns-in-Compound
+statement-returns-in-Compound t c = act (scope_of c.args.k.now) c.args.action.now _ c.args.d c.statements.result c.statements.new.out c.args.out.now (compound_is _ _ _ c.in-Compound.is c.deref.ensures.value) c.statements.ensures
+
+pub statement-returns-in-If : goal.statement-returns-in-If
+statement-returns-in-If t c = act (scope_of c.args.k.now) c.args.action.now _ c.args.d c.act_if.result c.act_if.new.out c.args.out.now (if_is _ _ _ _ c.in-If.is c.deref-in-If.ensures) c.act_if.ensures
+
+pub statement-returns-in-While : goal.statement-returns-in-While
+statement-returns-in-While t c = act (scope_of c.args.k.now) c.args.action.now _ c.args.d c.act_while.result c.act_while.new.out c.args.out.now (while_is _ _ _ _ c.in-While.is c.deref-in-While.ensures) c.act_while.ensures
+
+pub statement-returns-in-Repeat : goal.statement-returns-in-Repeat
+statement-returns-in-Repeat t c = act (scope_of c.args.k.now) c.args.action.now _ c.args.d c.act_repeat.result c.act_repeat.new.out c.args.out.now (repeat_is _ _ _ _ c.in-Repeat.is c.deref-in-Repeat.ensures.value) c.act_repeat.ensures
+
+pub statement-returns-in-Write : goal.statement-returns-in-Write
+statement-returns-in-Write t c = act (scope_of c.args.k.now) c.args.action.now _ c.args.d c.writes.result c.writes.new.out c.args.out.now (write_is _ _ _ c.in-Write.is c.deref-in-Write.ensures.value) c.writes.ensures
+
+pub statement-returns-in-Writeln : goal.statement-returns-in-Writeln
+statement-returns-in-Writeln t c = act (scope_of c.args.k.now) c.args.action.now _ c.args.d c.writeln.result c.writeln.new.out c.args.out.now (writeln_is _ _ _ c.in-Writeln.is c.deref-in-Writeln.ensures.value) c.writeln.ensures
+
+pub statement-returns-in_ok-statement-in-IfElse : goal.statement-returns-in_ok-statement-in-IfElse
+statement-returns-in_ok-statement-in-IfElse t c =
+    jump_behind c.args.out.now c.then_part.new.out c.statement.new.out c.set_jump.new.self _ _ _ _ i.End c.in_ok-end-in-IfElse.end (λ n. i.Jump n) c.in_ok-end-in-IfElse.ensures.code c.in_ok-end-in-IfElse.ensures.place c.in_ok-statement-in-IfElse.ensures c.set_jump.ensures
+    ∙ ap (λ (y : tree.Statement). c.args.out.now ++ statement_code (scope_of c.args.k.now) y c.args.d) (if_else_is _ _ _ _ _ _ c.in-IfElse.is c.deref-in-IfElse.ensures c.deref-in-IfElse-2.ensures)
+
+pub statement-returns-in-For : goal.statement-returns-in-For
+statement-returns-in-For t c =
+    act (scope_of c.args.k.now) c.args.action.now _ c.args.d c.act_for.result c.act_for.new.out c.args.out.now
+    (ap (λ (y : Control). tree.For y.variable y.low y.high (expr_of c.in-For.from) y.from_line y.direction (expr_of c.in-For.to) y.to_line (statement_of c.deref-in-For.result.now)) c.control_of-control.ensures
+    ∙ for_is _ _ _ _ _ _ _ _ _ _ _ c.in-For.is c.deref-in-For.ensures)
+    c.act_for.ensures
+
+pub statement-returns-in-Case : goal.statement-returns-in-Case
+statement-returns-in-Case t c = act (scope_of c.args.k.now) c.args.action.now _ c.args.d c.act_case.result c.act_case.new.out c.args.out.now (case_is _ _ _ _ _ c.in-Case.is c.deref-in-Case.ensures.value) c.act_case.ensures
+
+pub act_for-returns : goal.act_for-returns
+act_for-returns t c =
+    loop_made (scope_of c.args.k.now) c.args.control (expr_of c.args.from.now) (expr_of c.args.to.now) c.in_ok-turns.turns (statement_of c.args.body.now) c.args.out.now c.open_turns.new.out c.statement.new.out c.end_turn.new.out c.set_branch.new.self c.in_ok-places.places.past c.in_ok-places.places.begin c.past_relation-relation.result
+    c.in_ok-places.ensures.code c.in_ok-places.ensures.past c.in_ok-places.ensures.begin c.in_ok-statement.ensures c.in_ok-end_turn.ensures c.past_relation-relation.ensures c.set_branch.ensures
+    ∙ ap (λ (y : Turns). c.args.out.now ++ loop_code (scope_of c.args.k.now) c.args.control (expr_of c.args.from.now) (expr_of c.args.to.now) y (statement_of c.args.body.now))
+    (c.in_ok-turns.ensures ∙ ap (λ calls. turns_of (scope_of c.args.k.now) c.args.control.variable (expr_of c.args.to.now) calls c.args.d) c.statement_calls.ensures)
+
+pub act_element-returns-clause-code : goal.act_element-returns-clause-code
+act_element-returns-clause-code t c = element_made (scope_of c.args.k.now) _ _ _ (statement_of (out-CaseElement c.args.element.now).body) c.args.d _ c.args.out.now _ _ _ _ c.deref.ensures.value c.deref-2.ensures.value c.in_ok-last.ensures.code c.in_ok-last.ensures.place c.in_ok-statement.ensures c.in_ok-end.ensures.room c.close_tests.ensures
+
+pub act_element-returns-clause-place : goal.act_element-returns-clause-place
+act_element-returns-clause-place t c = element_end (scope_of c.args.k.now) _ _ (statement_of (out-CaseElement c.args.element.now).body) c.args.d _ c.args.out.now _ _ c.deref.ensures.value c.in_ok-last.ensures.code c.in_ok-statement.ensures c.in_ok-end.ensures.place
+
+pub act_elements-loop-element-init : goal.act_elements-loop-element-init
+act_elements-loop-element-init t c = opened_start (scope_of c.args.k.now) c.args.d _ _ _ c.new-ends.ensures.items
+
+pub act_elements-loop-element-preserved : goal.act_elements-loop-element-preserved
+act_elements-loop-element-preserved t c =
+    opened_next (scope_of c.args.k.now) c.args.d _ _ _ _ _ _ _ _ c.element-item.result c.loop-element-test.true c.loop-element.invariant
+    (c.in_ok-end.ensures.code ∙ ap (λ x. (c.loop-element.out ++ one_element (scope_of c.args.k.now) x c.args.d) ++ i.End ∷ []) c.element-item.is)
+    (c.in_ok-end.ensures.place ∙ ap (λ x. length (c.loop-element.out ++ one_element (scope_of c.args.k.now) x c.args.d)) c.element-item.is)
+    c.in_ok-push.ensures.items
+
+pub act_elements-returns-clause-code : goal.act_elements-returns-clause-code
+act_elements-returns-clause-code t c = opened_all (scope_of c.args.k.now) c.args.d _ _ _ _ _ c.loop-element-test.false c.loop-element.invariant
+
+pub act_elements-returns-clause-ends : goal.act_elements-returns-clause-ends
+act_elements-returns-clause-ends t c = ends_all (scope_of c.args.k.now) c.args.d _ _ _ _ _ c.loop-element-test.false c.loop-element.invariant
+
+pub act_case-returns : goal.act_case-returns
+act_case-returns t c = case_made (scope_of c.args.k.now) (expr_of c.args.index.now) (elements_of c.args.elements.now) c.args.line c.args.d c.args.out.now _ _ _ _ _ c.in_ok-value.ensures c.in_ok-ends.ensures.code (c.deref.ensures.value ∙ c.in_ok-ends.ensures.ends) c.in_ok-trap.ensures c.close_elements.ensures

@@ -1,0 +1,14 @@
+use Rattle.ps_lower.proofs.Appends.{Added}
+use Rattle.ps_lower.proofs.Chains.{steps_added, operands_added}
+use Rattle.ps_lower.proofs.Selecting.{Led}
+use Rattle.ps_lower.specs.Levels.{scope_of, site_of}
+use Rattle.ps_lower.proofs.values.+values.Given as goal
+
+abbrev pub invariant-go_on-loop-step : goal.invariant-go_on-loop-step
+invariant-go_on-loop-step l = Added (steps_added (scope_of l.k) l.a l.x) l.fn.out l.steps l.step-index l.out
+
+abbrev pub invariant-go_on_with-loop-operand : goal.invariant-go_on_with-loop-operand
+invariant-go_on_with-loop-operand l = Added (operands_added (scope_of l.k) l.operator l.a l.x) l.fn.out l.operands l.operand-index l.out
+
+abbrev pub invariant-along-loop-selector : goal.invariant-along-loop-selector
+invariant-along-loop-selector l = Led (scope_of l.k) l.t l.x l.fn.out (site_of l.fn.site) l.selectors l.selector-index l.out (site_of l.site)

@@ -1,0 +1,27 @@
+-- Where code is made.
+use Rattle.std.specs.Prelude.{ℕ, suc, List, [], ◌∷◌, ◌++◌, length, Bool, false, Option, Some, None}
+use Rattle.ps_tree.specs.Checked.{program_in}
+use Rattle.ps_tree.specs.Tree.{Expr, Statement}
+use Rattle.tac_code.specs.declared.code.Instruction.{Instruction}
+use Rattle.tac_code.specs.declared.code.Instruction.TheVariants.{Branch}
+use Rattle.ps_layout.specs.Frames.{Kind}
+use Rattle.ps_code.specs.Scopes.{Scope, Site as CodeSite}
+use Rattle.ps_code.specs.Values.{front_code, opposite, relation_in, left_in, right_in}
+use Rattle.ps_code.specs.Statements.{statement_code}
+use Rattle.ps_lower.specs.Walks.{is_reference}
+use Rattle.ps_lower.specs.declared.level.Level.{Level}
+use Rattle.ps_lower.specs.declared.site.Site.{Site}
+
+abbrev pub scope_of : Level → Scope
+scope_of k = record { program = program_in k.checked.now; chain = k.chain.now; opened = [] }
+
+abbrev pub site_of : Site → CodeSite
+site_of s = record { base = s.base; offset = s.offset }
+
+abbrev pub is_reference_at : Option Kind → Bool
+is_reference_at None = false
+is_reference_at (Some kind) = is_reference kind
+
+-- a condition, and the first of two statements, past which a jump leads that is still to come
+abbrev pub then_code : Scope → Expr → Statement → (d : ℕ) → List Instruction
+then_code k e s d = front_code k e d 0 ++ Branch (opposite (relation_in e)) (left_in e d) (right_in e d) (suc (length (statement_code k s d))) ∷ statement_code k s d

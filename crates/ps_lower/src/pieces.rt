@@ -1,0 +1,197 @@
+// The pieces of code that stand behind that of operands.
+
+ghost use Rattle.std.specs.Prelude.{◌≡◌, ◌++◌, ◌≤◌, [], ◌∷◌, pos, OnOk};
+ghost use Rattle.ps_code.specs.Scopes.{moved, range_code, check_code, fitting_code, operand_check};
+ghost use Rattle.ps_code.specs.Values.{relation_code, finish, truth_finish, function_code};
+ghost use Rattle.ps_tree.specs.View.{expr_of};
+ghost use Rattle.ps_tree.specs.declared.tree.RequiredFunction.TheVariants.{Abs};
+ghost use Rattle.tac_code.specs.declared.code.Instruction.TheVariants as i;
+ghost use Rattle.tac_code.specs.declared.code.Operand.TheVariants as operand;
+
+use crate::depth::{DEEPEST, even_above};
+use crate::known::{is_any, is_between, is_relation, is_truth, left_in, relation_in, right_in};
+use crate::out::Code;
+use crate::refusal::LowerRefusal;
+use ps_tree::tree::{Expr, Range, RequiredFunction};
+use tac_code::code::{BitOperator, Operand, Operator, Relation};
+
+/// A number that stands in the tree.
+pub fn number(out: &mut Code, n: &i32, d: u32) -> Result<(), LowerRefusal>
+    ensures { OnOk result (out.new ≡ out.old ++ i.Literal d n.now ∷ []) }
+{
+    out.literal(d, *n)
+}
+
+/// A value, moved to where it is wanted.
+pub fn moved(out: &mut Code, from: u32, to: u32) -> Result<(), LowerRefusal>
+    ensures { OnOk result (out.new ≡ out.old ++ moved from to) }
+{
+    if from == to {
+        Ok(())
+    } else {
+        out.copy(to, from)
+    }
+}
+
+/// The truth of the relation that an expression left, as a word.
+fn relation(out: &mut Code, e: &Expr, d: u32) -> Result<(), LowerRefusal>
+    ensures { OnOk result (out.new ≡ out.old ++ relation_code (expr_of e.now) d) }
+{
+    if DEEPEST < d {
+        return Err(LowerRefusal::TooLarge);
+    }
+    out.compare(relation_in(e), d, left_in(e, d), right_in(e, d))
+}
+
+/// The word of an expression behind its front code.
+pub fn finish(out: &mut Code, e: &Expr, d: u32) -> Result<(), LowerRefusal>
+    ensures { OnOk result (out.new ≡ out.old ++ finish (expr_of e.now) d) }
+{
+    if is_relation(e) {
+        relation(out, e, d)
+    } else {
+        Ok(())
+    }
+}
+
+/// Its truth, as 0 or 1.
+pub fn truth_finish(out: &mut Code, e: &Expr, d: u32) -> Result<(), LowerRefusal>
+    ensures { OnOk result (out.new ≡ out.old ++ truth_finish (expr_of e.now) d) }
+{
+    if is_truth(e) && !is_relation(e) {
+        Ok(())
+    } else {
+        relation(out, e, d)
+    }
+}
+
+/// The test of a range, unless every integer lies in it.
+pub fn range(
+    out: &mut Code,
+    t: u32,
+    low: i32,
+    high: i32,
+    error: u8,
+    line: u16,
+) -> Result<(), LowerRefusal>
+    ensures { OnOk result (out.new ≡ out.old ++ range_code t low high error line) }
+{
+    if is_any(low, high) {
+        Ok(())
+    } else {
+        out.check_range(t, low, high, error, line)
+    }
+}
+
+/// The test of a range, unless a number is known to lie in it.
+pub fn check(
+    out: &mut Code,
+    known: Option<i32>,
+    t: u32,
+    low: i32,
+    high: i32,
+    error: u8,
+    line: u16,
+) -> Result<(), LowerRefusal>
+    ensures { OnOk result (out.new ≡ out.old ++ check_code known t low high error line) }
+{
+    match known {
+        None => range(out, t, low, high, error, line),
+        Some(number) => {
+            if is_between(low, number, high) {
+                Ok(())
+            } else {
+                out.check_range(t, low, high, error, line)
+            }
+        }
+    }
+}
+
+/// The test of the range that the tree gives.
+pub fn fitting(
+    out: &mut Code,
+    known: Option<i32>,
+    t: u32,
+    range: Range,
+    line: u16,
+) -> Result<(), LowerRefusal>
+    ensures { OnOk result (out.new ≡ out.old ++ fitting_code known t range line) }
+{
+    match range {
+        Range::Any => Ok(()),
+        Range::Within { low, high } => check(out, known, t, low, high, 4, line),
+    }
+}
+
+/// The test of an operand that may stand in no temporary.
+pub fn operand_check(
+    out: &mut Code,
+    known: Option<i32>,
+    t: u32,
+    low: i32,
+    high: i32,
+    error: u8,
+    line: u16,
+) -> Result<(), LowerRefusal>
+    ensures { OnOk result (out.new ≡ out.old ++ operand_check known t low high error line) }
+{
+    match known {
+        None => range(out, t, low, high, error, line),
+        Some(number) => {
+            if is_between(low, number, high) {
+                Ok(())
+            } else {
+                out.trap(error, line)
+            }
+        }
+    }
+}
+
+/// The absolute value of the number in d.
+fn absolute(out: &mut Code, d: u32, line: u16) -> Result<(), LowerRefusal>
+    requires { d ≤ DEEPEST }
+    ensures { OnOk result (out.new ≡ out.old ++ function_code Abs d line) }
+{
+    let t = even_above(d);
+    out.branch(Relation::GreaterEqual, d, Operand::Number(0), 2)?;
+    out.literal(t, 0)?;
+    out.arithmetic(Operator::Subtract, d, t, Operand::Temporary(d), 1, line)
+}
+
+/// A step up or down from the number in d, and the test of the bounds.
+fn stepped(
+    out: &mut Code,
+    operator: Operator,
+    d: u32,
+    low: i32,
+    high: i32,
+    line: u16,
+) -> Result<(), LowerRefusal>
+    ensures { OnOk result (out.new ≡ out.old ++ (i.Arithmetic operator d d (operand.Number (pos 1)) 4 line ∷ range_code d low high 4 line)) }
+{
+    out.arithmetic(operator, d, d, Operand::Number(1), 4, line)?;
+    range(out, d, low, high, 4, line)
+}
+
+/// What a required function makes of the number in d.
+pub fn function(
+    out: &mut Code,
+    function: RequiredFunction,
+    d: u32,
+    line: u16,
+) -> Result<(), LowerRefusal>
+    requires { d ≤ DEEPEST }
+    ensures { OnOk result (out.new ≡ out.old ++ function_code function d line) }
+{
+    match function {
+        RequiredFunction::Abs => absolute(out, d, line),
+        RequiredFunction::Sqr => {
+            out.arithmetic(Operator::Multiply, d, d, Operand::Temporary(d), 1, line)
+        }
+        RequiredFunction::Odd => out.bits(BitOperator::And, d, d, Operand::Number(1)),
+        RequiredFunction::Ord => Ok(()),
+        RequiredFunction::Chr => out.check_range(d, 0, 255, 4, line),
+        RequiredFunction::Succ { high } => stepped(out, Operator::Add, d, i32::MIN, high, line),
+        RequiredFunction::Pred { low } => stepped(out, Operator::Subtract, d, low, i32::MAX, line),
+    }
+}

@@ -1,0 +1,173 @@
+// Variables: what reaches them, and where they stand then.
+
+ghost use Rattle.std.specs.Prelude.{◌≡◌, ◌++◌, ◌≤◌, ◌∷◌, [], ◌+◌, None, false, OnOk, IfOk};
+ghost use Rattle.ps_code.specs.Scopes.{kind_at, frame_base, site_code};
+ghost use Rattle.ps_code.specs.Values.{reference_code, entry_site, name_code, name_site, place_temporary, element_site, index_code, is_byte_selector, is_byte_after, is_byte, load_code, store_code};
+ghost use Rattle.ps_lower.specs.Levels.{scope_of, site_of};
+ghost use Rattle.ps_lower.specs.Sites.{site_behind, site_at};
+ghost use Rattle.ps_tree.specs.View.{type_of, base_of, selector_of, selectors_of, place_of};
+ghost use Rattle.tac_code.specs.declared.code.Instruction.TheVariants as i;
+
+use crate::calling::selectors_call;
+use crate::depth::kept;
+use crate::level::Level;
+use crate::levels::{entry, frame};
+use crate::out::Code;
+use crate::refusal::LowerRefusal;
+use crate::shapes::{component_bytes, index_of, is_byte_array};
+use crate::site::Site;
+use ps_tree::tree::{Place, PlaceBase, Selector};
+use ps_tree::types::Ty;
+use tac_code::code::Base;
+
+/// The temporary that may hold a variable's address.
+pub fn place_temporary(place: &Place, d: u32) -> u32
+    requires { d ≤ 4294967000 }
+    ensures value { result ≡ place_temporary (place_of place.now) d }
+    ensures small { result ≤ d + 1 }
+{
+    kept(selectors_call(&place.selectors), d)
+}
+
+#[tactic(auto, unfolding(ps_tree::specs::View::selector_of))]
+fn is_byte_selector(selector: &Selector) -> bool
+    ensures { result ≡ is_byte_selector (selector_of selector.now) }
+{
+    match selector {
+        Selector::Element { ty, .. } => is_byte_array(ty),
+        Selector::Field { .. } | Selector::Target { .. } => false,
+    }
+}
+
+fn is_byte_behind(selectors: &[Selector]) -> bool
+    ensures { result ≡ is_byte_after false (selectors_of selectors.now) }
+{
+    let mut byte = false;
+    for selector in selectors {
+        byte = is_byte_selector(selector);
+    }
+    byte
+}
+
+/// Whether a variable is one byte of a word.
+pub fn is_byte(place: &Place) -> bool
+    ensures { result ≡ is_byte (place_of place.now) }
+{
+    is_byte_behind(&place.selectors)
+}
+
+/// An entry of the frame so many levels up, whose parts count from a base: a variable, or the address of one.
+fn reference(
+    out: &mut Code,
+    k: &Level,
+    base: Base,
+    t: u32,
+    up: u32,
+    index: u32,
+) -> Result<Site, LowerRefusal>
+    ensures code { OnOk result (base ≡ frame_base (scope_of k.now) t up → out.new ≡ out.old ++ reference_code (scope_of k.now) (kind_at (scope_of k.now) up index) t up index) }
+    ensures site { IfOk result (λ s. base ≡ frame_base (scope_of k.now) t up → site_of s ≡ entry_site (scope_of k.now) (kind_at (scope_of k.now) up index) t up index) }
+{
+    let spot = entry(k, up, index)?;
+    if spot.reference {
+        out.load(t, base, spot.offset)?;
+        Ok(Site {
+            base: Base::Temporary(t),
+            offset: 0,
+        })
+    } else {
+        Ok(Site {
+            base,
+            offset: spot.offset,
+        })
+    }
+}
+
+/// What a name denotes. The fields of records that `with` opened aren't lowered yet.
+pub fn name(out: &mut Code, k: &Level, name: &PlaceBase, t: u32) -> Result<Site, LowerRefusal>
+    ensures code { OnOk result (out.new ≡ out.old ++ name_code (scope_of k.now) (base_of name.now) t) }
+    ensures site { IfOk result (λ s. site_of s ≡ name_site (scope_of k.now) (base_of name.now) t) }
+{
+    match name {
+        PlaceBase::Entry { up, index } => {
+            let base = frame(out, k, t, *up)?;
+            reference(out, k, base, t, *up, *index)
+        }
+        PlaceBase::Opened { .. } => Err(LowerRefusal::NotYet),
+    }
+}
+
+/// So many bytes further.
+pub fn behind(site: Site, bytes: u32) -> Result<Site, LowerRefusal>
+    ensures { IfOk result (λ s. site_of s ≡ site_behind (site_of site) bytes) }
+{
+    let Some(offset) = site.offset.checked_add(bytes) else {
+        return Err(LowerRefusal::TooLarge);
+    };
+    Ok(Site {
+        base: site.base,
+        offset,
+    })
+}
+
+/// The component of an array whose index stands in a temporary.
+pub fn indexed(
+    out: &mut Code,
+    ty: &Ty,
+    site: Site,
+    t: u32,
+    index: u32,
+    line: u16,
+) -> Result<Site, LowerRefusal>
+    ensures code { OnOk result (out.new ≡ out.old ++ index_code None (type_of ty.now) (site_of site) t index line []) }
+    ensures site { IfOk result (λ s. site_of s ≡ element_site None (site_of site) t) }
+{
+    let width = component_bytes(ty)?;
+    out.index(t, site.base, index, index_of(ty), width, line)?;
+    Ok(Site {
+        base: Base::Temporary(t),
+        offset: site.offset,
+    })
+}
+
+/// The object that a pointer points to.
+pub fn pointed(out: &mut Code, site: Site, t: u32, line: u16) -> Result<Site, LowerRefusal>
+    ensures code { OnOk result (out.new ≡ out.old ++ i.Load t site.base site.offset ∷ i.CheckPointer t 6 line ∷ []) }
+    ensures site { IfOk result (λ s. site_of s ≡ site_at t) }
+{
+    out.load(t, site.base, site.offset)?;
+    out.check_pointer(t, 6, line)?;
+    Ok(Site {
+        base: Base::Temporary(t),
+        offset: 0,
+    })
+}
+
+/// What stands at a site, a byte or a word, as the word in d.
+pub fn fetch(out: &mut Code, byte: bool, d: u32, site: Site) -> Result<(), LowerRefusal>
+    ensures { OnOk result (out.new ≡ out.old ++ load_code byte d (site_of site)) }
+{
+    if byte {
+        out.load_byte(d, site.base, site.offset)
+    } else {
+        out.load(d, site.base, site.offset)
+    }
+}
+
+/// The word in t goes to a site, as a byte or a word.
+pub fn keep(out: &mut Code, byte: bool, site: Site, t: u32) -> Result<(), LowerRefusal>
+    ensures { OnOk result (out.new ≡ out.old ++ store_code byte (site_of site) t) }
+{
+    if byte {
+        out.store_byte(site.base, site.offset, t)
+    } else {
+        out.store(site.base, site.offset, t)
+    }
+}
+
+/// The address of a site, from which so many bytes are meant.
+pub fn address(out: &mut Code, t: u32, site: Site, extent: u32) -> Result<(), LowerRefusal>
+    ensures { OnOk result (out.new ≡ out.old ++ site_code t (site_of site) extent) }
+{
+    out.offset(t, site.base, site.offset, extent)
+}

@@ -1,0 +1,274 @@
+// The code of statements. The scratch block holds nothing from one to the next.
+
+ghost use Rattle.std.specs.Prelude.{◌≡◌, ◌++◌, ◌≤◌, ◌∷◌, [], length, OnOk, IfOk};
+ghost use Rattle.ps_code.specs.Statements.{statement_code, statements_code};
+ghost use Rattle.ps_lower.specs.Cases.{element_code, open_elements, ends_from};
+ghost use Rattle.ps_lower.specs.Levels.{scope_of, then_code};
+ghost use Rattle.ps_tree.specs.Tree as tree;
+ghost use Rattle.ps_tree.specs.View.{expr_of, statement_of, statements_of, elements_of};
+ghost use Rattle.ps_tree.specs.declared.tree.CaseElement.{out-CaseElement};
+ghost use Rattle.tac_code.specs.declared.code.Instruction.TheVariants as i;
+
+use crate::assign::assign;
+use crate::calling::statement_calls;
+use crate::cases::{close_elements, close_tests, tests};
+use crate::depth::DEEPEST;
+use crate::known::{left_in, opposite, relation_in, right_in};
+use crate::level::Level;
+use crate::out::Code;
+use crate::refusal::LowerRefusal;
+use crate::turns::{Control, control_of, end_turn, open_turns, past_relation, turns_of};
+use crate::values::{front, value};
+use crate::writes::{writeln, writes};
+use ps_tree::tree::{CaseElement, Expr, Statement};
+
+/// The code of a statement.
+#[cycle(statements)]
+pub fn statement(out: &mut Code, k: &Level, action: &Statement, d: u32) -> Result<(), LowerRefusal>
+    ensures { OnOk result (out.new ≡ out.old ++ statement_code (scope_of k.now) (statement_of action.now) d) }
+{
+    if DEEPEST < d {
+        return Err(LowerRefusal::TooLarge);
+    }
+    match action {
+        Statement::Empty => Ok(()),
+        Statement::Assign {
+            target,
+            range,
+            value,
+            line,
+        } => assign(out, k, target, *range, value, line.number, d),
+        Statement::Compound(body) => statements(out, k, body, d),
+        Statement::If { condition, body } => act_if(out, k, body, condition, d),
+        Statement::IfElse {
+            condition,
+            body,
+            otherwise,
+        } => {
+            let end = then_part(out, k, body, condition, d)?;
+            statement(out, k, otherwise, d)?;
+            out.set_jump(end);
+            Ok(())
+        }
+        Statement::Case {
+            index,
+            elements,
+            line,
+        } => act_case(out, k, elements, index, line.number, d),
+        Statement::While { condition, body } => act_while(out, k, body, condition, d),
+        Statement::Repeat { body, condition } => act_repeat(out, k, body, condition, d),
+        Statement::For {
+            variable,
+            low,
+            high,
+            from,
+            from_line,
+            direction,
+            to,
+            to_line,
+            body,
+        } => {
+            let (from_line, to_line) = (from_line.number, to_line.number);
+            let control = control_of(*variable, low, high, *direction, from_line, to_line);
+            act_for(out, k, body, control, from, to, d)
+        }
+        Statement::Write { parameters } => writes(out, k, parameters, d),
+        Statement::Writeln { parameters } => writeln(out, k, parameters, d),
+        _ => Err(LowerRefusal::NotYet),
+    }
+}
+
+/// The code of statements, one after another.
+#[cycle(statements)]
+pub fn statements(
+    out: &mut Code,
+    k: &Level,
+    statements: &[Statement],
+    d: u32,
+) -> Result<(), LowerRefusal>
+    ensures { OnOk result (out.new ≡ out.old ++ statements_code (scope_of k.now) (statements_of statements.now) d) }
+{
+    for one in statements {
+        statement(out, k, one, d)?;
+    }
+    Ok(())
+}
+
+#[cycle(statements)]
+fn act_if(
+    out: &mut Code,
+    k: &Level,
+    body: &Statement,
+    condition: &Expr,
+    d: u32,
+) -> Result<(), LowerRefusal>
+    requires { d ≤ DEEPEST }
+    ensures { OnOk result (out.new ≡ out.old ++ statement_code (scope_of k.now) (tree.If (expr_of condition.now) (statement_of body.now)) d) }
+{
+    front(out, k, condition, d, 0)?;
+    let past = out.room()?;
+    statement(out, k, body, d)?;
+    let relation = opposite(relation_in(condition));
+    out.set_branch(
+        past,
+        relation,
+        left_in(condition, d),
+        right_in(condition, d),
+    );
+    Ok(())
+}
+
+/// A statement that is done where a condition holds, and the room for a jump behind it.
+#[cycle(statements)]
+fn then_part(
+    out: &mut Code,
+    k: &Level,
+    body: &Statement,
+    condition: &Expr,
+    d: u32,
+) -> Result<usize, LowerRefusal>
+    requires { d ≤ DEEPEST }
+    ensures code { OnOk result (out.new ≡ (out.old ++ then_code (scope_of k.now) (expr_of condition.now) (statement_of body.now) d) ++ i.End ∷ []) }
+    ensures place { IfOk result (λ place. place ≡ length (out.old ++ then_code (scope_of k.now) (expr_of condition.now) (statement_of body.now) d)) }
+{
+    front(out, k, condition, d, 0)?;
+    let past = out.room()?;
+    statement(out, k, body, d)?;
+    let end = out.room()?;
+    let relation = opposite(relation_in(condition));
+    out.set_branch(
+        past,
+        relation,
+        left_in(condition, d),
+        right_in(condition, d),
+    );
+    Ok(end)
+}
+
+#[cycle(statements)]
+fn act_while(
+    out: &mut Code,
+    k: &Level,
+    body: &Statement,
+    condition: &Expr,
+    d: u32,
+) -> Result<(), LowerRefusal>
+    requires { d ≤ DEEPEST }
+    ensures { OnOk result (out.new ≡ out.old ++ statement_code (scope_of k.now) (tree.While (expr_of condition.now) (statement_of body.now)) d) }
+{
+    let to_test = out.room()?;
+    let begin = out.place();
+    statement(out, k, body, d)?;
+    out.set_jump(to_test);
+    front(out, k, condition, d, 0)?;
+    let relation = relation_in(condition);
+    out.branch_back(
+        relation,
+        left_in(condition, d),
+        right_in(condition, d),
+        begin,
+    )
+}
+
+#[cycle(statements)]
+fn act_repeat(
+    out: &mut Code,
+    k: &Level,
+    body: &[Statement],
+    condition: &Expr,
+    d: u32,
+) -> Result<(), LowerRefusal>
+    requires { d ≤ DEEPEST }
+    ensures { OnOk result (out.new ≡ out.old ++ statement_code (scope_of k.now) (tree.Repeat (statements_of body.now) (expr_of condition.now)) d) }
+{
+    let begin = out.place();
+    statements(out, k, body, d)?;
+    front(out, k, condition, d, 0)?;
+    let relation = opposite(relation_in(condition));
+    out.branch_back(
+        relation,
+        left_in(condition, d),
+        right_in(condition, d),
+        begin,
+    )
+}
+
+#[cycle(statements)]
+fn act_for(
+    out: &mut Code,
+    k: &Level,
+    body: &Statement,
+    control: Control,
+    from: &Expr,
+    to: &Expr,
+    d: u32,
+) -> Result<(), LowerRefusal>
+    requires { d ≤ DEEPEST }
+    ensures { OnOk result (out.new ≡ out.old ++ statement_code (scope_of k.now) (tree.For control.variable control.low control.high (expr_of from.now) control.from_line control.direction (expr_of to.now) control.to_line (statement_of body.now)) d) }
+{
+    let turns = turns_of(k, control.variable, to, statement_calls(body), d)?;
+    let places = open_turns(out, k, control, from, to, turns)?;
+    statement(out, k, body, turns.depth)?;
+    end_turn(out, turns, places.begin)?;
+    let relation = past_relation(control.direction);
+    out.set_branch(places.past, relation, turns.first, turns.limit);
+    Ok(())
+}
+
+/// An element of a `case` statement, and the room for the way out.
+#[cycle(statements)]
+fn act_element(
+    out: &mut Code,
+    k: &Level,
+    element: &CaseElement,
+    d: u32,
+) -> Result<usize, LowerRefusal>
+    requires { d ≤ DEEPEST }
+    ensures code { OnOk result (out.new ≡ (out.old ++ element_code (scope_of k.now) (out-CaseElement element.now).constants.items (statement_of (out-CaseElement element.now).body) d) ++ i.End ∷ []) }
+    ensures place { IfOk result (λ place. place ≡ length (out.old ++ element_code (scope_of k.now) (out-CaseElement element.now).constants.items (statement_of (out-CaseElement element.now).body) d)) }
+{
+    let last = tests(out, &element.constants, d)?;
+    statement(out, k, &element.body, d)?;
+    let end = out.room()?;
+    close_tests(out, last, &element.constants, d);
+    Ok(end)
+}
+
+/// The elements of a `case` statement, and the rooms for the ways out of them.
+#[cycle(statements)]
+fn act_elements(
+    out: &mut Code,
+    k: &Level,
+    elements: &[CaseElement],
+    d: u32,
+) -> Result<Vec<usize>, LowerRefusal>
+    requires { d ≤ DEEPEST }
+    ensures code { OnOk result (out.new ≡ out.old ++ open_elements (scope_of k.now) (elements_of elements.now) d) }
+    ensures ends { IfOk result (λ ends. ends.items ≡ ends_from (scope_of k.now) (elements_of elements.now) d (length out.old)) }
+{
+    let mut ends = Vec::new(out.alloc());
+    for element in elements {
+        let end = act_element(out, k, element, d)?;
+        ends.push(end)?;
+    }
+    Ok(ends)
+}
+
+#[cycle(statements)]
+fn act_case(
+    out: &mut Code,
+    k: &Level,
+    elements: &[CaseElement],
+    index: &Expr,
+    line: u16,
+    d: u32,
+) -> Result<(), LowerRefusal>
+    requires { d ≤ DEEPEST }
+    ensures { OnOk result (out.new ≡ out.old ++ statement_code (scope_of k.now) (tree.Case (expr_of index.now) (elements_of elements.now) line) d) }
+{
+    value(out, k, index, d, 0)?;
+    let ends = act_elements(out, k, elements, d)?;
+    out.trap(7, line)?;
+    close_elements(out, &ends);
+    Ok(())
+}

@@ -1,0 +1,178 @@
+// The code of write and writeln.
+
+ghost use Rattle.std.specs.Prelude.{◌≡◌, ◌++◌, ◌≤◌, ◌∷◌, [], pos, map, OnOk};
+ghost use Rattle.ps_code.specs.Scopes.{even_from, RunTime, run_time_number, helper};
+ghost use Rattle.ps_code.specs.Statements.{width_code, write_code, writes_code};
+ghost use Rattle.ps_lower.specs.Levels.{scope_of};
+ghost use Rattle.ps_tree.specs.Tree as tree;
+ghost use Rattle.ps_tree.specs.View.{expr_of, structure_of, width_of, write_of};
+ghost use Rattle.tac_code.specs.declared.code.Instruction.TheVariants as i;
+
+use crate::calling::width_calls;
+use crate::depth::{DEEPEST, beside, even_above, even_from, held};
+use crate::entries::run_time_number;
+use crate::known::literal;
+use crate::level::Level;
+use crate::out::Code;
+use crate::pieces::check;
+use crate::refusal::LowerRefusal;
+use crate::texts::{count, structure, text_length, truth_text};
+use crate::values::value;
+use ps_tree::tree::{Expr, Structure, Width, WriteParameter};
+
+const WRITE_NUMBER: u32 = 10;
+
+const WRITE_CHARACTER: u32 = 11;
+
+const WRITE_STRING: u32 = 12;
+
+/// The width of a parameter, or its default.
+#[tactic(auto, unfolding(ps_tree::specs::View::width_of))]
+fn width(out: &mut Code, k: &Level, width: &Width, default: u32, t: u32) -> Result<(), LowerRefusal>
+    requires { default ≤ 2147483647 }
+    ensures { OnOk result (out.new ≡ out.old ++ width_code (scope_of k.now) (width_of width.now) default t) }
+{
+    match width {
+        Width::Default => count(out, default, t),
+        Width::Given { value: e, line } => {
+            value(out, k, e, t, 0)?;
+            check(out, literal(e), t, 1, i32::MAX, 11, line.number)
+        }
+    }
+}
+
+/// A call of a run-time routine.
+fn help(
+    out: &mut Code,
+    k: &Level,
+    number: u32,
+    operands: &[u32],
+    to: u32,
+) -> Result<(), LowerRefusal>
+    ensures { (routine : RunTime) → number ≡ run_time_number routine → OnOk result (out.new ≡ out.old ++ helper (scope_of k.now) routine operands.now to ∷ []) }
+{
+    let number = run_time_number(k, number)?;
+    out.call(to, number, operands, 1)
+}
+
+/// A number and its width, and the call that writes them.
+fn write_number(
+    out: &mut Code,
+    k: &Level,
+    e: &Expr,
+    given: &Width,
+    d: u32,
+) -> Result<(), LowerRefusal>
+    requires { d ≤ DEEPEST }
+    ensures { OnOk result (out.new ≡ out.old ++ write_code (scope_of k.now) (tree.WriteInteger (expr_of e.now) (width_of given.now)) d) }
+{
+    let t = held(width_calls(given), d);
+    let w = even_above(t);
+    value(out, k, e, t, 0)?;
+    width(out, k, given, 11, w)?;
+    help(out, k, WRITE_NUMBER, &[t, w], even_from(d))
+}
+
+/// The same of a character.
+fn write_character(
+    out: &mut Code,
+    k: &Level,
+    e: &Expr,
+    given: &Width,
+    d: u32,
+) -> Result<(), LowerRefusal>
+    requires { d ≤ DEEPEST }
+    ensures { OnOk result (out.new ≡ out.old ++ write_code (scope_of k.now) (tree.WriteChar (expr_of e.now) (width_of given.now)) d) }
+{
+    let t = held(width_calls(given), d);
+    let w = even_above(t);
+    value(out, k, e, t, 0)?;
+    width(out, k, given, 1, w)?;
+    help(out, k, WRITE_CHARACTER, &[t, w], even_from(d))
+}
+
+/// A truth value and its width, the string of that value, and the call that writes it.
+fn write_truth(
+    out: &mut Code,
+    k: &Level,
+    e: &Expr,
+    given: &Width,
+    d: u32,
+) -> Result<(), LowerRefusal>
+    requires { d ≤ DEEPEST }
+    ensures { OnOk result (out.new ≡ out.old ++ write_code (scope_of k.now) (tree.WriteBoolean (expr_of e.now) (width_of given.now)) d) }
+{
+    let t = held(width_calls(given), d);
+    let w = even_above(t);
+    let string = beside(w);
+    let size = beside(string);
+    value(out, k, e, t, 0)?;
+    width(out, k, given, 5, w)?;
+    truth_text(out, t, string, size)?;
+    help(out, k, WRITE_STRING, &[string, size, w], even_from(d))
+}
+
+/// A string's address, its width and its length, and the call that writes it.
+fn write_string(
+    out: &mut Code,
+    k: &Level,
+    e: &Structure,
+    given: &Width,
+    d: u32,
+) -> Result<(), LowerRefusal>
+    requires { d ≤ DEEPEST }
+    ensures { OnOk result (out.new ≡ out.old ++ write_code (scope_of k.now) (tree.WriteText (structure_of e.now) (width_of given.now)) d) }
+{
+    let t = held(width_calls(given), d);
+    let w = even_above(t);
+    let size = beside(w);
+    let length = text_length(e)?;
+    structure(out, e, t)?;
+    width(out, k, given, length, w)?;
+    count(out, length, size)?;
+    help(out, k, WRITE_STRING, &[t, size, w], even_from(d))
+}
+
+#[tactic(auto, unfolding(ps_tree::specs::View::write_of))]
+fn write(out: &mut Code, k: &Level, parameter: &WriteParameter, d: u32) -> Result<(), LowerRefusal>
+    requires { d ≤ DEEPEST }
+    ensures { OnOk result (out.new ≡ out.old ++ write_code (scope_of k.now) (write_of parameter.now) d) }
+{
+    match parameter {
+        WriteParameter::Integer { value, width } => write_number(out, k, value, width, d),
+        WriteParameter::Char { value, width } => write_character(out, k, value, width, d),
+        WriteParameter::Boolean { value, width } => write_truth(out, k, value, width, d),
+        WriteParameter::Text { value, width } => write_string(out, k, value, width, d),
+    }
+}
+
+/// The parameters of write or writeln, one after another.
+pub fn writes(
+    out: &mut Code,
+    k: &Level,
+    parameters: &[WriteParameter],
+    d: u32,
+) -> Result<(), LowerRefusal>
+    requires { d ≤ DEEPEST }
+    ensures { OnOk result (out.new ≡ out.old ++ writes_code (scope_of k.now) (map write_of parameters.now) d) }
+{
+    for parameter in parameters {
+        write(out, k, parameter, d)?;
+    }
+    Ok(())
+}
+
+/// The same, and the end of the line.
+pub fn writeln(
+    out: &mut Code,
+    k: &Level,
+    parameters: &[WriteParameter],
+    d: u32,
+) -> Result<(), LowerRefusal>
+    requires { d ≤ DEEPEST }
+    ensures { OnOk result (out.new ≡ out.old ++ (writes_code (scope_of k.now) (map write_of parameters.now) d ++ i.Literal (even_from d) (pos 10) ∷ i.Put (even_from d) ∷ [])) }
+{
+    writes(out, k, parameters, d)?;
+    out.literal(even_from(d), 10)?;
+    out.put(even_from(d))
+}

@@ -1,0 +1,32 @@
+-- The homes of a routine's temporaries lie among all homes.
+use Rattle.std.proofs.Common.{◌≡◌, ℕ, ◌+◌, ◌<◌, ◌≤◌, List, [], ◌∷◌, length, take, drop, slice_get, Some, refl, sym, ap, ◌∙◌, arith}
+use Rattle.tac_code.specs.declared.code.TacRoutine.{TacRoutine}
+use Rattle.tac_code.specs.Meaning.{Code, routines}
+use Rattle.risc_alloc.specs.declared.homes.Home.{Home}
+use Rattle.risc_alloc.specs.Homes.{temporaries_before, homes_of, found}
+use Rattle.risc_alloc.specs.Valid.{Valid}
+use Rattle.risc_alloc.proofs.Whole.{before_more, before_within, homes_part}
+use Rattle.risc_emit.specs.Frames.{AreHomes}
+
+module _ (code : Code) (homes : List Home) (valid : Valid code homes) (r first : ℕ) (routine : TacRoutine) (begins : first ≡ temporaries_before (routines code) r) (is : slice_get (routines code) r ≡ Some routine) where
+  pub homes_room : first + routine.temporaries ≤ length homes
+  homes_room =
+      let count = valid.count in
+      let within = before_within (routines code) r routine is in
+      omega (arith, begins, count, within)
+
+  pub homes_are_own : (own : List Home) → r < length (routines code) → own ≡ take routine.temporaries (drop first homes) → AreHomes code homes r own
+  homes_are_own own lt part =
+      let same : own ≡ homes_of code homes r = part ∙ ap (λ n. take routine.temporaries (drop n homes)) begins ∙ sym (homes_part code homes r routine is) in
+      record {
+        exists = lt;
+        is_own = same;
+        register = λ t q e. valid.register r t q (ap (λ l. found (slice_get l t)) (sym same) ∙ ap found e);
+      }
+
+pub before_none : (rs : List TacRoutine) → 0 ≡ temporaries_before rs 0
+before_none [] = refl
+before_none (x ∷ rs) = refl
+
+pub before_next : (rs : List TacRoutine) (r first : ℕ) (x : TacRoutine) → first ≡ temporaries_before rs r → slice_get rs r ≡ Some x → first + x.temporaries ≡ temporaries_before rs (r + 1)
+before_next rs r first x begins is = ap (λ n. n + x.temporaries) begins ∙ sym (before_more rs r x is)

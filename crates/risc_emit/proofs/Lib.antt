@@ -1,0 +1,11 @@
+mod Laid
+mod Emitted
+mod Places
+mod Costs
+mod Rows
+mod Written
+mod Passing
+mod Homes
+mod Texts
+mod Few
+mod Drafting

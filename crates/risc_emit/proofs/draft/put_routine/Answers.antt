@@ -1,0 +1,18 @@
+use Rattle.std.proofs.Common.{slice_get, refl, sym, ap, ◌∙◌, rules}
+use Rattle.std.proofs.lemmas.Option.{slice_get_read}
+use Rattle.risc_emit.specs.Frames.{context_of}
+use Rattle.risc_emit.proofs.Few.{passes_few}
+use Rattle.risc_emit.proofs.Drafting.{drafted_more, drafted_marks}
+use Rattle.risc_emit.proofs.draft.put_routine.Goals as goal
+
+pub put_place-requires : goal.put_place-requires
+put_place-requires c =
+    record { few = passes_few c.args.frame.now.code c.args.frame.now.number c.loop-place.place c.args.routine.now c.index-body-place.result c.keeps_invariant.ensures c.requires.own (ap (λ l. slice_get l c.loop-place.place) (sym c.as_slice-body.ensures) ∙ slice_get_read c.as_slice-body.result.now _ c.loop-place.place c.index-body-place.result refl c.loop-place-test.true c.index-body-place.is) }
+
+pub loop-place-preserved : goal.loop-place-preserved
+loop-place-preserved c =
+    drafted_more (context_of c.args.frame.now) c.args.frame.now.number c.args.routine.now c.args.pieces.now c.args.texts.now.items c.requires.entry c.requires.first c.loop-place.place c.index-body-place.result _ _ _ _ _ _ c.loop-place.invariant (ap (λ l. slice_get l c.loop-place.place) (sym c.as_slice-body.ensures) ∙ slice_get_read c.as_slice-body.result.now _ c.loop-place.place c.index-body-place.result refl c.loop-place-test.true c.index-body-place.is) c.in_ok-put_place.ensures.pieces c.in_ok-put_place.ensures.texts c.in_ok-put_place.ensures.mark
+
+pub returns-clause-marks : goal.returns-clause-marks
+returns-clause-marks c =
+    drafted_marks (context_of c.args.frame.now) c.args.frame.now.number c.args.routine.now c.args.pieces.now c.args.texts.now.items c.requires.entry c.requires.first c.loop-place.place _ _ _ (search rules) c.loop-place.invariant _ (search rules) c.len-entry.ensures (search rules)

@@ -1,0 +1,9 @@
+-- The rows of the routines that are left are what is missing.
+use Rattle.std.proofs.Common.{◌≡◌, ◌++◌, drop}
+use Rattle.risc_runs.specs.Drawn.{frame_rows_of}
+use Rattle.risc_emit.specs.Layout.{laid_out}
+use Rattle.risc_emit.proofs.emit.frame_rows.Given as goal
+
+abbrev pub invariant-loop-number : goal.invariant-loop-number
+invariant-loop-number l =
+    l.rows.items ++ frame_rows_of (laid_out l.tac l.homes) l.number (drop l.number l.tac.program) ≡ frame_rows_of (laid_out l.tac l.homes) 0 l.tac.program

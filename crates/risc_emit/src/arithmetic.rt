@@ -1,0 +1,390 @@
+// Operations on numbers.
+
+ghost use Rattle.std.specs.Prelude.{◌≡◌, ◌+◌, ◌++◌, [], ◌∷◌, length, pos, ◌≤ℤ◌, true, false, OnOk};
+ghost use Rattle.risc_word.specs.declared.instr.Instr.TheVariants as word;
+ghost use Rattle.risc_word.specs.declared.instr.Operand.TheVariants.{Content, Constant};
+ghost use Rattle.risc_word.specs.declared.instr.Operation.TheVariants as op;
+ghost use Rattle.risc_word.specs.declared.instr.Condition.TheVariants as on;
+ghost use Rattle.risc_related.specs.Context.{home};
+ghost use Rattle.risc_steps.specs.Pieces as piece;
+ghost use Rattle.risc_steps.specs.Forms as form;
+ghost use Rattle.risc_emit.specs.Frames.{context_of};
+
+use crate::frame::Frame;
+use crate::operands::{
+    fetch, fetch_length, put_divisor, put_operation, receive, right, save, target,
+};
+use crate::pieces::{Piece, Pieces};
+use crate::words::{computed, constant, r12, r15, set, skip};
+use risc_word::{Condition, Instr, Operand as Right, Operation};
+use tac_code::code::{BitOperator, Operand, Operator, OutOfMemory, Relation};
+
+fn is_divisor(operand: Operand) -> bool
+    ensures { result ≡ form.is_divisor operand }
+{
+    match operand {
+        Operand::Temporary(_) => false,
+        Operand::Number(value) => 0 < value && value < 65536,
+    }
+}
+
+fn bit_operation(operator: BitOperator) -> Operation
+    ensures { result ≡ form.bit_operation operator }
+{
+    match operator {
+        BitOperator::And => Operation::And,
+        BitOperator::Or => Operation::Ior,
+        BitOperator::AndNot => Operation::Ann,
+        BitOperator::ShiftLeft => Operation::Lsl,
+        BitOperator::Plus => Operation::Add,
+    }
+}
+
+/// Where a relation holds after the left operand less the right one.
+pub(crate) fn condition_of(relation: Relation) -> Condition
+    ensures { result ≡ form.condition relation }
+{
+    match relation {
+        Relation::Equal => Condition::Equal,
+        Relation::NotEqual => Condition::NotEqual,
+        Relation::Less => Condition::Less,
+        Relation::LessEqual => Condition::LessEqual,
+        Relation::Greater => Condition::Greater,
+        Relation::GreaterEqual => Condition::GreaterEqual,
+    }
+}
+
+/// R12 takes the left operand less the right one, with the flags.
+pub(crate) fn put_difference(
+    frame: &Frame<'_>,
+    pieces: &mut Pieces,
+    left: u32,
+    operand: Operand,
+) -> Result<(), OutOfMemory>
+    ensures { OnOk result (pieces.new ≡ pieces.old ++ form.both (context_of frame.now) frame.now.number left operand (form.difference (context_of frame.now) frame.now.number left operand ∷ [])) }
+{
+    put_operation(frame, pieces, Operation::Sub, r12(), left, operand)
+}
+
+fn put_operate(
+    frame: &Frame<'_>,
+    pieces: &mut Pieces,
+    operation: Operation,
+    to: u32,
+    left: u32,
+    operand: Operand,
+) -> Result<(), OutOfMemory>
+    ensures { OnOk result (pieces.new ≡ pieces.old ++ form.both (context_of frame.now) frame.now.number left operand (form.operate (context_of frame.now) frame.now.number operation (home (context_of frame.now) frame.now.number to) left operand ∷ [])) }
+{
+    put_operation(frame, pieces, operation, target(frame, to), left, operand)
+}
+
+pub(crate) fn put_bits(
+    frame: &Frame<'_>,
+    pieces: &mut Pieces,
+    operator: BitOperator,
+    to: u32,
+    left: u32,
+    operand: Operand,
+) -> Result<(), OutOfMemory>
+    ensures { OnOk result (pieces.new ≡ pieces.old ++ form.both (context_of frame.now) frame.now.number left operand (form.operate (context_of frame.now) frame.now.number (form.bit_operation operator) (home (context_of frame.now) frame.now.number to) left operand ∷ form.save (context_of frame.now) frame.now.number (home (context_of frame.now) frame.now.number to))) }
+{
+    put_operate(frame, pieces, bit_operation(operator), to, left, operand)?;
+    save(frame, pieces, to)
+}
+
+pub(crate) fn put_compare(
+    frame: &Frame<'_>,
+    pieces: &mut Pieces,
+    relation: Relation,
+    to: u32,
+    left: u32,
+    operand: Operand,
+) -> Result<(), OutOfMemory>
+    ensures { OnOk result (pieces.new ≡ pieces.old ++ form.compare_form (context_of frame.now) frame.now.number relation to left operand) }
+{
+    let register = target(frame, to);
+    put_difference(frame, pieces, left, operand)?;
+    pieces.plain(skip(condition_of(relation), 2))?;
+    pieces.plain(set(register, 0))?;
+    pieces.plain(skip(Condition::Always, 1))?;
+    pieces.plain(set(register, 1))?;
+    save(frame, pieces, to)
+}
+
+// A sum or a difference.
+fn put_sum(
+    frame: &Frame<'_>,
+    pieces: &mut Pieces,
+    operation: Operation,
+    to: u32,
+    left: u32,
+    operand: Operand,
+    error: u8,
+    line: u16,
+) -> Result<(), OutOfMemory>
+    ensures { OnOk result (pieces.new ≡ pieces.old ++ form.both (context_of frame.now) frame.now.number left operand (form.operate (context_of frame.now) frame.now.number operation (home (context_of frame.now) frame.now.number to) left operand ∷ piece.Fails on.OverflowSet error line ∷ form.save (context_of frame.now) frame.now.number (home (context_of frame.now) frame.now.number to))) }
+{
+    put_operate(frame, pieces, operation, to, left, operand)?;
+    pieces.push(Piece::Fails(Condition::OverflowSet, error, line))?;
+    save(frame, pieces, to)
+}
+
+// H is the sign of the low word where the product has 32 bits.
+fn put_product(
+    frame: &Frame<'_>,
+    pieces: &mut Pieces,
+    to: u32,
+    left: u32,
+    operand: Operand,
+    error: u8,
+    line: u16,
+) -> Result<(), OutOfMemory>
+    ensures { OnOk result (pieces.new ≡ pieces.old ++ form.multiply_form (context_of frame.now) frame.now.number to left operand error line) }
+{
+    put_operate(frame, pieces, Operation::Mul, to, left, operand)?;
+    save(frame, pieces, to)?;
+    pieces.plain(Instr::MoveHigh { to: r15() })?;
+    pieces.plain(computed(Operation::Asr, r12(), target(frame, to), constant(31)))?;
+    pieces.plain(computed(Operation::Sub, r12(), r12(), Right::Content(r15())))?;
+    pieces.push(Piece::Fails(Condition::NotEqual, error, line))
+}
+
+// The floored quotient in R12 rounded toward zero.
+fn put_rounded(pieces: &mut Pieces) -> Result<(), OutOfMemory>
+    ensures { OnOk result (pieces.new ≡ pieces.old ++ form.rounded) }
+{
+    pieces.plain(skip(Condition::Plus, 3))?;
+    pieces.plain(Instr::MoveHigh { to: r15() })?;
+    pieces.plain(skip(Condition::Equal, 1))?;
+    pieces.plain(computed(Operation::Add, r12(), r12(), constant(1)))
+}
+
+// The quotient by R15.
+fn put_quotient(frame: &Frame<'_>, pieces: &mut Pieces, left: u32) -> Result<(), OutOfMemory>
+    ensures { OnOk result (pieces.new ≡ pieces.old ++ form.quotient (context_of frame.now) frame.now.number left) }
+{
+    let dividend = fetch(frame, pieces, r12(), left)?;
+    pieces.plain(computed(Operation::Div, r12(), dividend, Right::Content(r15())))?;
+    put_rounded(pieces)
+}
+
+// By the least integer: 1 or 0.
+fn put_quotient_by_least(
+    frame: &Frame<'_>,
+    pieces: &mut Pieces,
+    left: u32,
+) -> Result<(), OutOfMemory>
+    ensures { OnOk result (pieces.new ≡ pieces.old ++ form.quotient_by_least (context_of frame.now) frame.now.number left) }
+{
+    let dividend = fetch(frame, pieces, r12(), left)?;
+    pieces.plain(computed(Operation::Sub, r12(), dividend, Right::Content(r15())))?;
+    pieces.plain(skip(Condition::Equal, 2))?;
+    pieces.plain(set(r12(), 0))?;
+    pieces.plain(skip(Condition::Always, 1))?;
+    pieces.plain(set(r12(), 1))
+}
+
+// How many words a quotient takes, and the two that a divisor below 0 asks for.
+fn quotient_length(frame: &Frame<'_>, left: u32) -> i32
+    ensures length { result ≡ pos (length (form.quotient (context_of frame.now) frame.now.number left)) }
+    ensures low { pos 0 ≤ℤ result }
+    ensures high { result ≤ℤ pos 9 }
+{
+    fetch_length(frame, left) + 5
+}
+
+fn least_length(frame: &Frame<'_>, left: u32) -> i32
+    ensures length { result ≡ pos (length (form.quotient_by_least (context_of frame.now) frame.now.number left)) }
+    ensures low { pos 0 ≤ℤ result }
+    ensures high { result ≤ℤ pos 9 }
+{
+    fetch_length(frame, left) + 5
+}
+
+fn negative_length(frame: &Frame<'_>, left: u32, error: u8, line: u16) -> i32
+    ensures length { result ≡ pos (length (form.quotient_by_negative (context_of frame.now) frame.now.number left error line)) }
+    ensures low { pos 0 ≤ℤ result }
+    ensures high { result ≤ℤ pos 25 }
+{
+    let _ = (error, line);
+    quotient_length(frame, left) + least_length(frame, left) + 7
+}
+
+// The divisor below 0 is negated, and then the quotient.
+fn put_negated(frame: &Frame<'_>, pieces: &mut Pieces, left: u32) -> Result<(), OutOfMemory>
+    ensures { OnOk result (pieces.new ≡ pieces.old ++ (piece.Plain (word.Move 12 (Constant (pos 0))) ∷ piece.Plain (word.Operate op.Sub 15 12 (Content 15)) ∷ form.skip on.OverflowSet (length (form.quotient (context_of frame.now) frame.now.number left) + 4) ∷ form.quotient (context_of frame.now) frame.now.number left)) }
+{
+    pieces.plain(set(r12(), 0))?;
+    pieces.plain(computed(Operation::Sub, r15(), r12(), Right::Content(r15())))?;
+    pieces.plain(skip(Condition::OverflowSet, quotient_length(frame, left) + 4))?;
+    put_quotient(frame, pieces, left)
+}
+
+// The quotient is negated; the least divisor has words of its own.
+fn put_negated_back(
+    frame: &Frame<'_>,
+    pieces: &mut Pieces,
+    left: u32,
+    error: u8,
+    line: u16,
+) -> Result<(), OutOfMemory>
+    ensures { OnOk result (pieces.new ≡ pieces.old ++ (piece.Plain (word.Move 15 (Constant (pos 0))) ∷ piece.Plain (word.Operate op.Sub 12 15 (Content 12)) ∷ piece.Fails on.OverflowSet error line ∷ form.skip on.Always (length (form.quotient_by_least (context_of frame.now) frame.now.number left)) ∷ form.quotient_by_least (context_of frame.now) frame.now.number left)) }
+{
+    pieces.plain(set(r15(), 0))?;
+    pieces.plain(computed(Operation::Sub, r12(), r15(), Right::Content(r12())))?;
+    pieces.push(Piece::Fails(Condition::OverflowSet, error, line))?;
+    pieces.plain(skip(Condition::Always, least_length(frame, left)))?;
+    put_quotient_by_least(frame, pieces, left)
+}
+
+// By a divisor below 0.
+fn put_quotient_by_negative(
+    frame: &Frame<'_>,
+    pieces: &mut Pieces,
+    left: u32,
+    error: u8,
+    line: u16,
+) -> Result<(), OutOfMemory>
+    ensures { OnOk result (pieces.new ≡ pieces.old ++ form.quotient_by_negative (context_of frame.now) frame.now.number left error line) }
+{
+    put_negated(frame, pieces, left)?;
+    put_negated_back(frame, pieces, left, error, line)
+}
+
+// By an immediate above 0.
+fn put_division(
+    frame: &Frame<'_>,
+    pieces: &mut Pieces,
+    left: u32,
+    operand: Operand,
+) -> Result<(), OutOfMemory>
+    requires { form.is_divisor operand ≡ true }
+    ensures { OnOk result (pieces.new ≡ pieces.old ++ (form.fetch (context_of frame.now) frame.now.number 12 (home (context_of frame.now) frame.now.number left) ++ piece.Plain (word.Operate op.Div 12 (form.fetched (context_of frame.now) frame.now.number 12 (home (context_of frame.now) frame.now.number left)) (form.right_operand (context_of frame.now) frame.now.number operand)) ∷ [])) }
+{
+    let dividend = fetch(frame, pieces, r12(), left)?;
+    let divisor = right(frame, pieces, operand)?;
+    pieces.plain(computed(Operation::Div, r12(), dividend, divisor))
+}
+
+fn put_divide_by_any(
+    frame: &Frame<'_>,
+    pieces: &mut Pieces,
+    to: u32,
+    left: u32,
+    operand: Operand,
+    error: u8,
+    line: u16,
+) -> Result<(), OutOfMemory>
+    requires { form.is_divisor operand ≡ false }
+    ensures { OnOk result (pieces.new ≡ pieces.old ++ form.divide_form (context_of frame.now) frame.now.number to left operand error line) }
+{
+    put_divisor(frame, pieces, operand)?;
+    pieces.push(Piece::Fails(Condition::Equal, 2, line))?;
+    pieces.plain(skip(Condition::Minus, quotient_length(frame, left) + 1))?;
+    put_quotient(frame, pieces, left)?;
+    pieces.plain(skip(Condition::Always, negative_length(frame, left, error, line)))?;
+    put_quotient_by_negative(frame, pieces, left, error, line)?;
+    receive(frame, pieces, to)
+}
+
+fn put_divide(
+    frame: &Frame<'_>,
+    pieces: &mut Pieces,
+    to: u32,
+    left: u32,
+    operand: Operand,
+    error: u8,
+    line: u16,
+) -> Result<(), OutOfMemory>
+    ensures { OnOk result (pieces.new ≡ pieces.old ++ form.divide_form (context_of frame.now) frame.now.number to left operand error line) }
+{
+    if !is_divisor(operand) {
+        return put_divide_by_any(frame, pieces, to, left, operand, error, line);
+    }
+    put_division(frame, pieces, left, operand)?;
+    put_rounded(pieces)?;
+    receive(frame, pieces, to)
+}
+
+fn put_modulo_by_any(
+    frame: &Frame<'_>,
+    pieces: &mut Pieces,
+    to: u32,
+    left: u32,
+    operand: Operand,
+    line: u16,
+) -> Result<(), OutOfMemory>
+    requires { form.is_divisor operand ≡ false }
+    ensures { OnOk result (pieces.new ≡ pieces.old ++ form.modulo_form (context_of frame.now) frame.now.number to left operand line) }
+{
+    put_divisor(frame, pieces, operand)?;
+    pieces.plain(computed(Operation::Sub, r12(), r15(), constant(1)))?;
+    pieces.push(Piece::Fails(Condition::Less, 3, line))?;
+    let dividend = fetch(frame, pieces, r12(), left)?;
+    pieces.plain(computed(Operation::Div, r12(), dividend, Right::Content(r15())))?;
+    pieces.plain(Instr::MoveHigh {
+        to: target(frame, to),
+    })?;
+    save(frame, pieces, to)
+}
+
+// What H holds after a division is Pascal's mod.
+fn put_modulo(
+    frame: &Frame<'_>,
+    pieces: &mut Pieces,
+    to: u32,
+    left: u32,
+    operand: Operand,
+    line: u16,
+) -> Result<(), OutOfMemory>
+    ensures { OnOk result (pieces.new ≡ pieces.old ++ form.modulo_form (context_of frame.now) frame.now.number to left operand line) }
+{
+    if !is_divisor(operand) {
+        return put_modulo_by_any(frame, pieces, to, left, operand, line);
+    }
+    put_division(frame, pieces, left, operand)?;
+    pieces.plain(Instr::MoveHigh {
+        to: target(frame, to),
+    })?;
+    save(frame, pieces, to)
+}
+
+pub(crate) fn put_arithmetic(
+    frame: &Frame<'_>,
+    pieces: &mut Pieces,
+    operator: Operator,
+    to: u32,
+    left: u32,
+    operand: Operand,
+    error: u8,
+    line: u16,
+) -> Result<(), OutOfMemory>
+    ensures { OnOk result (pieces.new ≡ pieces.old ++ form.arithmetic_form (context_of frame.now) frame.now.number operator to left operand error line) }
+{
+    match operator {
+        Operator::Add => put_sum(
+            frame,
+            pieces,
+            Operation::Add,
+            to,
+            left,
+            operand,
+            error,
+            line,
+        ),
+        Operator::Subtract => put_sum(
+            frame,
+            pieces,
+            Operation::Sub,
+            to,
+            left,
+            operand,
+            error,
+            line,
+        ),
+        Operator::Multiply => put_product(frame, pieces, to, left, operand, error, line),
+        Operator::Divide => put_divide(frame, pieces, to, left, operand, error, line),
+        Operator::Modulo => put_modulo(frame, pieces, to, left, operand, line),
+    }
+}

@@ -1,0 +1,213 @@
+// The words of each instruction.
+
+ghost use Rattle.std.specs.Prelude.{◌≡◌, ◌++◌, [], ◌∷◌, OnOk};
+ghost use Rattle.risc_word.specs.declared.instr.Condition.TheVariants as on;
+ghost use Rattle.risc_related.specs.Context.{home};
+ghost use Rattle.risc_steps.specs.Pieces as piece;
+ghost use Rattle.risc_steps.specs.Forms as form;
+ghost use Rattle.risc_emit.specs.Frames.{context_of};
+ghost use Rattle.risc_emit.specs.Meant.{label_of};
+ghost use Rattle.risc_emit.specs.Passes.{PassesFew};
+
+use crate::arithmetic::{condition_of, put_arithmetic, put_bits, put_compare, put_difference};
+use crate::calls::{put_call, put_call_value, put_end, put_new, put_put, put_return, put_take};
+use crate::checks::{put_check, put_index, put_pointer_check};
+use crate::frame::Frame;
+use crate::memory::{put_label, put_load_form, put_offset, put_store_form};
+use crate::numbers::put_number;
+use crate::operands::{put_copy, save, target};
+use crate::pieces::{Label, Piece, Pieces};
+use risc_word::{Condition, Width};
+use tac_code::code::{Instruction, Operand, OutOfMemory, Relation};
+
+fn put_literal(
+    frame: &Frame<'_>,
+    pieces: &mut Pieces,
+    to: u32,
+    value: i32,
+) -> Result<(), OutOfMemory>
+    ensures { OnOk result (pieces.new ≡ pieces.old ++ (form.number (form.target (context_of frame.now) frame.now.number (home (context_of frame.now) frame.now.number to)) value ++ form.save (context_of frame.now) frame.now.number (home (context_of frame.now) frame.now.number to))) }
+{
+    put_number(pieces, target(frame, to), value)?;
+    save(frame, pieces, to)
+}
+
+fn put_jump(pieces: &mut Pieces, label: Label) -> Result<(), OutOfMemory>
+    ensures { OnOk result (pieces.new ≡ pieces.old ++ piece.Goes on.Always (label_of label) ∷ []) }
+{
+    pieces.push(Piece::Goes(Condition::Always, label))
+}
+
+fn put_branch(
+    frame: &Frame<'_>,
+    pieces: &mut Pieces,
+    relation: Relation,
+    left: u32,
+    right: Operand,
+    label: Label,
+) -> Result<(), OutOfMemory>
+    ensures { OnOk result (pieces.new ≡ pieces.old ++ form.branch_form (context_of frame.now) frame.now.number relation left right (label_of label)) }
+{
+    put_difference(frame, pieces, left, right)?;
+    pieces.push(Piece::Goes(condition_of(relation), label))
+}
+
+/// The words of the instruction at a place.
+pub(crate) fn put_instruction(
+    frame: &Frame<'_>,
+    pieces: &mut Pieces,
+    place: usize,
+    instruction: &Instruction,
+) -> Result<(), OutOfMemory>
+    requires few { PassesFew instruction.now }
+    ensures { OnOk result (pieces.new ≡ pieces.old ++ form.form (context_of frame.now) frame.now.number place instruction.now) }
+{
+    let r = frame.number();
+    match instruction {
+        Instruction::Literal { to, value } => put_literal(frame, pieces, *to, *value),
+        Instruction::Copy { to, from } => put_copy(frame, pieces, *to, *from),
+        Instruction::Arithmetic {
+            operator,
+            to,
+            left,
+            right,
+            error,
+            line,
+        } => put_arithmetic(frame, pieces, *operator, *to, *left, *right, *error, *line),
+        Instruction::Bits {
+            operator,
+            to,
+            left,
+            right,
+        } => put_bits(frame, pieces, *operator, *to, *left, *right),
+        Instruction::Compare {
+            relation,
+            to,
+            left,
+            right,
+        } => put_compare(frame, pieces, *relation, *to, *left, *right),
+        Instruction::CheckRange {
+            value,
+            low,
+            high,
+            error,
+            line,
+        } => put_check(frame, pieces, *value, *low, *high, *error, *line),
+        Instruction::CheckPointer {
+            pointer,
+            error,
+            line,
+        } => put_pointer_check(frame, pieces, *pointer, *error, *line),
+        Instruction::Text { to, .. } => put_label(frame, pieces, *to, Label::Text(r, place)),
+        Instruction::Offset {
+            to,
+            base,
+            bytes,
+            ..
+        } => put_offset(frame, pieces, *to, *base, *bytes),
+        Instruction::Index {
+            to,
+            base,
+            index,
+            low,
+            high,
+            width,
+            error,
+            line,
+        } => put_index(
+            frame, pieces, *to, *base, *index, *low, *high, *width, *error, *line,
+        ),
+        Instruction::RoutineValue { to, routine } => put_label(
+            frame,
+            pieces,
+            *to,
+            Label::Entry(*routine),
+        ),
+        Instruction::Load { to, base, offset } => put_load_form(
+            frame,
+            pieces,
+            Width::Word,
+            *to,
+            *base,
+            *offset,
+        ),
+        Instruction::Store { base, offset, from } => put_store_form(
+            frame,
+            pieces,
+            Width::Word,
+            *base,
+            *offset,
+            *from,
+        ),
+        Instruction::LoadByte { to, base, offset } => put_load_form(
+            frame,
+            pieces,
+            Width::Byte,
+            *to,
+            *base,
+            *offset,
+        ),
+        Instruction::StoreByte { base, offset, from } => put_store_form(
+            frame,
+            pieces,
+            Width::Byte,
+            *base,
+            *offset,
+            *from,
+        ),
+        Instruction::Jump { forward } => put_jump(pieces, Label::Forward(r, place, *forward)),
+        Instruction::JumpBack { back } => put_jump(pieces, Label::Back(r, place, *back)),
+        Instruction::Branch {
+            relation,
+            left,
+            right,
+            forward,
+        } => put_branch(
+            frame,
+            pieces,
+            *relation,
+            *left,
+            *right,
+            Label::Forward(r, place, *forward),
+        ),
+        Instruction::BranchBack {
+            relation,
+            left,
+            right,
+            back,
+        } => put_branch(
+            frame,
+            pieces,
+            *relation,
+            *left,
+            *right,
+            Label::Back(r, place, *back),
+        ),
+        Instruction::Call {
+            to,
+            routine,
+            operands,
+            line,
+        } => put_call(frame, pieces, *to, *routine, operands.as_slice(), *line),
+        Instruction::CallValue {
+            to,
+            callee,
+            operands,
+            line,
+        } => put_call_value(frame, pieces, *to, *callee, operands.as_slice(), *line),
+        Instruction::Return { from } => put_return(frame, pieces, *from),
+        Instruction::Trap { error, line } => pieces.push(Piece::Fails(
+            Condition::Always,
+            *error,
+            *line,
+        )),
+        Instruction::Take { to } => put_take(frame, pieces, *to),
+        Instruction::Put { from } => put_put(frame, pieces, *from),
+        Instruction::New {
+            to,
+            object_type,
+            line,
+        } => put_new(frame, pieces, *to, frame.object_bytes(*object_type), *line),
+        Instruction::End => put_end(frame, pieces),
+    }
+}

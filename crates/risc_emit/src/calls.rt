@@ -1,0 +1,164 @@
+// Calls and returns, devices and objects.
+
+ghost use Rattle.std.specs.Prelude.{◌≡◌, ◌≤◌, ◌++◌, length, [], ◌∷◌, pos, OnOk};
+ghost use Rattle.risc_word.specs.declared.instr.Operation.TheVariants as op;
+ghost use Rattle.risc_word.specs.declared.instr.Operand.TheVariants.{Content};
+ghost use Rattle.risc_word.specs.declared.instr.Width.TheVariants.{Word};
+ghost use Rattle.risc_word.specs.declared.instr.Instr.TheVariants as word;
+ghost use Rattle.risc_steps.specs.Pieces as piece;
+ghost use Rattle.risc_steps.specs.Forms as form;
+ghost use Rattle.risc_emit.specs.Frames.{context_of};
+
+use crate::frame::Frame;
+use crate::numbers::put_natural;
+use crate::operands::{bring, fetch, receive, save, target};
+use crate::pieces::{Piece, Pieces};
+use crate::words::{computed, copied, goes_to, loaded, r12, r13, r14, r15, set, stored};
+use risc_word::{Condition, Operand as Right, Operation, Register, Width};
+use tac_code::code::OutOfMemory;
+
+/// The base of the device page, and the offsets of the word that stops and of input and output.
+const DEVICE: i32 = -64;
+
+const STOP: i32 = 4;
+
+const PORT: i32 = 8;
+
+/// In the program block's frame: the stack's limit and the next address of the heap.
+pub(crate) const LIMIT_AT: i32 = 268;
+
+pub(crate) const NEXT_AT: i32 = 272;
+
+// Operands go into the frame, behind its first two words.
+fn put_operands(frame: &Frame<'_>, pieces: &mut Pieces, operands: &[u32]) -> Result<(), OutOfMemory>
+    requires few { length operands.now ≤ 65 }
+    ensures { OnOk result (pieces.new ≡ pieces.old ++ form.pass (context_of frame.now) frame.now.number 0 operands.now) }
+{
+    for j in 0..operands.len() {
+        let register = fetch(frame, pieces, r12(), operands[j])?;
+        pieces.plain(stored(Width::Word, register, r14(), 8 + 4 * j as i32))?;
+    }
+    Ok(())
+}
+
+pub(crate) fn put_call(
+    frame: &Frame<'_>,
+    pieces: &mut Pieces,
+    to: u32,
+    routine: u32,
+    operands: &[u32],
+    line: u16,
+) -> Result<(), OutOfMemory>
+    requires few { length operands.now ≤ 65 }
+    ensures { OnOk result (pieces.new ≡ pieces.old ++ form.call_form (context_of frame.now) frame.now.number to routine operands.now line) }
+{
+    put_operands(frame, pieces, operands)?;
+    if frame.calls_program(routine) {
+        pieces.push(Piece::Enters(routine, line))?;
+    } else {
+        pieces.push(Piece::Joins(routine))?;
+    }
+    receive(frame, pieces, to)
+}
+
+pub(crate) fn put_call_value(
+    frame: &Frame<'_>,
+    pieces: &mut Pieces,
+    to: u32,
+    callee: u32,
+    operands: &[u32],
+    line: u16,
+) -> Result<(), OutOfMemory>
+    requires few { length operands.now ≤ 65 }
+    ensures { OnOk result (pieces.new ≡ pieces.old ++ form.call_value_form (context_of frame.now) frame.now.number to callee operands.now line) }
+{
+    put_operands(frame, pieces, operands)?;
+    let register = fetch(frame, pieces, r12(), callee)?;
+    pieces.push(Piece::EntersAt(register, line))?;
+    receive(frame, pieces, to)
+}
+
+pub(crate) fn put_return(
+    frame: &Frame<'_>,
+    pieces: &mut Pieces,
+    from: u32,
+) -> Result<(), OutOfMemory>
+    ensures { OnOk result (pieces.new ≡ pieces.old ++ form.return_form (context_of frame.now) frame.now.number from) }
+{
+    bring(frame, pieces, r12(), from)?;
+    if frame.is_of_program() {
+        pieces.plain(loaded(Width::Word, r15(), r14(), 0))?;
+        pieces.plain(loaded(Width::Word, r14(), r14(), 4))?;
+    } else {
+        pieces.plain(loaded(Width::Word, r15(), r14(), frame.link_at()))?;
+    }
+    pieces.plain(goes_to(r15()))
+}
+
+fn put_device(pieces: &mut Pieces, register: Register) -> Result<(), OutOfMemory>
+    ensures { OnOk result (pieces.new ≡ pieces.old ++ form.device register ∷ []) }
+{
+    pieces.plain(set(register, DEVICE))
+}
+
+pub(crate) fn put_put(frame: &Frame<'_>, pieces: &mut Pieces, from: u32) -> Result<(), OutOfMemory>
+    ensures { OnOk result (pieces.new ≡ pieces.old ++ form.put_form (context_of frame.now) frame.now.number from) }
+{
+    let register = fetch(frame, pieces, r12(), from)?;
+    put_device(pieces, r15())?;
+    pieces.plain(stored(Width::Word, register, r15(), PORT))
+}
+
+pub(crate) fn put_take(frame: &Frame<'_>, pieces: &mut Pieces, to: u32) -> Result<(), OutOfMemory>
+    ensures { OnOk result (pieces.new ≡ pieces.old ++ form.take_form (context_of frame.now) frame.now.number to) }
+{
+    put_device(pieces, r15())?;
+    pieces.plain(loaded(Width::Word, target(frame, to), r15(), PORT))?;
+    save(frame, pieces, to)
+}
+
+pub(crate) fn put_end(frame: &Frame<'_>, pieces: &mut Pieces) -> Result<(), OutOfMemory>
+    ensures { OnOk result (pieces.new ≡ pieces.old ++ form.end_form (context_of frame.now) frame.now.number) }
+{
+    let _ = frame;
+    put_device(pieces, r12())?;
+    pieces.plain(set(r15(), 0))?;
+    pieces.plain(stored(Width::Word, r15(), r12(), STOP))
+}
+
+// R12 takes the bytes, and what is left of the room between the heap's next address and the stack's limit sets the flags.
+fn put_room(pieces: &mut Pieces, bytes: u32) -> Result<(), OutOfMemory>
+    ensures { OnOk result (pieces.new ≡ pieces.old ++ (piece.Plain (word.Load Word 15 13 (pos 268)) ∷ piece.Plain (word.Load Word 12 13 (pos 272)) ∷ piece.Plain (word.Operate op.Sub 15 15 (Content 12)) ∷ (form.number 12 (pos bytes) ++ piece.Plain (word.Operate op.Sub 15 15 (Content 12)) ∷ []))) }
+{
+    pieces.plain(loaded(Width::Word, r15(), r13(), LIMIT_AT))?;
+    pieces.plain(loaded(Width::Word, r12(), r13(), NEXT_AT))?;
+    pieces.plain(computed(Operation::Sub, r15(), r15(), Right::Content(r12())))?;
+    put_natural(pieces, r12(), u64::from(bytes))?;
+    pieces.plain(computed(Operation::Sub, r15(), r15(), Right::Content(r12())))
+}
+
+// The heap's next address moves on by R12, which takes the address that it had.
+fn put_taken(pieces: &mut Pieces) -> Result<(), OutOfMemory>
+    ensures { OnOk result (pieces.new ≡ pieces.old ++ (piece.Plain (word.Load Word 15 13 (pos 272)) ∷ piece.Plain (word.Operate op.Add 12 12 (Content 15)) ∷ piece.Plain (word.Store Word 12 13 (pos 272)) ∷ piece.Plain (word.Move 12 (Content 15)) ∷ [])) }
+{
+    pieces.plain(loaded(Width::Word, r15(), r13(), NEXT_AT))?;
+    pieces.plain(computed(Operation::Add, r12(), r12(), Right::Content(r15())))?;
+    pieces.plain(stored(Width::Word, r12(), r13(), NEXT_AT))?;
+    pieces.plain(copied(r12(), r15()))
+}
+
+/// The heap's next address, where there is room up to the stack's limit.
+pub(crate) fn put_new(
+    frame: &Frame<'_>,
+    pieces: &mut Pieces,
+    to: u32,
+    bytes: u32,
+    line: u16,
+) -> Result<(), OutOfMemory>
+    ensures { OnOk result (pieces.new ≡ pieces.old ++ form.new_form (context_of frame.now) frame.now.number to bytes line) }
+{
+    put_room(pieces, bytes)?;
+    pieces.push(Piece::Fails(Condition::CarrySet, 13, line))?;
+    put_taken(pieces)?;
+    receive(frame, pieces, to)
+}

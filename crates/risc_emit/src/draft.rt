@@ -1,0 +1,136 @@
+// The pieces of a whole code, with the words of its constants, and where each stands.
+
+ghost use Rattle.std.specs.Prelude.{◌≡◌, ◌+◌, ◌*◌, ◌≤◌, [], ◌∷◌, ◌++◌, length, take, slice_get, get_or, Some, OnOk, IfOk};
+ghost use Rattle.std.specs.Int.{w32, from_le_bytes};
+ghost use Rattle.tac_code.specs.Meaning.{routines};
+ghost use Rattle.risc_alloc.specs.Valid.{Valid};
+ghost use Rattle.risc_steps.specs.Forms as form;
+ghost use Rattle.risc_runs.specs.Drawn.{program_pieces, routine_pieces, entry_place, text_words, instruction_texts, body_texts, routines_texts};
+ghost use Rattle.risc_emit.specs.Frames.{context_of};
+ghost use Rattle.risc_emit.specs.Layout.{laid_out};
+ghost use Rattle.risc_emit.specs.Passes.{PassesFew};
+ghost use Rattle.risc_emit.specs.Marked.{mark_of, AreMarksOf, AreMarked};
+
+use crate::body::put_instruction;
+use crate::entry::{put_entry, put_start};
+use crate::frame::Frame;
+use crate::marks::{Mark, Marks};
+use crate::pieces::Pieces;
+use risc_alloc::homes::Home;
+use std::alloc::Global;
+use tac_code::code::{Instruction, OutOfMemory, TacRoutine};
+use tac_code::tac::Tac;
+
+/// What is written before it is known where words stand: the pieces, the words of all constants, and the marks of each routine.
+#[derive(Drop)]
+pub(crate) struct Draft {
+    pub pieces: Pieces,
+    pub texts: Vec<u32>,
+    pub marks: Vec<Marks>,
+}
+
+// Word k, its lowest byte first.
+fn word_at(bytes: &[u8], k: usize) -> u32
+    requires { 4 * k + 4 ≤ length bytes.now }
+    ensures { result ≡ from_le_bytes w32 (get_or bytes.now (4 * k) 0 ∷ get_or bytes.now (4 * k + 1) 0 ∷ get_or bytes.now (4 * k + 2) 0 ∷ get_or bytes.now (4 * k + 3) 0 ∷ []) }
+{
+    let at = 4 * k;
+    u32::from_le_bytes([bytes[at], bytes[at + 1], bytes[at + 2], bytes[at + 3]])
+}
+
+// The words of a constant.
+fn put_words(texts: &mut Vec<u32>, bytes: &[u8]) -> Result<(), OutOfMemory>
+    ensures { OnOk result (texts.new.items ≡ texts.old.items ++ text_words bytes.now) }
+{
+    for k in 0..bytes.len() / 4 {
+        texts.push(word_at(bytes, k))?;
+    }
+    Ok(())
+}
+
+fn put_text(texts: &mut Vec<u32>, instruction: &Instruction) -> Result<(), OutOfMemory>
+    ensures { OnOk result (texts.new.items ≡ texts.old.items ++ instruction_texts instruction.now) }
+{
+    match instruction {
+        Instruction::Text { bytes, .. } => put_words(texts, bytes.as_slice()),
+        _ => Ok(()),
+    }
+}
+
+// The mark of a place, with the pieces and the constant's words of its instruction.
+fn put_place(
+    frame: &Frame<'_>,
+    pieces: &mut Pieces,
+    texts: &mut Vec<u32>,
+    places: &mut Vec<Mark>,
+    place: usize,
+    instruction: &Instruction,
+) -> Result<(), OutOfMemory>
+    requires few { PassesFew instruction.now }
+    ensures pieces { OnOk result (pieces.new ≡ pieces.old ++ form.form (context_of frame.now) frame.now.number place instruction.now) }
+    ensures texts { OnOk result (texts.new.items ≡ texts.old.items ++ instruction_texts instruction.now) }
+    ensures mark { OnOk result (places.new.items ≡ places.old.items ++ mark_of (length pieces.old) (length texts.old.items) ∷ []) }
+{
+    places.push(Mark {
+        site: pieces.len(),
+        text: texts.len(),
+    })?;
+    put_instruction(frame, pieces, place, instruction)?;
+    put_text(texts, instruction)
+}
+
+// A routine's pieces, its constants' words, and the marks of its places and of the one behind the last.
+fn put_routine(
+    alloc: Global,
+    frame: &Frame<'_>,
+    pieces: &mut Pieces,
+    texts: &mut Vec<u32>,
+    routine: &TacRoutine,
+) -> Result<Marks, OutOfMemory>
+    requires own { slice_get (routines frame.now.code) frame.now.number ≡ Some routine.now }
+    requires entry { length pieces.now ≡ entry_place (context_of frame.now) frame.now.number }
+    requires first { length texts.now.items ≡ length (routines_texts (take frame.now.number (routines frame.now.code))) }
+    ensures pieces { OnOk result (pieces.new ≡ pieces.old ++ routine_pieces (context_of frame.now) frame.now.number routine.now) }
+    ensures texts { OnOk result (texts.new.items ≡ texts.old.items ++ body_texts routine.now.body) }
+    ensures marks { IfOk result (λ marks. AreMarksOf (context_of frame.now) frame.now.number routine.now marks) }
+{
+    frame.keeps_invariant();
+    let entry = pieces.len();
+    put_entry(frame, pieces, routine)?;
+    let body = routine.body.as_slice();
+    let mut places = Vec::new(alloc);
+    for place in 0..body.len() {
+        put_place(frame, pieces, texts, &mut places, place, &body[place])?;
+    }
+    places.push(Mark {
+        site: pieces.len(),
+        text: texts.len(),
+    })?;
+    Ok(Marks { entry, places })
+}
+
+/// All pieces of a code, with homes that are a valid placement.
+pub(crate) fn draft_of(alloc: Global, tac: &Tac, homes: &[Home]) -> Result<Draft, OutOfMemory>
+    requires valid { Valid tac.now homes.now }
+    ensures pieces { IfOk result (λ draft. draft.pieces ≡ program_pieces (laid_out tac.now homes.now)) }
+    ensures texts { IfOk result (λ draft. draft.texts.items ≡ routines_texts (routines tac.now)) }
+    ensures marks { IfOk result (λ draft. AreMarked (laid_out tac.now homes.now) draft.marks.items) }
+{
+    tac.keeps_invariant();
+    let mut pieces = Pieces::new(alloc);
+    let mut texts = Vec::new(alloc);
+    let mut marks = Vec::new(alloc);
+    put_start(&Frame::new(tac, homes, 0, 0), &mut pieces, tac.routine(0))?;
+    let mut first = 0;
+    for number in 0..tac.program().len() + tac.run_time().len() {
+        let frame = Frame::new(tac, homes, number, first);
+        let routine = tac.routine(number);
+        marks.push(put_routine(alloc, &frame, &mut pieces, &mut texts, routine)?)?;
+        first += routine.temporaries as usize;
+    }
+    Ok(Draft {
+        pieces,
+        texts,
+        marks,
+    })
+}

@@ -1,0 +1,143 @@
+// The words in front of a routine's first instruction, and those in front of the program.
+
+ghost use Rattle.std.specs.Prelude.{◌≡◌, ◌<◌, ◌++◌, [], ◌∷◌, pos, negsuc, true, OnOk};
+ghost use Rattle.risc_word.specs.declared.instr.Operand.TheVariants.{Constant};
+ghost use Rattle.risc_word.specs.declared.instr.Width.TheVariants.{Word};
+ghost use Rattle.risc_word.specs.declared.instr.Condition.TheVariants as on;
+ghost use Rattle.risc_word.specs.declared.instr.Instr.TheVariants as word;
+ghost use Rattle.risc_steps.specs.Forms as form;
+ghost use Rattle.risc_steps.specs.Pieces as piece;
+ghost use Rattle.risc_runs.specs.Emits.{start_form};
+ghost use Rattle.risc_emit.specs.Frames.{context_of};
+
+use crate::calls::{LIMIT_AT, NEXT_AT};
+use crate::frame::Frame;
+use crate::numbers::{put_constant, put_load};
+use crate::operands::{save, target};
+use crate::pieces::{Label, Piece, Pieces};
+use crate::words::{
+    computed, constant, copied, loaded, r0, r1, r2, r12, r13, r14, r15, set, skip, stored,
+};
+use risc_word::{Condition, Operand as Right, Operation, Width};
+use tac_code::code::{OutOfMemory, TacRoutine};
+
+/// The first frame that no stack holds.
+const TOO_LARGE: u64 = 16777153;
+
+/// More parameters than this no call passes.
+const PARAMETERS: u32 = 65;
+
+// Parameters come from the operands of the caller, so many bytes behind the frame.
+fn put_parameters(
+    frame: &Frame<'_>,
+    pieces: &mut Pieces,
+    behind: u64,
+    count: u32,
+) -> Result<(), OutOfMemory>
+    requires { behind < 1099511627776 }
+    ensures { OnOk result (pieces.new ≡ pieces.old ++ form.parameters (context_of frame.now) frame.now.number behind 0 count) }
+{
+    for j in 0..count {
+        put_load(
+            pieces,
+            target(frame, j),
+            r14(),
+            behind + 8 + 4 * u64::from(j),
+        )?;
+        save(frame, pieces, j)?;
+    }
+    Ok(())
+}
+
+// R12 takes the new frame's address.
+fn put_frame_below(frame: &Frame<'_>, pieces: &mut Pieces, bytes: u64) -> Result<(), OutOfMemory>
+    ensures { OnOk result (pieces.new ≡ pieces.old ++ form.frame_below (context_of frame.now) frame.now.number bytes) }
+{
+    let _ = frame;
+    if bytes < 65536 {
+        return pieces.plain(computed(Operation::Sub, r12(), r14(), constant(bytes as i32)));
+    }
+    put_constant(pieces, r12(), bytes)?;
+    pieces.plain(computed(Operation::Sub, r12(), r14(), Right::Content(r12())))
+}
+
+// The test of the stack, the frame and the parameters.
+fn put_enter(
+    frame: &Frame<'_>,
+    pieces: &mut Pieces,
+    routine: &TacRoutine,
+) -> Result<(), OutOfMemory>
+    requires { form.is_entered (context_of frame.now) frame.now.number routine.now ≡ true }
+    ensures { OnOk result (pieces.new ≡ pieces.old ++ form.enter_form (context_of frame.now) frame.now.number routine.now) }
+{
+    put_frame_below(frame, pieces, frame.cost())?;
+    pieces.plain(loaded(Width::Word, r0(), r13(), LIMIT_AT))?;
+    pieces.plain(computed(Operation::Sub, r0(), r12(), Right::Content(r0())))?;
+    pieces.push(Piece::Fails(Condition::Less, 12, routine.line))?;
+    pieces.plain(stored(Width::Word, r15(), r12(), 0))?;
+    pieces.plain(stored(Width::Word, r14(), r12(), 4))?;
+    pieces.plain(copied(r14(), r12()))?;
+    put_parameters(frame, pieces, frame.cost(), routine.parameters)
+}
+
+// A run-time routine stands within its caller's frame.
+fn put_join(frame: &Frame<'_>, pieces: &mut Pieces, routine: &TacRoutine) -> Result<(), OutOfMemory>
+    ensures { OnOk result (pieces.new ≡ pieces.old ++ form.join_form (context_of frame.now) frame.now.number routine.now) }
+{
+    pieces.plain(stored(Width::Word, r15(), r14(), frame.link_at()))?;
+    put_parameters(frame, pieces, 0, routine.parameters)
+}
+
+fn is_entered(frame: &Frame<'_>, routine: &TacRoutine) -> bool
+    ensures { result ≡ form.is_entered (context_of frame.now) frame.now.number routine.now }
+{
+    frame.cost() < TOO_LARGE && routine.parameters <= PARAMETERS
+}
+
+/// A routine's entry.
+pub(crate) fn put_entry(
+    frame: &Frame<'_>,
+    pieces: &mut Pieces,
+    routine: &TacRoutine,
+) -> Result<(), OutOfMemory>
+    ensures { OnOk result (pieces.new ≡ pieces.old ++ form.entry_form (context_of frame.now) frame.now.number routine.now) }
+{
+    if !frame.is_of_program() {
+        return put_join(frame, pieces, routine);
+    }
+    if !is_entered(frame, routine) {
+        return pieces.push(Piece::Fails(Condition::Always, 12, routine.line));
+    }
+    put_enter(frame, pieces, routine)
+}
+
+// The stub of all stops, with a branch over it.
+fn put_stub(pieces: &mut Pieces) -> Result<(), OutOfMemory>
+    ensures { OnOk result (pieces.new ≡ pieces.old ++ form.skip on.Always 2 ∷ piece.Plain (word.Move 12 (Constant (negsuc 63))) ∷ piece.Plain (word.Store Word 15 12 (pos 4)) ∷ []) }
+{
+    pieces.plain(skip(Condition::Always, 2))?;
+    pieces.plain(set(r12(), -64))?;
+    pieces.plain(stored(Width::Word, r15(), r12(), 4))
+}
+
+/// The first words: the stub, and the test of the stack for the program block.
+pub(crate) fn put_start(
+    frame: &Frame<'_>,
+    pieces: &mut Pieces,
+    block: &TacRoutine,
+) -> Result<(), OutOfMemory>
+    requires { frame.now.number ≡ 0 }
+    ensures { OnOk result (pieces.new ≡ pieces.old ++ start_form (context_of frame.now) block.now) }
+{
+    put_stub(pieces)?;
+    if frame.cost() >= TOO_LARGE {
+        return pieces.push(Piece::Fails(Condition::Always, 12, block.line));
+    }
+    put_frame_below(frame, pieces, frame.cost())?;
+    pieces.plain(computed(Operation::Sub, r2(), r12(), Right::Content(r1())))?;
+    pieces.push(Piece::Fails(Condition::Less, 12, block.line))?;
+    pieces.plain(stored(Width::Word, r1(), r12(), LIMIT_AT))?;
+    pieces.plain(stored(Width::Word, r0(), r12(), NEXT_AT))?;
+    pieces.plain(copied(r13(), r12()))?;
+    pieces.push(Piece::Goes(Condition::Always, Label::Entry(0)))
+}

@@ -1,0 +1,124 @@
+// Where the words of instructions, routines and constants stand.
+
+ghost use Rattle.std.specs.Prelude.{◌≡◌, suc, ◌+◌, ◌-◌, ◌≤◌, slice_get};
+ghost use Rattle.risc_steps.specs.Pieces.{label_place};
+ghost use Rattle.risc_emit.specs.Meant.{label_of};
+ghost use Rattle.risc_emit.specs.Placed.{site_of, text_of, site_at, text_at, entry_at, constant_at, placed, AreNear};
+
+use crate::pieces::Label;
+
+/// The first word of an instruction, and of its constant among the words of all constants.
+#[derive(Clone, Copy)]
+pub(crate) struct Mark {
+    pub site: usize,
+    pub text: usize,
+}
+
+/// The first word of a routine, and the marks of its places and of the one behind its last.
+#[derive(Drop)]
+pub(crate) struct Marks {
+    pub entry: usize,
+    pub places: Vec<Mark>,
+}
+
+fn site_in(places: &[Mark], place: usize) -> usize
+    ensures { result ≡ site_of (slice_get places.now place) }
+{
+    match places.get(place) {
+        None => 0,
+        Some(mark) => mark.site,
+    }
+}
+
+fn text_in(places: &[Mark], place: usize) -> usize
+    ensures { result ≡ text_of (slice_get places.now place) }
+{
+    match places.get(place) {
+        None => 0,
+        Some(mark) => mark.text,
+    }
+}
+
+// The place so many on from the one behind a place.
+fn site_ahead(places: &[Mark], place: usize, distance: u64) -> usize
+    ensures { result ≡ site_of (slice_get places.now (suc place + distance)) }
+{
+    if place >= places.len() {
+        return 0;
+    }
+    let left = places.len() - place - 1;
+    if distance >= left as u64 {
+        return 0;
+    }
+    site_in(places, place + 1 + distance as usize)
+}
+
+fn forward(marks: &[Marks], routine: usize, place: usize, distance: u64) -> usize
+    ensures { result ≡ site_at marks.now routine (suc place + distance) }
+{
+    match marks.get(routine) {
+        None => 0,
+        Some(marks) => site_ahead(marks.places.as_slice(), place, distance),
+    }
+}
+
+fn site_at(marks: &[Marks], routine: usize, place: usize) -> usize
+    ensures { result ≡ site_at marks.now routine place }
+{
+    match marks.get(routine) {
+        None => 0,
+        Some(marks) => site_in(marks.places.as_slice(), place),
+    }
+}
+
+fn text_at(marks: &[Marks], routine: usize, place: usize) -> usize
+    ensures { result ≡ text_at marks.now routine place }
+{
+    match marks.get(routine) {
+        None => 0,
+        Some(marks) => text_in(marks.places.as_slice(), place),
+    }
+}
+
+/// The first word of a routine, 0 where there is none.
+pub(crate) fn entry_at(marks: &[Marks], routine: usize) -> usize
+    ensures { result ≡ entry_at marks.now routine }
+{
+    match marks.get(routine) {
+        None => 0,
+        Some(marks) => marks.entry,
+    }
+}
+
+// The place so many back.
+fn back(marks: &[Marks], routine: usize, place: usize, distance: u64) -> usize
+    ensures { result ≡ site_at marks.now routine (place - distance) }
+{
+    let place = if distance < place as u64 {
+        place - distance as usize
+    } else {
+        0
+    };
+    site_at(marks, routine, place)
+}
+
+// The first word of a constant, where the constants' words begin with one.
+fn constant_at(marks: &[Marks], constants: usize, routine: usize, place: usize) -> usize
+    requires { constant_at marks.now constants routine place ≤ 1048576 }
+    ensures { result ≡ constant_at marks.now constants routine place }
+{
+    constants + text_at(marks, routine, place)
+}
+
+/// The place of a label, where the constants' words begin with one.
+pub(crate) fn label_place(marks: &[Marks], constants: usize, label: Label) -> usize
+    requires { AreNear marks.now constants }
+    ensures { result ≡ label_place (placed marks.now constants) (label_of label) }
+{
+    match label {
+        Label::Forward(routine, place, distance) => forward(marks, routine, place, distance),
+        Label::Back(routine, place, distance) => back(marks, routine, place, distance),
+        Label::Entry(routine) => entry_at(marks, routine as usize),
+        Label::Text(routine, place) => constant_at(marks, constants, routine, place),
+    }
+}

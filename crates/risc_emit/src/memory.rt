@@ -1,0 +1,157 @@
+// Addresses, loads and stores.
+
+ghost use Rattle.std.specs.Prelude.{◌≡◌, ◌++◌, pos, ◌≤ℤ◌, OnOk, IfOk};
+ghost use Rattle.risc_related.specs.Context.{home};
+ghost use Rattle.risc_steps.specs.Forms as form;
+ghost use Rattle.risc_emit.specs.Frames.{context_of};
+ghost use Rattle.risc_emit.specs.Meant.{label_of};
+
+use crate::frame::Frame;
+use crate::numbers::{is_near, put_constant, put_natural};
+use crate::operands::{bring, fetch, save, target};
+use crate::pieces::{Label, Piece, Pieces};
+use crate::words::{computed, constant, loaded, r12, r13, r14, r15, stored};
+use risc_word::{Operand as Right, Operation, Register, Width};
+use tac_code::code::{Base, OutOfMemory};
+
+// The register of a base, with the words that fetch it.
+fn put_base(frame: &Frame<'_>, pieces: &mut Pieces, base: Base) -> Result<Register, OutOfMemory>
+    ensures words { OnOk result (pieces.new ≡ pieces.old ++ form.base_code (context_of frame.now) frame.now.number base) }
+    ensures register { IfOk result (λ q. q ≡ form.base_register (context_of frame.now) frame.now.number base) }
+{
+    match base {
+        Base::Frame | Base::Scratch => Ok(r14()),
+        Base::Program => Ok(r13()),
+        Base::Temporary(temporary) => fetch(frame, pieces, r12(), temporary),
+    }
+}
+
+// The offset of an address from that register.
+fn base_offset(frame: &Frame<'_>, base: Base, bytes: u32) -> u64
+    ensures { result ≡ form.base_offset (context_of frame.now) frame.now.number base bytes }
+{
+    match base {
+        Base::Frame => frame.frame_at() + u64::from(bytes),
+        Base::Scratch => frame.scratch_at() + u64::from(bytes),
+        Base::Program => frame.program_at() + u64::from(bytes),
+        Base::Temporary(_) => u64::from(bytes),
+    }
+}
+
+// A register and an offset that a load or a store can take.
+fn put_reach(
+    frame: &Frame<'_>,
+    pieces: &mut Pieces,
+    base: Base,
+    bytes: u32,
+) -> Result<(Register, i32), OutOfMemory>
+    ensures words { OnOk result (pieces.new ≡ pieces.old ++ form.reach (context_of frame.now) frame.now.number base bytes) }
+    ensures register { IfOk result (λ r. r.0 ≡ form.reach_register (context_of frame.now) frame.now.number base bytes) }
+    ensures offset { IfOk result (λ r. r.1 ≡ pos (form.reach_offset (context_of frame.now) frame.now.number base bytes)) }
+    ensures low { IfOk result (λ r. pos 0 ≤ℤ r.1) }
+    ensures high { IfOk result (λ r. r.1 ≤ℤ pos 524287) }
+{
+    let register = put_base(frame, pieces, base)?;
+    let offset = base_offset(frame, base, bytes);
+    if is_near(offset) {
+        return Ok((register, offset as i32));
+    }
+    put_constant(pieces, r15(), offset)?;
+    pieces.plain(computed(Operation::Add, r12(), register, Right::Content(r15())))?;
+    Ok((r12(), 0))
+}
+
+pub(crate) fn put_load_form(
+    frame: &Frame<'_>,
+    pieces: &mut Pieces,
+    width: Width,
+    to: u32,
+    base: Base,
+    bytes: u32,
+) -> Result<(), OutOfMemory>
+    ensures { OnOk result (pieces.new ≡ pieces.old ++ form.load_form (context_of frame.now) frame.now.number width to base bytes) }
+{
+    let (register, offset) = put_reach(frame, pieces, base, bytes)?;
+    pieces.plain(loaded(width, target(frame, to), register, offset))?;
+    save(frame, pieces, to)
+}
+
+pub(crate) fn put_store_form(
+    frame: &Frame<'_>,
+    pieces: &mut Pieces,
+    width: Width,
+    base: Base,
+    bytes: u32,
+    from: u32,
+) -> Result<(), OutOfMemory>
+    ensures { OnOk result (pieces.new ≡ pieces.old ++ form.store_form (context_of frame.now) frame.now.number width base bytes from) }
+{
+    let (register, offset) = put_reach(frame, pieces, base, bytes)?;
+    let value = fetch(frame, pieces, r15(), from)?;
+    pieces.plain(stored(width, value, register, offset))
+}
+
+// A register takes the address so many bytes behind a base.
+fn put_address(
+    frame: &Frame<'_>,
+    pieces: &mut Pieces,
+    to: Register,
+    base: Base,
+    bytes: u32,
+) -> Result<(), OutOfMemory>
+    ensures { OnOk result (pieces.new ≡ pieces.old ++ form.address (context_of frame.now) frame.now.number to base bytes) }
+{
+    let register = put_base(frame, pieces, base)?;
+    let offset = base_offset(frame, base, bytes);
+    if offset < 65536 {
+        return pieces.plain(computed(Operation::Add, to, register, constant(offset as i32)));
+    }
+    put_constant(pieces, r15(), offset)?;
+    pieces.plain(computed(Operation::Add, to, register, Right::Content(r15())))
+}
+
+pub(crate) fn put_offset(
+    frame: &Frame<'_>,
+    pieces: &mut Pieces,
+    to: u32,
+    base: Base,
+    bytes: u32,
+) -> Result<(), OutOfMemory>
+    ensures { OnOk result (pieces.new ≡ pieces.old ++ (form.address (context_of frame.now) frame.now.number (form.target (context_of frame.now) frame.now.number (home (context_of frame.now) frame.now.number to)) base bytes ++ form.save (context_of frame.now) frame.now.number (home (context_of frame.now) frame.now.number to))) }
+{
+    put_address(frame, pieces, target(frame, to), base, bytes)?;
+    save(frame, pieces, to)
+}
+
+/// R15 takes the address of a base.
+pub(crate) fn put_base_address(
+    frame: &Frame<'_>,
+    pieces: &mut Pieces,
+    base: Base,
+) -> Result<(), OutOfMemory>
+    ensures { OnOk result (pieces.new ≡ pieces.old ++ form.base_address (context_of frame.now) frame.now.number base) }
+{
+    let (register, offset) = match base {
+        Base::Frame => (r14(), frame.frame_at()),
+        Base::Scratch => (r14(), frame.scratch_at()),
+        Base::Program => (r13(), frame.program_at()),
+        Base::Temporary(temporary) => return bring(frame, pieces, r15(), temporary),
+    };
+    put_natural(pieces, r15(), offset)?;
+    pieces.plain(computed(Operation::Add, r15(), register, Right::Content(r15())))
+}
+
+/// The address of a label.
+pub(crate) fn put_label(
+    frame: &Frame<'_>,
+    pieces: &mut Pieces,
+    to: u32,
+    label: Label,
+) -> Result<(), OutOfMemory>
+    ensures { OnOk result (pieces.new ≡ pieces.old ++ form.label_form (context_of frame.now) frame.now.number to (label_of label)) }
+{
+    let register = target(frame, to);
+    pieces.push(Piece::High(register, label))?;
+    pieces.push(Piece::Low(register, label))?;
+    save(frame, pieces, to)
+}

@@ -1,0 +1,215 @@
+// Operands and results: where temporaries stand, and the words that bring them into registers and back.
+
+ghost use Rattle.std.specs.Prelude.{◌≡◌, ◌++◌, [], ◌∷◌, length, pos, ◌≤ℤ◌, OnOk, IfOk};
+ghost use Rattle.risc_word.specs.declared.instr.Instr.TheVariants as word;
+ghost use Rattle.tac_code.specs.declared.code.Operand.TheVariants as operand;
+ghost use Rattle.risc_related.specs.Context.{home};
+ghost use Rattle.risc_steps.specs.Pieces as piece;
+ghost use Rattle.risc_steps.specs.Forms as form;
+ghost use Rattle.risc_emit.specs.Frames.{context_of};
+ghost use Rattle.risc_emit.specs.Meant.{home_of_seat};
+
+use crate::frame::Frame;
+use crate::numbers::{is_near, is_small, put_exact, put_load, put_number, put_store};
+use crate::pieces::Pieces;
+use crate::seat::Seat;
+use crate::words::{computed, constant, copied, r12, r14, r15};
+use risc_word::{Operand as Right, Operation, Register};
+use tac_code::code::{Operand, OutOfMemory};
+
+/// A temporary stands in its register, or is loaded into one: gives the register in which it stands.
+pub(crate) fn fetch(
+    frame: &Frame<'_>,
+    pieces: &mut Pieces,
+    to: Register,
+    temporary: u32,
+) -> Result<Register, OutOfMemory>
+    ensures words { OnOk result (pieces.new ≡ pieces.old ++ form.fetch (context_of frame.now) frame.now.number to (home (context_of frame.now) frame.now.number temporary)) }
+    ensures register { IfOk result (λ q. q ≡ form.fetched (context_of frame.now) frame.now.number to (home (context_of frame.now) frame.now.number temporary)) }
+{
+    match frame.seat(temporary) {
+        Seat::Register(register) => Ok(register),
+        Seat::Slot(slot) => {
+            put_load(pieces, to, r14(), frame.slot_at(slot))?;
+            Ok(to)
+        }
+    }
+}
+
+/// The words that `fetch` takes.
+pub(crate) fn fetch_length(frame: &Frame<'_>, temporary: u32) -> i32
+    ensures length { result ≡ pos (length (form.fetch (context_of frame.now) frame.now.number 12 (home (context_of frame.now) frame.now.number temporary))) }
+    ensures low { pos 0 ≤ℤ result }
+    ensures high { result ≤ℤ pos 4 }
+{
+    match frame.seat(temporary) {
+        Seat::Register(_) => 0,
+        Seat::Slot(slot) => if is_near(frame.slot_at(slot)) { 1 } else { 4 },
+    }
+}
+
+fn bring_seat(
+    frame: &Frame<'_>,
+    pieces: &mut Pieces,
+    to: Register,
+    seat: Seat,
+) -> Result<(), OutOfMemory>
+    ensures { OnOk result (pieces.new ≡ pieces.old ++ form.bring (context_of frame.now) frame.now.number to (home_of_seat seat)) }
+{
+    match seat {
+        Seat::Register(register) => pieces.plain(copied(to, register)),
+        Seat::Slot(slot) => put_load(pieces, to, r14(), frame.slot_at(slot)),
+    }
+}
+
+/// A register takes a temporary, wherever it stands.
+pub(crate) fn bring(
+    frame: &Frame<'_>,
+    pieces: &mut Pieces,
+    to: Register,
+    temporary: u32,
+) -> Result<(), OutOfMemory>
+    ensures { OnOk result (pieces.new ≡ pieces.old ++ form.bring (context_of frame.now) frame.now.number to (home (context_of frame.now) frame.now.number temporary)) }
+{
+    bring_seat(frame, pieces, to, frame.seat(temporary))
+}
+
+/// The register in which a result is made.
+pub(crate) fn target(frame: &Frame<'_>, temporary: u32) -> Register
+    ensures { result ≡ form.target (context_of frame.now) frame.now.number (home (context_of frame.now) frame.now.number temporary) }
+{
+    match frame.seat(temporary) {
+        Seat::Register(register) => register,
+        Seat::Slot(_) => r12(),
+    }
+}
+
+/// What was made there comes into the temporary's slot.
+pub(crate) fn save(
+    frame: &Frame<'_>,
+    pieces: &mut Pieces,
+    temporary: u32,
+) -> Result<(), OutOfMemory>
+    ensures { OnOk result (pieces.new ≡ pieces.old ++ form.save (context_of frame.now) frame.now.number (home (context_of frame.now) frame.now.number temporary)) }
+{
+    match frame.seat(temporary) {
+        Seat::Register(_) => Ok(()),
+        Seat::Slot(slot) => put_store(pieces, r12(), r14(), frame.slot_at(slot)),
+    }
+}
+
+/// A result in R12 comes to its home.
+pub(crate) fn receive(
+    frame: &Frame<'_>,
+    pieces: &mut Pieces,
+    temporary: u32,
+) -> Result<(), OutOfMemory>
+    ensures { OnOk result (pieces.new ≡ pieces.old ++ form.receive (context_of frame.now) frame.now.number (home (context_of frame.now) frame.now.number temporary)) }
+{
+    match frame.seat(temporary) {
+        Seat::Register(register) => pieces.plain(copied(register, r12())),
+        Seat::Slot(slot) => put_store(pieces, r12(), r14(), frame.slot_at(slot)),
+    }
+}
+
+/// A number as a right operand: beside the operation, or in R15.
+pub(crate) fn number_right(
+    frame: &Frame<'_>,
+    pieces: &mut Pieces,
+    value: i32,
+) -> Result<Right, OutOfMemory>
+    ensures words { OnOk result (pieces.new ≡ pieces.old ++ form.right (context_of frame.now) frame.now.number (operand.Number value)) }
+    ensures operand { IfOk result (λ o. o ≡ form.right_operand (context_of frame.now) frame.now.number (operand.Number value)) }
+{
+    let _ = frame;
+    if is_small(value) {
+        return Ok(constant(value));
+    }
+    put_exact(pieces, r15(), value.cast_unsigned())?;
+    Ok(Right::Content(r15()))
+}
+
+/// The same of a number from 0 on.
+pub(crate) fn natural_right(
+    frame: &Frame<'_>,
+    pieces: &mut Pieces,
+    value: u32,
+) -> Result<Right, OutOfMemory>
+    ensures words { OnOk result (pieces.new ≡ pieces.old ++ form.right (context_of frame.now) frame.now.number (operand.Number (pos value))) }
+    ensures operand { IfOk result (λ o. o ≡ form.right_operand (context_of frame.now) frame.now.number (operand.Number (pos value))) }
+{
+    let _ = frame;
+    if value < 65536 {
+        return Ok(constant(value as i32));
+    }
+    put_exact(pieces, r15(), value)?;
+    Ok(Right::Content(r15()))
+}
+
+/// A right operand: a temporary's, a number beside the operation, or one in R15.
+pub(crate) fn right(
+    frame: &Frame<'_>,
+    pieces: &mut Pieces,
+    operand: Operand,
+) -> Result<Right, OutOfMemory>
+    ensures words { OnOk result (pieces.new ≡ pieces.old ++ form.right (context_of frame.now) frame.now.number operand) }
+    ensures operand { IfOk result (λ o. o ≡ form.right_operand (context_of frame.now) frame.now.number operand) }
+{
+    match operand {
+        Operand::Temporary(temporary) => Ok(Right::Content(fetch(
+            frame,
+            pieces,
+            r15(),
+            temporary,
+        )?)),
+        Operand::Number(value) => number_right(frame, pieces, value),
+    }
+}
+
+/// An operation on two operands, its result in a register.
+pub(crate) fn put_operation(
+    frame: &Frame<'_>,
+    pieces: &mut Pieces,
+    operation: Operation,
+    to: Register,
+    left: u32,
+    operand: Operand,
+) -> Result<(), OutOfMemory>
+    ensures { OnOk result (pieces.new ≡ pieces.old ++ form.both (context_of frame.now) frame.now.number left operand (piece.Plain (word.Operate operation to (form.fetched (context_of frame.now) frame.now.number 12 (home (context_of frame.now) frame.now.number left)) (form.right_operand (context_of frame.now) frame.now.number operand)) ∷ [])) }
+{
+    let a = fetch(frame, pieces, r12(), left)?;
+    let b = right(frame, pieces, operand)?;
+    pieces.plain(computed(operation, to, a, b))
+}
+
+/// A temporary takes another one.
+pub(crate) fn put_copy(
+    frame: &Frame<'_>,
+    pieces: &mut Pieces,
+    to: u32,
+    from: u32,
+) -> Result<(), OutOfMemory>
+    ensures { OnOk result (pieces.new ≡ pieces.old ++ form.copy (context_of frame.now) frame.now.number (home (context_of frame.now) frame.now.number to) (home (context_of frame.now) frame.now.number from)) }
+{
+    match frame.seat(to) {
+        Seat::Register(register) => bring(frame, pieces, register, from),
+        Seat::Slot(slot) => {
+            let register = fetch(frame, pieces, r12(), from)?;
+            put_store(pieces, register, r14(), frame.slot_at(slot))
+        }
+    }
+}
+
+/// R15 takes a right operand, with the flags.
+pub(crate) fn put_divisor(
+    frame: &Frame<'_>,
+    pieces: &mut Pieces,
+    operand: Operand,
+) -> Result<(), OutOfMemory>
+    ensures { OnOk result (pieces.new ≡ pieces.old ++ form.divisor (context_of frame.now) frame.now.number operand) }
+{
+    match operand {
+        Operand::Temporary(temporary) => bring(frame, pieces, r15(), temporary),
+        Operand::Number(value) => put_number(pieces, r15(), value),
+    }
+}

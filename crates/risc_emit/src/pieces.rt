@@ -1,0 +1,93 @@
+// Words before it is known where they stand.
+
+use risc_word::{Condition, Instr, Operand, Register, Target};
+use std::alloc::Global;
+use std::marker::Model;
+use tac_code::code::OutOfMemory;
+
+/// A first word: of the instruction so many places on from the one behind a place of a routine, or so many back from it, of a
+/// routine, or of the constant of a place.
+#[derive(Clone, Copy)]
+pub(crate) enum Label {
+    Forward(usize, usize, u64),
+    Back(usize, usize, u64),
+    Entry(u32),
+    Text(usize, usize),
+}
+
+/// One word.
+#[derive(Clone, Copy)]
+pub(crate) enum Piece {
+    Plain(Instr),
+    /// A branch to a label where a condition holds.
+    Goes(Condition, Label),
+    /// A stop where a condition holds, with the number of an error and its line.
+    Fails(Condition, u8, u16),
+    /// A call of a routine of the program, with its line.
+    Enters(u32, u16),
+    /// A call of a run-time routine.
+    Joins(u32),
+    /// A call of the routine whose address is in a register, with its line.
+    EntersAt(Register, u16),
+    /// The two halves of a label's address, into a register.
+    High(Register, Label),
+    Low(Register, Label),
+}
+
+/// The words so far.
+#[derive(Drop)]
+pub(crate) struct Pieces {
+    list: Vec<Piece>,
+}
+
+impl Model for Pieces {
+    ghost use Rattle.std.specs.Prelude.{List};
+    ghost use Rattle.risc_steps.specs.Pieces.{Piece as Meaning};
+    ghost use Rattle.risc_emit.specs.Meant.{all_meant};
+
+    ghost Value = { List Meaning };
+
+    ghost view = { λ p. all_meant p.list.items };
+}
+
+ghost use Rattle.std.specs.Prelude.{◌≡◌, [], ◌∷◌, ◌++◌, length, OnOk};
+ghost use Rattle.risc_steps.specs.Pieces as piece;
+ghost use Rattle.risc_emit.specs.Meant.{meant, all_meant};
+
+impl Pieces {
+    pub(crate) fn new(alloc: Global) -> Pieces
+        ensures { result ≡ [] }
+    {
+        Pieces {
+            list: Vec::new(alloc),
+        }
+    }
+
+    pub(crate) fn len(&self) -> usize
+        ensures { result ≡ length self.now }
+    {
+        self.list.len()
+    }
+
+    pub(crate) fn as_slice(&self) -> &[Piece]
+        ensures { all_meant result.now ≡ self.now }
+    {
+        self.list.as_slice()
+    }
+
+    pub(crate) fn push(&mut self, piece: Piece) -> Result<(), OutOfMemory>
+        ensures { OnOk result (self.new ≡ self.old ++ meant piece ∷ []) }
+    {
+        // The proof of the push takes up the modules of a piece's parts where they are named.
+        let _: Option<(Instr, Operand, Target)> = None;
+        self.list.push(piece)?;
+        Ok(())
+    }
+
+    /// An instruction of the machine.
+    pub(crate) fn plain(&mut self, instr: Instr) -> Result<(), OutOfMemory>
+        ensures { OnOk result (self.new ≡ self.old ++ piece.Plain instr ∷ []) }
+    {
+        self.push(Piece::Plain(instr))
+    }
+}

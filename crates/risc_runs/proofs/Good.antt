@@ -1,0 +1,239 @@
+-- The numbers and lines in the pieces of sound code lie in their ranges.
+use Rattle.std.proofs.Common.{ℕ, zero, suc, Bool, true, false, cond, nat_lt, List, [], ◌∷◌, ◌++◌, ℤ, pos, arith}
+use Rattle.risc_word.specs.declared.instr.Operation.TheVariants as op
+use Rattle.risc_word.specs.declared.instr.Operand.TheVariants.{Content}
+use Rattle.risc_word.specs.declared.instr.Instr.TheVariants as word
+use Rattle.risc_word.specs.declared.instr.Width.{Width}
+use Rattle.tac_code.specs.declared.code.Operator.{Operator}
+use Rattle.tac_code.specs.declared.code.Operator.TheVariants.{Add, Subtract, Multiply, Divide, Modulo}
+use Rattle.tac_code.specs.declared.code.Operand.{Operand}
+use Rattle.tac_code.specs.declared.code.Operand.TheVariants as operand
+use Rattle.tac_code.specs.declared.code.Base.{Base}
+use Rattle.tac_code.specs.declared.code.Base.TheVariants as base
+use Rattle.tac_code.specs.declared.code.Instruction.{Instruction}
+use Rattle.tac_code.specs.declared.code.Instruction.TheVariants.{Literal, Copy, Arithmetic, Bits, Compare, CheckRange, CheckPointer, Text, Offset, Index, RoutineValue, Load, Store, LoadByte, StoreByte, Jump, JumpBack, Branch, BranchBack, Call, CallValue, Return, Trap, Take, Put, New, End}
+use Rattle.tac_code.specs.declared.code.TacRoutine.{TacRoutine}
+use Rattle.tac_code.specs.declared.check.Limits.{Limits}
+use Rattle.tac_code.specs.Sound.{IsErrorNumber, IsLine, IsSoundAt}
+use Rattle.risc_alloc.specs.declared.homes.Home.{Home}
+use Rattle.risc_alloc.specs.declared.homes.Home.TheVariants.{Slot, Reg}
+use Rattle.risc_related.specs.Context.{Context, home, is_program, slot_at}
+use Rattle.risc_steps.specs.Pieces.{Piece, Plain, Fails, Enters, Joins, EntersAt}
+use Rattle.risc_steps.specs.Forms as form
+use Rattle.risc_steps.specs.Forms.{is_near, is_small, is_short, is_divisor}
+use Rattle.risc_runs.specs.Emits.{start_form}
+
+-- what a piece's row asks
+abbrev pub IsGood : Piece → Type 0
+IsGood (Fails condition number line) = IsErrorNumber number × IsLine line
+IsGood (Enters r line) = IsLine line
+IsGood (EntersAt q line) = IsLine line
+IsGood _ = Unit {0}
+
+abbrev pub AreGood : List Piece → Type 0
+AreGood [] = Unit {0}
+AreGood (p ∷ ps) = IsGood p × AreGood ps
+
+pub good_append : (ps qs : List Piece) → AreGood ps → AreGood qs → AreGood (ps ++ qs)
+good_append [] qs h k = k
+good_append (p ∷ ps) qs h k = (h.0, good_append ps qs h.1 k)
+
+by_test : (b : Bool) (ps qs : List Piece) → AreGood ps → AreGood qs → AreGood (cond b ps qs)
+by_test true ps qs h k = h
+by_test false ps qs h k = k
+
+error_two : IsErrorNumber 2
+error_two = (omega arith, omega arith)
+
+error_three : IsErrorNumber 3
+error_three = (omega arith, omega arith)
+
+error_stack : IsErrorNumber 12
+error_stack = (omega arith, omega arith)
+
+error_heap : IsErrorNumber 13
+error_heap = (omega arith, omega arith)
+
+load_good : (d b n : ℕ) → AreGood (form.load d b n)
+load_good d b n = by_test (is_near n) _ _ (tt, tt) (tt, (tt, (tt, (tt, tt))))
+
+store_good : (a b n : ℕ) → AreGood (form.store a b n)
+store_good a b n = by_test (is_near n) _ _ (tt, tt) (tt, (tt, (tt, (tt, tt))))
+
+number_good : (d : ℕ) (z : ℤ) → AreGood (form.number d z)
+number_good d z = by_test (is_small z) _ _ (tt, tt) (tt, (tt, tt))
+
+module _ (c : Context) (r : ℕ) where
+  fetch_good : (d : ℕ) (h : Home) → AreGood (form.fetch c r d h)
+  fetch_good d (Reg q) = tt
+  fetch_good d (Slot k) = load_good d 14 (slot_at c r k)
+
+  bring_good : (d : ℕ) (h : Home) → AreGood (form.bring c r d h)
+  bring_good d (Reg q) = (tt, tt)
+  bring_good d (Slot k) = load_good d 14 (slot_at c r k)
+
+  save_good : (h : Home) → AreGood (form.save c r h)
+  save_good (Reg q) = tt
+  save_good (Slot k) = store_good 12 14 (slot_at c r k)
+
+  receive_good : (h : Home) → AreGood (form.receive c r h)
+  receive_good (Reg q) = (tt, tt)
+  receive_good (Slot k) = store_good 12 14 (slot_at c r k)
+
+  copy_good : (h g : Home) → AreGood (form.copy c r h g)
+  copy_good (Reg q) g = bring_good q g
+  copy_good (Slot k) g = good_append (form.fetch c r 12 g) _ (fetch_good 12 g) (store_good _ 14 (slot_at c r k))
+
+  right_good : (o : Operand) → AreGood (form.right c r o)
+  right_good (operand.Temporary t) = fetch_good 15 (home c r t)
+  right_good (operand.Number z) = by_test (is_small z) _ _ tt (tt, (tt, tt))
+
+  base_code_good : (a : Base) → AreGood (form.base_code c r a)
+  base_code_good base.Frame = tt
+  base_code_good base.Scratch = tt
+  base_code_good base.Program = tt
+  base_code_good (base.Temporary t) = fetch_good 12 (home c r t)
+
+  reach_good : (a : Base) (n : ℕ) → AreGood (form.reach c r a n)
+  reach_good a n =
+      by_test (is_near (form.base_offset c r a n)) _ _ (base_code_good a) (good_append (form.base_code c r a) _ (base_code_good a) (tt, (tt, (tt, tt))))
+
+  load_form_good : (width : Width) (t : ℕ) (a : Base) (n : ℕ) → AreGood (form.load_form c r width t a n)
+  load_form_good width t a n = good_append (form.reach c r a n) _ (reach_good a n) (tt, save_good (home c r t))
+
+  store_form_good : (width : Width) (a : Base) (n u : ℕ) → AreGood (form.store_form c r width a n u)
+  store_form_good width a n u =
+      good_append (form.reach c r a n) _ (reach_good a n) (good_append (form.fetch c r 15 (home c r u)) _ (fetch_good 15 (home c r u)) (tt, tt))
+
+  address_good : (d : ℕ) (a : Base) (n : ℕ) → AreGood (form.address c r d a n)
+  address_good d a n =
+      good_append (form.base_code c r a) _ (base_code_good a) (by_test (nat_lt (form.base_offset c r a n) 65536) _ _ (tt, tt) (tt, (tt, (tt, tt))))
+
+  both_good : (a : ℕ) (o : Operand) (ps : List Piece) → AreGood ps → AreGood (form.both c r a o ps)
+  both_good a o ps h =
+      good_append (form.fetch c r 12 (home c r a)) _ (fetch_good 12 (home c r a)) (good_append (form.right c r o) ps (right_good o) h)
+
+  divisor_good : (o : Operand) → AreGood (form.divisor c r o)
+  divisor_good (operand.Temporary t) = bring_good 15 (home c r t)
+  divisor_good (operand.Number z) = number_good 15 z
+
+  quotient_good : (a : ℕ) → AreGood (form.quotient c r a)
+  quotient_good a = good_append (form.fetch c r 12 (home c r a)) _ (fetch_good 12 (home c r a)) (tt, (tt, (tt, (tt, (tt, tt)))))
+
+  far_good : (n q : ℕ) → AreGood (form.number 15 (pos n) ++ Plain (word.Operate op.Add 15 q (Content 15)) ∷ [])
+  far_good n q = good_append (form.number 15 (pos n)) (Plain (word.Operate op.Add 15 q (Content 15)) ∷ []) (number_good 15 (pos n)) (tt, tt)
+
+  base_address_good : (a : Base) → AreGood (form.base_address c r a)
+  base_address_good base.Frame = far_good (c.frame_at r) 14
+  base_address_good base.Scratch = far_good (c.scratch_at r) 14
+  base_address_good base.Program = far_good (c.frame_at 0) 13
+  base_address_good (base.Temporary t) = bring_good 15 (home c r t)
+
+  least_good : (a : ℕ) → AreGood (form.quotient_by_least c r a)
+  least_good a =
+      good_append (form.fetch c r 12 (home c r a)) _ (fetch_good 12 (home c r a)) (tt, (tt, (tt, (tt, (tt, tt)))))
+
+  negative_good : (a error line : ℕ) → IsErrorNumber error → IsLine line → AreGood (form.quotient_by_negative c r a error line)
+  negative_good a error line e l =
+      (tt, (tt, (tt, good_append (form.quotient c r a) _ (quotient_good a) (tt, (tt, ((e, l), (tt, least_good a)))))))
+
+  divide_good : (t a : ℕ) (o : Operand) (error line : ℕ) → IsErrorNumber error → IsLine line → AreGood (form.divide_form c r t a o error line)
+  divide_good t a o error line e l =
+      by_test (is_divisor o) _ _ (good_append (form.fetch c r 12 (home c r a)) _ (fetch_good 12 (home c r a)) (tt, (tt, (tt, (tt, (tt, receive_good (home c r t))))))) (good_append (form.divisor c r o) _ (divisor_good o) ((error_two, l), (tt, good_append (form.quotient c r a) _ (quotient_good a) (tt, good_append (form.quotient_by_negative c r a error line) _ (negative_good a error line e l) (receive_good (home c r t))))))
+
+  modulo_good : (t a : ℕ) (o : Operand) (line : ℕ) → IsLine line → AreGood (form.modulo_form c r t a o line)
+  modulo_good t a o line l =
+      by_test (is_divisor o) _ _ (good_append (form.fetch c r 12 (home c r a)) _ (fetch_good 12 (home c r a)) (tt, (tt, save_good (home c r t)))) (good_append (form.divisor c r o) _ (divisor_good o) (tt, ((error_three, l), good_append (form.fetch c r 12 (home c r a)) _ (fetch_good 12 (home c r a)) (tt, (tt, save_good (home c r t))))))
+
+  arithmetic_good : (operator : Operator) (t a : ℕ) (o : Operand) (error line : ℕ) → IsErrorNumber error → IsLine line → AreGood (form.arithmetic_form c r operator t a o error line)
+  arithmetic_good Add t a o error line e l = both_good a o _ (tt, ((e, l), save_good (home c r t)))
+  arithmetic_good Subtract t a o error line e l = both_good a o _ (tt, ((e, l), save_good (home c r t)))
+  arithmetic_good Multiply t a o error line e l =
+      both_good a o _ (tt, good_append (form.save c r (home c r t)) _ (save_good (home c r t)) (tt, (tt, (tt, ((e, l), tt)))))
+  arithmetic_good Divide t a o error line e l = divide_good t a o error line e l
+  arithmetic_good Modulo t a o error line e l = modulo_good t a o line l
+
+  less_good : (a : ℕ) (z : ℤ) → AreGood (form.less_number c r a z)
+  less_good a z = good_append (form.right c r (operand.Number z)) _ (right_good (operand.Number z)) (tt, tt)
+
+  range_good : (a : ℕ) (low high : ℤ) (error line : ℕ) → IsErrorNumber error → IsLine line → AreGood (form.range_code c r a low high error line)
+  range_good a low high error line e l =
+      by_test (is_short low high) _ _ (tt, ((e, l), tt)) (good_append (form.less_number c r a low) _ (less_good a low) ((e, l), good_append (form.less_number c r a high) _ (less_good a high) ((e, l), tt)))
+
+  steps_good : (i : ℕ) (low : ℤ) (width : ℕ) → AreGood (form.steps_code c r i low width)
+  steps_good i low width =
+      good_append (form.right c r (operand.Number low)) _ (right_good (operand.Number low)) (tt, good_append (form.right c r (operand.Number (pos width))) _ (right_good (operand.Number (pos width))) (tt, tt))
+
+  index_good : (t : ℕ) (a : Base) (i : ℕ) (low high : ℤ) (width error line : ℕ) → IsErrorNumber error → IsLine line → AreGood (form.index_form c r t a i low high width error line)
+  index_good t a i low high width error line e l =
+      let at = form.fetched c r 12 (home c r i) in
+      good_append (form.fetch c r 12 (home c r i)) _ (fetch_good 12 (home c r i)) (good_append (form.range_code c r at low high error line) _ (range_good at low high error line e l) (good_append (form.steps_code c r at low width) _ (steps_good at low width) (good_append (form.base_address c r a) _ (base_address_good a) (tt, save_good (home c r t)))))
+
+  pass_good : (j : ℕ) (us : List ℕ) → AreGood (form.pass c r j us)
+  pass_good j [] = tt
+  pass_good j (u ∷ us) = good_append (form.fetch c r 12 (home c r u)) _ (fetch_good 12 (home c r u)) (tt, pass_good (suc j) us)
+
+  call_piece : (b : Bool) (q line : ℕ) → IsLine line → IsGood (cond b (Enters q line) (Joins q))
+  call_piece true q line l = l
+  call_piece false q line l = tt
+
+  return_good : (a : ℕ) → AreGood (form.return_form c r a)
+  return_good a =
+      good_append (form.bring c r 12 (home c r a)) _ (bring_good 12 (home c r a)) (by_test (is_program c r) _ _ (tt, (tt, (tt, tt))) (tt, (tt, tt)))
+
+  -- the words of an instruction that is sound
+  pub form_good : (limits : Limits) (k : ℕ) (i : Instruction) → IsSoundAt limits k i → AreGood (form.form c r k i)
+  form_good limits k (Literal t z) h =
+      good_append (form.number (form.target c r (home c r t)) z) _ (number_good _ z) (save_good (home c r t))
+  form_good limits k (Copy t a) h = copy_good (home c r t) (home c r a)
+  form_good limits k (Arithmetic operator t a o error line) h = arithmetic_good operator t a o error line h.3 h.4
+  form_good limits k (Bits operator t a o) h = both_good a o _ (tt, save_good (home c r t))
+  form_good limits k (Compare relation t a o) h = both_good a o _ (tt, (tt, (tt, (tt, (tt, save_good (home c r t))))))
+  form_good limits k (CheckRange a low high error line) h =
+      good_append (form.fetch c r 12 (home c r a)) _ (fetch_good 12 (home c r a)) (range_good _ low high error line h.3 h.4)
+  form_good limits k (CheckPointer a error line) h =
+      good_append (form.bring c r 12 (home c r a)) _ (bring_good 12 (home c r a)) ((h.1, h.2), tt)
+  form_good limits k (Text t bytes) h = (tt, (tt, save_good (home c r t)))
+  form_good limits k (Offset t a n extent) h =
+      good_append (form.address c r (form.target c r (home c r t)) a n) _ (address_good _ a n) (save_good (home c r t))
+  form_good limits k (Index t a i low high width error line) h = index_good t a i low high width error line h.5 h.6
+  form_good limits k (RoutineValue t q) h = (tt, (tt, save_good (home c r t)))
+  form_good limits k (Load t a n) h = load_form_good _ t a n
+  form_good limits k (Store a n u) h = store_form_good _ a n u
+  form_good limits k (LoadByte t a n) h = load_form_good _ t a n
+  form_good limits k (StoreByte a n u) h = store_form_good _ a n u
+  form_good limits k (Jump n) h = (tt, tt)
+  form_good limits k (JumpBack n) h = (tt, tt)
+  form_good limits k (Branch relation a o n) h = both_good a o _ (tt, (tt, tt))
+  form_good limits k (BranchBack relation a o n) h = both_good a o _ (tt, (tt, tt))
+  form_good limits k (Call t q us line) h =
+      good_append (form.pass c r 0 us) _ (pass_good 0 us) (call_piece (is_program c q) q line h.3, receive_good (home c r t))
+  form_good limits k (CallValue t a us line) h =
+      good_append (form.pass c r 0 us) _ (pass_good 0 us) (good_append (form.fetch c r 12 (home c r a)) _ (fetch_good 12 (home c r a)) (h.3, receive_good (home c r t)))
+  form_good limits k (Return a) h = return_good a
+  form_good limits k (Trap error line) h = ((h.0, h.1), tt)
+  form_good limits k (Take t) h = (tt, (tt, save_good (home c r t)))
+  form_good limits k (Put a) h = good_append (form.fetch c r 12 (home c r a)) _ (fetch_good 12 (home c r a)) (tt, (tt, tt))
+  form_good limits k (New t type line) h =
+      (tt, (tt, (tt, good_append (form.number 12 (pos (c.sizes type))) _ (number_good 12 (pos (c.sizes type))) (tt, ((error_heap, h.2), (tt, (tt, (tt, (tt, receive_good (home c r t))))))))))
+  form_good limits k End h = (tt, (tt, (tt, tt)))
+
+  parameters_good : (n j count : ℕ) → AreGood (form.parameters c r n j count)
+  parameters_good n j zero = tt
+  parameters_good n j (suc count) =
+      good_append (form.load _ 14 _) _ (load_good _ 14 _) (good_append (form.save c r (home c r j)) _ (save_good (home c r j)) (parameters_good n (suc j) count))
+
+  below_good : (n : ℕ) → AreGood (form.frame_below c r n)
+  below_good n = by_test (nat_lt n 65536) _ _ (tt, tt) (tt, (tt, (tt, tt)))
+
+  enter_good : (routine : TacRoutine) → IsLine routine.line → AreGood (form.enter_form c r routine)
+  enter_good routine l =
+      good_append (form.frame_below c r (c.costs r)) _ (below_good (c.costs r)) (tt, (tt, ((error_stack, l), (tt, (tt, (tt, parameters_good (c.costs r) 0 routine.parameters))))))
+
+  pub entry_good : (routine : TacRoutine) → IsLine routine.line → AreGood (form.entry_form c r routine)
+  entry_good routine l =
+      by_test (is_program c r) _ _ (by_test (form.is_entered c r routine) _ _ (enter_good routine l) ((error_stack, l), tt)) (tt, parameters_good 0 0 routine.parameters)
+
+pub start_good : (c : Context) (block : TacRoutine) → IsLine block.line → AreGood (start_form c block)
+start_good c block l =
+    (tt, (tt, (tt, by_test (nat_lt (c.costs 0) 16777153) _ _ (good_append (form.frame_below c 0 (c.costs 0)) _ (below_good c 0 (c.costs 0)) (tt, ((error_stack, l), (tt, (tt, (tt, (tt, tt))))))) ((error_stack, l), tt))))
