@@ -31,17 +31,27 @@ class Tee:
         return getattr(self.out, name)
 
 
-def prove(folder, progress):
-    """Does what `rt ci` does, with the gate's places, verdicts and edits, and returns how much passed and failed."""
+def replace_parts(folder, progress):
+    """Puts the gate's places, verdicts and edits into the kit's `rt ci`."""
     rt = kit.rt()
     rt.in_lanes = places.Places(folder, progress).run
-    rt.must_fail_all = edits.try_all
+    rt.add_edits, rt.Kept, rt.say = edits.add_all, kit.NothingKept, kit.say_less(rt.say)
+    kit.allow_kept_work(rt.rtlib)
     verdicts.replace_ci()
+    rt.sweep()
+
+
+def prove(folder, progress):
+    """Does what `rt ci` does, with the gate's places, verdicts and edits, and returns how much passed and failed."""
+    if kit.lacking():
+        print(f"gate: the rt of this kit lacks {', '.join(kit.lacking())}, so its rt ci runs as it is", flush=True)
+        return ends.run_plain(f"{folder}/tree")
+    replace_parts(folder, progress)
     os.chdir(f"{folder}/tree")
     sys.stdout = Tee(sys.__stdout__)
     try:
         with tempfile.TemporaryDirectory(prefix="aside-", dir=folder) as aside:
-            status = rt.ci_from_nothing(aside)
+            status = kit.rt().ci_over(aside, True)
         passed, failed = ends.count_in(sys.stdout.said)
     finally:
         sys.stdout = sys.__stdout__

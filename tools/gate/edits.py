@@ -182,10 +182,17 @@ def round_of(crate, edits, flags):
     return done
 
 
+def tried(crate, edit, flags, kept=None):
+    """Whether `rt ci` refuses an edit, as it must, and what it says. One that cannot be applied, compiled or read counts as not refused."""
+    rt = kit.rt()
+    kind, said = rt.must_fail(crate, edit.path, flags, kept)
+    return kind in (rt.REFUSED, rt.AT_LIMIT), said
+
+
 def alone(crate, edit, flags):
     """Tries an edit by the rule of `rt ci`; where kept work seems to let it through, from nothing."""
-    told = kit.rt().must_fail(crate, edit.path, flags, verdicts.kept_work(crate))
-    return told if told[0] else kit.rt().must_fail(crate, edit.path, flags)
+    told = tried(crate, edit, flags, verdicts.kept_work(crate))
+    return told if told[0] else tried(crate, edit, flags)
 
 
 def is_sound(crate, flags):
@@ -199,6 +206,25 @@ def key_of(crate, edit):
     return kit.sum_of("edit", verdicts.FORM, verdicts.facts_of(crate)["key"], edit.name, edit.text)
 
 
+def add_all(tasks, crate, paths, *_):
+    """Adds the one task that tries a crate's edits, once it and its tests are proved, and returns what gives their results, and those of earlier runs: none."""
+    key, rt = (crate.name, "edits"), kit.rt()
+    strays = [os.path.relpath(it, crate.folder) for it in rt.edits_of(crate)[1]]
+
+    def call(given, jobs):
+        if not (given[crate.name, "proof"] and given[crate.name, "tests"]):
+            return [(False, f"{crate.name}: its edits are not tried") for _ in paths]
+        told = try_all(crate, paths, ["--jobs", str(jobs)])
+        return [(False, f"{crate.name}: no edit, and not read: {', '.join(strays)}") for _ in paths] if strays else told
+
+    def results(given):
+        told = given[key] or [(False, f"{crate.name}: trying its must-fail edits broke off") for _ in paths]
+        return [(rt.REFUSED if well else rt.MISSED, said) for well, said in told]
+
+    tasks[key] = ([(crate.name, "proof"), (crate.name, "tests")], crate.count(rb"\n") if paths else 0, rt.need(crate), call)
+    return results, dict
+
+
 def try_all(crate, paths, flags):
     """What came of each edit of a crate: whether the prover refuses it, and what to say."""
     told, left = {}, []
@@ -207,7 +233,7 @@ def try_all(crate, paths, flags):
         if kept:
             told[edit.path] = (True, kept["facts"]["said"])
         elif kit.rt().read_edit(edit.path, crate.folder)[1]:
-            told[edit.path] = kit.rt().must_fail(crate, edit.path, flags)
+            told[edit.path] = tried(crate, edit, flags)
         else:
             left.append(edit)
     verdicts.note(crate, False, {**verdicts.facts_of(crate), "tried": len(left)})
@@ -228,7 +254,7 @@ def try_anew(crate, edits, flags):
             break
     told.update({it.path: alone(crate, it, flags) for it in left})
     if not is_sound(crate, flags):
-        told = {it.path: kit.rt().must_fail(crate, it.path, flags) for it in edits}
+        told = {it.path: tried(crate, it, flags) for it in edits}
     for it in edits:
         if told[it.path][0]:
             verdicts.store.put(key_of(crate, it), {"crate": crate.name, "said": told[it.path][1]}, None, [])

@@ -9,9 +9,9 @@ import subprocess
 CASES = (
     ("cases", "pascal", "cases"),
     ("compiled", "pascal", "compiled"),
-    ("compiled, by the slow runner", "pascal_reference", "compiled"),
+    ("compiled, by the slow runner", "pascal_reference", "compiled", "--no-calls"),
     ("programs, those that compile", "pascal", "programs", "--reached"),
-    ("programs, by the slow runner", "pascal_reference", "programs"),
+    ("programs, by the slow runner", "pascal_reference", "programs", "--no-calls"),
     ("stops, of programs that compile", "pascal", "stops", "--reached"),
 )
 PROGRAMS = ("pascal", "pascal_reference", "bench_phases")
@@ -20,6 +20,17 @@ PROGRAMS = ("pascal", "pascal_reference", "bench_phases")
 def count_in(text):
     found = re.search(r"(?m)^(\d+) passed, (\d+) failed\s*\Z", text)
     return (int(found[1]), int(found[2])) if found else (0, 0)
+
+
+def run_plain(tree):
+    """Runs the kit's `rt ci` in a tree as it is, and returns how much passed and failed."""
+    with subprocess.Popen(["rt", "ci"], cwd=tree, stdin=subprocess.DEVNULL, stdout=subprocess.PIPE, stderr=subprocess.STDOUT, text=True, errors="replace") as ran:
+        said = ""
+        for line in ran.stdout:
+            print(line, end="", flush=True)
+            said = line
+    passed, failed = count_in(said)
+    return passed, failed or int(bool(ran.returncode))
 
 
 def run_cases(tree):

@@ -1,9 +1,11 @@
 """The Rattle kit: its command `rt` as a library, and its sum.
 
-The gate is `rt ci` with three of its parts replaced: who works when (`in_lanes`), what proves a crate (`Crate.ci`), and how edits are tried
-(`must_fail_all`). All else that `rt ci` rules about a tree, a crate, a program and a test is done by `rt` itself.
+The gate is `rt ci` with four of its parts replaced: who works when (`in_lanes`), what proves a crate (`Crate.ci`), how edits are tried (`add_edits`), and
+what is kept of earlier runs (`Kept`). All else that `rt ci` rules about a tree, a crate, a program and a test is done by `rt` itself. Where a kit's `rt`
+has other parts, the gate runs its `rt ci` as it is, which takes longer and rules the same.
 """
 
+import contextlib
 import functools
 import hashlib
 import importlib.machinery
@@ -13,14 +15,14 @@ import re
 import shutil
 import sys
 
-PARTS = ("ci_from_nothing", "in_lanes", "must_fail_all", "must_fail", "checked", "edits_of", "processors", "free", "Crate", "unread")
+PARTS = ("ci_over", "in_lanes", "add_edits", "must_fail", "checked", "edits_of", "read_edit", "processors", "free", "say", "sweep", "Crate", "Kept", "unread")
 # What decides a verdict: the program that proves, the two scripts that hold it to their rules, and what tells the versions of all the rest.
 SUMMED = ("KIT-ID", "WHAT", "bin/rattle", "bin/rattle-link", "bin/rt", "bin/rtlib.py")
 
 
 @functools.lru_cache(None)
 def rt():
-    """The kit's command as a module, once it is known to have the parts that the gate replaces or calls."""
+    """The kit's command as a module."""
     command = shutil.which("rt")
     if not command:
         raise SystemExit("gate: the command rt of the Rattle kit is not on the path")
@@ -28,11 +30,47 @@ def rt():
     loader = importlib.machinery.SourceFileLoader("rattle_kit_rt", os.path.realpath(command))
     made = importlib.util.module_from_spec(importlib.util.spec_from_loader(loader.name, loader))
     loader.exec_module(made)
-    lacking = [it for it in PARTS if not hasattr(made, it)]
-    if lacking:
-        raise SystemExit(f"gate: the rt of this kit lacks {', '.join(lacking)}: run `rt ci`, which proves all from nothing, and mend tools/gate/kit.py")
-    allow_kept_work(made.rtlib)
     return made
+
+
+def lacking():
+    """The parts that the gate replaces or calls and that this kit's command has not."""
+    return [it for it in PARTS if not hasattr(rt(), it)]
+
+
+class NothingKept:
+    """In the place of what `rt ci` keeps of earlier runs: the gate has a store of its own."""
+
+    at, is_full = None, False
+
+    def __init__(self, *given):
+        pass
+
+    def key(self, crate):
+        return ""
+
+    def give(self, crate, tests, key):
+        return False
+
+    def in_turn(self, crate, tests, key):
+        return contextlib.nullcontext(False)
+
+    def keep(self, crate, tests, key):
+        pass
+
+    def is_built(self, crate):
+        pass
+
+    def shrink(self):
+        pass
+
+    def tell(self):
+        pass
+
+
+def say_less(usual):
+    """`rt ci` counts at its end what it kept itself, which is nothing here."""
+    return lambda text, *given: usual(text.partition("; every proof and")[0], *given)
 
 
 def allow_kept_work(rtlib):

@@ -127,8 +127,6 @@ class Places:
         if status == 0:
             with open(self.path(task, "given"), "rb") as file:
                 given = pickle.load(file)
-        elif task.is_edits:
-            given = ([], [f"{task.name}/must-fail"], [(False, f"{task.name}: trying its must-fail edits broke off")])
         self.given[task.key] = given
         with open(self.path(task, "log"), encoding="utf-8", errors="replace") as file:
             said = file.read()
