@@ -1,5 +1,5 @@
--- Nodes with chains, by their lists, where what stands before the chain threatens nothing.
-use Rattle.std.proofs.Common.{◌≡◌, ℕ, List, Vec, Box, Global, Bool, false, ◌||◌, sym, ap, ◌∙◌}
+-- Nodes with chains, by their first operands and lists.
+use Rattle.std.proofs.Common.{◌≡◌, ℕ, List, Vec, Box, Global, Bool, ◌||◌, sym, ap, ◌∙◌}
 use Rattle.ps_tree.specs.declared.types.Ty.{Ty}
 use Rattle.ps_tree.specs.declared.tree.BooleanOperator.{BooleanOperator}
 use Rattle.ps_tree.specs.declared.tree.Place.{Place}
@@ -18,25 +18,25 @@ pub place_threat : (up : ℕ) (watched : ℕ → Bool) (p : Place) (items : List
 unfolding place_threatens
 place_threat up watched p items g = ap (λ l. selectors_threaten up watched (selectors_of l)) g
 
-pub arithmetic_threat : (up : ℕ) (watched : ℕ → Bool) (e : Expr) (b : Box Expr Global) (v : Vec ArithmeticStep Global) (first : Expr) (items : List ArithmeticStep) (x : Bool) → e ≡ Arithmetic b v → first ≡ b.value → items ≡ v.items → x ≡ expr_threatens up watched (expr_of first) → x ≡ false → arithmetic_threatens up watched (arithmetic_of items) ≡ expr_threatens up watched (expr_of e)
+pub arithmetic_threat : (up : ℕ) (watched : ℕ → Bool) (e : Expr) (b : Box Expr Global) (v : Vec ArithmeticStep Global) (first : Expr) (items : List ArithmeticStep) (x y : Bool) → e ≡ Arithmetic b v → first ≡ b.value → items ≡ v.items → x ≡ expr_threatens up watched (expr_of first) → y ≡ arithmetic_threatens up watched (arithmetic_of items) → (x || y) ≡ expr_threatens up watched (expr_of e)
 unfolding expr_threatens
-arithmetic_threat up watched e b v first items x f g h k n =
-    ap (λ l. arithmetic_threatens up watched (arithmetic_of l)) h
-    ∙ ap (λ y. y || arithmetic_threatens up watched (arithmetic_of v.items)) (sym n ∙ k ∙ ap (λ a. expr_threatens up watched (expr_of a)) g)
+arithmetic_threat up watched e b v first items x y f g h k n =
+    ap (λ a. a || y) (k ∙ ap (λ a. expr_threatens up watched (expr_of a)) g)
+    ∙ ap (λ a. expr_threatens up watched (expr_of b.value) || a) (n ∙ ap (λ l. arithmetic_threatens up watched (arithmetic_of l)) h)
     ∙ sym (ap (expr_threatens up watched) (ap expr_of f ∙ expr_of_Arithmetic b v))
 
-pub logic_threat : (up : ℕ) (watched : ℕ → Bool) (e : Expr) (operator : BooleanOperator) (b : Box Expr Global) (v : Vec Expr Global) (first : Expr) (items : List Expr) (x : Bool) → e ≡ Logic operator b v → first ≡ b.value → items ≡ v.items → x ≡ expr_threatens up watched (expr_of first) → x ≡ false → operands_threaten up watched (operands_of items) ≡ expr_threatens up watched (expr_of e)
+pub logic_threat : (up : ℕ) (watched : ℕ → Bool) (e : Expr) (operator : BooleanOperator) (b : Box Expr Global) (v : Vec Expr Global) (first : Expr) (items : List Expr) (x y : Bool) → e ≡ Logic operator b v → first ≡ b.value → items ≡ v.items → x ≡ expr_threatens up watched (expr_of first) → y ≡ operands_threaten up watched (operands_of items) → (x || y) ≡ expr_threatens up watched (expr_of e)
 unfolding expr_threatens
-logic_threat up watched e operator b v first items x f g h k n =
-    ap (λ l. operands_threaten up watched (operands_of l)) h
-    ∙ ap (λ y. y || operands_threaten up watched (operands_of v.items)) (sym n ∙ k ∙ ap (λ a. expr_threatens up watched (expr_of a)) g)
+logic_threat up watched e operator b v first items x y f g h k n =
+    ap (λ a. a || y) (k ∙ ap (λ a. expr_threatens up watched (expr_of a)) g)
+    ∙ ap (λ a. expr_threatens up watched (expr_of b.value) || a) (n ∙ ap (λ l. operands_threaten up watched (operands_of l)) h)
     ∙ sym (ap (expr_threatens up watched) (ap expr_of f ∙ expr_of_Logic operator b v))
 
-pub combine_threat : (up : ℕ) (watched : ℕ → Bool) (e : SetExpr) (b : Box SetExpr Global) (v : Vec SetStep Global) (first : SetExpr) (items : List SetStep) (x : Bool) → e ≡ Combine b v → first ≡ b.value → items ≡ v.items → x ≡ set_threatens up watched (set_of first) → x ≡ false → set_steps_threaten up watched (set_steps_of items) ≡ set_threatens up watched (set_of e)
+pub combine_threat : (up : ℕ) (watched : ℕ → Bool) (e : SetExpr) (b : Box SetExpr Global) (v : Vec SetStep Global) (first : SetExpr) (items : List SetStep) (x y : Bool) → e ≡ Combine b v → first ≡ b.value → items ≡ v.items → x ≡ set_threatens up watched (set_of first) → y ≡ set_steps_threaten up watched (set_steps_of items) → (x || y) ≡ set_threatens up watched (set_of e)
 unfolding set_threatens
-combine_threat up watched e b v first items x f g h k n =
-    ap (λ l. set_steps_threaten up watched (set_steps_of l)) h
-    ∙ ap (λ y. y || set_steps_threaten up watched (set_steps_of v.items)) (sym n ∙ k ∙ ap (λ a. set_threatens up watched (set_of a)) g)
+combine_threat up watched e b v first items x y f g h k n =
+    ap (λ a. a || y) (k ∙ ap (λ a. set_threatens up watched (set_of a)) g)
+    ∙ ap (λ a. set_threatens up watched (set_of b.value) || a) (n ∙ ap (λ l. set_steps_threaten up watched (set_steps_of l)) h)
     ∙ sym (ap (set_threatens up watched) (ap set_of f ∙ set_of_Combine b v))
 
 pub contents_threat : (up : ℕ) (watched : ℕ → Bool) (e : Structure) (b : Box Place Global) (ty : Ty) (place : Place) → e ≡ Contents b ty → place ≡ b.value → place_threatens up watched (place_of place) ≡ structure_threatens up watched (structure_of e)

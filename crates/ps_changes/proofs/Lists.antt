@@ -190,12 +190,11 @@ pub call_formal_threatens : (up : ℕ) (watched : ℕ → Bool) (e : Expr) (leve
 unfolding expr_threatens
 call_formal_threatens up watched e levels number v line items f g = ap (arguments_answer up watched) g ∙ sym (ap (expr_threatens up watched) (ap expr_of f ∙ expr_of_CallFormal levels number v line))
 
--- where the index of a case statement threatens nothing
-pub case_threatens : (up : ℕ) (watched : ℕ → Bool) (s : Statement) (e : Expr) (v : Vec CaseElement Global) (line : Line) (items : List CaseElement) (b : Bool) → s ≡ Case e v line → items ≡ v.items → b ≡ expr_threatens up watched (expr_of e) → b ≡ false → elements_threaten up watched (elements_of items) ≡ statement_threatens up watched (statement_of s)
+pub case_threatens : (up : ℕ) (watched : ℕ → Bool) (s : Statement) (e : Expr) (v : Vec CaseElement Global) (line : Line) (items : List CaseElement) (x y : Bool) → s ≡ Case e v line → items ≡ v.items → x ≡ expr_threatens up watched (expr_of e) → y ≡ elements_threaten up watched (elements_of items) → (x || y) ≡ statement_threatens up watched (statement_of s)
 unfolding statement_threatens
-case_threatens up watched s e v line items b f g h k =
-    ap (elements_answer up watched) g
-    ∙ ap (λ x. x || elements_answer up watched v.items) (sym k ∙ h)
+case_threatens up watched s e v line items x y f g h k =
+    ap (λ b. b || y) h
+    ∙ ap (λ b. expr_threatens up watched (expr_of e) || b) (k ∙ ap (elements_answer up watched) g)
     ∙ sym (ap (statement_threatens up watched) (ap statement_of f ∙ statement_of_Case e v line))
 
 pub case_assigns : (up index : ℕ) (s : Statement) (e : Expr) (v : Vec CaseElement Global) (line : Line) (items : List CaseElement) → s ≡ Case e v line → items ≡ v.items → elements_assign up index (elements_of items) ≡ statement_assigns up index (statement_of s)

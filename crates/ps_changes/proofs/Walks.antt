@@ -1,5 +1,5 @@
 -- Loops that look for an item, and loops that append what each item gives.
-use Rattle.std.proofs.Common.{◌≡◌, ℕ, suc, ◌+◌, ◌<◌, ◌≤◌, List, [], ◌∷◌, ◌++◌, length, drop, get_or, Bool, true, false, ◌||◌, sym, ap, ◌∙◌, arith, append_assoc, append-nil}
+use Rattle.std.proofs.Common.{◌≡◌, ℕ, suc, ◌+◌, ◌<◌, ◌≤◌, List, [], ◌∷◌, ◌++◌, length, drop, get_or, Bool, true, false, ◌||◌, Option, is_some, sym, ap, ◌∙◌, arith, append_assoc, append-nil}
 use Rattle.std.proofs.Math.Seq.{drop-cons}
 use Rattle.std.proofs.lemmas.List.{drop_all}
 
@@ -22,6 +22,14 @@ passed_found answer one law items i item b h s e f g =
     ap (λ x. x || answer (drop (suc i) items)) (sym g ∙ f ∙ ap one e)
     ∙ sym (at_item answer one law items i item h)
     ∙ s
+
+-- the same, where an item tells a place
+module _ {A : Type 0} (answer : List A → Bool) (one : A → Bool) (law : (x : A) (xs : List A) → answer (x ∷ xs) ≡ one x || answer xs) (items : List A) (i : ℕ) (item : A) (found : Option ℕ) (b : Bool) (h : i < length items) (s : Passed answer items i) (e : item ≡ get_or items i item) (f : is_some found ≡ one item) (t : b ≡ is_some found) where
+  pub passed_none : b ≡ false → Passed answer items (i + 1)
+  passed_none g = passed_next answer one law items i item b h s e (t ∙ f) g
+
+  pub passed_some : b ≡ true → is_some found ≡ answer items
+  passed_some g = sym t ∙ g ∙ passed_found answer one law items i item b h s e (t ∙ f) g
 
 pub passed_all : {A : Type 0} (answer : List A → Bool) → answer [] ≡ false → (items : List A) (i : ℕ) → length items ≤ i → Passed answer items i → false ≡ answer items
 passed_all answer none items i h s = sym none ∙ ap answer (sym (drop_all i items h)) ∙ s

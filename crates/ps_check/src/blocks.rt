@@ -14,16 +14,17 @@ ghost use Rattle.ps_check.specs.Views.{gathered_of, start_of, done_of, routines_
 use crate::chain::Chain;
 use crate::changes::{threatened, within};
 use crate::routines::{
-    add_routines, all_complete, finish, heading_at, index_of, introduce, routine_name, start,
+    add_routines, all_complete, broken, finish, heading_at, index_of, introduce, routine_name,
+    start,
 };
 use crate::state::{Done, Gathered, Start};
-use crate::told::{open_fault, threat_fault};
+use crate::told::open_fault;
 use ps_declare::declarations::declarations;
 use ps_declare::frame::{Declared, Frame};
 use ps_declare::points::add_block;
 use ps_regions::meaning::Meaning;
 use ps_regions::reading::Reading;
-use ps_regions::refusal::Fault;
+use ps_regions::refusal::{Fault, Rule};
 use ps_regions::scope::Scope;
 use ps_statements::statement::statements;
 use ps_syntax::{Block, Routine, Statement};
@@ -161,10 +162,9 @@ fn read_body(
         &gathered.domains,
     )?;
     let inner = within(&gathered.routines, before);
-    let depth = chain.depth();
-    match threatened(alloc, inner, depth, &body)? {
+    match threatened(alloc, inner, chain.depth(), &body)? {
         None => Ok(body),
-        Some(entry) => Err(threat_fault(written, frame, alloc, known, inner, depth, entry)),
+        Some(at) => Err(broken(Rule::ControlVariable, at)),
     }
 }
 

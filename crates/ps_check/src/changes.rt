@@ -1,6 +1,6 @@
 //! What a block asks of the statements within it.
 
-ghost use Rattle.std.specs.Prelude.{◌≡◌, true, false, IfOk, IfNone, IfSome, drop, map, option_map};
+ghost use Rattle.std.specs.Prelude.{◌≡◌, not, is_some, IfOk, drop, map, option_map};
 ghost use Rattle.std.specs.List.{list_any};
 ghost use Rattle.ps_tree.specs.View.{type_of, statements_of};
 ghost use Rattle.ps_changes.specs.Changes.{watched_of};
@@ -12,7 +12,7 @@ use ps_changes::assigned;
 use ps_changes::control::control_variables;
 use ps_changes::marks::marks;
 use ps_changes::place::Entries;
-use ps_changes::threat::threatens;
+use ps_changes::threat::threat;
 use ps_tree::tree::{Routine, Statement};
 use ps_tree::types::Ty;
 use std::alloc::{AllocError, Global};
@@ -30,51 +30,37 @@ pub fn within(routines: &[Option<Finished>], before: usize) -> &[Option<Finished
     }
 }
 
-/// Whether a routine within a block threatens one of these entries of the block's routine, whose chain has `depth`
-/// numbers.
+/// Where a routine within a block first threatens one of these entries of the block's routine, whose chain has `depth`
+/// numbers, if it does.
 #[tactic(auto, unfolding(crate::specs::Changes::routine_threatens))]
-fn routine_threatens(finished: &Option<Finished>, depth: usize, watched: Entries<'_>) -> bool
-    ensures { result ≡ routine_threatens depth (watched_of watched.entry) (finished_of finished.now) }
+fn routine_threat(finished: &Option<Finished>, depth: usize, watched: Entries<'_>) -> Option<u32>
+    ensures { is_some result ≡ routine_threatens depth (watched_of watched.entry) (finished_of finished.now) }
 {
     match finished {
-        None => false,
+        None => None,
         Some(finished) => {
             let up = finished.routine.chain.len().saturating_sub(depth);
-            threatens(&finished.routine.body, up as u32, watched)
+            threat(&finished.routine.body, up as u32, watched)
         }
     }
 }
 
+/// The same of the first routine that threatens one, if there is one.
 #[tactic(auto, using(crate::proofs::Lists::none_next, crate::proofs::Lists::one_found, crate::proofs::Lists::none_end))]
-fn is_threatened(within: &[Option<Finished>], depth: usize, watched: Entries<'_>) -> bool
-    ensures { result ≡ list_any (routine_threatens depth (watched_of watched.entry)) (map finished_of within.now) }
+fn first_threat(within: &[Option<Finished>], depth: usize, watched: Entries<'_>) -> Option<u32>
+    ensures { is_some result ≡ list_any (routine_threatens depth (watched_of watched.entry)) (map finished_of within.now) }
 {
     for finished in within {
-        if routine_threatens(finished, depth, watched) {
-            return true;
+        let found = routine_threat(finished, depth, watched);
+        if found.is_some() {
+            return found;
         }
     }
-    false
+    None
 }
 
-/// The least entry of those that are marked which a routine within a block threatens, where there is one. Each step
-/// halves the entries that it can be, so the routines are walked few times.
-fn least_threatened(marks: &[bool], within: &[Option<Finished>], depth: usize) -> u32 {
-    let mut safe = 0;
-    let mut threatened = marks.len();
-    while 1 < threatened.saturating_sub(safe) {
-        let middle = safe + (threatened - safe) / 2;
-        let (first, _) = marks.split_at(middle);
-        if is_threatened(within, depth, Entries::Marked(first)) {
-            threatened = middle;
-        } else {
-            safe = middle;
-        }
-    }
-    u32::try_from(safe).unwrap_or(u32::MAX)
-}
-
-/// A control variable of a block's `for` statements that a routine within the block threatens, by its entry.
+/// Where a routine within a block first threatens a control variable of the block's `for` statements, if one does; of
+/// several routines it is the first.
 #[tactic(auto, using(crate::proofs::Lists::marked_alike), unfolding(crate::specs::Changes::is_safe))]
 pub fn threatened(
     alloc: Global,
@@ -82,16 +68,11 @@ pub fn threatened(
     depth: usize,
     body: &[Statement],
 ) -> Result<Option<u32>, AllocError>
-    ensures safe { IfOk result (λ found. IfNone found (is_safe depth (map finished_of within.now) (statements_of body.now) ≡ true)) }
-    ensures threatened { IfOk result (λ found. IfSome found (λ variable. is_safe depth (map finished_of within.now) (statements_of body.now) ≡ false)) }
+    ensures { IfOk result (λ found. is_safe depth (map finished_of within.now) (statements_of body.now) ≡ not (is_some found)) }
 {
     let variables = control_variables(alloc, body)?;
     let marks = marks(alloc, &variables)?;
-    if is_threatened(within, depth, Entries::Marked(&marks)) {
-        Ok(Some(least_threatened(&marks, within, depth)))
-    } else {
-        Ok(None)
-    }
+    Ok(first_threat(within, depth, Entries::Marked(&marks)))
 }
 
 /// Whether a routine within a function's block assigns to the function's result.

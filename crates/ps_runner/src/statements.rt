@@ -129,6 +129,7 @@ pub fn act(
             to,
             to_line,
             body,
+            ..
         } => {
             count(
                 world,

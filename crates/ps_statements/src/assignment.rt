@@ -27,6 +27,7 @@ use std::alloc::Global;
 fn result_of(alloc: Global, heading: &Heading, levels: u32, at: u32) -> Result<TypedPlace, Fault>
     ensures ok { IfOk result (λ v. result_of (heading_of heading.now) levels ≡ Some (variable_of v)) }
     ensures err { IfErr result (λ fault. IsFault fault → result_of (heading_of heading.now) levels ≡ None) }
+    ensures named { IfOk result (λ v. v.place.at ≡ at) }
 {
     match &heading.result {
         None => Err(wrong_kind(at)),
@@ -37,6 +38,7 @@ fn result_of(alloc: Global, heading: &Heading, levels: u32, at: u32) -> Result<T
                     index: 0,
                 },
                 selectors: Vec::new(alloc),
+                at,
             },
             ty: ty.copy()?,
             in_packed: false,

@@ -3,20 +3,21 @@
 ghost use Rattle.std.specs.Prelude.{◌≡◌, IfOk, IfErr, Some, None};
 ghost use Rattle.ps_tree.specs.View.{type_of, expr_of, statement_of};
 ghost use Rattle.ps_regions.specs.Refusal.{IsFault};
+ghost use Rattle.ps_regions.specs.declared.refusal.Fault.TheVariants.{Broken};
+ghost use Rattle.ps_regions.specs.declared.refusal.Rule.TheVariants.{ControlVariable};
 ghost use Rattle.ps_regions.specs.Views.{point_of};
 ghost use Rattle.ps_typing.specs.View.{context_at, regions_at, value_of};
 ghost use Rattle.ps_statements.specs.Structured.{control_at, bound, bound_at, direction_of, repeated};
 ghost use Rattle.ps_statements.specs.Statements.{for_head};
 ghost use Rattle.ps_statements.specs.View.{head_of};
 
-use crate::threat::{Control, in_statement};
 use ps_changes::place::Entries;
-use ps_changes::threat::is_threat;
+use ps_changes::threat::threat_of;
 use ps_regions::answer::paired;
 use ps_regions::meaning::Meaning;
 use ps_regions::refusal::{Fault, Rule};
 use ps_regions::scope::Found;
-use ps_syntax::{Direction as Way, Expr as Syntax, Statement as SyntaxStatement};
+use ps_syntax::{Direction as Way, Expr as Syntax};
 use ps_text::Span;
 use ps_tree::line::Line;
 use ps_tree::tree::{Direction, Expr, Statement};
@@ -41,7 +42,8 @@ pub struct Head {
 
 /// The refusal of a control variable; the name is at `at`.
 fn wrong_control(at: u32) -> Fault
-    ensures { IsFault result }
+    ensures fault { IsFault result }
+    ensures told { result ≡ Broken ControlVariable at }
 {
     Fault::Broken {
         rule: Rule::ControlVariable,
@@ -152,32 +154,20 @@ pub(crate) fn for_head(
     })
 }
 
-/// The `for` statement that repeats a statement, of which `x` is the text; the name of the control variable stands at
-/// the `for`. The statement doesn't threaten it.
+/// The `for` statement that repeats a statement; the name of its control variable is at `at`. The statement doesn't
+/// threaten it: a threat is told at the name that threatens.
 #[tactic(auto, unfolding(crate::specs::Structured::repeated, ps_tree::specs::View::statement_of))]
-pub(crate) fn repeated(
-    site: Site<'_>,
-    head: Head,
-    body: Box<Statement>,
-    x: &SyntaxStatement,
-    name: Span,
-) -> Result<Statement, Fault>
+pub(crate) fn repeated(head: Head, body: Box<Statement>, at: u32) -> Result<Statement, Fault>
     ensures ok { IfOk result (λ s. repeated (head_of head) (statement_of body.value) ≡ Some (statement_of s)) }
     ensures err { IfErr result (λ fault. IsFault fault → repeated (head_of head) (statement_of body.value) ≡ None) }
 {
-    if is_threat(&body, 0, Entries::One(head.variable)) {
-        let control = Control {
-            reading: site.reading,
-            name,
-            up: 0,
-            entry: head.variable,
-        };
-        let at = in_statement(x, &body, control).unwrap_or(name.from);
+    if let Some(threat) = threat_of(&body, 0, Entries::One(head.variable)) {
         drop(head);
-        return Err(wrong_control(at));
+        return Err(wrong_control(threat));
     }
     Ok(Statement::For {
         variable: head.variable,
+        at,
         low: head.ordinal.low,
         high: head.ordinal.high,
         from: head.first,

@@ -11,4 +11,3 @@ mod labels;
 mod procedure;
 pub mod statement;
 mod text;
-pub mod threat;

@@ -244,7 +244,7 @@ fn for_statement(x: &Syntax, site: Site<'_>, head: Head, name: Span) -> Result<S
     ensures err { IfErr result (λ fault. IsFault fault → spec.for_behind (context_at site.entry) (regions_at site.entry) (spec.statement (context_at site.entry) x.now) (head_of head) ≡ None) }
 {
     let (head, body) = beside(head, boxed(x, site))?;
-    repeated(site, head, body, x, name)
+    repeated(head, body, name.from)
 }
 
 /// A `with` statement (6.8.3.10), of which some records are open already, and others are to be opened.

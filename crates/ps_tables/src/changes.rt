@@ -5,7 +5,7 @@ use crate::words::{or_none, put};
 use ps_changes::assigned::assigns;
 use ps_changes::control::control_variables;
 use ps_changes::place::Entries;
-use ps_changes::threat::threatens;
+use ps_changes::threat::threat;
 use ps_tree::program::Checked;
 use ps_tree::tree::Statement;
 use std::alloc::{AllocError, Global};
@@ -22,7 +22,7 @@ fn put_entry(alloc: Global, line: &mut String, entry: u32) -> Result<(), AllocEr
 fn threatened(alloc: Global, body: &[Statement], up: u32) -> Result<String, AllocError> {
     let mut shown = String::new(alloc);
     for entry in 0..ENTRIES {
-        if threatens(body, up, Entries::One(entry)) {
+        if threat(body, up, Entries::One(entry)).is_some() {
             put_entry(alloc, &mut shown, entry)?;
         }
     }

@@ -10,7 +10,7 @@ use Rattle.ps_tree.specs.declared.tree.Routine.{Routine as RoutineOf}
 use Rattle.ps_tree.specs.declared.tree.Formal.{Formal, Routine, Row_of-Formal, end_of-Formal, more_of-Formal, items-the_row-Formal, items_hidden-the_row-Formal-0}
 use Rattle.ps_tree.specs.declared.tree.Formal.TheBlock.{hidden-the_row-Formal-0}
 use Rattle.ps_tree.specs.declared.tree.Statement.{Statement}
-use Rattle.ps_tree.specs.Counts.{◌⊕◌, nothing, capped, result_extent, statements_extent, copy_of, formals_extent, formal_cells, variables_extent, are_small, is_small, are_small_formals, is_small_formal, are_routines_within_limits, is_routine_within_limits, is_within_limits, routine_extent, routine_cells, routine_nodes}
+use Rattle.ps_tree.specs.Counts.{◌⊕◌, nothing, capped, result_extent, statements_extent, copy_of, formals_extent, formal_cells, variables_extent, are_small, is_small, is_small_result, is_short, are_small_formals, is_small_formal, are_routines_within_limits, is_routine_within_limits, is_within_limits, routine_extent, routine_cells, routine_nodes}
 use Rattle.ps_tree.specs.View.{type_of, formal_of, formals_of, formals_of_row, routine_of, statements_of, program_of}
 
 formals_row_is : {n : _} (k : Row_of-Formal n) → formals_of_row k ≡ formals_of (items-the_row-Formal n k)
@@ -113,9 +113,12 @@ pub routines_within_more : (x : RoutineOf) (xs : List RoutineOf) → routines_wi
 unfolding are_routines_within_limits
 routines_within_more x xs = refl
 
-pub routine_small : (f : Formal) (v : Vec Formal Global) (t : Option Ty) (items : List Formal) → f ≡ Routine v t → items ≡ v.items → are_small_formals (formals_of items) ≡ is_small_formal (formal_of f)
+pub routine_small : (f : Formal) (v : Vec Formal Global) (t : Option Ty) (items others : List Formal) (small : Bool) → f ≡ Routine v t → items ≡ v.items → others ≡ v.items → small ≡ are_small_formals (formals_of items) → (is_short (formals_of others) && small && is_small_result (option_map type_of t)) ≡ is_small_formal (formal_of f)
 unfolding is_small_formal
-routine_small f v t items e g = ap small_formals g ∙ sym (ap is_small_formal (ap formal_of e ∙ formal_of_Routine v t))
+routine_small f v t items others small e g h k =
+    ap (λ l. is_short (formals_of l) && small && is_small_result (option_map type_of t)) h
+    ∙ ap (λ b. is_short (formals_of v.items) && b && is_small_result (option_map type_of t)) (k ∙ ap small_formals g)
+    ∙ sym (ap is_small_formal (ap formal_of e ∙ formal_of_Routine v t))
 
 pub extent_parts : (r : RoutineOf) (fs : List Formal) (vs : List Ty) (ss : List Statement) → fs ≡ r.formals.items → vs ≡ r.variables.items → ss ≡ r.body.items → capped (formals_extent (formals_of fs) ⊕ result_extent (option_map type_of r.result) ⊕ variables_extent (map type_of vs) ⊕ statements_extent (statements_of ss)) ≡ capped (routine_extent (routine_of r))
 unfolding routine_extent

@@ -6,3 +6,4 @@ pub mod Compatibility
 pub mod SizeLemmas
 pub mod Sums
 pub mod FormalLemmas
+pub mod DropLemmas

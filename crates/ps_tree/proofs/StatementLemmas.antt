@@ -62,9 +62,9 @@ pub case_counted : (s : Statement) (e : Expr) (v : Vec CaseElement Global) (line
 unfolding statement_extent
 case_counted s e v line items f g = ap (λ l. node ⊕ expr_extent (expr_of e) ⊕ elements_extent (elements_of l)) g ∙ sym (ap statement_extent (ap statement_of f ∙ statement_of_Case e v line))
 
-pub for_counted : (s : Statement) (variable : ℕ) (low high : ℤ) (a : Expr) (from_line : Line) (direction : Direction) (b : Expr) (to_line : Line) (body : Box Statement Global) (inner : Statement) → s ≡ For variable low high a from_line direction b to_line body → inner ≡ body.value → node ⊕ (node ⊕ expr_extent (expr_of a)) ⊕ expr_extent (expr_of b) ⊕ statement_extent (statement_of inner) ≡ statement_extent (statement_of s)
+pub for_counted : (s : Statement) (variable at : ℕ) (low high : ℤ) (a : Expr) (from_line : Line) (direction : Direction) (b : Expr) (to_line : Line) (body : Box Statement Global) (inner : Statement) → s ≡ For variable at low high a from_line direction b to_line body → inner ≡ body.value → node ⊕ (node ⊕ expr_extent (expr_of a)) ⊕ expr_extent (expr_of b) ⊕ statement_extent (statement_of inner) ≡ statement_extent (statement_of s)
 unfolding statement_extent statement_of
-for_counted s variable low high a from_line direction b to_line body inner f g = ap (λ t. node ⊕ (node ⊕ expr_extent (expr_of a)) ⊕ expr_extent (expr_of b) ⊕ statement_extent (statement_of t)) g ∙ sym (ap (λ t. statement_extent (statement_of t)) f)
+for_counted s variable at low high a from_line direction b to_line body inner f g = ap (λ t. node ⊕ (node ⊕ expr_extent (expr_of a)) ⊕ expr_extent (expr_of b) ⊕ statement_extent (statement_of t)) g ∙ sym (ap (λ t. statement_extent (statement_of t)) f)
 
 pub pack_counted : (s : Statement) (p : Place) (from_ty : Ty) (e : Expr) (line : Line) (q : Place) (to_ty : Ty) → s ≡ Pack p from_ty e line q to_ty → node ⊕ (node ⊕ place_extent (place_of p)) ⊕ (node ⊕ expr_extent (expr_of e)) ⊕ (node ⊕ place_extent (place_of q)) ≡ statement_extent (statement_of s)
 unfolding statement_extent statement_of

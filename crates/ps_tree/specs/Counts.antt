@@ -191,15 +191,23 @@ routine_nodes r = (routine_extent r).nodes
 abbrev pub routine_cells : Routine → ℕ
 routine_cells r = (routine_extent r).taken
 
--- every type in a heading, and so every parameter, has at most 100,000 cells
+-- at most 100,000 cells
 abbrev pub is_small : DataType → Bool
 is_small type = nat_le (cells type) 100000
+
+unfoldable pub is_small_result : Option DataType → Bool
+is_small_result None = true
+is_small_result (Some type) = is_small type
+
+-- a heading, and each one of a procedural parameter within it: at most 32 parameters, and every type in it is small
+abbrev pub is_short : Formals → Bool
+is_short formals = nat_le (formals_extent formals).nodes 32
 
 unfoldable mutual
   pub is_small_formal : Formal → Bool
   is_small_formal (ValueFormal type) = is_small type
   is_small_formal (VariableFormal type) = is_small type
-  is_small_formal (RoutineFormal formals result) = are_small_formals formals
+  is_small_formal (RoutineFormal formals result) = is_short formals && are_small_formals formals && is_small_result result
 
   pub are_small_formals : Formals → Bool
   are_small_formals no_formal = true
@@ -209,9 +217,9 @@ unfoldable pub are_small : List DataType → Bool
 are_small [] = true
 are_small (type ∷ rest) = is_small type && are_small rest
 
--- nested at most 15 deep within the program block, at most 32 parameters, 100,000 cells and 4,194,304 nodes
+-- nested at most 15 deep within the program block, its heading and its variables as above, at most 100,000 cells and 4,194,304 nodes
 unfoldable pub is_routine_within_limits : Routine → Bool
-is_routine_within_limits r = nat_le (length r.chain) 16 && nat_le (formals_extent r.formals).nodes 32 && are_small_formals r.formals && are_small r.variables && nat_le (routine_cells r) 100000 && nat_le (routine_nodes r) 4194304
+is_routine_within_limits r = nat_le (length r.chain) 16 && is_short r.formals && are_small_formals r.formals && is_small_result r.result && are_small r.variables && nat_le (routine_cells r) 100000 && nat_le (routine_nodes r) 4194304
 
 unfoldable pub are_routines_within_limits : List Routine → Bool
 are_routines_within_limits [] = true

@@ -4,7 +4,7 @@ use Rattle.std.proofs.Common.{arith}
 use denote.Param.Weighed.{most}
 use Rattle.ps_tree.specs.declared.types.Ty.{Ty}
 use Rattle.ps_tree.specs.declared.types.Ty.TheVariants.{Simple, Pointer, Nil, Set, EmptySet, Text, Array, Record}
-use Rattle.ps_tree.specs.declared.types.Component.TheDeep.{deep-Ty}
+use Rattle.ps_tree.specs.declared.types.Component.TheDeep.{deep-Ty, size-Ty}
 use Rattle.ps_tree.specs.Types.{field_list}
 use Rattle.ps_tree.specs.Sizes.{depth, greatest_depth, depth_of_fields}
 use Rattle.ps_tree.specs.TypeView.{type_of, types_of}
@@ -28,3 +28,7 @@ deep_in_types (t ∷ ts) = omega (arith, deep_in_type t, deep_in_types ts)
 pub deep_in_fields : (names : List (List ℕ)) (ts : List Ty) → max (most deep-Ty ts) 0 ≤ depth_of_fields (field_list names (types_of ts))
 unfolding depth
 deep_in_fields names ts = omega (arith, deep_in_types ts)
+
+-- how deep the deepest of some types is
+abbrev pub deepest : List Ty → ℕ
+deepest ts = most size-Ty ts

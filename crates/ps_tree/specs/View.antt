@@ -45,7 +45,7 @@ unfoldable mutual
   pub expr_of : Expr → Tree.Expr
   expr_of (Number n) = Tree.Number n
   expr_of Nil = Tree.Nil
-  expr_of (Load' p base shape row) = Tree.Load (Tree.Variable (base_of base) (selectors_of_row row))
+  expr_of (Load' p base shape row at) = Tree.Load (Tree.Variable (base_of base) (selectors_of_row row))
   expr_of (Plus' p e) = Tree.Plus (expr_of e)
   expr_of (Minus' p e line) = Tree.Minus (expr_of e) line.number
   expr_of (Not' p e) = Tree.Not (expr_of e)
@@ -71,7 +71,7 @@ unfoldable mutual
   operands_of_row (more_of-Expr e rest) = Tree.operand_before (expr_of e) (operands_of_row rest)
 
   pub set_of : SetExpr → Tree.SetExpr
-  set_of (LoadSet' p base shape row) = Tree.LoadSet (Tree.Variable (base_of base) (selectors_of_row row))
+  set_of (LoadSet' p base shape row at) = Tree.LoadSet (Tree.Variable (base_of base) (selectors_of_row row))
   set_of (Constructor' shape row) = Tree.Constructor (members_of_row row)
   set_of (Combine' p e shape row) = Tree.Combine (set_of e) (set_steps_of_row row)
 
@@ -89,13 +89,13 @@ unfoldable mutual
 
   pub structure_of : Structure → Tree.Structure
   structure_of (Literal characters) = Tree.Literal characters.items
-  structure_of (Contents' p base shape row ty) = Tree.Contents (Tree.Variable (base_of base) (selectors_of_row row)) (type_of ty)
+  structure_of (Contents' p base shape row at ty) = Tree.Contents (Tree.Variable (base_of base) (selectors_of_row row)) (type_of ty)
 
   pub argument_of : Argument → Tree.Argument
   argument_of (ByValue e range line) = Tree.ByValue (expr_of e) range line.number
   argument_of (BySet e low high line) = Tree.BySet (set_of e) low high line.number
   argument_of (ByCopy e ty) = Tree.ByCopy (structure_of e) (type_of ty)
-  argument_of (ByVariable' base shape row) = Tree.ByVariable (Tree.Variable (base_of base) (selectors_of_row row))
+  argument_of (ByVariable' base shape row at) = Tree.ByVariable (Tree.Variable (base_of base) (selectors_of_row row))
   argument_of (ByRoutine routine up) = Tree.ByRoutine routine up
   argument_of (ByFormal up index) = Tree.ByFormal up index
 
@@ -103,7 +103,7 @@ unfoldable mutual
   arguments_of_row end_of-Argument = Tree.no_argument
   arguments_of_row (more_of-Argument a rest) = Tree.argument_before (argument_of a) (arguments_of_row rest)
 
--- lists of selectors, and a variable
+-- lists of selectors, and a variable: where its name stands in the text is left out, as with the control variable of a `for` statement
 unfoldable pub selectors_of : List Selector → Tree.Selectors
 selectors_of [] = Tree.no_selector
 selectors_of (s ∷ rest) = Tree.selector_before (selector_of s) (selectors_of rest)
@@ -161,7 +161,7 @@ unfoldable mutual
   statement_of (Case' e shape row line) = Tree.Case (expr_of e) (elements_of_row row) line.number
   statement_of (While' e p s) = Tree.While (expr_of e) (statement_of s)
   statement_of (Repeat' shape row e) = Tree.Repeat (statements_of_row row) (expr_of e)
-  statement_of (For' variable low high a from_line direction b to_line p s) = Tree.For variable low high (expr_of a) from_line.number direction (expr_of b) to_line.number (statement_of s)
+  statement_of (For' variable at low high a from_line direction b to_line p s) = Tree.For variable low high (expr_of a) from_line.number direction (expr_of b) to_line.number (statement_of s)
   statement_of (With' places p s) = Tree.With (map place_of places.items) (statement_of s)
   statement_of (New place pointer line) = Tree.New (place_of place) pointer line.number
   statement_of (Pack a from_ty e line z to_ty) = Tree.Pack (place_of a) (type_of from_ty) (expr_of e) line.number (place_of z) (type_of to_ty)

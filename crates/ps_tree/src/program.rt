@@ -1,8 +1,8 @@
 // A checked program.
 
-ghost use Rattle.std.specs.Prelude.{◌≡◌, ◌↔◌, ◌^◌, ◌-◌, ◌<◌, ◌≤◌, length, min, map, IsTrue, IsSome, IfSome, option_map, slice_index};
+ghost use Rattle.std.specs.Prelude.{◌≡◌, ◌↔◌, ◌&&◌, ◌^◌, ◌-◌, ◌<◌, ◌≤◌, length, min, map, IsTrue, IsSome, IfSome, option_map, slice_index};
 ghost use Rattle.ps_tree.specs.Tree.{routine_at};
-ghost use Rattle.ps_tree.specs.Counts.{capped, formals_extent, routine_extent, routine_nodes, routine_cells, variables_extent, result_extent, formal_cells, is_small, is_small_formal, are_small_formals, are_small, is_routine_within_limits, are_routines_within_limits, is_within_limits};
+ghost use Rattle.ps_tree.specs.Counts.{capped, formals_extent, routine_extent, routine_nodes, routine_cells, variables_extent, result_extent, formal_cells, is_small, is_small_result, is_short, is_small_formal, are_small_formals, are_small, is_routine_within_limits, are_routines_within_limits, is_within_limits};
 ghost use Rattle.ps_tree.specs.View.{type_of, formal_of, formals_of, routine_of, program_of};
 
 use crate::count::{Extent, NOTHING, both, copy, count_statements};
@@ -86,16 +86,18 @@ impl Routine {
         self.extent().taken
     }
 
-    /// The routine keeps the limits: nested at most 15 deep within the program block, at most 32 formal parameters,
-    /// their types and the variables' of at most 100,000 cells, 100,000 cells and 4,194,304 nodes in all.
+    /// The routine keeps the limits: nested at most 15 deep within the program block, at most 32 formal parameters in
+    /// its heading and in each within it, types of at most 100,000 cells there and of its variables, 100,000 cells and
+    /// 4,194,304 nodes in all.
     #[tactic(auto, unfolding(crate::specs::Counts::is_routine_within_limits))]
     fn is_within_limits(&self) -> bool
         ensures { result ≡ is_routine_within_limits (routine_of self.now) }
     {
         let extent = self.extent();
         self.chain.len() <= 16
-            && count_formals(&self.formals).nodes <= 32
+            && is_short(&self.formals)
             && are_small_formals(&self.formals)
+            && is_small_result(&self.result)
             && are_small(&self.variables)
             && extent.taken <= 100_000
             && extent.nodes <= 4_194_304
@@ -121,6 +123,31 @@ fn are_small(types: &[Ty]) -> bool
     true
 }
 
+/// The type of a result, if there is one, has at most 100,000 cells.
+#[tactic(auto, unfolding(crate::specs::Counts::is_small_result))]
+fn is_small_result(result_type: &Option<Ty>) -> bool
+    ensures { result ≡ is_small_result (option_map type_of result_type.now) }
+{
+    match result_type {
+        None => true,
+        Some(ty) => is_small(ty),
+    }
+}
+
+/// A heading has at most 32 formal parameters.
+fn is_short(formals: &[Formal]) -> bool
+    ensures { result ≡ is_short (formals_of formals.now) }
+{
+    count_formals(formals).nodes <= 32
+}
+
+/// Whether a procedural parameter's heading keeps the limits, where it is known of its formal parameters.
+fn heading_keeps(small: bool, formals: &[Formal], result_type: &Option<Ty>) -> bool
+    ensures { result ≡ (is_short (formals_of formals.now) && small && is_small_result (option_map type_of result_type.now)) }
+{
+    is_short(formals) && small && is_small_result(result_type)
+}
+
 #[cycle(small)]
 #[tactic(auto, using(crate::proofs::FormalLemmas::formal_of_Routine), unfolding(crate::specs::View::formal_of, crate::specs::Counts::is_small_formal))]
 fn is_small_formal(formal: &Formal) -> bool
@@ -129,7 +156,9 @@ fn is_small_formal(formal: &Formal) -> bool
     match formal {
         Formal::Value(ty) => is_small(ty),
         Formal::Variable(ty) => is_small(ty),
-        Formal::Routine { formals, .. } => are_small_formals(formals),
+        Formal::Routine { formals, result } => {
+            heading_keeps(are_small_formals(formals), formals, result)
+        }
     }
 }
 
@@ -198,8 +227,9 @@ impl Checked {
     ghost use Rattle.ps_tree.specs.Checked.{program_in};
 
     /// The program of these routines and domain types, where it keeps the limits: at most 1,048,576 routines and as many
-    /// pointer types, types of at most 100,000 cells, and each routine nested at most 15 deep within the program block,
-    /// with at most 32 formal parameters, 100,000 cells and 4,194,304 nodes.
+    /// pointer types, types of at most 100,000 cells (domains, variables, results and formal parameters, those of a
+    /// procedural parameter's heading too), and each routine nested at most 15 deep within the program block, with at
+    /// most 32 formal parameters in its heading and in each within it, 100,000 cells and 4,194,304 nodes.
     pub fn new(routines: Vec<Routine>, domains: Vec<Ty>) -> Option<Checked>
         ensures limits { IsSome result ↔ IsTrue (is_within_limits (program_of routines.items domains.items)) }
         ensures routines { IfSome result (λ checked. checked.routines ≡ routines.items) }

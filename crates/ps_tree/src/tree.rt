@@ -81,12 +81,14 @@ pub enum Direction {
     Downto,
 }
 
-/// A variable (6.5): what its name denotes, and the selectors behind the name, from left to right.
+/// A variable (6.5): what its name denotes, and the selectors behind the name, from left to right. `at` is where the name
+/// begins in the text; it means nothing for what the program does, and serves to tell a refusal there.
 #[cycle(tree)]
 #[derive(Drop)]
 pub struct Place {
     pub base: PlaceBase,
     pub selectors: Vec<Selector>,
+    pub at: u32,
 }
 
 /// What a variable's name denotes by itself.
@@ -365,9 +367,10 @@ pub enum Statement {
         condition: Expr,
     },
     /// The control variable is entry `variable` of the routine itself, with values from `low` to `high`; the lines
-    /// are those of the first tokens of the two bounds.
+    /// are those of the first tokens of the two bounds. `at` is where its name begins in the text, as in a `Place`.
     For {
         variable: u32,
+        at: u32,
         low: i32,
         high: i32,
         from: Expr,

@@ -1,9 +1,11 @@
 // Types: what they are, when two are one, and their sizes.
 
-ghost use Rattle.std.specs.Prelude.{◌≡◌, ◌↔◌, ◌-◌, ◌^◌, ◌≤◌, min, IfOk, IsTrue, option_map, ℕ, List};
+ghost use Rattle.std.specs.Prelude.{◌≡◌, ◌↔◌, ◌+◌, ◌*◌, ◌-◌, ◌^◌, ◌≤◌, min, IfOk, IfSome, IsTrue, option_map, ℕ, List};
 ghost use Rattle.ps_tree.specs.Types.{Compatible, Assignable, is_same_host, are_same, is_same_ordinal, is_same_type, is_char, is_string_index, string_length, goes_with, has_variables, is_compatible, is_assignable, field_list, field_types, field_at, field_in};
-ghost use Rattle.ps_tree.specs.Sizes.{value_count, fits_byte, whole_words, cells, record_cells, bytes, record_bytes, field_bytes};
+ghost use Rattle.ps_tree.specs.Sizes.{depth, depth_of_fields, value_count, fits_byte, whole_words, cells, record_cells, bytes, record_bytes, field_bytes};
+ghost use Rattle.ps_tree.specs.TypeDepth.{deepest};
 ghost use Rattle.ps_tree.specs.TypeView.{type_of, types_of};
+ghost use Rattle.ps_tree.specs.declared.types.Component.TheDeep.{size-Ty};
 
 use crate::names::Names;
 use std::alloc::AllocError;
@@ -78,7 +80,6 @@ pub enum Ty {
 
 /// The type of an array's components, with its sizes.
 #[cycle(types)]
-#[derive(Drop)]
 pub struct Component {
     ty: Ty,
     cell_count: u64,
@@ -87,12 +88,79 @@ pub struct Component {
 
 /// The fields of a record type: their names, in small letters, and their types, in one order. With the sizes of a record.
 #[cycle(types)]
-#[derive(Drop)]
 pub struct Fields {
     names: Names,
     types: Vec<Ty>,
     cell_count: u64,
     byte_count: u32,
+}
+
+impl Drop for Component {
+    #[cycle(types)]
+    fn drop(self) {
+        let Component {
+            ty,
+            cell_count: _,
+            byte_count: _,
+        } = self;
+        release(ty);
+    }
+}
+
+impl Drop for Fields {
+    #[cycle(types)]
+    fn drop(self) {
+        let Fields {
+            names,
+            types,
+            cell_count: _,
+            byte_count: _,
+        } = self;
+        drop(names);
+        release_all(types);
+    }
+}
+
+/// Lets types go, the one with the most cells last.
+#[cycle(types)]
+fn release_all(types: Vec<Ty>) {
+    let mut rest = types;
+    if let Some(largest) = take_largest(&mut rest) {
+        drop(rest);
+        release(largest);
+    }
+}
+
+/// Lets a type go, and in this loop the types within it that no other type has. Of the fields of a record the one with
+/// the most cells is the last: each other has at most half of the record's. So types that are nested deep in one another
+/// need little stack.
+#[cycle(types)]
+fn release(ty: Ty) {
+    let mut rest = ty;
+    loop {
+        match rest {
+            Ty::Array { component, .. } => match Rc::into_inner(component) {
+                None => return,
+                Some(inner) => rest = inner.into_type(),
+            },
+            Ty::Record { fields, .. } => match Rc::into_inner(fields) {
+                None => return,
+                Some(inner) => {
+                    let mut types = inner.into_types();
+                    match take_largest(&mut types) {
+                        None => return,
+                        Some(largest) => rest = largest,
+                    }
+                }
+            },
+            Ty::Simple(_)
+            | Ty::Pointer { .. }
+            | Ty::Nil
+            | Ty::Set { .. }
+            | Ty::EmptySet
+            | Ty::Text { .. } => return,
+        }
+    }
 }
 
 impl Model for Component {
@@ -481,6 +549,19 @@ impl Component {
         }
     }
 
+    /// The type, which outlives the array.
+    #[tactic(auto, using(crate::proofs::DropLemmas::depth_of_component))]
+    fn into_type(self) -> Ty
+        ensures { size-Ty result ≤ 2 * depth self + 1 }
+    {
+        let Component {
+            ty,
+            cell_count: _,
+            byte_count: _,
+        } = self;
+        ty
+    }
+
     /// The type itself.
     pub fn ty(&self) -> &Ty
         ensures { type_of result.now ≡ self.now }
@@ -526,6 +607,28 @@ fn bytes_of_all(types: &[Ty]) -> u32
     total
 }
 
+/// Takes out the type with the most cells.
+#[tactic(auto, using(crate::proofs::DropLemmas::deepest_left, crate::proofs::DropLemmas::deepest_taken))]
+fn take_largest(types: &mut Vec<Ty>) -> Option<Ty>
+    ensures rest { deepest types.new.items ≤ deepest types.old.items }
+    ensures largest { IfSome result (λ ty. size-Ty ty ≤ deepest types.old.items) }
+{
+    let mut place = 0;
+    let mut most = 0;
+    for i in 0..types.len() {
+        let cells = types[i].cells();
+        if most < cells {
+            most = cells;
+            place = i;
+        }
+    }
+    if place < types.len() {
+        Some(types.swap_remove(place))
+    } else {
+        None
+    }
+}
+
 #[tactic(auto, using(crate::proofs::FieldLemmas::field_at_place, crate::proofs::FieldLemmas::no_field_above, crate::proofs::FieldLemmas::no_field_past))]
 fn field_at(types: &[Ty], place: usize) -> Option<(u32, &Ty)>
     ensures { option_map (λ f. (f.0, type_of f.1.now)) result ≡ field_at (types_of types.now) place }
@@ -556,6 +659,21 @@ impl Fields {
         ensures { option_map (λ f. (f.0, type_of f.1.now)) result ≡ field_in self.now name.now }
     {
         field_at(self.types.as_slice(), self.names.find(name)?)
+    }
+
+    /// The types of the fields, which outlive the record.
+    #[tactic(auto, using(crate::proofs::DropLemmas::deepest_of_fields))]
+    fn into_types(self) -> Vec<Ty>
+        ensures { deepest result.items ≤ 2 * depth_of_fields self + 1 }
+    {
+        let Fields {
+            names,
+            types,
+            cell_count: _,
+            byte_count: _,
+        } = self;
+        drop(names);
+        types
     }
 
     /// The types of the fields, in their order.

@@ -37,11 +37,20 @@ fn chain<A: Drop, B: Drop>(alloc: Global, first: A, item: B) -> Result<(Box<A>, 
 /// A variable with one more selector (6.5.3, 6.5.4).
 #[tactic(auto, using(crate::proofs::ChainLemmas::selectors_pushed))]
 pub(crate) fn selected(place: Place, selector: Selector) -> Result<Place, AllocError>
-    ensures { IfOk result (λ p. place_of p ≡ selected (place_of place) (selector_of selector)) }
+    ensures place { IfOk result (λ p. place_of p ≡ selected (place_of place) (selector_of selector)) }
+    ensures named { IfOk result (λ p. p.at ≡ place.at) }
 {
-    let Place { base, selectors } = place;
+    let Place {
+        base,
+        selectors,
+        at,
+    } = place;
     let selectors = appended(selectors, selector)?;
-    Ok(Place { base, selectors })
+    Ok(Place {
+        base,
+        selectors,
+        at,
+    })
 }
 
 /// An operator on two integers (6.7.2.2).

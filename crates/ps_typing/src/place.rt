@@ -48,14 +48,16 @@ pub(crate) fn left_out(at: u32) -> Fault
     }
 }
 
-/// A variable without selectors.
+/// A variable without selectors; its name is at `at`.
 #[tactic(auto, unfolding(ps_tree::specs::View::selectors_of))]
-fn entire(alloc: Global, base: PlaceBase) -> Place
-    ensures { place_of result ≡ Tree.Variable (base_of base) Tree.no_selector }
+fn entire(alloc: Global, base: PlaceBase, at: u32) -> Place
+    ensures place { place_of result ≡ Tree.Variable (base_of base) Tree.no_selector }
+    ensures at { result.at ≡ at }
 {
     Place {
         base,
         selectors: Vec::new(alloc),
+        at,
     }
 }
 
@@ -65,6 +67,7 @@ pub fn variable_found(alloc: Global, found: Found<'_>, at: u32) -> Result<TypedP
     ensures ok { IfOk result (λ v. variable_at (point_of found.entry) ≡ Some (variable_of v)) }
     ensures err { IfErr result (λ fault. IsFault fault → variable_at (point_of found.entry) ≡ None) }
     ensures told { IfErr result (IsToldAt at) }
+    ensures named { IfOk result (λ v. v.place.at ≡ at) }
 {
     match found {
         Found::Field {
@@ -81,7 +84,7 @@ pub fn variable_found(alloc: Global, found: Found<'_>, at: u32) -> Result<TypedP
                 number,
             };
             Ok(TypedPlace {
-                place: entire(alloc, base),
+                place: entire(alloc, base, at),
                 ty,
                 in_packed: is_packed(record),
             })
@@ -91,7 +94,7 @@ pub fn variable_found(alloc: Global, found: Found<'_>, at: u32) -> Result<TypedP
                 let ty = ty.copy()?;
                 let base = PlaceBase::Entry { up, index: *entry };
                 Ok(TypedPlace {
-                    place: entire(alloc, base),
+                    place: entire(alloc, base, at),
                     ty,
                     in_packed: false,
                 })

@@ -3,7 +3,7 @@ use Rattle.ps_tree.specs.declared.tree.ArithmeticStep.{out-ArithmeticStep}
 use Rattle.ps_tree.specs.declared.tree.SetStep.{out-SetStep}
 use Rattle.ps_tree.specs.View.{argument_of, member_of, selector_of, expr_of, set_of}
 use Rattle.ps_changes.specs.Changes.{argument_threatens, member_threatens, selector_threatens, expr_threatens, set_threatens}
-use Rattle.ps_changes.proofs.Walks.{passed_next, passed_found, passed_all}
+use Rattle.ps_changes.proofs.Walks.{passed_none, passed_some, passed_all}
 use Rattle.ps_changes.proofs.Lists.{arguments_answer, arguments_none, arguments_more, members_answer, members_none, members_more, selectors_answer, selectors_none, selectors_more, arithmetic_answer, arithmetic_none, arithmetic_more, operands_answer, operands_none, operands_more, set_steps_answer, set_steps_none, set_steps_more, call_threatens, call_formal_threatens}
 use Rattle.ps_changes.proofs.Chains.{place_threat, arithmetic_threat, logic_threat, combine_threat, contents_threat}
 use Rattle.ps_changes.proofs.threat.+operands.Goals as goal
@@ -11,11 +11,11 @@ use Rattle.ps_changes.proofs.threat.+operands.Goals as goal
 pub by_arguments-loop-argument-init : goal.by_arguments-loop-argument-init
 by_arguments-loop-argument-init t c = refl
 
-pub by_arguments-returns-then-by_argument : goal.by_arguments-returns-then-by_argument
-by_arguments-returns-then-by_argument t c = passed_found (arguments_answer _ _) (λ x. argument_threatens _ _ (argument_of x)) (arguments_more _ _) _ _ _ _ c.loop-argument-test.true c.loop-argument.invariant c.argument-item.is c.by_argument.ensures c.if-by_argument.true
+pub by_arguments-returns-then-is_some : goal.by_arguments-returns-then-is_some
+by_arguments-returns-then-is_some t c = passed_some (arguments_answer _ _) (λ x. argument_threatens _ _ (argument_of x)) (arguments_more _ _) _ _ _ _ _ c.loop-argument-test.true c.loop-argument.invariant c.argument-item.is c.by_argument-found.ensures c.is_some.ensures c.if-is_some.true
 
 pub by_arguments-loop-argument-preserved : goal.by_arguments-loop-argument-preserved
-by_arguments-loop-argument-preserved t c = passed_next (arguments_answer _ _) (λ x. argument_threatens _ _ (argument_of x)) (arguments_more _ _) _ _ _ _ c.loop-argument-test.true c.loop-argument.invariant c.argument-item.is c.by_argument.ensures c.if-by_argument.false
+by_arguments-loop-argument-preserved t c = passed_none (arguments_answer _ _) (λ x. argument_threatens _ _ (argument_of x)) (arguments_more _ _) _ _ _ _ _ c.loop-argument-test.true c.loop-argument.invariant c.argument-item.is c.by_argument-found.ensures c.is_some.ensures c.if-is_some.false
 
 pub by_arguments-returns : goal.by_arguments-returns
 by_arguments-returns t c = passed_all (arguments_answer _ _) (arguments_none _ _) _ _ c.loop-argument-test.false c.loop-argument.invariant
@@ -23,11 +23,11 @@ by_arguments-returns t c = passed_all (arguments_answer _ _) (arguments_none _ _
 pub by_members-loop-member-init : goal.by_members-loop-member-init
 by_members-loop-member-init t c = refl
 
-pub by_members-returns-then-by_member : goal.by_members-returns-then-by_member
-by_members-returns-then-by_member t c = passed_found (members_answer _ _) (λ x. member_threatens _ _ (member_of x)) (members_more _ _) _ _ _ _ c.loop-member-test.true c.loop-member.invariant c.member-item.is c.by_member.ensures c.if-by_member.true
+pub by_members-returns-then-is_some : goal.by_members-returns-then-is_some
+by_members-returns-then-is_some t c = passed_some (members_answer _ _) (λ x. member_threatens _ _ (member_of x)) (members_more _ _) _ _ _ _ _ c.loop-member-test.true c.loop-member.invariant c.member-item.is c.by_member-found.ensures c.is_some.ensures c.if-is_some.true
 
 pub by_members-loop-member-preserved : goal.by_members-loop-member-preserved
-by_members-loop-member-preserved t c = passed_next (members_answer _ _) (λ x. member_threatens _ _ (member_of x)) (members_more _ _) _ _ _ _ c.loop-member-test.true c.loop-member.invariant c.member-item.is c.by_member.ensures c.if-by_member.false
+by_members-loop-member-preserved t c = passed_none (members_answer _ _) (λ x. member_threatens _ _ (member_of x)) (members_more _ _) _ _ _ _ _ c.loop-member-test.true c.loop-member.invariant c.member-item.is c.by_member-found.ensures c.is_some.ensures c.if-is_some.false
 
 pub by_members-returns : goal.by_members-returns
 by_members-returns t c = passed_all (members_answer _ _) (members_none _ _) _ _ c.loop-member-test.false c.loop-member.invariant
@@ -41,11 +41,11 @@ by_expr-returns-in-CallFormal t c = c.by_arguments-in-CallFormal.ensures ∙ cal
 pub by_selectors-loop-selector-init : goal.by_selectors-loop-selector-init
 by_selectors-loop-selector-init t c = refl
 
-pub by_selectors-returns-then-by_selector : goal.by_selectors-returns-then-by_selector
-by_selectors-returns-then-by_selector t c = passed_found (selectors_answer _ _) (λ x. selector_threatens _ _ (selector_of x)) (selectors_more _ _) _ _ _ _ c.loop-selector-test.true c.loop-selector.invariant c.selector-item.is c.by_selector.ensures c.if-by_selector.true
+pub by_selectors-returns-then-is_some : goal.by_selectors-returns-then-is_some
+by_selectors-returns-then-is_some t c = passed_some (selectors_answer _ _) (λ x. selector_threatens _ _ (selector_of x)) (selectors_more _ _) _ _ _ _ _ c.loop-selector-test.true c.loop-selector.invariant c.selector-item.is c.by_selector-found.ensures c.is_some.ensures c.if-is_some.true
 
 pub by_selectors-loop-selector-preserved : goal.by_selectors-loop-selector-preserved
-by_selectors-loop-selector-preserved t c = passed_next (selectors_answer _ _) (λ x. selector_threatens _ _ (selector_of x)) (selectors_more _ _) _ _ _ _ c.loop-selector-test.true c.loop-selector.invariant c.selector-item.is c.by_selector.ensures c.if-by_selector.false
+by_selectors-loop-selector-preserved t c = passed_none (selectors_answer _ _) (λ x. selector_threatens _ _ (selector_of x)) (selectors_more _ _) _ _ _ _ _ c.loop-selector-test.true c.loop-selector.invariant c.selector-item.is c.by_selector-found.ensures c.is_some.ensures c.if-is_some.false
 
 pub by_selectors-returns : goal.by_selectors-returns
 by_selectors-returns t c = passed_all (selectors_answer _ _) (selectors_none _ _) _ _ c.loop-selector-test.false c.loop-selector.invariant
@@ -53,11 +53,11 @@ by_selectors-returns t c = passed_all (selectors_answer _ _) (selectors_none _ _
 pub by_arithmetic-loop-step-init : goal.by_arithmetic-loop-step-init
 by_arithmetic-loop-step-init t c = refl
 
-pub by_arithmetic-returns-then-by_expr : goal.by_arithmetic-returns-then-by_expr
-by_arithmetic-returns-then-by_expr t c = passed_found (arithmetic_answer _ _) (λ x. expr_threatens _ _ (expr_of (out-ArithmeticStep x).operand)) (arithmetic_more _ _) _ _ _ _ c.loop-step-test.true c.loop-step.invariant c.step-item.is c.by_expr.ensures c.if-by_expr.true
+pub by_arithmetic-returns-then-is_some : goal.by_arithmetic-returns-then-is_some
+by_arithmetic-returns-then-is_some t c = passed_some (arithmetic_answer _ _) (λ x. expr_threatens _ _ (expr_of (out-ArithmeticStep x).operand)) (arithmetic_more _ _) _ _ _ _ _ c.loop-step-test.true c.loop-step.invariant c.step-item.is c.by_expr-found.ensures c.is_some.ensures c.if-is_some.true
 
 pub by_arithmetic-loop-step-preserved : goal.by_arithmetic-loop-step-preserved
-by_arithmetic-loop-step-preserved t c = passed_next (arithmetic_answer _ _) (λ x. expr_threatens _ _ (expr_of (out-ArithmeticStep x).operand)) (arithmetic_more _ _) _ _ _ _ c.loop-step-test.true c.loop-step.invariant c.step-item.is c.by_expr.ensures c.if-by_expr.false
+by_arithmetic-loop-step-preserved t c = passed_none (arithmetic_answer _ _) (λ x. expr_threatens _ _ (expr_of (out-ArithmeticStep x).operand)) (arithmetic_more _ _) _ _ _ _ _ c.loop-step-test.true c.loop-step.invariant c.step-item.is c.by_expr-found.ensures c.is_some.ensures c.if-is_some.false
 
 pub by_arithmetic-returns : goal.by_arithmetic-returns
 by_arithmetic-returns t c = passed_all (arithmetic_answer _ _) (arithmetic_none _ _) _ _ c.loop-step-test.false c.loop-step.invariant
@@ -65,11 +65,11 @@ by_arithmetic-returns t c = passed_all (arithmetic_answer _ _) (arithmetic_none 
 pub by_operands-loop-operand-init : goal.by_operands-loop-operand-init
 by_operands-loop-operand-init t c = refl
 
-pub by_operands-returns-then-by_expr : goal.by_operands-returns-then-by_expr
-by_operands-returns-then-by_expr t c = passed_found (operands_answer _ _) (λ x. expr_threatens _ _ (expr_of x)) (operands_more _ _) _ _ _ _ c.loop-operand-test.true c.loop-operand.invariant c.operand-item.is c.by_expr.ensures c.if-by_expr.true
+pub by_operands-returns-then-is_some : goal.by_operands-returns-then-is_some
+by_operands-returns-then-is_some t c = passed_some (operands_answer _ _) (λ x. expr_threatens _ _ (expr_of x)) (operands_more _ _) _ _ _ _ _ c.loop-operand-test.true c.loop-operand.invariant c.operand-item.is c.by_expr-found.ensures c.is_some.ensures c.if-is_some.true
 
 pub by_operands-loop-operand-preserved : goal.by_operands-loop-operand-preserved
-by_operands-loop-operand-preserved t c = passed_next (operands_answer _ _) (λ x. expr_threatens _ _ (expr_of x)) (operands_more _ _) _ _ _ _ c.loop-operand-test.true c.loop-operand.invariant c.operand-item.is c.by_expr.ensures c.if-by_expr.false
+by_operands-loop-operand-preserved t c = passed_none (operands_answer _ _) (λ x. expr_threatens _ _ (expr_of x)) (operands_more _ _) _ _ _ _ _ c.loop-operand-test.true c.loop-operand.invariant c.operand-item.is c.by_expr-found.ensures c.is_some.ensures c.if-is_some.false
 
 pub by_operands-returns : goal.by_operands-returns
 by_operands-returns t c = passed_all (operands_answer _ _) (operands_none _ _) _ _ c.loop-operand-test.false c.loop-operand.invariant
@@ -77,11 +77,11 @@ by_operands-returns t c = passed_all (operands_answer _ _) (operands_none _ _) _
 pub by_set_steps-loop-step-init : goal.by_set_steps-loop-step-init
 by_set_steps-loop-step-init t c = refl
 
-pub by_set_steps-returns-then-by_set : goal.by_set_steps-returns-then-by_set
-by_set_steps-returns-then-by_set t c = passed_found (set_steps_answer _ _) (λ x. set_threatens _ _ (set_of (out-SetStep x).operand)) (set_steps_more _ _) _ _ _ _ c.loop-step-test.true c.loop-step.invariant c.step-item.is c.by_set.ensures c.if-by_set.true
+pub by_set_steps-returns-then-is_some : goal.by_set_steps-returns-then-is_some
+by_set_steps-returns-then-is_some t c = passed_some (set_steps_answer _ _) (λ x. set_threatens _ _ (set_of (out-SetStep x).operand)) (set_steps_more _ _) _ _ _ _ _ c.loop-step-test.true c.loop-step.invariant c.step-item.is c.by_set-found.ensures c.is_some.ensures c.if-is_some.true
 
 pub by_set_steps-loop-step-preserved : goal.by_set_steps-loop-step-preserved
-by_set_steps-loop-step-preserved t c = passed_next (set_steps_answer _ _) (λ x. set_threatens _ _ (set_of (out-SetStep x).operand)) (set_steps_more _ _) _ _ _ _ c.loop-step-test.true c.loop-step.invariant c.step-item.is c.by_set.ensures c.if-by_set.false
+by_set_steps-loop-step-preserved t c = passed_none (set_steps_answer _ _) (λ x. set_threatens _ _ (set_of (out-SetStep x).operand)) (set_steps_more _ _) _ _ _ _ _ c.loop-step-test.true c.loop-step.invariant c.step-item.is c.by_set-found.ensures c.is_some.ensures c.if-is_some.false
 
 pub by_set_steps-returns : goal.by_set_steps-returns
 by_set_steps-returns t c = passed_all (set_steps_answer _ _) (set_steps_none _ _) _ _ c.loop-step-test.false c.loop-step.invariant
@@ -89,14 +89,14 @@ by_set_steps-returns t c = passed_all (set_steps_answer _ _) (set_steps_none _ _
 pub by_place-returns : goal.by_place-returns
 by_place-returns t c = c.by_selectors.ensures ∙ place_threat _ _ c.args.place.now _ c.deref.ensures.value
 
-pub by_expr-returns-else-by_expr : goal.by_expr-returns-else-by_expr
-by_expr-returns-else-by_expr t c = c.by_arithmetic.ensures ∙ arithmetic_threat _ _ _ _ _ _ _ _ c.in-Arithmetic.is c.deref-in-Arithmetic.ensures c.deref-else-by_expr.ensures.value c.by_expr.ensures c.if-by_expr.false
+pub by_expr-returns-in-Arithmetic : goal.by_expr-returns-in-Arithmetic
+by_expr-returns-in-Arithmetic t c = c.either.ensures ∙ arithmetic_threat _ _ _ _ _ _ _ _ _ c.in-Arithmetic.is c.deref-in-Arithmetic.ensures c.deref-in-Arithmetic-2.ensures.value c.by_expr.ensures c.by_arithmetic.ensures
 
-pub by_expr-returns-else-by_expr-2 : goal.by_expr-returns-else-by_expr-2
-by_expr-returns-else-by_expr-2 t c = c.by_operands.ensures ∙ logic_threat _ _ _ _ _ _ _ _ _ c.in-Logic.is c.deref-in-Logic.ensures c.deref-else-by_expr-2.ensures.value c.by_expr-in-Logic.ensures c.if-by_expr-2.false
+pub by_expr-returns-in-Logic : goal.by_expr-returns-in-Logic
+by_expr-returns-in-Logic t c = c.either-in-Logic.ensures ∙ logic_threat _ _ _ _ _ _ _ _ _ _ c.in-Logic.is c.deref-in-Logic.ensures c.deref-in-Logic-2.ensures.value c.by_expr-in-Logic.ensures c.by_operands.ensures
 
-pub by_set-returns-else-by_set : goal.by_set-returns-else-by_set
-by_set-returns-else-by_set t c = c.by_set_steps.ensures ∙ combine_threat _ _ _ _ _ _ _ _ c.in-Combine.is c.deref-in-Combine.ensures c.deref-else-by_set.ensures.value c.by_set.ensures c.if-by_set.false
+pub by_set-returns-in-Combine : goal.by_set-returns-in-Combine
+by_set-returns-in-Combine t c = c.either.ensures ∙ combine_threat _ _ _ _ _ _ _ _ _ c.in-Combine.is c.deref-in-Combine.ensures c.deref-in-Combine-2.ensures.value c.by_set.ensures c.by_set_steps.ensures
 
 pub by_structure-returns-in-Contents : goal.by_structure-returns-in-Contents
 by_structure-returns-in-Contents t c = c.by_place.ensures ∙ contents_threat _ _ _ _ _ _ c.in-Contents.is c.deref.ensures

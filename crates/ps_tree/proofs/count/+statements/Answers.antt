@@ -28,7 +28,7 @@ pub count_statement-returns-in-Case : goal.count_statement-returns-in-Case
 count_statement-returns-in-Case t c = c.two-in-Case.ensures _ _ c.count_expr-in-Case.ensures c.count_elements.ensures ∙ ap capped (case_counted _ _ _ _ _ c.in-Case.is c.deref-in-Case.ensures.value)
 
 pub count_statement-returns-in-For : goal.count_statement-returns-in-For
-count_statement-returns-in-For t c = c.three-in-For.ensures _ _ _ (c.with_node-in-For.ensures _ c.count_expr-in-For.ensures) c.count_expr-in-For-2.ensures c.count_statement-in-For.ensures ∙ ap capped (for_counted _ _ _ _ _ _ _ _ _ _ _ c.in-For.is c.deref-in-For.ensures)
+count_statement-returns-in-For t c = c.three-in-For.ensures _ _ _ (c.with_node-in-For.ensures _ c.count_expr-in-For.ensures) c.count_expr-in-For-2.ensures c.count_statement-in-For.ensures ∙ ap capped (for_counted _ _ _ _ _ _ _ _ _ _ _ _ c.in-For.is c.deref-in-For.ensures)
 
 pub count_statement-returns-in-Pack : goal.count_statement-returns-in-Pack
 count_statement-returns-in-Pack t c = c.three-in-Pack.ensures _ _ _ (c.with_node-in-Pack.ensures _ c.count_place-in-Pack.ensures) (c.with_node-in-Pack-2.ensures _ c.count_expr-in-Pack.ensures) (c.with_node-in-Pack-3.ensures _ c.count_place-in-Pack-2.ensures) ∙ ap capped (pack_counted _ _ _ _ _ _ _ c.in-Pack.is)

@@ -18,4 +18,4 @@ pub are_small_formals-returns : goal.are_small_formals-returns
 are_small_formals-returns t c = passed_end small_formals small_formals_none _ _ c.loop-formal-test.false c.loop-formal.invariant
 
 pub is_small_formal-returns-in-Routine : goal.is_small_formal-returns-in-Routine
-is_small_formal-returns-in-Routine t c = c.are_small_formals.ensures ∙ routine_small _ _ _ _ c.in-Routine.is c.deref.ensures.value
+is_small_formal-returns-in-Routine t c = c.heading_keeps.ensures ∙ routine_small _ _ _ _ _ _ c.in-Routine.is c.deref.ensures.value c.deref-in-Routine.ensures.value c.are_small_formals.ensures
