@@ -63,24 +63,24 @@ fn report_told(alloc: Global, report: &Report) -> Result<String, AllocError> {
     Ok(line)
 }
 
-fn ran(alloc: Global, tac: &Tac) -> Result<String, AllocError> {
+fn ran(alloc: Global, tac: &Tac, input: &[u8]) -> Result<String, AllocError> {
     let free = Budget {
         frames: &[],
         objects: &[],
         stack: 0,
         heap: 0,
     };
-    let report = run(alloc, tac, free, &[], STEPS)?;
+    let report = run(alloc, tac, free, input, STEPS)?;
     report_told(alloc, &report)
 }
 
-/// How the run of a program on an empty input ends, and what it writes.
-pub fn told(alloc: Global, text: &str) -> Result<String, AllocError> {
+/// How the run of a program ends, and what it reads and writes.
+pub fn told(alloc: Global, text: &str, input: &[u8]) -> Result<String, AllocError> {
     let Some(program) = checked(alloc, text) else {
         return String::from_str(alloc, "no program");
     };
     match lower(alloc, &program) {
-        Ok(tac) => ran(alloc, &tac),
+        Ok(tac) => ran(alloc, &tac, input),
         Err(LowerRefusal::OutOfMemory) => Err(AllocError),
         Err(LowerRefusal::TooLarge) => String::from_str(alloc, "too large"),
         Err(LowerRefusal::NotYet) => String::from_str(alloc, "not yet"),

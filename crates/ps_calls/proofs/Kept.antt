@@ -11,7 +11,7 @@ use Rattle.ps_layout.specs.Frames.{is_program_block}
 use Rattle.ps_relation.specs.Ghosts.{Slot, OwnSlot, ReferenceSlot, ClosureSlot, Ghost, SlotsFrom, Names, SlotsFit, GhostsFit, slot_words, first_piece, entry_pieces, layout_at, block_words, frames_of}
 use Rattle.ps_calls.specs.Binding.{Extends}
 
-slots_rise : (xs : List Slot) (m n : ℕ) → SlotsFrom xs m n → m ≤ n
+pub slots_rise : (xs : List Slot) (m n : ℕ) → SlotsFrom xs m n → m ≤ n
 slots_rise [] m n h = omega arith
 slots_rise (OwnSlot s k ∷ xs) m n h = let r = slots_rise xs (suc m) n h.1 in omega arith
 slots_rise (ReferenceSlot s b o ∷ xs) m n h = slots_rise xs m n h
@@ -38,7 +38,7 @@ slots_fit_same made st st' (OwnSlot s j ∷ xs) m n h e f =
 slots_fit_same made st st' (ReferenceSlot s b o ∷ xs) m n h e f = (tt, slots_fit_same made st st' xs m n h e f.1)
 slots_fit_same made st st' (ClosureSlot ks result r w ∷ xs) m n h e f = (tt, slots_fit_same made st st' xs m n h e f.1)
 
-names_less : (gs : List Ghost) (m n : ℕ) → m ≤ n → Names gs m → Names gs n
+pub names_less : (gs : List Ghost) (m n : ℕ) → m ≤ n → Names gs m → Names gs n
 names_less [] m n l h = tt
 names_less (g ∷ gs) m n l h = let up = h.2 in (h.0, h.1, omega (arith, l, up), h.3)
 

@@ -1,8 +1,15 @@
+pub mod Filling
 pub mod Entering
 pub mod Binding
+pub mod Spread
+pub mod FirstWords
 pub mod First
 pub mod Begin
 pub mod Pushed
 pub mod Passing
+pub mod Large
 pub mod Parameters
 pub mod Kept
+pub mod Grown
+pub mod Objects
+pub mod Entry

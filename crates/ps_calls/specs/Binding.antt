@@ -5,7 +5,7 @@ use Rattle.ps_meaning.specs.Values.{Value, first}
 use Rattle.ps_meaning.specs.Worlds.{World}
 use Rattle.ps_layout.specs.Shapes.{shape_of}
 use Rattle.ps_relation.specs.Ghosts.{Slot, OwnSlot}
-use Rattle.ps_calls.specs.First.{FirstFits}
+use Rattle.ps_code.specs.First.{FirstFits}
 
 -- the second world has only more names
 pub record Extends (w w' : World) : Type 0 where

@@ -12,12 +12,12 @@ use Rattle.ps_code.specs.Scopes.{Scope}
 use Rattle.ps_code.specs.Statements.{first_code}
 use Rattle.ps_relation.specs.Ghosts.{Ghost}
 use Rattle.ps_relation.specs.Here.{Setting, code_in, Work, Activated}
-use Rattle.ps_calls.specs.Entering.{Places}
-use Rattle.ps_calls.specs.First.{FirstFits}
+use Rattle.ps_calls.specs.Entering.{Places, CanCopy}
+use Rattle.ps_code.specs.First.{FirstFits}
 
 -- the code of a type's first value places the words of that value
 abbrev pub FirstsArePlaced : Type 0
 FirstsArePlaced =
     (p : Setting) (c : Activated) (gs : List Ghost) (w : World) (k : Scope) (type : DataType) (free : ℕ) (words : Words) (work : Work) (pc pc' place offset : ℕ)
-    → FirstFits (shape_of type) → offset ≡ 4 * place → place + length (value_words (shape_of type) (first type)) ≤ length words → Stands (code_in p) c.routine pc (first_code k base.Frame free offset (shape_of type)) pc'
+    → CanCopy p c gs w k work.count (length words) → FirstFits (shape_of type) → offset ≡ 4 * place → place + length (value_words (shape_of type) (first type)) ≤ length words → Stands (code_in p) c.routine pc (first_code k base.Frame free offset (shape_of type)) pc'
     → Places p c gs w free words work pc pc' (record { place = place; words = value_words (shape_of type) (first type) } ∷ [])

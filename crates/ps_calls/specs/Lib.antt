@@ -1,6 +1,7 @@
+pub mod Filling
 pub mod Entering
-pub mod First
 pub mod Binding
+pub mod Routines
 pub mod Passing
 pub mod Begin
 pub mod Laws

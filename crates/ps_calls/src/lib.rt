@@ -4,7 +4,7 @@
 ghost use Rattle.ps_calls.specs.Laws.{FirstsArePlaced};
 
 /// The code of a variable's first value places the words of that value.
-#[tactic(auto, using(crate::proofs::First::places_first))]
+#[tactic(auto, using(crate::proofs::First::firsts_placed))]
 pub fn firsts_are_placed()
     ensures { FirstsArePlaced }
 {}

@@ -6,7 +6,7 @@ use Rattle.ps_tree.specs.declared.tree.Direction.TheVariants.{To}
 use Rattle.ps_tree.specs.declared.tree.BooleanOperator.TheVariants.{And}
 use Rattle.ps_tree.specs.declared.tree.Relation.TheVariants.{Greater as IsGreater, Equal as IsEqual}
 use Rattle.ps_tree.specs.Types.{DataType, PointerType, ArrayType}
-use Rattle.ps_tree.specs.Tree.{Place, Variable, Entry, Element, Target, no_selector, selector_before, Expr, Number, Load, Logic, Compare, no_operand, operand_before, Contents, ByValue, ByCopy, ByRoutine, no_argument, argument_before, Call, Statement, CallProcedure, CallFormalProcedure, IfElse, For, New, Formals, no_formal, formal_before, ValueFormal, RoutineFormal, Routine, Program}
+use Rattle.ps_tree.specs.Tree.{Variable, Entry, Target, no_selector, selector_before, Expr, Load, Logic, Compare, no_operand, operand_before, Contents, ByValue, ByCopy, ByRoutine, no_argument, argument_before, Call, Statement, CallProcedure, CallFormalProcedure, IfElse, For, New, Formals, no_formal, formal_before, ValueFormal, RoutineFormal, Routine, Program}
 use Rattle.ps_meaning.specs.Text.{digits}
 use Rattle.ps_meaning.specs.Run.{run_within}
 use Rattle.behavior.specs.Endings.{Normal}

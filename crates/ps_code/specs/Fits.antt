@@ -7,13 +7,15 @@ use Rattle.ps_tree.specs.declared.tree.RequiredFunction.{RequiredFunction}
 use Rattle.ps_tree.specs.declared.tree.RequiredFunction.TheVariants.{Succ, Pred}
 use Rattle.ps_tree.specs.Types.{DataType, string_length}
 use Rattle.ps_tree.specs.Sizes.{value_count}
-use Rattle.ps_tree.specs.Tree.{Place, Variable, PlaceBase, Entry, Opened, Selector, Element, Field, Target, Selectors, no_selector, selector_before, ArithmeticSteps, no_arithmetic_step, arithmetic_step_before, Operands, no_operand, operand_before, Expr, Number, Nil, Load, Plus, Minus, Not, Arithmetic, Logic, Compare, ComparePointers, Apply, Structure, Literal, Contents, Width, DefaultWidth, GivenWidth, WriteParameter, WriteInteger, WriteChar, WriteBoolean, WriteText, Statement, Empty, Assign, Compound, If, IfElse, Case, While, Repeat, For, With, Write, Writeln, Statements, no_statement, statement_before, Elements, no_element, element_before, routine_at, domain_at}
+use Rattle.ps_tree.specs.Tree.{BySet, AssignSet, Place, Variable, PlaceBase, Entry, Opened, Selector, Element, Field, Target, Selectors, no_selector, selector_before, ArithmeticSteps, no_arithmetic_step, arithmetic_step_before, Operands, no_operand, operand_before, Expr, Number, Nil, Load, Plus, Minus, Not, Arithmetic, Logic, Compare, ComparePointers, CompareStrings, Apply, Call, CallFormal, Structure, Literal, Contents, Argument, ByValue, ByCopy, ByVariable, ByRoutine, ByFormal, Arguments, no_argument, argument_before, Width, DefaultWidth, GivenWidth, WriteParameter, WriteInteger, WriteChar, WriteBoolean, WriteText, Statement, Empty, Assign, AssignStructure, CallProcedure, CallFormalProcedure, Compound, If, IfElse, Case, While, Repeat, For, With, Write, Writeln, Statements, no_statement, statement_before, Elements, no_element, element_before, routine_at, domain_at, SetSteps, no_set_step, set_step_before, CompareSets, In, SetExpr, LoadSet, Constructor, Combine, Member, One, Several, Members, no_member, member_before, New, Eof, Eoln, ReadVariable, ReadChar, Read, Readln}
 use Rattle.ps_meaning.specs.Expressions.{index_of}
 use Rattle.tac_code.specs.Numbers.{is_integer}
-use Rattle.ps_layout.specs.Shapes.{Shape, NumberShape, PointerShape, ByteShape, ArrayShape, shape_of, field_part, Part, Whole, Byte, component_part}
+use Rattle.ps_layout.specs.Shapes.{Shape, NumberShape, PointerShape, SetShape, ByteShape, ArrayShape, shape_of, field_part, Part, Whole, Byte, component_part}
 use Rattle.ps_layout.specs.Paths.{Sort, NumberSort, PointerSort}
-use Rattle.ps_layout.specs.Frames.{Kind, Own, Reference}
+use Rattle.ps_layout.specs.Frames.{Kind, Own, Reference, Closure, Kinds, no_kind, kind_before, kinds_of, result_shape}
 use Rattle.ps_code.specs.Scopes.{Scope, kind_at}
+use Rattle.ps_code.specs.Values.{text_length}
+use Rattle.ps_code.specs.First.{FirstFits}
 
 abbrev pub shape_in : Option Kind → Option Shape
 shape_in (Some (Own shape)) = Some shape
@@ -23,6 +25,12 @@ shape_in _ = None
 abbrev pub tail : List ℕ → List ℕ
 tail [] = []
 tail (r ∷ rest) = rest
+
+-- the outermost of the routines round a part of the tree
+abbrev pub outermost_of : List ℕ → ℕ
+outermost_of [] = 0
+outermost_of (r ∷ []) = r
+outermost_of (r ∷ s ∷ rest) = outermost_of (s ∷ rest)
 
 abbrev pub IsInteger : ℤ → Type 0
 IsInteger z = IsTrue (is_integer z)
@@ -44,6 +52,12 @@ RangeFits (Within low high) Byte = IsTrue (int_le (pos 0) low && int_le high (po
 RangeFits (Within low high) (Whole (NumberShape first)) = IsInteger low × IsInteger high
 RangeFits Any (Whole (PointerShape t)) = Unit {0}
 RangeFits range part = ⊥
+
+-- values of many words, which are copied
+abbrev pub IsStructure : Shape → Type 0
+IsStructure (NumberShape first) = ⊥
+IsStructure (PointerShape pointer) = ⊥
+IsStructure shape = Unit {0}
 
 abbrev pub CountIs : Shape → ℕ → Type 0
 CountIs (ByteShape count first) n = count ≡ n
@@ -95,8 +109,24 @@ module _ (k : Scope) where
     ExprFits os (Logic operator e rest) sort = (sort ≡ NumberSort) × ExprFits os e NumberSort × OperandsFit os rest
     ExprFits os (Compare relation a b) sort = (sort ≡ NumberSort) × ExprFits os a NumberSort × ExprFits os b NumberSort
     ExprFits os (ComparePointers relation a b) sort = (sort ≡ NumberSort) × ((t : ℕ) × ExprFits os a (PointerSort t) × ExprFits os b (PointerSort t))
+    ExprFits os (CompareSets relation a b) sort = (sort ≡ NumberSort) × SetFits os a × SetFits os b
+    ExprFits os (CompareStrings relation a b) sort = (sort ≡ NumberSort) × StructureFits os a × StructureFits os b × (text_length a ≡ text_length b)
+    ExprFits os (In a b) sort = (sort ≡ NumberSort) × ExprFits os a NumberSort × SetFits os b
     ExprFits os (Apply function e line) sort = (sort ≡ NumberSort) × FunctionFits function × ExprFits os e NumberSort
-    ExprFits os e sort = ⊥
+    ExprFits os (Call r up arguments line) sort = DeclaredAt r up × ((shape : Shape) × (result_shape (routine_at k.program r).result ≡ Some shape) × SortOf (Whole shape) sort) × ArgumentsFit os arguments (kinds_of (routine_at k.program r).formals)
+    ExprFits os (CallFormal up index arguments line) sort = (up < length k.chain) × ((kinds : Kinds) × ((shape : Shape) × (kind_at k up index ≡ Some (Closure kinds (Some shape))) × SortOf (Whole shape) sort) × ArgumentsFit os arguments kinds)
+    ExprFits os Eof sort = (sort ≡ NumberSort) × (outermost_of k.chain ≡ 0)
+    ExprFits os (Eoln line) sort = (sort ≡ NumberSort) × (outermost_of k.chain ≡ 0)
+
+    -- a string's characters are bytes, and those of a string variable too
+    pub StructureFits : List Shape → Structure → Type 0
+    StructureFits os (Literal characters) = All (λ b. b < 256) characters × (length characters < 2147483648)
+    StructureFits os (Contents p type) = (count : ℕ) × (first : ℤ) × (shape_of type ≡ ByteShape count first) × (string_length type ≡ Some count) × PlaceFits os p (Whole (ByteShape count first))
+
+    -- what a variable of a shape can be given: a string that is as long, or a variable of the same shape
+    pub ContentsFit : List Shape → Structure → Shape → Type 0
+    ContentsFit os (Literal characters) shape = All (λ b. b < 256) characters × (length characters < 2147483648) × ((first : ℤ) × (shape ≡ ByteShape (length characters) first))
+    ContentsFit os (Contents p type) shape = (shape_of type ≡ shape) × PlaceFits os p (Whole shape)
 
     pub StepsFit : List Shape → ArithmeticSteps → Type 0
     StepsFit os no_arithmetic_step = Unit {0}
@@ -106,6 +136,37 @@ module _ (k : Scope) where
     OperandsFit os no_operand = Unit {0}
     OperandsFit os (operand_before e rest) = ExprFits os e NumberSort × OperandsFit os rest
 
+    -- expressions of a set type
+    pub SetFits : List Shape → SetExpr → Type 0
+    SetFits os (LoadSet p) = PlaceFits os p (Whole SetShape)
+    SetFits os (Constructor members) = MembersFit os members
+    SetFits os (Combine e steps) = SetFits os e × SetStepsFit os steps
+
+    pub SetStepsFit : List Shape → SetSteps → Type 0
+    SetStepsFit os no_set_step = Unit {0}
+    SetStepsFit os (set_step_before operator e rest) = SetFits os e × SetStepsFit os rest
+
+    pub MembersFit : List Shape → Members → Type 0
+    MembersFit os no_member = Unit {0}
+    MembersFit os (member_before m rest) = MemberFits os m × MembersFit os rest
+
+    pub MemberFits : List Shape → Member → Type 0
+    MemberFits os (One e line) = ExprFits os e NumberSort
+    MemberFits os (Several a b line) = ExprFits os a NumberSort × ExprFits os b NumberSort
+
+    -- actual parameters for formal ones: values, variables and routines
+    pub ArgumentsFit : List Shape → Arguments → Kinds → Type 0
+    ArgumentsFit os no_argument kinds = kinds ≡ no_kind
+    ArgumentsFit os (argument_before a rest) kinds = (kind : Kind) × ((others : Kinds) × (kinds ≡ kind_before kind others) × ArgumentFits os a kind × ArgumentsFit os rest others)
+
+    pub ArgumentFits : List Shape → Argument → Kind → Type 0
+    ArgumentFits os (ByValue e range line) kind = (shape : Shape) × (kind ≡ Own shape) × RangeFits range (Whole shape) × ((sort : Sort) × SortOf (Whole shape) sort × ExprFits os e sort)
+    ArgumentFits os (BySet e low high line) kind = (kind ≡ Own SetShape) × SetFits os e
+    ArgumentFits os (ByVariable p) kind = (shape : Shape) × (kind ≡ Reference shape) × PlaceFits os p (Whole shape)
+    ArgumentFits os (ByRoutine r up) kind = DeclaredAt r up × (kind ≡ Closure (kinds_of (routine_at k.program r).formals) (result_shape (routine_at k.program r).result))
+    ArgumentFits os (ByFormal up index) kind = (up < length k.chain) × ((kinds : Kinds) × ((result : Option Shape) × (kind ≡ Closure kinds result) × (kind_at k up index ≡ Some (Closure kinds result))))
+    ArgumentFits os (ByCopy e type) kind = (kind ≡ Own (shape_of type)) × IsStructure (shape_of type) × ContentsFit os e (shape_of type)
+
   -- the shapes of opened records, with those that `with` opens one after another
   abbrev pub OpenedFit : List Shape → List Place → List Shape → Type 0
   OpenedFit os [] os' = os' ≡ os
@@ -114,11 +175,6 @@ module _ (k : Scope) where
   abbrev pub WidthFits : List Shape → Width → Type 0
   WidthFits os DefaultWidth = Unit {0}
   WidthFits os (GivenWidth e line) = ExprFits os e NumberSort
-
-  -- a string's characters are bytes, and those of a string variable too
-  abbrev pub StructureFits : List Shape → Structure → Type 0
-  StructureFits os (Literal characters) = All (λ b. b < 256) characters × (length characters < 2147483648)
-  StructureFits os (Contents p type) = (count : ℕ) × (first : ℤ) × (shape_of type ≡ ByteShape count first) × (string_length type ≡ Some count) × PlaceFits os p (Whole (ByteShape count first))
 
   abbrev pub WriteFits : List Shape → WriteParameter → Type 0
   WriteFits os (WriteInteger e width) = ExprFits os e NumberSort × WidthFits os width
@@ -130,10 +186,23 @@ module _ (k : Scope) where
   WritesFit os [] = Unit {0}
   WritesFit os (p ∷ rest) = WriteFits os p × WritesFit os rest
 
+  -- a variable of the range that its type asks of a character
+  abbrev pub ReadFits : List Shape → ReadVariable → Type 0
+  ReadFits os (ReadChar p low high line) = (part : Part) × PlaceFits os p part × SortOf part NumberSort × RangeFits (Within low high) part
+  ReadFits os v = ⊥
+
+  abbrev pub ReadsFit : List Shape → List ReadVariable → Type 0
+  ReadsFit os [] = Unit {0}
+  ReadsFit os (v ∷ rest) = ReadFits os v × ReadsFit os rest
+
   abbrev mutual
     pub StatementFits : List Shape → Statement → Type 0
     StatementFits os Empty = Unit {0}
     StatementFits os (Assign p range e line) = (part : Part) × PlaceFits os p part × RangeFits range part × ((sort : Sort) × SortOf part sort × ExprFits os e sort)
+    StatementFits os (AssignStructure p e) = (shape : Shape) × PlaceFits os p (Whole shape) × ContentsFit os e shape
+    StatementFits os (AssignSet p low high e line) = PlaceFits os p (Whole SetShape) × SetFits os e
+    StatementFits os (CallProcedure r up arguments line) = DeclaredAt r up × ArgumentsFit os arguments (kinds_of (routine_at k.program r).formals)
+    StatementFits os (CallFormalProcedure up index arguments line) = (up < length k.chain) × ((kinds : Kinds) × ((result : Option Shape) × (kind_at k up index ≡ Some (Closure kinds result)) × ArgumentsFit os arguments kinds))
     StatementFits os (Compound body) = StatementsFit os body
     StatementFits os (If e s) = ExprFits os e NumberSort × StatementFits os s
     StatementFits os (IfElse e s t) = ExprFits os e NumberSort × StatementFits os s × StatementFits os t
@@ -142,6 +211,9 @@ module _ (k : Scope) where
     StatementFits os (Repeat body e) = StatementsFit os body × ExprFits os e NumberSort
     StatementFits os (For variable low high a from_line direction b to_line s) = ((first : ℤ) × (kind_at k 0 variable ≡ Some (Own (NumberShape first)))) × ExprFits os a NumberSort × ExprFits os b NumberSort × StatementFits os s
     StatementFits os (With places s) = (os' : List Shape) × OpenedFit os places os' × StatementFits os' s
+    StatementFits os (New p pointer line) = PlaceFits os p (Whole (PointerShape pointer)) × (pointer < length k.program.domains) × FirstFits (shape_of (domain_at k.program pointer))
+    StatementFits os (Read variables) = (outermost_of k.chain ≡ 0) × ReadsFit os variables
+    StatementFits os (Readln variables line) = (outermost_of k.chain ≡ 0) × ReadsFit os variables
     StatementFits os (Write parameters) = WritesFit os parameters
     StatementFits os (Writeln parameters) = WritesFit os parameters
     StatementFits os s = ⊥

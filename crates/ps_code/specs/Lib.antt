@@ -5,4 +5,5 @@ pub mod Statements
 pub mod Routines
 pub mod Programs
 pub mod Laws
+pub mod First
 pub mod Fits

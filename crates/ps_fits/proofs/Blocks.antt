@@ -1,11 +1,11 @@
 -- Chains, formal parameters and routines by their lists.
-use Rattle.std.proofs.Common.{◌≡◌, ℕ, true, false, ◌==◌, List, [], ◌∷◌, length, get_or, map, refl, IsTrue, ap, ◌&&◌}
+use Rattle.std.proofs.Common.{◌≡◌, ℕ, true, false, ◌==◌, List, [], ◌∷◌, length, get_or, map, refl, IsTrue, ap, Bool, ◌&&◌}
 use Rattle.ps_tree.specs.declared.tree.Formal.{Formal}
 use Rattle.ps_tree.specs.declared.tree.Routine.{Routine}
 use Rattle.ps_tree.specs.Counts.{is_within_limits}
 use Rattle.ps_tree.specs.Tree.{Program}
 use Rattle.ps_tree.specs.View.{formals_of, routine_of}
-use Rattle.ps_fits.specs.Tests.{is_outermost, has_no_formals, block_fits, routines_fit, program_fits}
+use Rattle.ps_fits.specs.Tests.{is_outermost, has_no_formals, is_program_block, begins_well, routine_fits, routines_fit, program_fits}
 
 pub one_there : (chain : List ℕ) → length chain ≡ 1 → is_outermost chain ≡ (get_or chain 0 0 == 0)
 one_there [] e = absurd (cc)
@@ -27,16 +27,25 @@ unfolding formals_of
 some_formals [] h = absurd (h refl)
 some_formals (f ∷ rest) h = refl
 
-pub one_routine : (rs : List Routine) (d : Routine) → length rs ≡ 1 → routines_fit (map routine_of rs) ≡ block_fits (routine_of (get_or rs 0 d))
-one_routine [] d e = absurd (cc)
-one_routine (r ∷ []) d e = refl
-one_routine (r ∷ s ∷ rest) d e = absurd (cc)
+pub no_routine : (rs : List Routine) → length rs ≡ 0 → begins_well (map routine_of rs) ≡ false
+no_routine [] e = refl
+no_routine (r ∷ rs) e = absurd (cc)
 
-pub other_routines : (rs : List Routine) → (length rs ≡ 1 → ⊥) → routines_fit (map routine_of rs) ≡ false
-other_routines [] h = refl
-other_routines (r ∷ []) h = absurd (h refl)
-other_routines (r ∷ s ∷ rest) h = refl
+pub first_routine : (rs : List Routine) (d : Routine) → (length rs ≡ 0 → ⊥) → begins_well (map routine_of rs) ≡ is_program_block (routine_of (get_or rs 0 d))
+first_routine [] d h = absurd (h refl)
+first_routine (r ∷ rs) d h = refl
+
+abbrev pub routines_answer : Program → List Routine → Bool
+routines_answer program items = routines_fit program (map routine_of items)
+
+pub routines_none : (program : Program) → routines_answer program [] ≡ true
+unfolding routines_fit
+routines_none program = refl
+
+pub routines_more : (program : Program) (x : Routine) (xs : List Routine) → routines_answer program (x ∷ xs) ≡ (routine_fits program (routine_of x) && routines_answer program xs)
+unfolding routines_fit
+routines_more program x xs = refl
 
 -- where the limits are kept, the routines decide
-pub within : (program : Program) → IsTrue (is_within_limits program) → program_fits program ≡ routines_fit program.routines
-within program e = ap (λ b. b && routines_fit program.routines) e
+pub within : (program : Program) → IsTrue (is_within_limits program) → program_fits program ≡ (begins_well program.routines && routines_fit program program.routines)
+within program e = ap (λ b. b && begins_well program.routines && routines_fit program program.routines) e

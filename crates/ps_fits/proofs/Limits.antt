@@ -1,11 +1,14 @@
--- A program within the limits has small frames and small objects: no variable has more words than cells.
+-- A program within the limits has small frames, objects and scratch blocks: no variable has more words than cells.
 use Rattle.std.proofs.Common.{◌≡◌, ℕ, zero, suc, ◌+◌, ◌*◌, ◌/◌, ◌<◌, ◌≤◌, Bool, true, false, ◌&&◌, if◌then◌else◌, List, [], ◌∷◌, ◌++◌, get_or, Option, Some, None, refl, sym, subst, arith, leb-true, mul-le-mul_left}
 use Rattle.ps_tree.specs.Types.{DataType, OrdinalType, PointerType, NilType, SetType, EmptySetType, TextType, ArrayType, RecordType, field_list, DataTypes, no_type, type_before}
 use Rattle.ps_tree.specs.Sizes.{cells, record_cells, field_cells, value_count, fits_byte}
-use Rattle.ps_tree.specs.Counts.{is_within_limits, are_small, are_routines_within_limits, is_routine_within_limits, routine_cells, routine_extent, formals_extent, formal_cells, variables_extent, result_extent}
+use Rattle.ps_tree.specs.Counts.{is_within_limits, are_small, are_routines_within_limits, is_routine_within_limits, routine_cells, routine_nodes, routine_extent, formals_extent, formal_cells, variables_extent, result_extent, statements_extent}
 use Rattle.ps_tree.specs.Tree.{Formal, ValueFormal, VariableFormal, RoutineFormal, Formals, no_formal, formal_before, Routine, Program, no_routine}
 use Rattle.ps_layout.specs.Shapes.{ByteShape, ArrayShape, shape_of, shapes_of, first_of, word_count, word_counts}
 use Rattle.ps_layout.specs.Frames.{Kind, kind_of, kinds_of, listed_kinds, result_kinds, variable_kinds, entries, words_of_all, kind_words, layout_of, is_program_block}
+use Rattle.ps_code.specs.Programs.{scratch_in}
+use Rattle.ps_code.specs.Routines.{routine_code}
+use Rattle.ps_bounds.proofs.Routines.{sizes_bounded}
 use Rattle.ps_relation.specs.Here.{AreSmall}
 use Rattle.ps_fits.proofs.Both.{left, right}
 
@@ -113,10 +116,26 @@ objects_small [] t e = omega arith
 objects_small (type ∷ types) zero e = let few = leb-true (cells type) 100000 (left _ _ e) in let l = words_cells type in omega (arith, l, few)
 objects_small (type ∷ types) (suc t) e = objects_small types t (right _ _ e)
 
+-- ---- scratch
+
+few_nodes : (r : Routine) → is_routine_within_limits r ≡ true → routine_nodes r ≤ 4194304
+unfolding is_routine_within_limits
+few_nodes r e = leb-true (routine_nodes r) 4194304 (right _ _ e)
+
+scratch_small : (program : Program) (r : Routine) → routine_cells r ≤ 100000 → routine_nodes r ≤ 4194304 → scratch_in (routine_code program r) < 2147483648
+scratch_small program r few some = let b = sizes_bounded program r in omega (arith, b, few, some)
+
+scratches_small : (program : Program) (rs : List Routine) (r : ℕ) → are_routines_within_limits rs ≡ true → scratch_in (routine_code program (get_or rs r no_routine)) < 2147483648
+unfolding are_routines_within_limits routine_extent formals_extent result_extent variables_extent statements_extent
+scratches_small program [] r e = scratch_small program no_routine (omega arith) (omega arith)
+scratches_small program (x ∷ rs) zero e = scratch_small program x (few_cells x (left _ _ e)) (few_nodes x (left _ _ e))
+scratches_small program (x ∷ rs) (suc r) e = scratches_small program rs r (right _ _ e)
+
 pub limits_small : (program : Program) → is_within_limits program ≡ true → AreSmall program
 unfolding is_within_limits
 limits_small program e =
     record {
       frames = λ r. frames_small program.routines r (right _ _ e);
       objects = λ t. objects_small program.domains t (right _ _ (left _ _ e));
+      scratch = λ r. scratches_small program program.routines r (right _ _ e);
     }

@@ -1,21 +1,8 @@
--- Integers, and variables by their indices.
-use Rattle.std.proofs.Common.{◌∙◌, ◌≡◌, ℕ, zero, suc, ℤ, pos, negsuc, true, false, List, [], ◌∷◌, map, Some, None, slice_get, refl, sym, ap, lt-ltb, option_map, FitsSigned, get_or, Fits, ◌&&◌, arith}
+-- Integers and bytes.
+use Rattle.std.proofs.Common.{◌∙◌, ◌≡◌, ℕ, suc, ℤ, pos, negsuc, true, List, [], ◌∷◌, refl, sym, ap, lt-ltb, FitsSigned, get_or, Fits, ◌&&◌, arith}
 use Rattle.std.specs.Int.{w8, w32}
-use Rattle.ps_tree.specs.declared.types.Ty.{Ty}
-use Rattle.ps_tree.specs.View.{type_of}
 use Rattle.tac_code.specs.Numbers.{is_integer}
-use Rattle.ps_fits.specs.Tests.{is_ordinal, is_ordinal_there, are_bytes}
-
--- the entry that a list has at an index, or none
-pub there : (types : List Ty) (i : ℕ) (ty : Ty) → slice_get types i ≡ Some ty → is_ordinal_there (slice_get (map type_of types) i) ≡ is_ordinal (type_of ty)
-there [] i ty e = absurd (cc)
-there (x ∷ types) zero ty e = ap (λ o. is_ordinal_there (option_map type_of o)) e
-there (x ∷ types) (suc i) ty e = there types i ty e
-
-pub not_there : (types : List Ty) (i : ℕ) → slice_get types i ≡ None → is_ordinal_there (slice_get (map type_of types) i) ≡ false
-not_there [] i e = refl
-not_there (x ∷ types) zero e = absurd (cc)
-not_there (x ∷ types) (suc i) e = not_there types i e
+use Rattle.ps_fits.specs.Tests.{are_bytes}
 
 -- a number of 32 bits is an integer
 pub integer_there : (z : ℤ) → FitsSigned w32 z → true ≡ is_integer z

@@ -1,271 +1,555 @@
--- Where the tests answer true, the program has what the lowering needs.
-use Rattle.std.specs.List.{All}
-use Rattle.ps_tree.specs.declared.tree.RequiredFunction.TheVariants.{Abs, Sqr, Odd, Ord, Chr, Succ, Pred}
-use Rattle.ps_tree.specs.declared.tree.RequiredFunction.{RequiredFunction}
-use Rattle.std.proofs.Common.{◌≡◌, ℕ, zero, suc, ◌<◌, ◌==◌, Bool, true, false, ◌&&◌, List, [], ◌∷◌, ◌++◌, length, Option, Some, None, is_none, slice_get, get_or, if◌then◌else◌, IsTrue, ℤ, pos, refl, sym, ap, ◌∙◌, subst, arith, eqb-true, nat_lt, ltb-true}
-use Rattle.ps_tree.specs.declared.types.Ordinal.{Ordinal}
-use Rattle.ps_tree.specs.declared.types.Host.TheVariants.{Integer}
+-- Where the tests answer true, expressions and statements have what the lowering needs.
+use Rattle.std.proofs.Common.{◌≡◌, ℕ, zero, suc, ◌<◌, Bool, true, false, ◌&&◌, not, List, [], ◌∷◌, length, Option, Some, None, is_some, if◌then◌else◌, ℤ, slice_get, refl, sym, ap, ◌∙◌, subst, eqb-true}
 use Rattle.ps_tree.specs.declared.tree.Range.{Range}
-use Rattle.ps_tree.specs.declared.tree.Range.TheVariants.{Any, Within}
-use Rattle.ps_tree.specs.Types.{DataType, OrdinalType, PointerType, NilType, SetType, EmptySetType, TextType, ArrayType, RecordType, is_same_host}
-use Rattle.ps_tree.specs.Tree.{Place, Variable, Entry, Opened, no_selector, selector_before, ArithmeticSteps, no_arithmetic_step, arithmetic_step_before, Operands, no_operand, operand_before, Expr, Number, Nil, Load, Plus, Minus, Not, Arithmetic, Logic, Compare, ComparePointers, CompareSets, CompareStrings, In, Apply, Eof, Eoln, Call, CallFormal, Width, DefaultWidth, GivenWidth, WriteParameter, WriteInteger, WriteChar, WriteBoolean, WriteText, Statement, Empty, Assign, AssignSet, AssignStructure, CallProcedure, CallFormalProcedure, Compound, If, IfElse, Case, While, Repeat, For, With, New, Pack, Unpack, Read, Readln, Write, Writeln, Statements, no_statement, statement_before, Formals, no_formal, formal_before, Routine, Program, no_routine, routine_at, Structure, Literal, Contents, Elements, no_element, element_before}
-use Rattle.ps_tree.specs.Counts.{is_within_limits}
-use Rattle.tac_code.specs.Numbers.{is_integer}
-use Rattle.ps_meaning.specs.Values.{first_ordinal}
-use Rattle.ps_layout.specs.Shapes.{NumberShape, Whole}
-use Rattle.ps_layout.specs.Paths.{NumberSort}
-use Rattle.ps_layout.specs.Frames.{Kind, Own, entries, result_kinds, kinds_of, listed_kinds, variable_kinds, is_program_block}
-use Rattle.ps_code.specs.Scopes.{Scope, kind_at}
-use Rattle.ps_code.specs.Routines.{scope_of}
-use Rattle.ps_code.specs.Fits.{shape_in, PlaceFits, ExprFits, StepsFit, OperandsFit, WidthFits, WriteFits, WritesFit, StatementFits, StatementsFit, RangeFits, FunctionFits, StructureFits, ElementsFit}
-use Rattle.ps_calls.specs.Begin.{IsOutermost}
-use Rattle.ps_calls.specs.Binding.{FirstsFit}
-use Rattle.ps_lowers.specs.Fits.{RoutineFits, ProgramFits}
+use Rattle.ps_tree.specs.declared.tree.Range.TheVariants.{Within}
+use Rattle.ps_tree.specs.Types.{DataType, OrdinalType, PointerType, NilType, SetType, EmptySetType, TextType, ArrayType, RecordType, string_length}
+use Rattle.ps_tree.specs.Sizes.{fits_byte, value_count}
+use Rattle.ps_tree.specs.Tree.{Place, Variable, PlaceBase, Selector, Element, Field, Target, Selectors, no_selector, selector_before, ArithmeticSteps, no_arithmetic_step, arithmetic_step_before, Operands, no_operand, operand_before, Expr, Number, Nil, Load, Plus, Minus, Not, Arithmetic, Logic, Compare, ComparePointers, CompareSets, CompareStrings, In, Apply, Eof, Eoln, Call, CallFormal, SetExpr, LoadSet, Constructor, Combine, SetSteps, no_set_step, set_step_before, Member, One, Several, Members, no_member, member_before, Argument, ByValue, BySet, ByCopy, ByVariable, ByRoutine, ByFormal, Arguments, no_argument, argument_before, Width, DefaultWidth, GivenWidth, WriteParameter, WriteInteger, WriteChar, WriteBoolean, WriteText, Statement, Empty, Assign, AssignSet, AssignStructure, CallProcedure, CallFormalProcedure, Compound, If, IfElse, Case, While, Repeat, For, With, New, Pack, Unpack, Read, Readln, Write, Writeln, ReadVariable, ReadChar, ReadInteger, Statements, no_statement, statement_before, Formal, ValueFormal, VariableFormal, RoutineFormal, Formals, no_formal, formal_before, Routine, Structure, Literal, Contents, Elements, no_element, element_before}
+use Rattle.ps_layout.specs.Shapes.{NumberShape, SetShape, ByteShape, ArrayShape, shape_of, first_of, Whole, Byte}
+use Rattle.ps_layout.specs.Paths.{NumberSort, PointerSort}
+use Rattle.ps_layout.specs.Frames.{Own, Closure, kind_of, kinds_of, result_shape}
+use Rattle.ps_code.specs.Scopes.{kind_at}
+use Rattle.ps_code.specs.Values.{is_byte, is_byte_after, is_byte_selector}
+use Rattle.ps_code.specs.First.{FirstFits}
+use Rattle.ps_code.specs.Fits.{PlaceFits, SelectorsFit, ExprFits, SetFits, SetStepsFit, MembersFit, MemberFits, outermost_of, ContentsFit, ReadFits, ReadsFit, StepsFit, OperandsFit, ArgumentsFit, ArgumentFits, WidthFits, WriteFits, WritesFit, StatementFits, StatementsFit, StructureFits, ElementsFit, SortOf}
 use Rattle.ps_fits.proofs.Both.{left, right, never}
-use Rattle.ps_fits.proofs.Limits.{limits_small}
-use Rattle.ps_fits.specs.Tests.{are_ordinals, is_ordinal_there, place_fits, range_fits, expr_fits, steps_fit, operands_fit, width_fits, parameter_fits, parameters_fit, statement_fits, statements_fit, is_outermost, has_no_formals, block_fits, routines_fit, program_fits, function_fits, are_bytes, structure_fits, elements_fit}
+use Rattle.ps_fits.proofs.Firsts.{first_tells}
+use Rattle.ps_fits.proofs.Kinship.{alike, formals_alike, results_alike}
+use Rattle.ps_fits.proofs.Names.{nothing, inside, below_length, get_there, scope, shapes, name_tells, callee_told, formal_told, variable_told}
+use Rattle.ps_fits.proofs.Parts.{part_of, Sound, sort_of, IndexFits, part_tells, ordinal_whole, wanted_sort, range_tells, within_number, pointer_whole, set_shape, set_whole, function_tells, number_kind}
+use Rattle.ps_fits.proofs.Texts.{characters_told, string_told, same_length, text_told, structure_told}
+use Rattle.ps_fits.specs.Alike.{deepest, are_alike, has_first, is_ordinal, pointer_of, is_wanted}
+use Rattle.ps_fits.specs.Contexts.{Context, name_type, callee, formal_out, result_in, formals_in, formal_result, formal_formals, is_routine_formal, is_routine_alike, is_passed_alike, are_formals_alike, are_results_alike, variable_in, routine_out}
+use Rattle.ps_fits.specs.Tests.{part_type, selected_type, place_type, is_wanted_in, is_alike_in, is_like, range_fits, range_fits_in, pointer_in, function_fits, is_string, is_string_type, is_as_long, is_structure, is_text_of, has_input, is_set, is_set_in, set_fits, set_steps_fit, members_fit, member_fits, string_fits, contents_fit, contents_fit_in, has_first_in, read_fits, reads_fit, common_pointer, indices_fit, index_fits, place_fits, number_fits, pointer_fits, value_fits, steps_fit, operands_fit, arguments_fit, argument_fits, width_fits, parameter_fits, parameters_fit, is_ordinal_in, statement_fits, statements_fit, elements_fit}
 
--- an ordinal type's first value is an integer
-first_integer : (o : Ordinal) → is_integer o.low ≡ true → IsTrue (is_integer (first_ordinal o))
-first_integer o e = go (is_same_host o.host Integer && is_none o.subrange)
+-- what is there where a test of it is true
+abbrev pub There : {A : Type 0} → (A → Bool) → Option A → Type 0
+There {A} test o = (x : A) × (o ≡ Some x) × (test x ≡ true)
+
+wanted_there : (wanted : Option ℕ) (o : Option DataType) → is_wanted_in wanted o ≡ true → There (is_wanted wanted) o
+wanted_there wanted None e = never e
+wanted_there wanted (Some type) e = (type, refl, e)
+
+alike_there : (o : Option DataType) (type : DataType) → is_alike_in o type ≡ true → There (λ t. are_alike deepest t type) o
+alike_there None type e = never e
+alike_there (Some t) type e = (t, refl, e)
+
+range_there : (range : Range) (o : Option DataType) (byte : Bool) → range_fits_in range o byte ≡ true → There (λ t. range_fits range t byte) o
+range_there range None byte e = never e
+range_there range (Some t) byte e = (t, refl, e)
+
+ordinal_there : (o : Option DataType) → is_ordinal_in o ≡ true → There is_ordinal o
+ordinal_there None e = never e
+ordinal_there (Some t) e = (t, refl, e)
+
+some_there : {A : Type 0} (o : Option A) → is_some o ≡ true → (x : A) × (o ≡ Some x)
+some_there None e = never e
+some_there (Some x) e = (x, refl)
+
+result_there : (wanted : Option ℕ) (o : Option Routine) → is_wanted_in wanted (result_in o) ≡ true → (q : Routine) × (o ≡ Some q) × There (is_wanted wanted) q.result
+result_there wanted None e = never e
+result_there wanted (Some q) e = (q, refl, wanted_there wanted q.result e)
+
+-- a procedural or functional parameter
+abbrev pub Passable : Option Formal → Formals → Option DataType → Type 0
+Passable o formals result = o ≡ Some (RoutineFormal formals result)
+
+formal_there : (o : Option Formal) → is_routine_formal o ≡ true → Passable o (formal_formals o) (formal_result o)
+formal_there None e = never e
+formal_there (Some (ValueFormal t)) e = never e
+formal_there (Some (VariableFormal t)) e = never e
+formal_there (Some (RoutineFormal fs result)) e = refl
+
+result_formal : (wanted : Option ℕ) (o : Option Formal) → is_wanted_in wanted (formal_result o) ≡ true → is_routine_formal o ≡ true
+result_formal wanted None e = never e
+result_formal wanted (Some (ValueFormal t)) e = never e
+result_formal wanted (Some (VariableFormal t)) e = never e
+result_formal wanted (Some (RoutineFormal fs result)) e = refl
+
+false_of : (b : Bool) → not b ≡ true → b ≡ false
+false_of true e = never e
+false_of false e = refl
+
+-- ---- variables
+
+-- a variable, its indices told
+pub record PlaceTold (k : Context) (p : Place) (type : DataType) : Type 0 where
+  pub fits : PlaceFits (scope k) (shapes k) p (part_of (is_byte p) type)
+  pub sound : Sound (is_byte p) type
+
+record SelectedTold (k : Context) (ss : Selectors) (byte : Bool) (variable type : DataType) : Type 0 where
+  fits : SelectorsFit (scope k) (shapes k) ss (part_of byte variable) (part_of (is_byte_after byte ss) type)
+  sound : Sound (is_byte_after byte ss) type
+
+none_selected : (k : Context) (ss : Selectors) (type : DataType) → selected_type k ss None ≡ Some type → ⊥
+unfolding selected_type
+none_selected k no_selector type e = nothing type e
+none_selected k (selector_before s rest) type e = none_selected k rest type e
+
+abbrev IndicesFit : Context → Selectors → Type 0
+IndicesFit k no_selector = Unit {0}
+IndicesFit k (selector_before s rest) = IndexFits k s × IndicesFit k rest
+
+-- one selector more
+selected_more : (k : Context) (s : Selector) (rest : Selectors) (byte : Bool) (variable type : DataType) → Sound byte variable → IndexFits k s → ((part : DataType) → Sound (is_byte_selector s) part → selected_type k rest (Some part) ≡ Some type → SelectedTold k rest (is_byte_selector s) part type) → (o : Option DataType) → part_type k s variable ≡ o → selected_type k rest o ≡ Some type → SelectedTold k (selector_before s rest) byte variable type
+selected_more k s rest byte variable type sound f further None h g = absurd (none_selected k rest type g)
+selected_more k s rest true variable type sound f further (Some part) h g = absurd (ordinal_whole k s variable part (sound refl) h)
+selected_more k s rest false variable type sound f further (Some part) h g =
+    let told = part_tells k s variable part h in
+    let behind = further part told.sound g in
+    record { fits = (shape_of variable, refl, (part_of (is_byte_selector s) part, told.fits f, behind.fits)); sound = behind.sound }
+
+selected_tells : (k : Context) (ss : Selectors) (byte : Bool) (variable type : DataType) → Sound byte variable → selected_type k ss (Some variable) ≡ Some type → IndicesFit k ss → SelectedTold k ss byte variable type
+unfolding selected_type
+selected_tells k no_selector byte variable type sound e f =
+    let same = inside variable type e in
+    record { fits = ap (part_of byte) same; sound = subst (Sound byte) same sound }
+selected_tells k (selector_before s rest) byte variable type sound e f =
+    selected_more k s rest byte variable type sound f.0 (λ part is g. selected_tells k rest (is_byte_selector s) part type is g f.1) (part_type k s variable) refl e
+
+place_tells : (k : Context) (name : PlaceBase) (ss : Selectors) (type : DataType) → place_type k (Variable name ss) ≡ Some type → IndicesFit k ss → PlaceTold k (Variable name ss) type
+place_tells k name ss type e f = go (name_type k name) refl e
   where
-    go : (b : Bool) → IsTrue (is_integer (if b then pos 0 else o.low))
-    go true = refl
-    go false = e
+    go : (o : Option DataType) → name_type k name ≡ o → selected_type k ss o ≡ Some type → PlaceTold k (Variable name ss) type
+    go None h g = absurd (none_selected k ss type g)
+    go (Some variable) h g =
+        let told = selected_tells k ss false variable type (λ b. never b) g f in
+        record { fits = (shape_of variable, name_tells k name variable h, told.fits); sound = told.sound }
 
-firsts : (types : List DataType) → are_ordinals types ≡ true → FirstsFit types
-firsts [] e = tt
-firsts (OrdinalType o ∷ rest) e = (first_integer o (left (is_integer o.low) (are_ordinals rest) e), firsts rest (right (is_integer o.low) (are_ordinals rest) e))
-firsts (PointerType n ∷ rest) e = never e
-firsts (NilType ∷ rest) e = never e
-firsts (SetType d p b ∷ rest) e = never e
-firsts (EmptySetType ∷ rest) e = never e
-firsts (TextType n ∷ rest) e = never e
-firsts (ArrayType at p i c ∷ rest) e = never e
-firsts (RecordType at p f ∷ rest) e = never e
+-- an entire variable of such a shape
+whole_told : (k : Context) (p : Place) (type like : DataType) → PlaceTold k p type → not (is_byte p) ≡ true → are_alike deepest type like ≡ true → PlaceFits (scope k) (shapes k) p (Whole (shape_of like))
+whole_told k p type like told b e =
+    subst (λ part. PlaceFits (scope k) (shapes k) p part) (ap (λ x. if x then Byte else Whole (shape_of type)) (false_of (is_byte p) b) ∙ ap Whole (alike deepest type like e).shape) told.fits
 
--- what is known of a number's variable
-abbrev IsNumber : Option Kind → Type 0
-IsNumber kind = (first : ℤ) × (kind ≡ Some (Own (NumberShape first)))
+pub record LikeTold (k : Context) (p : Place) (like : DataType) : Type 0 where
+  pub type : DataType
+  pub is : place_type k p ≡ Some type
+  pub entire : not (is_byte p) ≡ true
+  pub alike : are_alike deepest type like ≡ true
 
-ordinal_kind : (types : List DataType) (i : ℕ) → is_ordinal_there (slice_get types i) ≡ true → IsNumber (slice_get (variable_kinds types) i)
-ordinal_kind [] i e = never e
-ordinal_kind (OrdinalType o ∷ rest) zero e = (first_ordinal o, refl)
-ordinal_kind (PointerType n ∷ rest) zero e = never e
-ordinal_kind (NilType ∷ rest) zero e = never e
-ordinal_kind (SetType d p b ∷ rest) zero e = never e
-ordinal_kind (EmptySetType ∷ rest) zero e = never e
-ordinal_kind (TextType n ∷ rest) zero e = never e
-ordinal_kind (ArrayType at p i c ∷ rest) zero e = never e
-ordinal_kind (RecordType at p f ∷ rest) zero e = never e
-ordinal_kind (type ∷ rest) (suc i) e = ordinal_kind rest i e
+like_told : (k : Context) (p : Place) (like : DataType) → is_like k p like ≡ true → LikeTold k p like
+like_told k p like e =
+    let a = not (is_byte p) in
+    let b = is_alike_in (place_type k p) like in
+    let there = alike_there (place_type k p) like (right a b e) in
+    record { type = there.0; is = there.1; entire = left a b e; alike = there.2 }
 
-function_tells : (function : RequiredFunction) → function_fits function ≡ true → FunctionFits function
-function_tells Abs e = tt
-function_tells Sqr e = tt
-function_tells Odd e = tt
-function_tells Ord e = tt
-function_tells Chr e = tt
-function_tells (Succ high) e = e
-function_tells (Pred low) e = e
+-- ---- calls
 
-bytes_tell : (characters : List ℕ) → are_bytes characters ≡ true → All (λ b. b < 256) characters
-bytes_tell [] e k d l = absurd (omega (arith, l))
-bytes_tell (b ∷ rest) e zero d l = ltb-true b 256 (left (nat_lt b 256) (are_bytes rest) e)
-bytes_tell (b ∷ rest) e (suc k) d l = bytes_tell rest (right (nat_lt b 256) (are_bytes rest) e) k d (omega (arith, l))
-
--- a scope whose own entries are these variables
-module _ (k : Scope) (variables : List DataType) (chain : k.chain ≡ 0 ∷ []) (own : (i : ℕ) → kind_at k 0 i ≡ slice_get (variable_kinds variables) i) where
-  number_there : (i : ℕ) → is_ordinal_there (slice_get variables i) ≡ true → IsNumber (kind_at k 0 i)
-  number_there i e = let n = ordinal_kind variables i e in (n.0, own i ∙ n.1)
-
-  place_tells : (p : Place) → place_fits variables p ≡ true → (first : ℤ) × PlaceFits k [] p (Whole (NumberShape first))
-  place_tells (Variable (Entry up i) no_selector) e =
-      let here = eqb-true up 0 (left (up == 0) (is_ordinal_there (slice_get variables i)) e) in
-      let n = number_there i (right (up == 0) (is_ordinal_there (slice_get variables i)) e) in
-      let long = ap length chain in
-      (n.0, (NumberShape n.0, (omega (arith, here, long), ap (λ u. shape_in (kind_at k u i)) here ∙ ap shape_in n.1), refl))
-  place_tells (Variable (Entry up i) (selector_before s rest)) e = never e
-  place_tells (Variable (Opened which type number) no_selector) e = never e
-  place_tells (Variable (Opened which type number) (selector_before s rest)) e = never e
-
-  range_tells : (range : Range) (first : ℤ) → range_fits range ≡ true → RangeFits range (Whole (NumberShape first))
-  range_tells Any first e = never e
-  range_tells (Within low high) first e = (left (is_integer low) (is_integer high) e, right (is_integer low) (is_integer high) e)
-
-  mutual
-    unfolding expr_fits steps_fit operands_fit
-
-    expr_tells : (e : Expr) → expr_fits variables e ≡ true → ExprFits k [] e NumberSort
-    expr_tells (Number n) h = (refl, h)
-    expr_tells Nil h = never h
-    expr_tells (Load p) h = let q = place_tells p h in (Whole (NumberShape q.0), refl, q.1)
-    expr_tells (Plus e) h = (refl, expr_tells e h)
-    expr_tells (Minus e line) h = (refl, expr_tells e h)
-    expr_tells (Not e) h = (refl, expr_tells e h)
-    expr_tells (Arithmetic e steps) h = (refl, expr_tells e (left (expr_fits variables e) (steps_fit variables steps) h), steps_tell steps (right (expr_fits variables e) (steps_fit variables steps) h))
-    expr_tells (Logic operator e rest) h = (refl, expr_tells e (left (expr_fits variables e) (operands_fit variables rest) h), operands_tell rest (right (expr_fits variables e) (operands_fit variables rest) h))
-    expr_tells (Compare relation a b) h = (refl, expr_tells a (left (expr_fits variables a) (expr_fits variables b) h), expr_tells b (right (expr_fits variables a) (expr_fits variables b) h))
-    expr_tells (ComparePointers relation a b) h = never h
-    expr_tells (CompareSets relation a b) h = never h
-    expr_tells (CompareStrings relation a b) h = never h
-    expr_tells (In a b) h = never h
-    expr_tells (Apply function e line) h = (refl, function_tells function (left (function_fits function) (expr_fits variables e) h), expr_tells e (right (function_fits function) (expr_fits variables e) h))
-    expr_tells Eof h = never h
-    expr_tells (Eoln line) h = never h
-    expr_tells (Call r up arguments line) h = never h
-    expr_tells (CallFormal up index arguments line) h = never h
-
-    steps_tell : (steps : ArithmeticSteps) → steps_fit variables steps ≡ true → StepsFit k [] steps
-    steps_tell no_arithmetic_step h = tt
-    steps_tell (arithmetic_step_before operator e line rest) h = (expr_tells e (left (expr_fits variables e) (steps_fit variables rest) h), steps_tell rest (right (expr_fits variables e) (steps_fit variables rest) h))
-
-    operands_tell : (rest : Operands) → operands_fit variables rest ≡ true → OperandsFit k [] rest
-    operands_tell no_operand h = tt
-    operands_tell (operand_before e rest) h = (expr_tells e (left (expr_fits variables e) (operands_fit variables rest) h), operands_tell rest (right (expr_fits variables e) (operands_fit variables rest) h))
-
-  width_tells : (width : Width) → width_fits variables width ≡ true → WidthFits k [] width
-  unfolding width_fits
-  width_tells DefaultWidth h = tt
-  width_tells (GivenWidth e line) h = expr_tells e h
-
-  structure_tells : (e : Structure) → structure_fits e ≡ true → StructureFits k [] e
-  unfolding structure_fits
-  structure_tells (Literal characters) h = (bytes_tell characters (left (are_bytes characters) (nat_lt (length characters) 2147483648) h), ltb-true (length characters) 2147483648 (right (are_bytes characters) (nat_lt (length characters) 2147483648) h))
-  structure_tells (Contents p type) h = never h
-
-  parameter_tells : (q : WriteParameter) → parameter_fits variables q ≡ true → WriteFits k [] q
-  unfolding parameter_fits
-  parameter_tells (WriteInteger e width) h = (expr_tells e (left (expr_fits variables e) (width_fits variables width) h), width_tells width (right (expr_fits variables e) (width_fits variables width) h))
-  parameter_tells (WriteChar e width) h = (expr_tells e (left (expr_fits variables e) (width_fits variables width) h), width_tells width (right (expr_fits variables e) (width_fits variables width) h))
-  parameter_tells (WriteBoolean e width) h = (expr_tells e (left (expr_fits variables e) (width_fits variables width) h), width_tells width (right (expr_fits variables e) (width_fits variables width) h))
-  parameter_tells (WriteText e width) h = (structure_tells e (left (structure_fits e) (width_fits variables width) h), width_tells width (right (structure_fits e) (width_fits variables width) h))
-
-  parameters_tell : (ps : List WriteParameter) → parameters_fit variables ps ≡ true → WritesFit k [] ps
-  unfolding parameters_fit
-  parameters_tell [] h = tt
-  parameters_tell (q ∷ rest) h = (parameter_tells q (left (parameter_fits variables q) (parameters_fit variables rest) h), parameters_tell rest (right (parameter_fits variables q) (parameters_fit variables rest) h))
-
-  assign_tells : (p : Place) (range : Range) (e : Expr) (line : ℕ) → place_fits variables p ≡ true → range_fits range ≡ true → expr_fits variables e ≡ true → StatementFits k [] (Assign p range e line)
-  assign_tells p range e line hp hr he = let q = place_tells p hp in (Whole (NumberShape q.0), q.1, range_tells range q.0 hr, (NumberSort, refl, expr_tells e he))
-
-  mutual
-    unfolding statement_fits statements_fit elements_fit
-
-    statement_tells : (s : Statement) → statement_fits variables s ≡ true → StatementFits k [] s
-    statement_tells Empty h = tt
-    statement_tells (Assign p range e line) h =
-        let h1 = left (place_fits variables p && range_fits range) (expr_fits variables e) h in
-        assign_tells p range e line (left (place_fits variables p) (range_fits range) h1) (right (place_fits variables p) (range_fits range) h1) (right (place_fits variables p && range_fits range) (expr_fits variables e) h)
-    statement_tells (AssignSet p low high e line) h = never h
-    statement_tells (AssignStructure p e) h = never h
-    statement_tells (CallProcedure r up arguments line) h = never h
-    statement_tells (CallFormalProcedure up index arguments line) h = never h
-    statement_tells (Compound body) h = statements_tell body h
-    statement_tells (If e s) h = (expr_tells e (left (expr_fits variables e) (statement_fits variables s) h), statement_tells s (right (expr_fits variables e) (statement_fits variables s) h))
-    statement_tells (IfElse e s t) h =
-        let h1 = left (expr_fits variables e && statement_fits variables s) (statement_fits variables t) h in
-        (expr_tells e (left (expr_fits variables e) (statement_fits variables s) h1), statement_tells s (right (expr_fits variables e) (statement_fits variables s) h1), statement_tells t (right (expr_fits variables e && statement_fits variables s) (statement_fits variables t) h))
-    statement_tells (Case e elements line) h = (expr_tells e (left (expr_fits variables e) (elements_fit variables elements) h), elements_tell elements (right (expr_fits variables e) (elements_fit variables elements) h))
-    statement_tells (While e s) h = (expr_tells e (left (expr_fits variables e) (statement_fits variables s) h), statement_tells s (right (expr_fits variables e) (statement_fits variables s) h))
-    statement_tells (Repeat body e) h = (statements_tell body (left (statements_fit variables body) (expr_fits variables e) h), expr_tells e (right (statements_fit variables body) (expr_fits variables e) h))
-    statement_tells (For v low high a from_line direction b to_line s) h =
-        let there = is_ordinal_there (slice_get variables v) in
-        let h1 = left (there && expr_fits variables a && expr_fits variables b) (statement_fits variables s) h in
-        let h2 = left (there && expr_fits variables a) (expr_fits variables b) h1 in
-        (number_there v (left there (expr_fits variables a) h2), expr_tells a (right there (expr_fits variables a) h2), expr_tells b (right (there && expr_fits variables a) (expr_fits variables b) h1), statement_tells s (right (there && expr_fits variables a && expr_fits variables b) (statement_fits variables s) h))
-    statement_tells (With places s) h = never h
-    statement_tells (New p pointer line) h = never h
-    statement_tells (Pack p from_type e line q to_type) h = never h
-    statement_tells (Unpack p from_type q to_type e line) h = never h
-    statement_tells (Read vs) h = never h
-    statement_tells (Readln vs line) h = never h
-    statement_tells (Write ps) h = parameters_tell ps h
-    statement_tells (Writeln ps) h = parameters_tell ps h
-
-    statements_tell : (ss : Statements) → statements_fit variables ss ≡ true → StatementsFit k [] ss
-    statements_tell no_statement h = tt
-    statements_tell (statement_before s rest) h = (statement_tells s (left (statement_fits variables s) (statements_fit variables rest) h), statements_tell rest (right (statement_fits variables s) (statements_fit variables rest) h))
-
-    elements_tell : (els : Elements) → elements_fit variables els ≡ true → ElementsFit k [] els
-    elements_tell no_element h = tt
-    elements_tell (element_before constants s rest) h = (statement_tells s (left (statement_fits variables s) (elements_fit variables rest) h), elements_tell rest (right (statement_fits variables s) (elements_fit variables rest) h))
-
--- ---- the block
-
-outermost_chain : (chain : List ℕ) → is_outermost chain ≡ true → chain ≡ 0 ∷ []
-outermost_chain [] e = never e
-outermost_chain (r ∷ []) e = ap (λ q. q ∷ []) (eqb-true r 0 e)
-outermost_chain (r ∷ q ∷ rest) e = never e
-
-none_formals : (formals : Formals) → has_no_formals formals ≡ true → formals ≡ no_formal
-none_formals no_formal e = refl
-none_formals (formal_before f rest) e = never e
-
-none_result : (result : Option DataType) → is_none result ≡ true → result ≡ None
-none_result None e = refl
-none_result (Some type) e = never e
-
-pub record BlockTold (r : Routine) : Type 0 where
-  pub chain : r.chain ≡ 0 ∷ []
-  pub formals : r.formals ≡ no_formal
-  pub result : r.result ≡ None
-  pub variables : are_ordinals r.variables ≡ true
-  pub body : statements_fit r.variables r.body ≡ true
-
-block_told : (r : Routine) → block_fits r ≡ true → BlockTold r
-block_told r e =
-    let a = is_outermost r.chain in
-    let b = has_no_formals r.formals in
-    let c = is_none r.result in
-    let d = are_ordinals r.variables in
-    let f = statements_fit r.variables r.body in
-    let e3 = left (a && b && c && d) f e in
-    let e2 = left (a && b && c) d e3 in
-    let e1 = left (a && b) c e2 in
-    record {
-      chain = outermost_chain r.chain (left a b e1);
-      formals = none_formals r.formals (right a b e1);
-      result = none_result r.result (right (a && b) c e2);
-      variables = right (a && b && c) d e3;
-      body = right (a && b && c && d) f e;
-    }
-
--- the entries of such a block are its variables
-block_entries : (r : Routine) → BlockTold r → entries r ≡ variable_kinds r.variables
-block_entries r t =
-    ap (λ f. result_kinds r.result ++ listed_kinds (kinds_of f) ++ variable_kinds r.variables) t.formals
-    ∙ ap (λ o. result_kinds o ++ [] ++ variable_kinds r.variables) t.result
-
-module _ (program : Program) (within : is_within_limits program ≡ true) (block : Routine) (one : program.routines ≡ block ∷ []) (told : BlockTold block) where
-  first_is : routine_at program 0 ≡ block
-  first_is = ap (λ rs. get_or rs 0 no_routine) one
-
-  routine_fits : RoutineFits program block
-  routine_fits =
-      record {
-        variables = firsts block.variables told.variables;
-        body = statements_tell (scope_of program block) block.variables told.chain (λ i. ap (λ n. slice_get (entries (routine_at program n)) i) (ap (λ chain. get_or chain 0 0) told.chain) ∙ ap (λ q. slice_get (entries q) i) first_is ∙ ap (λ ks. slice_get ks i) (block_entries block told)) block.body told.body;
-      }
-
-  only_first : (r : ℕ) → r < length program.routines → routine_at program r ≡ block
-  only_first zero l = first_is
-  only_first (suc r) l = let e = ap length one in absurd (omega arith)
-
-  one_fits : ProgramFits program
-  one_fits =
-      record {
-        small = limits_small program within;
-        begins = let e = ap length one in omega (arith, e);
-        chain = ap (λ r. r.chain) first_is ∙ told.chain;
-        outermost = subst IsOutermost (sym first_is) (record { block = ap is_program_block told.chain; formals = told.formals; result = told.result });
-        routines = λ r l. subst (RoutineFits program) (sym (only_first r l)) routine_fits;
-      }
-
-pub program_tells : (program : Program) → program_fits program ≡ true → ProgramFits program
-program_tells program e = go program.routines refl (right (is_within_limits program) (routines_fit program.routines) e)
+routine_tells : (k : Context) (r up : ℕ) (formals : Formals) (result : Option DataType) → is_routine_alike (callee k r up) formals result ≡ true → ArgumentFits (scope k) (shapes k) (ByRoutine r up) (kind_of (RoutineFormal formals result))
+routine_tells k r up formals result e = go (callee k r up) refl e
   where
-    go : (rs : List Routine) → program.routines ≡ rs → routines_fit rs ≡ true → ProgramFits program
-    go [] q h = never h
-    go (r ∷ []) q h = one_fits program (left (is_within_limits program) (routines_fit program.routines) e) r q (block_told r h)
-    go (r ∷ s ∷ rest) q h = never h
+    go : (o : Option Routine) → callee k r up ≡ o → is_routine_alike o formals result ≡ true → ArgumentFits (scope k) (shapes k) (ByRoutine r up) (kind_of (RoutineFormal formals result))
+    go None h g = never g
+    go (Some q) h g =
+        let told = callee_told k r up q h in
+        let a = are_formals_alike q.formals formals in
+        let b = are_results_alike q.result result in (
+          told.declared,
+          ap (λ x. Closure x (result_shape result)) (sym (formals_alike q.formals formals (left a b g)))
+              ∙ ap (Closure (kinds_of q.formals)) (sym (results_alike q.result result (right a b g)))
+              ∙ ap (λ x. Closure (kinds_of x.formals) (result_shape x.result)) (sym told.routine),
+        )
+
+formal_tells : (k : Context) (up i : ℕ) (formals : Formals) (result : Option DataType) → is_passed_alike (formal_out k up i) formals result ≡ true → ArgumentFits (scope k) (shapes k) (ByFormal up i) (kind_of (RoutineFormal formals result))
+formal_tells k up i formals result e = go (formal_out k up i) refl e
+  where
+    go : (o : Option Formal) → formal_out k up i ≡ o → is_passed_alike o formals result ≡ true → ArgumentFits (scope k) (shapes k) (ByFormal up i) (kind_of (RoutineFormal formals result))
+    go None h g = never g
+    go (Some (ValueFormal t)) h g = never g
+    go (Some (VariableFormal t)) h g = never g
+    go (Some (RoutineFormal fs other)) h g =
+        let told = formal_told k up i (RoutineFormal fs other) h in
+        let a = are_formals_alike fs formals in
+        let b = are_results_alike other result in (
+          told.0,
+          (
+            kinds_of fs,
+            (
+              result_shape other,
+              ap (λ x. Closure x (result_shape result)) (sym (formals_alike fs formals (left a b g))) ∙ ap (Closure (kinds_of fs)) (sym (results_alike other result (right a b g))),
+              told.1,
+            ),
+          ),
+        )
+
+-- a call of a function and of a formal one, whose arguments are told
+call_tells : (k : Context) (wanted : Option ℕ) (r up : ℕ) (arguments : Arguments) (line : ℕ) → is_wanted_in wanted (result_in (callee k r up)) ≡ true → ArgumentsFit (scope k) (shapes k) arguments (kinds_of (formals_in (callee k r up))) → ExprFits (scope k) (shapes k) (Call r up arguments line) (sort_of wanted)
+call_tells k wanted r up arguments line e f =
+    let there = result_there wanted (callee k r up) e in
+    let q = there.0 in
+    let told = callee_told k r up q there.1 in
+    let result = there.2 in (
+      told.declared,
+      (shape_of result.0, ap (λ x. result_shape x.result) told.routine ∙ ap result_shape result.1, wanted_sort false wanted result.0 (λ b. never b) result.2),
+      subst (ArgumentsFit (scope k) (shapes k) arguments) (ap (λ o. kinds_of (formals_in o)) there.1 ∙ ap (λ x. kinds_of x.formals) (sym told.routine)) f,
+    )
+
+call_formal_tells : (k : Context) (wanted : Option ℕ) (up i : ℕ) (arguments : Arguments) (line : ℕ) → is_wanted_in wanted (formal_result (formal_out k up i)) ≡ true → ArgumentsFit (scope k) (shapes k) arguments (kinds_of (formal_formals (formal_out k up i))) → ExprFits (scope k) (shapes k) (CallFormal up i arguments line) (sort_of wanted)
+call_formal_tells k wanted up i arguments line e f =
+    let o = formal_out k up i in
+    let is = formal_there o (result_formal wanted o e) in
+    let told = formal_told k up i (RoutineFormal (formal_formals o) (formal_result o)) is in
+    let result = wanted_there wanted (formal_result o) e in
+    (told.0, (kinds_of (formal_formals o), (shape_of result.0, told.1 ∙ ap (λ x. Some (Closure (kinds_of (formal_formals o)) (result_shape x))) result.1, wanted_sort false wanted result.0 (λ b. never b) result.2), f))
+
+procedure_tells : (k : Context) (r up : ℕ) (arguments : Arguments) (line : ℕ) → is_some (callee k r up) ≡ true → ArgumentsFit (scope k) (shapes k) arguments (kinds_of (formals_in (callee k r up))) → StatementFits (scope k) (shapes k) (CallProcedure r up arguments line)
+procedure_tells k r up arguments line e f =
+    let there = some_there (callee k r up) e in
+    let told = callee_told k r up there.0 there.1 in
+    (told.declared, subst (ArgumentsFit (scope k) (shapes k) arguments) (ap (λ o. kinds_of (formals_in o)) there.1 ∙ ap (λ x. kinds_of x.formals) (sym told.routine)) f)
+
+procedure_formal_tells : (k : Context) (up i : ℕ) (arguments : Arguments) (line : ℕ) → is_routine_formal (formal_out k up i) ≡ true → ArgumentsFit (scope k) (shapes k) arguments (kinds_of (formal_formals (formal_out k up i))) → StatementFits (scope k) (shapes k) (CallFormalProcedure up i arguments line)
+procedure_formal_tells k up i arguments line e f =
+    let o = formal_out k up i in
+    let told = formal_told k up i (RoutineFormal (formal_formals o) (formal_result o)) (formal_there o e) in
+    (told.0, (kinds_of (formal_formals o), (result_shape (formal_result o), told.1, f)))
+
+set_there : (o : Option DataType) → is_set_in o ≡ true → There is_set o
+set_there None e = never e
+set_there (Some t) e = (t, refl, e)
+
+set_place_told : (k : Context) (p : Place) (type : DataType) → is_set type ≡ true → PlaceTold k p type → PlaceFits (scope k) (shapes k) p (Whole SetShape)
+set_place_told k p type e told = subst (λ part. PlaceFits (scope k) (shapes k) p part) (set_whole (is_byte p) type told.sound e) told.fits
+
+-- ---- expressions
+
+load_tells : (k : Context) (wanted : Option ℕ) (p : Place) (type : DataType) → is_wanted wanted type ≡ true → PlaceTold k p type → ExprFits (scope k) (shapes k) (Load p) (sort_of wanted)
+load_tells k wanted p type e told = (part_of (is_byte p) type, wanted_sort (is_byte p) wanted type told.sound e, told.fits)
+
+-- the one or the other
+wanted_tells : (k : Context) (wanted : Option ℕ) (e : Expr) → (number_fits k e ≡ true → ExprFits (scope k) (shapes k) e NumberSort) → ((t : ℕ) → pointer_fits k t e ≡ true → ExprFits (scope k) (shapes k) e (PointerSort t)) → value_fits k wanted e ≡ true → ExprFits (scope k) (shapes k) e (sort_of wanted)
+wanted_tells k None e number pointer h = number h
+wanted_tells k (Some t) e number pointer h = pointer t h
+
+mutual
+  unfolding indices_fit index_fits place_fits number_fits pointer_fits set_fits set_steps_fit members_fit member_fits string_fits contents_fit steps_fit operands_fit arguments_fit argument_fits
+
+  indices_tell : (k : Context) (ss : Selectors) → indices_fit k ss ≡ true → IndicesFit k ss
+  indices_tell k no_selector h = tt
+  indices_tell k (selector_before s rest) h = (index_tells k s (left (index_fits k s) (indices_fit k rest) h), indices_tell k rest (right (index_fits k s) (indices_fit k rest) h))
+
+  index_tells : (k : Context) (s : Selector) → index_fits k s ≡ true → IndexFits k s
+  index_tells k (Element type e line) h = number_tells k e h
+  index_tells k (Field type n) h = tt
+  index_tells k (Target pointer line) h = tt
+
+  place_there : (k : Context) (p : Place) (type : DataType) → place_type k p ≡ Some type → place_fits k p ≡ true → PlaceTold k p type
+  place_there k (Variable name ss) type e h = place_tells k name ss type e (indices_tell k ss h)
+
+  number_tells : (k : Context) (e : Expr) → number_fits k e ≡ true → ExprFits (scope k) (shapes k) e NumberSort
+  number_tells k (Number n) h = (refl, h)
+  number_tells k (Load p) h =
+      let a = is_wanted_in None (place_type k p) in
+      let there = wanted_there None (place_type k p) (left a (place_fits k p) h) in
+      load_tells k None p there.0 there.2 (place_there k p there.0 there.1 (right a (place_fits k p) h))
+  number_tells k (Plus e) h = (refl, number_tells k e h)
+  number_tells k (Minus e line) h = (refl, number_tells k e h)
+  number_tells k (Not e) h = (refl, number_tells k e h)
+  number_tells k (Arithmetic e steps) h = (refl, number_tells k e (left (number_fits k e) (steps_fit k steps) h), steps_tell k steps (right (number_fits k e) (steps_fit k steps) h))
+  number_tells k (Logic operator e rest) h = (refl, number_tells k e (left (number_fits k e) (operands_fit k rest) h), operands_tell k rest (right (number_fits k e) (operands_fit k rest) h))
+  number_tells k (Compare relation x y) h = (refl, number_tells k x (left (number_fits k x) (number_fits k y) h), number_tells k y (right (number_fits k x) (number_fits k y) h))
+  number_tells k (ComparePointers relation x y) h =
+      let t = common_pointer k x y in
+      let a = pointer_fits k t x in
+      let b = pointer_fits k t y in
+      (refl, (t, pointer_tells k t x (left a b h), pointer_tells k t y (right a b h)))
+  number_tells k (Apply function e line) h = (refl, function_tells function (left (function_fits function) (number_fits k e) h), number_tells k e (right (function_fits function) (number_fits k e) h))
+  number_tells k (Call r up arguments line) h =
+      let a = is_wanted_in None (result_in (callee k r up)) in
+      let b = arguments_fit k arguments (formals_in (callee k r up)) in
+      call_tells k None r up arguments line (left a b h) (arguments_tell k arguments (formals_in (callee k r up)) (right a b h))
+  number_tells k (CallFormal up i arguments line) h =
+      let a = is_wanted_in None (formal_result (formal_out k up i)) in
+      let b = arguments_fit k arguments (formal_formals (formal_out k up i)) in
+      call_formal_tells k None up i arguments line (left a b h) (arguments_tell k arguments (formal_formals (formal_out k up i)) (right a b h))
+  number_tells k Nil h = never h
+  number_tells k (CompareSets relation x y) h = (refl, set_tells k x (left (set_fits k x) (set_fits k y) h), set_tells k y (right (set_fits k x) (set_fits k y) h))
+  number_tells k (CompareStrings relation x y) h =
+      let a = string_fits k x in
+      let b = string_fits k y in
+      let c = is_as_long x y in
+      let h1 = left (a && b) c h in
+      (refl, string_tells k x (left a b h1), string_tells k y (right a b h1), same_length x y (right (a && b) c h))
+  number_tells k (In x y) h = (refl, number_tells k x (left (number_fits k x) (set_fits k y) h), set_tells k y (right (number_fits k x) (set_fits k y) h))
+  number_tells k Eof h = (refl, eqb-true (outermost_of k.chain) 0 h)
+  number_tells k (Eoln line) h = (refl, eqb-true (outermost_of k.chain) 0 h)
+
+  pointer_tells : (k : Context) (t : ℕ) (e : Expr) → pointer_fits k t e ≡ true → ExprFits (scope k) (shapes k) e (PointerSort t)
+  pointer_tells k t Nil h = (t, refl)
+  pointer_tells k t (Load p) h =
+      let a = is_wanted_in (Some t) (place_type k p) in
+      let there = wanted_there (Some t) (place_type k p) (left a (place_fits k p) h) in
+      load_tells k (Some t) p there.0 there.2 (place_there k p there.0 there.1 (right a (place_fits k p) h))
+  pointer_tells k t (Call r up arguments line) h =
+      let a = is_wanted_in (Some t) (result_in (callee k r up)) in
+      let b = arguments_fit k arguments (formals_in (callee k r up)) in
+      call_tells k (Some t) r up arguments line (left a b h) (arguments_tell k arguments (formals_in (callee k r up)) (right a b h))
+  pointer_tells k t (CallFormal up i arguments line) h =
+      let a = is_wanted_in (Some t) (formal_result (formal_out k up i)) in
+      let b = arguments_fit k arguments (formal_formals (formal_out k up i)) in
+      call_formal_tells k (Some t) up i arguments line (left a b h) (arguments_tell k arguments (formal_formals (formal_out k up i)) (right a b h))
+  pointer_tells k t (Number n) h = never h
+  pointer_tells k t (Plus e) h = never h
+  pointer_tells k t (Minus e line) h = never h
+  pointer_tells k t (Not e) h = never h
+  pointer_tells k t (Arithmetic e steps) h = never h
+  pointer_tells k t (Logic operator e rest) h = never h
+  pointer_tells k t (Compare relation x y) h = never h
+  pointer_tells k t (ComparePointers relation x y) h = never h
+  pointer_tells k t (CompareSets relation x y) h = never h
+  pointer_tells k t (CompareStrings relation x y) h = never h
+  pointer_tells k t (In x y) h = never h
+  pointer_tells k t (Apply function e line) h = never h
+  pointer_tells k t Eof h = never h
+  pointer_tells k t (Eoln line) h = never h
+
+  set_tells : (k : Context) (e : SetExpr) → set_fits k e ≡ true → SetFits (scope k) (shapes k) e
+  set_tells k (LoadSet p) h =
+      let a = is_set_in (place_type k p) in
+      let there = set_there (place_type k p) (left a (place_fits k p) h) in
+      set_place_told k p there.0 there.2 (place_there k p there.0 there.1 (right a (place_fits k p) h))
+  set_tells k (Constructor members) h = members_tell k members h
+  set_tells k (Combine e steps) h = (set_tells k e (left (set_fits k e) (set_steps_fit k steps) h), set_steps_tell k steps (right (set_fits k e) (set_steps_fit k steps) h))
+
+  set_steps_tell : (k : Context) (steps : SetSteps) → set_steps_fit k steps ≡ true → SetStepsFit (scope k) (shapes k) steps
+  set_steps_tell k no_set_step h = tt
+  set_steps_tell k (set_step_before operator e rest) h = (set_tells k e (left (set_fits k e) (set_steps_fit k rest) h), set_steps_tell k rest (right (set_fits k e) (set_steps_fit k rest) h))
+
+  members_tell : (k : Context) (members : Members) → members_fit k members ≡ true → MembersFit (scope k) (shapes k) members
+  members_tell k no_member h = tt
+  members_tell k (member_before m rest) h = (member_tells k m (left (member_fits k m) (members_fit k rest) h), members_tell k rest (right (member_fits k m) (members_fit k rest) h))
+
+  member_tells : (k : Context) (m : Member) → member_fits k m ≡ true → MemberFits (scope k) (shapes k) m
+  member_tells k (One e line) h = number_tells k e h
+  member_tells k (Several x y line) h = (number_tells k x (left (number_fits k x) (number_fits k y) h), number_tells k y (right (number_fits k x) (number_fits k y) h))
+
+  string_tells : (k : Context) (e : Structure) → string_fits k e ≡ true → StructureFits (scope k) (shapes k) e
+  string_tells k (Literal characters) h = characters_told characters h
+  string_tells k (Contents p type) h =
+      let a = is_string_type type in
+      let b = is_like k p type in
+      let d = place_fits k p in
+      let h1 = left (a && b) d h in
+      let told = string_told type (left a b h1) in
+      let like = like_told k p type (right a b h1) in
+      (told.count, told.first, told.shape, told.length, subst (λ s. PlaceFits (scope k) (shapes k) p (Whole s)) told.shape (whole_told k p like.type type (place_there k p like.type like.is (right (a && b) d h)) like.entire like.alike))
+
+  contents_tell : (k : Context) (e : Structure) (type : DataType) → contents_fit k e type ≡ true → ContentsFit (scope k) (shapes k) e (shape_of type)
+  contents_tell k (Literal characters) type h =
+      let a = is_string characters in
+      let b = is_text_of (length characters) type in
+      let told = characters_told characters (left a b h) in
+      (told.0, told.1, text_told (length characters) type (right a b h))
+  contents_tell k (Contents p from) type h =
+      let a = are_alike deepest from type in
+      let b = is_like k p type in
+      let d = place_fits k p in
+      let h1 = left (a && b) d h in
+      let like = like_told k p type (right a b h1) in
+      ((alike deepest from type (left a b h1)).shape, whole_told k p like.type type (place_there k p like.type like.is (right (a && b) d h)) like.entire like.alike)
+
+  steps_tell : (k : Context) (steps : ArithmeticSteps) → steps_fit k steps ≡ true → StepsFit (scope k) (shapes k) steps
+  steps_tell k no_arithmetic_step h = tt
+  steps_tell k (arithmetic_step_before operator e line rest) h = (number_tells k e (left (number_fits k e) (steps_fit k rest) h), steps_tell k rest (right (number_fits k e) (steps_fit k rest) h))
+
+  operands_tell : (k : Context) (rest : Operands) → operands_fit k rest ≡ true → OperandsFit (scope k) (shapes k) rest
+  operands_tell k no_operand h = tt
+  operands_tell k (operand_before e rest) h = (number_tells k e (left (number_fits k e) (operands_fit k rest) h), operands_tell k rest (right (number_fits k e) (operands_fit k rest) h))
+
+  arguments_tell : (k : Context) (arguments : Arguments) (formals : Formals) → arguments_fit k arguments formals ≡ true → ArgumentsFit (scope k) (shapes k) arguments (kinds_of formals)
+  arguments_tell k no_argument no_formal h = refl
+  arguments_tell k no_argument (formal_before f others) h = never h
+  arguments_tell k (argument_before a rest) no_formal h = never h
+  arguments_tell k (argument_before a rest) (formal_before f others) h =
+      (kind_of f, (kinds_of others, refl, argument_tells k a f (left (argument_fits k a f) (arguments_fit k rest others) h), arguments_tell k rest others (right (argument_fits k a f) (arguments_fit k rest others) h)))
+
+  argument_tells : (k : Context) (a : Argument) (f : Formal) → argument_fits k a f ≡ true → ArgumentFits (scope k) (shapes k) a (kind_of f)
+  argument_tells k (ByValue e range line) (ValueFormal type) h =
+      let a = range_fits range type false in
+      let b = value_fits k (pointer_of type) e in
+      let goes = range_tells range false type (left a b h) in
+      (shape_of type, refl, goes.fits, (sort_of (pointer_of type), goes.sort, wanted_tells k (pointer_of type) e (number_tells k e) (λ t. pointer_tells k t e) (right a b h)))
+  argument_tells k (ByValue e range line) (VariableFormal type) h = never h
+  argument_tells k (ByValue e range line) (RoutineFormal formals result) h = never h
+  argument_tells k (ByVariable p) (VariableFormal type) h =
+      let a = is_like k p type in
+      let b = place_fits k p in
+      let like = like_told k p type (left a b h) in
+      (shape_of type, refl, whole_told k p like.type type (place_there k p like.type like.is (right a b h)) like.entire like.alike)
+  argument_tells k (ByVariable p) (ValueFormal type) h = never h
+  argument_tells k (ByVariable p) (RoutineFormal formals result) h = never h
+  argument_tells k (ByRoutine r up) (RoutineFormal formals result) h = routine_tells k r up formals result h
+  argument_tells k (ByRoutine r up) (ValueFormal type) h = never h
+  argument_tells k (ByRoutine r up) (VariableFormal type) h = never h
+  argument_tells k (ByFormal up i) (RoutineFormal formals result) h = formal_tells k up i formals result h
+  argument_tells k (ByFormal up i) (ValueFormal type) h = never h
+  argument_tells k (ByFormal up i) (VariableFormal type) h = never h
+  argument_tells k (BySet e low high line) (ValueFormal type) h = (ap Own (set_shape type (left (is_set type) (set_fits k e) h)), set_tells k e (right (is_set type) (set_fits k e) h))
+  argument_tells k (BySet e low high line) (VariableFormal type) h = never h
+  argument_tells k (BySet e low high line) (RoutineFormal formals result) h = never h
+  argument_tells k (ByCopy e type) (ValueFormal formal) h =
+      let a = are_alike deepest formal type in
+      let b = is_structure type in
+      let d = contents_fit k e type in
+      let h1 = left (a && b) d h in
+      (ap Own (alike deepest formal type (left a b h1)).shape, structure_told type (right a b h1), contents_tell k e type (right (a && b) d h))
+  argument_tells k (ByCopy e type) (VariableFormal formal) h = never h
+  argument_tells k (ByCopy e type) (RoutineFormal formals result) h = never h
+
+-- ---- statements
+
+width_tells : (k : Context) (width : Width) → width_fits k width ≡ true → WidthFits (scope k) (shapes k) width
+unfolding width_fits
+width_tells k DefaultWidth h = tt
+width_tells k (GivenWidth e line) h = number_tells k e h
+
+parameter_tells : (k : Context) (q : WriteParameter) → parameter_fits k q ≡ true → WriteFits (scope k) (shapes k) q
+unfolding parameter_fits
+parameter_tells k (WriteInteger e width) h = (number_tells k e (left (number_fits k e) (width_fits k width) h), width_tells k width (right (number_fits k e) (width_fits k width) h))
+parameter_tells k (WriteChar e width) h = (number_tells k e (left (number_fits k e) (width_fits k width) h), width_tells k width (right (number_fits k e) (width_fits k width) h))
+parameter_tells k (WriteBoolean e width) h = (number_tells k e (left (number_fits k e) (width_fits k width) h), width_tells k width (right (number_fits k e) (width_fits k width) h))
+parameter_tells k (WriteText e width) h = (string_tells k e (left (string_fits k e) (width_fits k width) h), width_tells k width (right (string_fits k e) (width_fits k width) h))
+
+parameters_tell : (k : Context) (ps : List WriteParameter) → parameters_fit k ps ≡ true → WritesFit (scope k) (shapes k) ps
+unfolding parameters_fit
+parameters_tell k [] h = tt
+parameters_tell k (q ∷ rest) h = (parameter_tells k q (left (parameter_fits k q) (parameters_fit k rest) h), parameters_tell k rest (right (parameter_fits k q) (parameters_fit k rest) h))
+
+assign_tells : (k : Context) (p : Place) (range : Range) (e : Expr) (line : ℕ) → place_fits k p ≡ true → range_fits_in range (place_type k p) (is_byte p) ≡ true → value_fits k (pointer_in (place_type k p)) e ≡ true → StatementFits (scope k) (shapes k) (Assign p range e line)
+assign_tells k p range e line hp hr he =
+    let there = range_there range (place_type k p) (is_byte p) hr in
+    let type = there.0 in
+    let told = place_there k p type there.1 hp in
+    let goes = range_tells range (is_byte p) type there.2 in
+    (part_of (is_byte p) type, told.fits, goes.fits, (sort_of (pointer_of type), goes.sort, subst (λ o. ExprFits (scope k) (shapes k) e (sort_of (pointer_in o))) there.1 (wanted_tells k (pointer_in (place_type k p)) e (number_tells k e) (λ t. pointer_tells k t e) he)))
+
+contents_there : (k : Context) (e : Structure) (o : Option DataType) → contents_fit_in k e o ≡ true → There (contents_fit k e) o
+contents_there k e None h = never h
+contents_there k e (Some t) h = (t, refl, h)
+
+assign_structure_tells : (k : Context) (p : Place) (e : Structure) → place_fits k p ≡ true → not (is_byte p) ≡ true → contents_fit_in k e (place_type k p) ≡ true → StatementFits (scope k) (shapes k) (AssignStructure p e)
+assign_structure_tells k p e hp hn he =
+    let there = contents_there k e (place_type k p) he in
+    let type = there.0 in
+    let told = place_there k p type there.1 hp in
+    (shape_of type, subst (λ part. PlaceFits (scope k) (shapes k) p part) (ap (λ x. if x then Byte else Whole (shape_of type)) (false_of (is_byte p) hn)) told.fits, contents_tell k e type there.2)
+
+first_there : (o : Option DataType) → has_first_in o ≡ true → There (has_first deepest) o
+first_there None h = never h
+first_there (Some t) h = (t, refl, h)
+
+new_tells : (k : Context) (p : Place) (t line : ℕ) → is_wanted_in (Some t) (place_type k p) ≡ true → place_fits k p ≡ true → not (is_byte p) ≡ true → has_first_in (slice_get k.program.domains t) ≡ true → StatementFits (scope k) (shapes k) (New p t line)
+new_tells k p t line hw hp hn hf =
+    let there = wanted_there (Some t) (place_type k p) hw in
+    let type = there.0 in
+    let told = place_there k p type there.1 hp in
+    let domain = first_there (slice_get k.program.domains t) hf in (
+      subst (λ part. PlaceFits (scope k) (shapes k) p part) (pointer_whole (is_byte p) t type hn there.2) told.fits,
+      below_length k.program.domains t domain.0 domain.1,
+      subst (λ x. FirstFits (shape_of x)) (sym (get_there k.program.domains t domain.0 (PointerType 0) domain.1)) (first_tells deepest domain.0 domain.2),
+    )
+
+read_tells : (k : Context) (v : ReadVariable) → read_fits k v ≡ true → ReadFits (scope k) (shapes k) v
+unfolding read_fits
+read_tells k (ReadChar p low high line) h =
+    let a = place_fits k p in
+    let b = range_fits_in (Within low high) (place_type k p) (is_byte p) in
+    let there = range_there (Within low high) (place_type k p) (is_byte p) (right a b h) in
+    let type = there.0 in
+    let told = place_there k p type there.1 (left a b h) in
+    let goes = range_tells (Within low high) (is_byte p) type there.2 in
+    (part_of (is_byte p) type, told.fits, subst (λ o. SortOf (part_of (is_byte p) type) (sort_of o)) (within_number low high type (is_byte p) there.2) goes.sort, goes.fits)
+read_tells k (ReadInteger p low high line) h = never h
+
+reads_tell : (k : Context) (vs : List ReadVariable) → reads_fit k vs ≡ true → ReadsFit (scope k) (shapes k) vs
+unfolding reads_fit
+reads_tell k [] h = tt
+reads_tell k (v ∷ rest) h = (read_tells k v (left (read_fits k v) (reads_fit k rest) h), reads_tell k rest (right (read_fits k v) (reads_fit k rest) h))
+
+control_tells : (k : Context) (v : ℕ) → is_ordinal_in (variable_in v (routine_out k 0)) ≡ true → (first : ℤ) × (kind_at (scope k) 0 v ≡ Some (Own (NumberShape first)))
+control_tells k v e =
+    let there = ordinal_there (variable_in v (routine_out k 0)) e in
+    let number = number_kind there.0 there.2 in
+    (number.0, variable_told k 0 v there.0 there.1 ∙ ap (λ s. Some (Own s)) number.1)
+
+mutual
+  unfolding statement_fits statements_fit elements_fit
+
+  statement_tells : (k : Context) (s : Statement) → statement_fits k s ≡ true → StatementFits (scope k) (shapes k) s
+  statement_tells k Empty h = tt
+  statement_tells k (Assign p range e line) h =
+      let a = place_fits k p in
+      let b = range_fits_in range (place_type k p) (is_byte p) in
+      let c = value_fits k (pointer_in (place_type k p)) e in
+      let h1 = left (a && b) c h in
+      assign_tells k p range e line (left a b h1) (right a b h1) (right (a && b) c h)
+  statement_tells k (AssignSet p low high e line) h =
+      let a = is_set_in (place_type k p) in
+      let b = place_fits k p in
+      let c = set_fits k e in
+      let h1 = left (a && b) c h in
+      let there = set_there (place_type k p) (left a b h1) in
+      (set_place_told k p there.0 there.2 (place_there k p there.0 there.1 (right a b h1)), set_tells k e (right (a && b) c h))
+  statement_tells k (AssignStructure p e) h =
+      let a = place_fits k p in
+      let b = not (is_byte p) in
+      let c = contents_fit_in k e (place_type k p) in
+      let h1 = left (a && b) c h in
+      assign_structure_tells k p e (left a b h1) (right a b h1) (right (a && b) c h)
+  statement_tells k (CallProcedure r up arguments line) h =
+      let a = is_some (callee k r up) in
+      let b = arguments_fit k arguments (formals_in (callee k r up)) in
+      procedure_tells k r up arguments line (left a b h) (arguments_tell k arguments (formals_in (callee k r up)) (right a b h))
+  statement_tells k (CallFormalProcedure up i arguments line) h =
+      let a = is_routine_formal (formal_out k up i) in
+      let b = arguments_fit k arguments (formal_formals (formal_out k up i)) in
+      procedure_formal_tells k up i arguments line (left a b h) (arguments_tell k arguments (formal_formals (formal_out k up i)) (right a b h))
+  statement_tells k (Compound body) h = statements_tell k body h
+  statement_tells k (If e s) h = (number_tells k e (left (number_fits k e) (statement_fits k s) h), statement_tells k s (right (number_fits k e) (statement_fits k s) h))
+  statement_tells k (IfElse e s t) h =
+      let a = number_fits k e in
+      let b = statement_fits k s in
+      let c = statement_fits k t in
+      let h1 = left (a && b) c h in
+      (number_tells k e (left a b h1), statement_tells k s (right a b h1), statement_tells k t (right (a && b) c h))
+  statement_tells k (Case e elements line) h = (number_tells k e (left (number_fits k e) (elements_fit k elements) h), elements_tell k elements (right (number_fits k e) (elements_fit k elements) h))
+  statement_tells k (While e s) h = (number_tells k e (left (number_fits k e) (statement_fits k s) h), statement_tells k s (right (number_fits k e) (statement_fits k s) h))
+  statement_tells k (Repeat body e) h = (statements_tell k body (left (statements_fit k body) (number_fits k e) h), number_tells k e (right (statements_fit k body) (number_fits k e) h))
+  statement_tells k (For v low high from from_line direction to to_line s) h =
+      let a = is_ordinal_in (variable_in v (routine_out k 0)) in
+      let b = number_fits k from in
+      let c = number_fits k to in
+      let d = statement_fits k s in
+      let h1 = left (a && b && c) d h in
+      let h2 = left (a && b) c h1 in
+      (control_tells k v (left a b h2), number_tells k from (right a b h2), number_tells k to (right (a && b) c h1), statement_tells k s (right (a && b && c) d h))
+  statement_tells k (With places s) h = never h
+  statement_tells k (New p t line) h =
+      let a = is_wanted_in (Some t) (place_type k p) in
+      let b = place_fits k p in
+      let c = not (is_byte p) in
+      let d = has_first_in (slice_get k.program.domains t) in
+      let h1 = left (a && b && c) d h in
+      let h2 = left (a && b) c h1 in
+      new_tells k p t line (left a b h2) (right a b h2) (right (a && b) c h1) (right (a && b && c) d h)
+  statement_tells k (Pack p from_type e line q to_type) h = never h
+  statement_tells k (Unpack p from_type q to_type e line) h = never h
+  statement_tells k (Read vs) h =
+      let a = has_input k.chain in
+      let b = reads_fit k vs in
+      (eqb-true (outermost_of k.chain) 0 (left a b h), reads_tell k vs (right a b h))
+  statement_tells k (Readln vs line) h =
+      let a = has_input k.chain in
+      let b = reads_fit k vs in
+      (eqb-true (outermost_of k.chain) 0 (left a b h), reads_tell k vs (right a b h))
+  statement_tells k (Write ps) h = parameters_tell k ps h
+  statement_tells k (Writeln ps) h = parameters_tell k ps h
+
+  pub statements_tell : (k : Context) (ss : Statements) → statements_fit k ss ≡ true → StatementsFit (scope k) (shapes k) ss
+  statements_tell k no_statement h = tt
+  statements_tell k (statement_before s rest) h = (statement_tells k s (left (statement_fits k s) (statements_fit k rest) h), statements_tell k rest (right (statement_fits k s) (statements_fit k rest) h))
+
+  elements_tell : (k : Context) (els : Elements) → elements_fit k els ≡ true → ElementsFit (scope k) (shapes k) els
+  elements_tell k no_element h = tt
+  elements_tell k (element_before constants s rest) h = (statement_tells k s (left (statement_fits k s) (elements_fit k rest) h), elements_tell k rest (right (statement_fits k s) (elements_fit k rest) h))

@@ -1,2 +1,5 @@
+pub mod Alike
+pub mod Contexts
+pub mod Levels
 pub mod Tests
 pub mod Laws

@@ -3,10 +3,16 @@
 
 ghost use Rattle.ps_fits.specs.Laws.{TestsTell};
 
+mod alike;
+mod entry;
+mod heading;
+mod level;
+mod name;
+mod place;
 pub mod program;
 mod statement;
+mod text;
 mod value;
-mod variable;
 
 /// A program that passes the test has what the lowering needs.
 pub fn tests_tell()

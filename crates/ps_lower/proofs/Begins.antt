@@ -1,23 +1,23 @@
 -- How a routine begins.
-use Rattle.std.proofs.Common.{◌≡◌, ℕ, suc, ◌+◌, ◌*◌, ◌<◌, ◌≤◌, Bool, true, false, nat_eq, if◌then◌else◌, List, [], ◌∷◌, ◌++◌, length, drop, map, get_or, Option, Some, None, Result, OnOk, refl, ap, sym, subst, ◌∙◌, arith}
+use Rattle.std.proofs.Common.{◌≡◌, ℕ, suc, ◌+◌, ◌*◌, ◌<◌, ◌≤◌, Bool, true, false, nat_eq, nat_le, pos, if◌then◌else◌, List, [], ◌∷◌, ◌++◌, length, drop, map, get_or, Option, Some, None, Result, OnOk, refl, ap, sym, subst, ◌∙◌, append_assoc, arith}
+use Rattle.std.specs.Prelude.{option_map}
 use Rattle.std.proofs.Math.Seq.{drop-cons}
 use Rattle.std.proofs.lemmas.List.{drop_all, append-nil}
+use Rattle.std.proofs.lemmas.Bool.Decides.{nat_tests}
 use Rattle.ps_tree.specs.Types.{DataType}
-use Rattle.ps_tree.specs.Tree.{Formals, no_formal, Routine}
+use Rattle.ps_tree.specs.Tree.{Routine}
 use Rattle.ps_tree.specs.declared.types.Ty.{Ty}
-use Rattle.ps_tree.specs.declared.tree.Formal.{Formal}
 use Rattle.ps_tree.specs.declared.tree.Routine.{Routine as Made}
-use Rattle.ps_tree.specs.View.{type_of, formals_of, routine_of}
-use Rattle.std.specs.Prelude.{is_some, option_map}
+use Rattle.ps_tree.specs.View.{type_of, routine_of}
 use Rattle.tac_code.specs.declared.code.Base.TheVariants as base
 use Rattle.tac_code.specs.declared.code.Instruction.{Instruction}
-use Rattle.tac_code.specs.declared.code.Instruction.TheVariants.{Store, End}
+use Rattle.tac_code.specs.declared.code.Instruction.TheVariants.{Literal, Load, Return}
 use Rattle.ps_layout.specs.Shapes.{shape_of, word_count}
-use Rattle.ps_layout.specs.Frames.{Kind, kind_words, words_of_all, places_from, result_kinds, listed_kinds, kinds_of, variable_kinds, is_program_block, entries, link_offset, layout_of}
+use Rattle.ps_layout.specs.Frames.{Kind, Kinds, no_kind, kind_before, kind_words, words_of_all, places_from, result_kinds, listed_kinds, kinds_of, variable_kinds, is_program_block, entries, entry_offset, layout_of}
 use Rattle.ps_code.specs.Scopes.{Scope}
 use Rattle.ps_code.specs.Statements.{first_code, statements_code}
-use Rattle.ps_code.specs.Routines.{input_code, result_code, parameters_code, variables_code, result_entries, count_kinds, count_parameters, parameter_total, begin_code, end_code, result_end}
-use Rattle.ps_lower.specs.Firsts.{firsts_code, words_in, IsPlain}
+use Rattle.ps_code.specs.Routines.{result_code, parameter_code, parameter_words, parameters_code, variables_code, result_entries, count_kinds, parameter_total, begin_code, result_end, end_code}
+use Rattle.ps_lower.specs.Firsts.{firsts_code, result_at, parameters_at, head_code, words_in}
 use Rattle.ps_lower.specs.Walks.{is_reference, passed, walked, beginning}
 use Rattle.ps_lower.specs.declared.frame.Walk.{Walk}
 use Rattle.ps_lower.proofs.Appends.{and_then}
@@ -70,7 +70,12 @@ begun_next k t start first types i now next place after d h s e f = record {
 pub begun_all : (k : Scope) (t : ℕ) (start : List Instruction) (first : ℕ) (types : List Ty) (i : ℕ) (now : List Instruction) (place : ℕ) → length types ≤ i → Begun k t start first types i now place → now ≡ start ++ added k t first types
 begun_all k t start first types i now place h s = sym (append-nil now) ∙ ap (λ l. now ++ added k t place l) (sym (drop_all i types h)) ∙ s.left
 
--- variables whose entries stand one behind another
+-- ---- entries that stand one behind another
+
+-- those from the one numbered i on stand from a word on
+abbrev pub Stand : Routine → (i p : ℕ) → List Kind → Type 0
+Stand r i p kinds = (j : ℕ) → get_or (layout_of r).places (i + j) 0 ≡ get_or (places_from p kinds) j 0
+
 one_on : (i j : ℕ) → suc i + j ≡ i + suc j
 one_on i j = omega arith
 
@@ -80,65 +85,106 @@ none_on i = omega arith
 from_none : (j : ℕ) → 0 + j ≡ j
 from_none j = omega arith
 
-pub variables_are : (k : Scope) (r : Routine) (t : ℕ) (types : List DataType) (i p : ℕ) → ((j : ℕ) → get_or (layout_of r).places (i + j) 0 ≡ get_or (places_from p (variable_kinds types)) j 0) → variables_code k r types i t ≡ firsts_code k t p types
+stand_to : (r : Routine) (i j p q : ℕ) (kinds : List Kind) → i ≡ j → p ≡ q → Stand r i p kinds → Stand r j q kinds
+stand_to r i j p q kinds e f h = subst (λ n. Stand r n q kinds) e (subst (λ n. Stand r i n kinds) f h)
+
+stand_all : (r : Routine) → Stand r 0 1 (entries r)
+stand_all r j = ap (λ n. get_or (layout_of r).places n 0) (from_none j)
+
+stand_first : (r : Routine) (i p : ℕ) (kind : Kind) (rest : List Kind) → Stand r i p (kind ∷ rest) → get_or (layout_of r).places i 0 ≡ p
+stand_first r i p kind rest h = ap (λ n. get_or (layout_of r).places n 0) (none_on i) ∙ h 0
+
+stand_next : (r : Routine) (i p : ℕ) (kind : Kind) (rest : List Kind) → Stand r i p (kind ∷ rest) → Stand r (suc i) (p + kind_words kind) rest
+stand_next r i p kind rest h j = ap (λ n. get_or (layout_of r).places n 0) (one_on i j) ∙ h (suc j)
+
+variables_are : (k : Scope) (r : Routine) (t : ℕ) (types : List DataType) (i p : ℕ) → Stand r i p (variable_kinds types) → variables_code k r types i t ≡ firsts_code k t p types
 variables_are k r t [] i p h = refl
 variables_are k r t (type ∷ rest) i p h =
     ap (λ n. first_code k base.Frame t (4 * n) (shape_of type) ++ variables_code k r rest (suc i) t) (ap (λ n. get_or (layout_of r).places n 0) (none_on i) ∙ h 0)
     ∙ ap (λ l. first_code k base.Frame t (4 * p) (shape_of type) ++ l) (variables_are k r t rest (suc i) (p + word_count (shape_of type)) (λ j. ap (λ n. get_or (layout_of r).places n 0) (one_on i j) ∙ h (suc j)))
 
--- ---- a program block
+result_is : (k : Scope) (r : Routine) (x : Option DataType) (t : ℕ) (more : List Kind) → Stand r 0 1 (result_kinds x ++ more) → result_code k r x t ≡ result_at k x t 1
+result_is k r None t more h = refl
+result_is k r (Some type) t more h = ap (λ n. first_code k base.Frame t (4 * n) (shape_of type)) (h 0)
 
-short_chain : (chain : List ℕ) → length chain ≤ 1 → is_program_block chain ≡ true
-short_chain [] h = refl
-short_chain (r ∷ []) h = refl
-short_chain (r ∷ s ∷ rest) h = absurd (omega (arith, h))
+behind_one : (n : ℕ) → 1 + n ≡ 1 + (n + 0)
+behind_one n = omega arith
 
-no_result : (result : Option Ty) → false ≡ is_some result → option_map type_of result ≡ None
-no_result None h = refl
-no_result (Some type) h = absurd (cc)
+result_stand : (r : Routine) (x : Option DataType) (more : List Kind) → Stand r 0 1 (result_kinds x ++ more) → Stand r (result_entries x) (1 + words_of_all (result_kinds x)) more
+result_stand r None more h = h
+result_stand r (Some type) more h =
+    stand_to r 1 1 (1 + word_count (shape_of type)) (1 + (word_count (shape_of type) + 0)) more refl (behind_one (word_count (shape_of type)))
+    (λ j. ap (λ n. get_or (layout_of r).places n 0) (one_on 0 j) ∙ h (suc j))
 
-no_formals : (formals : List Formal) → formals ≡ [] → formals_of formals ≡ no_formal
-unfolding formals_of
-no_formals formals e = ap formals_of e
+parameters_are : (k : Scope) (r : Routine) (kinds : Kinds) (t i p free : ℕ) (more : List Kind) → Stand r i p (listed_kinds kinds ++ more) → parameters_code k r kinds t i free ≡ parameters_at k kinds t p free
+parameters_are k r no_kind t i p free more h = refl
+parameters_are k r (kind_before kind rest) t i p free more h =
+    ap (λ n. parameter_code k kind t (4 * n) free ++ parameters_code k r rest (t + parameter_words kind) (suc i) free) (stand_first r i p kind (listed_kinds rest ++ more) h)
+    ∙ ap (λ l. parameter_code k kind t (4 * p) free ++ l) (parameters_are k r rest (t + parameter_words kind) (suc i) (p + kind_words kind) free more (stand_next r i p kind (listed_kinds rest ++ more) h))
 
-pub plain_is : (r : Made) → length r.chain.items ≤ 1 → false ≡ is_some r.result → r.formals.items ≡ [] → IsPlain (routine_of r)
-plain_is r h g e = record { outermost = short_chain r.chain.items h; result = no_result r.result g; formals = no_formals r.formals.items e }
+further : (i n : ℕ) → suc i + n ≡ i + suc n
+further i n = omega arith
 
-abbrev begun : Scope → Routine → Bool → Option DataType → Formals → List Instruction
-begun k r b result formals =
-    (if b then input_code r (if b then 0 else suc (count_parameters (kinds_of formals))) else (Store base.Frame (link_offset r) 0 ∷ []))
-    ++ result_code k r result (if b then 0 else suc (count_parameters (kinds_of formals)))
-    ++ parameters_code k r (kinds_of formals) 1 (result_entries result) (if b then 0 else suc (count_parameters (kinds_of formals)))
-    ++ variables_code k r r.variables (result_entries result + count_kinds (kinds_of formals)) (if b then 0 else suc (count_parameters (kinds_of formals)))
+parameters_stand : (r : Routine) (kinds : Kinds) (i p : ℕ) (more : List Kind) → Stand r i p (listed_kinds kinds ++ more) → Stand r (i + count_kinds kinds) (p + words_of_all (listed_kinds kinds)) more
+parameters_stand r no_kind i p more h = stand_to r i (i + 0) p (p + 0) more (none_on i) (none_on p) h
+parameters_stand r (kind_before kind rest) i p more h =
+    stand_to r (suc i + count_kinds rest) (i + suc (count_kinds rest)) ((p + kind_words kind) + words_of_all (listed_kinds rest)) (p + (kind_words kind + words_of_all (listed_kinds rest))) more
+    (further i (count_kinds rest)) (plus_assoc p (kind_words kind) (words_of_all (listed_kinds rest)))
+    (parameters_stand r rest (suc i) (p + kind_words kind) more (stand_next r i p kind (listed_kinds rest ++ more) h))
 
-plain_kinds : (r : Routine) → IsPlain r → entries r ≡ variable_kinds r.variables
-plain_kinds r q =
-    ap (λ x. result_kinds x ++ listed_kinds (kinds_of r.formals) ++ variable_kinds r.variables) q.result
-    ∙ ap (λ f. listed_kinds (kinds_of f) ++ variable_kinds r.variables) q.formals
+-- ---- a routine, piece by piece
 
-plain_places : (r : Routine) → IsPlain r → (j : ℕ) → get_or (layout_of r).places (0 + j) 0 ≡ get_or (places_from 1 (variable_kinds r.variables)) j 0
-plain_places r q j = ap (λ n. get_or (layout_of r).places n 0) (from_none j) ∙ ap (λ l. get_or (places_from 1 l) j 0) (plain_kinds r q)
+pub block_told : (chain : List ℕ) (n : ℕ) → n ≡ length chain → nat_le n 1 ≡ is_program_block chain
+block_told [] n e = grind (arith, nat_tests, e)
+block_told (r ∷ []) n e = grind (arith, nat_tests, e)
+block_told (r ∷ s ∷ rest) n e = grind (arith, nat_tests, e)
 
-pub plain_begin : (k : Scope) (r : Routine) → IsPlain r → begin_code k r ≡ input_code r 0 ++ firsts_code k 0 1 r.variables
-plain_begin k r q =
-    ap (λ b. begun k r b r.result r.formals) q.outermost
-    ∙ ap (λ x. begun k r true x r.formals) q.result
-    ∙ ap (λ f. begun k r true None f) q.formals
-    ∙ ap (λ l. input_code r 0 ++ l) (variables_are k r 0 r.variables 0 1 (plain_places r q))
+abbrev behind_result : Routine → ℕ
+behind_result r = 1 + words_of_all (result_kinds r.result)
 
-pub plain_end : (r : Routine) → IsPlain r → end_code r ≡ End ∷ []
-plain_end r q = ap (λ b. if b then End ∷ [] else result_end r r.result) q.outermost
+abbrev behind_parameters : Routine → ℕ
+behind_parameters r = behind_result r + words_of_all (listed_kinds (kinds_of r.formals))
 
-pub no_parameters : (r : Routine) → IsPlain r → parameter_total r ≡ 0
-no_parameters r q = ap (λ b. if b then 0 else suc (count_parameters (kinds_of r.formals))) q.outermost
+abbrev begun_code : Scope → Routine → (t p q : ℕ) → List Instruction
+begun_code k r t p q = head_code r t ++ result_at k r.result t 1 ++ parameters_at k (kinds_of r.formals) 1 p t ++ firsts_code k t q r.variables
 
-pub plain_size : (r : Routine) → IsPlain r → (layout_of r).size ≡ words_in r + 2
-plain_size r q = ap (λ b. 1 + words_of_all (entries r) + (if b then 2 else 0)) q.outermost
+entries_stand : (r : Routine) → Stand r 0 1 (result_kinds r.result ++ (listed_kinds (kinds_of r.formals) ++ variable_kinds r.variables))
+entries_stand r = subst (λ l. Stand r 0 1 l) (append_assoc (result_kinds r.result) (listed_kinds (kinds_of r.formals)) (variable_kinds r.variables)) (stand_all r)
 
--- a program block, piece by piece
-pub block_made : {X E : Type 0} (k : Scope) (r : Routine) (result : Result X E) (new o3 o2 o1 old : List Instruction) → IsPlain r → o1 ≡ old ++ input_code r 0 → o2 ≡ o1 ++ firsts_code k 0 1 r.variables → o3 ≡ o2 ++ statements_code k r.body 0 → OnOk result (new ≡ o3 ++ End ∷ []) → OnOk result (new ≡ old ++ (begin_code k r ++ statements_code k r.body 0 ++ end_code r))
-block_made k r result new o3 o2 o1 old q e f g h =
-    subst (λ l. OnOk result (new ≡ old ++ (begin_code k r ++ statements_code k r.body 0 ++ l))) (sym (plain_end r q))
-    (subst (λ l. OnOk result (new ≡ old ++ (l ++ statements_code k r.body 0 ++ End ∷ []))) (sym (plain_begin k r q))
-    (behind result new o3 old ((input_code r 0 ++ firsts_code k 0 1 r.variables) ++ statements_code k r.body 0) (End ∷ [])
-    (and_then old o2 o3 (input_code r 0 ++ firsts_code k 0 1 r.variables) (statements_code k r.body 0) (and_then old o1 o2 (input_code r 0) (firsts_code k 0 1 r.variables) e f) g) h))
+formals_stand : (r : Routine) → Stand r (result_entries r.result) (behind_result r) (listed_kinds (kinds_of r.formals) ++ variable_kinds r.variables)
+formals_stand r = result_stand r r.result (listed_kinds (kinds_of r.formals) ++ variable_kinds r.variables) (entries_stand r)
+
+begin_is : (k : Scope) (r : Routine) → begun_code k r (parameter_total r) (behind_result r) (behind_parameters r) ≡ begin_code k r
+begin_is k r = sym
+    (ap (λ l. head_code r (parameter_total r) ++ l ++ parameters_code k r (kinds_of r.formals) 1 (result_entries r.result) (parameter_total r) ++ variables_code k r r.variables (result_entries r.result + count_kinds (kinds_of r.formals)) (parameter_total r)) (result_is k r r.result (parameter_total r) (listed_kinds (kinds_of r.formals) ++ variable_kinds r.variables) (entries_stand r))
+    ∙ ap (λ l. head_code r (parameter_total r) ++ result_at k r.result (parameter_total r) 1 ++ l ++ variables_code k r r.variables (result_entries r.result + count_kinds (kinds_of r.formals)) (parameter_total r)) (parameters_are k r (kinds_of r.formals) 1 (result_entries r.result) (behind_result r) (parameter_total r) (variable_kinds r.variables) (formals_stand r))
+    ∙ ap (λ l. head_code r (parameter_total r) ++ result_at k r.result (parameter_total r) 1 ++ parameters_at k (kinds_of r.formals) 1 (behind_result r) (parameter_total r) ++ l) (variables_are k r (parameter_total r) r.variables (result_entries r.result + count_kinds (kinds_of r.formals)) (behind_parameters r) (parameters_stand r (kinds_of r.formals) (result_entries r.result) (behind_result r) (variable_kinds r.variables) (formals_stand r))))
+
+pub begin_made : {X E : Type 0} (k : Scope) (r : Routine) (t p q : ℕ) (result : Result X E) (new o3 o2 o1 old : List Instruction) → t ≡ parameter_total r → o1 ≡ old ++ head_code r t → o2 ≡ o1 ++ result_at k r.result t 1 → p ≡ 1 + words_of_all (result_kinds r.result) → o3 ≡ o2 ++ parameters_at k (kinds_of r.formals) 1 p t → q ≡ p + words_of_all (listed_kinds (kinds_of r.formals)) → OnOk result (new ≡ o3 ++ firsts_code k t q r.variables) → OnOk result (new ≡ old ++ begin_code k r)
+begin_made k r t p q result new o3 o2 o1 old total e f at g next h =
+    subst (λ l. OnOk result (new ≡ old ++ l))
+    (ap (λ n. begun_code k r n p q) total ∙ ap (λ n. begun_code k r (parameter_total r) n q) at ∙ ap (λ n. begun_code k r (parameter_total r) (behind_result r) n) (next ∙ ap (λ n. n + words_of_all (listed_kinds (kinds_of r.formals))) at) ∙ begin_is k r)
+    (behind result new o3 old (head_code r t ++ result_at k r.result t 1 ++ parameters_at k (kinds_of r.formals) 1 p t) (firsts_code k t q r.variables)
+    (and_then old o2 o3 (head_code r t ++ result_at k r.result t 1) (parameters_at k (kinds_of r.formals) 1 p t) (and_then old o1 o2 (head_code r t) (result_at k r.result t 1) e f) g) h)
+
+pub block_made : {X E : Type 0} (k : Scope) (r : Routine) (result : Result X E) (new o2 o1 old : List Instruction) → o1 ≡ old ++ begin_code k r → o2 ≡ o1 ++ statements_code k r.body 0 → OnOk result (new ≡ o2 ++ end_code r) → OnOk result (new ≡ old ++ (begin_code k r ++ statements_code k r.body 0 ++ end_code r))
+block_made k r result new o2 o1 old e f h =
+    behind result new o2 old (begin_code k r ++ statements_code k r.body 0) (end_code r) (and_then old o1 o2 (begin_code k r) (statements_code k r.body 0) e f) h
+
+-- one of two pieces
+pub chosen : {X E : Type 0} (b : Bool) (result : Result X E) (new old one other : List Instruction) → true ≡ b → OnOk result (new ≡ old ++ one) → OnOk result (new ≡ old ++ (if b then one else other))
+chosen b result new old one other e h = subst (λ c. OnOk result (new ≡ old ++ (if c then one else other))) e h
+
+pub other_chosen : {X E : Type 0} (b : Bool) (result : Result X E) (new old one other : List Instruction) → false ≡ b → OnOk result (new ≡ old ++ other) → OnOk result (new ≡ old ++ (if b then one else other))
+other_chosen b result new old one other e h = subst (λ c. OnOk result (new ≡ old ++ (if c then one else other))) e h
+
+pub nothing_given : {X E : Type 0} (r : Made) (result : Result X E) (new old : List Instruction) → r.result ≡ None → OnOk result (new ≡ old ++ Literal 0 (pos 0) ∷ Return 0 ∷ []) → OnOk result (new ≡ old ++ result_end (routine_of r) (option_map type_of r.result))
+nothing_given r result new old e h = subst (λ x. OnOk result (new ≡ old ++ result_end (routine_of r) (option_map type_of x))) (sym e) h
+
+result_offset : (r : Routine) (type : DataType) → r.result ≡ Some type → entry_offset r 0 ≡ 4
+result_offset r type e = ap (λ x. 4 * get_or (places_from 1 (result_kinds x ++ listed_kinds (kinds_of r.formals) ++ variable_kinds r.variables)) 0 0) e
+
+pub result_given : {X E : Type 0} (r : Made) (type : Ty) (result : Result X E) (new old : List Instruction) → r.result ≡ Some type → OnOk result (new ≡ old ++ Load 0 base.Frame 4 ∷ Return 0 ∷ []) → OnOk result (new ≡ old ++ result_end (routine_of r) (option_map type_of r.result))
+result_given r type result new old e h =
+    subst (λ x. OnOk result (new ≡ old ++ result_end (routine_of r) (option_map type_of x))) (sym e)
+    (subst (λ n. OnOk result (new ≡ old ++ Load 0 base.Frame n ∷ Return 0 ∷ [])) (sym (result_offset (routine_of r) (type_of type) (ap (λ x. option_map type_of x) e))) h)

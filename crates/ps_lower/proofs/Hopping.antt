@@ -1,5 +1,5 @@
 -- The code that reaches the frames of the routines round a routine.
-use Rattle.std.proofs.Common.{◌≡◌, ℕ, zero, suc, ◌-◌, ◌<◌, ◌≤◌, true, false, if◌then◌else◌, List, [], ◌∷◌, ◌++◌, length, get_or, map, Result, IfOk, refl, sym, ap, ◌∙◌, append_assoc, arith}
+use Rattle.std.proofs.Common.{◌≡◌, ℕ, zero, suc, ◌-◌, ◌<◌, ◌≤◌, true, false, if◌then◌else◌, List, [], ◌∷◌, ◌++◌, length, get_or, map, Result, OnOk, IfOk, refl, sym, ap, subst, ◌∙◌, append_assoc, arith}
 use Rattle.std.specs.Prelude.{Ok, Err}
 use Rattle.std.proofs.lemmas.List.{append-nil}
 use Rattle.ps_tree.specs.Tree as t
@@ -9,10 +9,11 @@ use Rattle.tac_code.specs.declared.code.Base.TheVariants as base
 use Rattle.tac_code.specs.declared.code.Instruction.{Instruction}
 use Rattle.tac_code.specs.declared.code.Instruction.TheVariants as i
 use Rattle.ps_layout.specs.Frames.{Kind, kind_words}
-use Rattle.ps_code.specs.Scopes.{Scope, is_outermost, hops, frame_code, frame_base}
+use Rattle.ps_code.specs.Scopes.{Scope, is_outermost, hops, frame_code, frame_base, link_code}
 use Rattle.ps_lower.specs.Walks.{is_reference, passed, walked}
 use Rattle.ps_lower.specs.declared.frame.Walk.{Walk}
 use Rattle.ps_lower.proofs.Appends.{and_then, unchanged}
+use Rattle.ps_lower.proofs.Arms.{behind}
 
 abbrev pub again : (a n : ℕ) → List Instruction
 again a zero = []
@@ -71,9 +72,26 @@ pub between_base : (k : Scope) (a up : ℕ) → ¬ (up ≡ 0) → false ≡ is_o
 between_base k a zero h e = absurd (h refl)
 between_base k a (suc up) h e = ap (λ b. if b then base.Program else base.Temporary a) e
 
+-- ---- its address
+
+pub own_link : {X E : Type 0} (k : Scope) (a up : ℕ) (r : Result X E) (old new : List Instruction) → up ≡ 0 → OnOk r (new ≡ old ++ i.Offset a base.Frame 0 0 ∷ []) → OnOk r (new ≡ old ++ link_code k a up)
+own_link k a up r old new e h = subst (λ n. OnOk r (new ≡ old ++ link_code k a n)) (sym e) h
+
+pub outer_link : {X E : Type 0} (k : Scope) (a up : ℕ) (r : Result X E) (old new : List Instruction) → ¬ (up ≡ 0) → true ≡ is_outermost k up → OnOk r (new ≡ old ++ i.Offset a base.Program 0 0 ∷ []) → OnOk r (new ≡ old ++ link_code k a up)
+outer_link k a zero r old new h e p = absurd (h refl)
+outer_link k a (suc up) r old new h e p = subst (λ b. OnOk r (new ≡ old ++ (if b then i.Offset a base.Program 0 0 ∷ [] else (i.Load a base.Frame 0 ∷ hops k a 1 up)))) e p
+
+pub between_link : {X E : Type 0} (k : Scope) (a up less : ℕ) (r : Result X E) (old middle new : List Instruction) → ¬ (up ≡ 0) → false ≡ is_outermost k up → less ≡ up - 1 → middle ≡ old ++ i.Load a base.Frame 0 ∷ [] → OnOk r (new ≡ middle ++ hops k a 1 less) → OnOk r (new ≡ old ++ link_code k a up)
+between_link k a zero less r old middle new h e l p q = absurd (h refl)
+between_link k a (suc up) less r old middle new h e l p q =
+    subst (λ b. OnOk r (new ≡ old ++ (if b then i.Offset a base.Program 0 0 ∷ [] else (i.Load a base.Frame 0 ∷ hops k a 1 up)))) e
+    (let j : less ≡ up = omega (arith, l) in
+    subst (λ n. OnOk r (new ≡ old ++ i.Load a base.Frame 0 ∷ hops k a 1 n)) j
+    (behind r new middle old (i.Load a base.Frame 0 ∷ []) (hops k a 1 less) p q))
+
 -- ---- the routine so many levels up
 
-mapped : (rs : List Routine) (n : ℕ) (r : Routine) → n < length rs → get_or (map routine_of rs) n t.no_routine ≡ routine_of (get_or rs n r)
+pub mapped : (rs : List Routine) (n : ℕ) (r : Routine) → n < length rs → get_or (map routine_of rs) n t.no_routine ≡ routine_of (get_or rs n r)
 mapped [] n r h = absurd (omega arith)
 mapped (x ∷ xs) zero r h = refl
 mapped (x ∷ xs) (suc n) r h = mapped xs n r (omega arith)

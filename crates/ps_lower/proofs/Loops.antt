@@ -18,9 +18,9 @@ use Rattle.ps_lower.specs.declared.turns.Control.{Control}
 use Rattle.ps_lower.specs.declared.turns.Turns.{Turns}
 use Rattle.ps_lower.proofs.Jumps.{Fills}
 
-pub for_is : (x : Statement) (variable : ℕ) (low high : ℤ) (a : Expr) (from_line : Line) (direction : Direction) (b : Expr) (to_line : Line) (p : Box Statement Global) (body : Statement) → x ≡ For variable low high a from_line direction b to_line p → body ≡ p.value → t.For variable low high (expr_of a) from_line.number direction (expr_of b) to_line.number (statement_of body) ≡ statement_of x
+pub for_is : (x : Statement) (variable at : ℕ) (low high : ℤ) (a : Expr) (from_line : Line) (direction : Direction) (b : Expr) (to_line : Line) (p : Box Statement Global) (body : Statement) → x ≡ For variable at low high a from_line direction b to_line p → body ≡ p.value → t.For variable low high (expr_of a) from_line.number direction (expr_of b) to_line.number (statement_of body) ≡ statement_of x
 unfolding statement_of
-for_is x variable low high a from_line direction b to_line p body is h =
+for_is x variable at low high a from_line direction b to_line p body is h =
     ap (λ k. t.For variable low high (expr_of a) from_line.number direction (expr_of b) to_line.number (statement_of k)) h ∙ sym (ap statement_of is)
 
 -- behind the body

@@ -1,5 +1,5 @@
 -- Strings, and the calls that write them.
-use Rattle.std.proofs.Common.{◌≡◌, ℕ, suc, ◌-◌, ◌%◌, pos, List, [], ◌∷◌, ◌++◌, length, take, Result, OnOk, refl, ap, subst, ◌∙◌, arith}
+use Rattle.std.proofs.Common.{◌≡◌, ℕ, suc, ◌+◌, ◌-◌, ◌*◌, ◌/◌, ◌%◌, pos, List, [], ◌∷◌, ◌++◌, length, take, Result, OnOk, refl, ap, subst, ◌∙◌, arith}
 use Rattle.ps_tree.specs.Tree as t
 use Rattle.tac_code.specs.declared.code.Instruction.{Instruction}
 use Rattle.tac_code.specs.declared.code.Instruction.TheVariants as i
@@ -23,6 +23,13 @@ filled_is (a ∷ b ∷ c ∷ []) = refl
 filled_is (a ∷ b ∷ c ∷ d ∷ rest) =
     let k : (4 - length (a ∷ b ∷ c ∷ d ∷ rest) % 4) % 4 ≡ (4 - length rest % 4) % 4 = omega arith in
     ap (λ n. a ∷ b ∷ c ∷ d ∷ (rest ++ take n (0 ∷ 0 ∷ 0 ∷ []))) k ∙ ap (λ l. a ∷ b ∷ c ∷ d ∷ l) (filled_is rest)
+
+pub filled_length : (l : List ℕ) → length (filled l) ≡ 4 * ((length l + 3) / 4)
+filled_length [] = refl
+filled_length (a ∷ []) = refl
+filled_length (a ∷ b ∷ []) = refl
+filled_length (a ∷ b ∷ c ∷ []) = refl
+filled_length (a ∷ b ∷ c ∷ d ∷ rest) = let h = filled_length rest in let e : suc (suc (suc (suc (length (filled rest))))) ≡ 4 * ((suc (suc (suc (suc (length rest)))) + 3) / 4) = omega (arith, h) in e
 
 -- a truth value, its width, its string, and the call that writes that
 abbrev pub truth_written : Scope → t.Expr → t.Width → (n w string count to : ℕ) → List Instruction

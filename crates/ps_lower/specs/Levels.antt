@@ -1,5 +1,5 @@
 -- Where code is made.
-use Rattle.std.specs.Prelude.{ℕ, suc, List, [], ◌∷◌, ◌++◌, length, Bool, false, Option, Some, None}
+use Rattle.std.specs.Prelude.{ℕ, suc, List, ◌∷◌, ◌++◌, length, map, reverse, Bool, false, Option, Some, None}
 use Rattle.ps_tree.specs.Checked.{program_in}
 use Rattle.ps_tree.specs.Tree.{Expr, Statement}
 use Rattle.tac_code.specs.declared.code.Instruction.{Instruction}
@@ -12,11 +12,16 @@ use Rattle.ps_lower.specs.Walks.{is_reference}
 use Rattle.ps_lower.specs.declared.level.Level.{Level}
 use Rattle.ps_lower.specs.declared.site.Site.{Site}
 
-abbrev pub scope_of : Level → Scope
-scope_of k = record { program = program_in k.checked.now; chain = k.chain.now; opened = [] }
-
 abbrev pub site_of : Site → CodeSite
 site_of s = record { base = s.base; offset = s.offset }
+
+-- the innermost of the open records is the last
+abbrev pub scope_of : Level → Scope
+scope_of k = record { program = program_in k.checked.now; chain = k.chain.now; opened = reverse (map site_of k.opened.now) }
+
+-- the same, where these records are open
+abbrev pub within : Scope → List Site → Scope
+within k sites = record { program = k.program; chain = k.chain; opened = reverse (map site_of sites) }
 
 abbrev pub is_reference_at : Option Kind → Bool
 is_reference_at None = false

@@ -1,6 +1,8 @@
 pub mod Firsts
 pub mod Levels
 pub mod Loops
+pub mod Reads
 pub mod Cases
 pub mod Sites
 pub mod Walks
+pub mod Sets

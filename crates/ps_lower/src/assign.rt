@@ -4,18 +4,21 @@ ghost use Rattle.std.specs.Prelude.{◌≡◌, ◌++◌, ◌≤◌, OnOk};
 ghost use Rattle.ps_code.specs.Statements.{statement_code};
 ghost use Rattle.ps_lower.specs.Levels.{scope_of};
 ghost use Rattle.ps_tree.specs.Tree as tree;
-ghost use Rattle.ps_tree.specs.View.{place_of, expr_of};
+ghost use Rattle.ps_tree.specs.View.{place_of, expr_of, structure_of, set_of};
 
-use crate::calling::expr_calls;
-use crate::depth::{DEEPEST, even_above, kept};
+use crate::calling::{expr_calls, structure_calls};
+use crate::depth::{DEEPEST, beside, even_above, held, kept, next};
+use crate::helpers::copy;
 use crate::known::literal;
 use crate::level::Level;
 use crate::out::Code;
 use crate::pieces::fitting;
-use crate::places::{is_byte, keep, place_temporary};
+use crate::places::{address, is_byte, keep, place_temporary};
 use crate::refusal::LowerRefusal;
-use crate::values::{place, value};
-use ps_tree::tree::{Expr, Place, Range};
+use crate::sets::{check_set, keep_set};
+use crate::texts::structure_bytes;
+use crate::values::{place, set, structure, value};
+use ps_tree::tree::{Expr, Place, Range, SetExpr, Structure};
 
 /// An assignment to an ordinal or pointer variable.
 pub fn assign(
@@ -36,4 +39,48 @@ pub fn assign(
     value(out, k, e, at, 0)?;
     fitting(out, literal(e), at, range, line)?;
     keep(out, is_byte(target), site, at)
+}
+
+/// An assignment to an array or record variable.
+pub fn assign_structure(
+    out: &mut Code,
+    k: &Level,
+    target: &Place,
+    e: &Structure,
+    d: u32,
+) -> Result<(), LowerRefusal>
+    requires { d ≤ DEEPEST }
+    ensures { OnOk result (out.new ≡ out.old ++ statement_code (scope_of k.now) (tree.AssignStructure (place_of target.now) (structure_of e.now)) d) }
+{
+    let t = held(structure_calls(e), d);
+    let from = even_above(place_temporary(target, t));
+    let to = beside(from);
+    let free = beside(to);
+    let bytes = structure_bytes(e)?;
+    let site = place(out, k, target, t, 0)?;
+    structure(out, k, e, from, 0)?;
+    address(out, to, site, bytes)?;
+    copy(out, k, to, from, free, bytes)
+}
+
+/// An assignment to a set variable.
+pub fn assign_set(
+    out: &mut Code,
+    k: &Level,
+    target: &Place,
+    low: &i32,
+    high: &i32,
+    e: &SetExpr,
+    line: u16,
+    d: u32,
+) -> Result<(), LowerRefusal>
+    requires { d ≤ DEEPEST }
+    ensures { OnOk result (out.new ≡ out.old ++ statement_code (scope_of k.now) (tree.AssignSet (place_of target.now) low.now high.now (set_of e.now) line) d) }
+{
+    let at = held(true, d);
+    let t = even_above(at);
+    let site = place(out, k, target, at, 0)?;
+    set(out, k, e, next(at), 0)?;
+    check_set(out, k, t, 0, low, high, line)?;
+    keep_set(out, k, site, t)
 }

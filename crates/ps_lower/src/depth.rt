@@ -50,6 +50,15 @@ pub fn kept(calls: bool, d: u32) -> u32
     if calls { odd_from(d) } else { d }
 }
 
+/// The next temporary.
+pub fn next(t: u32) -> u32
+    requires { t ≤ 4294967000 }
+    ensures value { result ≡ suc t }
+    ensures small { result ≤ t + 1 }
+{
+    t + 1
+}
+
 /// The next temporary of the same class.
 pub fn beside(t: u32) -> u32
     requires { t ≤ 4294967000 }

@@ -6,8 +6,9 @@ ghost use Rattle.ps_layout.specs.Frames.{entry_offset};
 ghost use Rattle.ps_lower.specs.Levels.{scope_of, is_reference_at};
 ghost use Rattle.ps_tree.specs.Checked.{program_in};
 
-use crate::frame::{Spot, over_entries};
+use crate::frame::Spot;
 use crate::level::Level;
+use crate::levels::entry;
 use crate::refusal::LowerRefusal;
 
 /// An entry of the routine itself.
@@ -15,13 +16,7 @@ pub fn own_entry(k: &Level, index: u32) -> Result<Spot, LowerRefusal>
     ensures offset { IfOk result (λ s. s.offset ≡ entry_offset (routine_up (scope_of k.now) 0) index) }
     ensures reference { IfOk result (λ s. s.reference ≡ is_reference_at (kind_at (scope_of k.now) 0 index)) }
 {
-    let Some(number) = k.chain.first() else {
-        return Err(LowerRefusal::NotYet);
-    };
-    let Some(routine) = k.checked.routines().get(*number as usize) else {
-        return Err(LowerRefusal::NotYet);
-    };
-    Ok(over_entries(u64::from(index), routine)?.spot)
+    entry(k, 0, index)
 }
 
 /// The number of a run-time routine, which stands behind those of the program.

@@ -1,21 +1,31 @@
-// The first values of variables.
+// First values: as long as the text of a type, and not as its cells.
 
-ghost use Rattle.std.specs.Prelude.{◌≡◌, ◌++◌, ◌+◌, ◌*◌, [], ◌∷◌, map, OnOk, IfOk};
-ghost use Rattle.tac_code.specs.declared.code.Base.TheVariants as base;
-ghost use Rattle.tac_code.specs.declared.code.Instruction.TheVariants as i;
-ghost use Rattle.ps_code.specs.Statements.{first_code};
-ghost use Rattle.ps_layout.specs.Shapes.{shape_of, word_count};
-ghost use Rattle.ps_lower.specs.Firsts.{firsts_code};
+ghost use Rattle.std.specs.Prelude.{◌≡◌, ◌++◌, ◌+◌, ◌*◌, ◌≤◌, ◌&&◌, [], ◌∷◌, if◌then◌else◌, map, OnOk, IfOk};
+ghost use Rattle.ps_code.specs.Scopes.{beside, copy_code};
+ghost use Rattle.ps_code.specs.Statements.{bytes_below, byte_word, spread_code, zero_code, bytes_code, first_code, fields_code};
+ghost use Rattle.ps_layout.specs.Shapes.{ByteShape, ArrayShape, shape_of, shapes_of, first_of, word_count, byte_count};
+ghost use Rattle.ps_lower.specs.Firsts.{firsts_code, whole_bytes, last_bytes, array_shape};
 ghost use Rattle.ps_lower.specs.Levels.{scope_of};
 ghost use Rattle.ps_meaning.specs.Values.{first_ordinal};
-ghost use Rattle.ps_tree.specs.View.{type_of};
+ghost use Rattle.ps_tree.specs.Sizes.{value_count, fits_byte};
+ghost use Rattle.ps_tree.specs.View.{type_of, types_of};
+ghost use Rattle.tac_code.specs.Numbers.{natural};
+ghost use Rattle.tac_code.specs.declared.code.Base.TheVariants as base;
+ghost use Rattle.tac_code.specs.declared.code.Instruction.TheVariants as i;
 
+use crate::depth::{DEEPEST, beside};
 use crate::frame::words;
+use crate::helpers::copy;
 use crate::level::Level;
+use crate::numbers::narrow;
 use crate::out::Code;
 use crate::refusal::LowerRefusal;
+use crate::shapes::{byte_count, fits_byte};
 use ps_tree::types::{Host, Ordinal, Ty, same_host};
 use tac_code::code::Base;
+
+/// How deep arrays and records may stand in one another where their first values are made.
+const DEEPEST_TYPE: u32 = 1000;
 
 fn first_ordinal(ordinal: Ordinal) -> i32
     ensures { result ≡ first_ordinal ordinal }
@@ -27,29 +37,359 @@ fn first_ordinal(ordinal: Ordinal) -> i32
     }
 }
 
-/// A number to a word of the frame.
-fn number(out: &mut Code, t: u32, offset: u32, value: i32) -> Result<(), LowerRefusal>
-    ensures { OnOk result (out.new ≡ out.old ++ i.Literal t value ∷ i.Store base.Frame offset t ∷ []) }
-{
-    out.literal(t, value)?;
-    out.store(Base::Frame, offset, t)
-}
-
-/// The first value of a variable at an offset of the frame.
-#[tactic(auto, unfolding(ps_tree::specs::View::type_of))]
-fn first(out: &mut Code, k: &Level, ty: &Ty, t: u32, offset: u32) -> Result<(), LowerRefusal>
-    ensures { OnOk result (out.new ≡ out.old ++ first_code (scope_of k.now) base.Frame t offset (shape_of (type_of ty.now))) }
+/// The first value of the components of a byte array.
+#[tactic(auto, unfolding(ps_tree::specs::TypeView::type_of))]
+fn first_of(ty: &Ty) -> i32
+    ensures { result ≡ first_of (type_of ty.now) }
 {
     match ty {
-        Ty::Simple(ordinal) => number(out, t, offset, first_ordinal(*ordinal)),
-        Ty::Pointer { .. } | Ty::Nil => number(out, t, offset, 0),
-        Ty::Set { .. } | Ty::EmptySet | Ty::Text { .. } | Ty::Array { .. } | Ty::Record { .. } =>
-            Err(LowerRefusal::NotYet),
+        Ty::Simple(ordinal) => first_ordinal(*ordinal),
+        _ => 0,
     }
 }
 
+/// A number to a word.
+fn number(out: &mut Code, base: Base, t: u32, offset: u32, value: i32) -> Result<(), LowerRefusal>
+    ensures { OnOk result (out.new ≡ out.old ++ i.Literal t value ∷ i.Store base offset t ∷ []) }
+{
+    out.literal(t, value)?;
+    out.store(base, offset, t)
+}
+
+/// So many bytes behind the first n at an offset, from these on.
+fn copies(
+    out: &mut Code,
+    k: &Level,
+    base: Base,
+    t: u32,
+    offset: u32,
+    n: u32,
+    bytes: u32,
+) -> Result<(), LowerRefusal>
+    requires { t ≤ 4294960000 }
+    ensures { OnOk result (out.new ≡ out.old ++ i.Offset t base (offset + n) 0 ∷ i.Offset (beside t) base offset 0 ∷ copy_code (scope_of k.now) t (beside t) (beside (beside t)) bytes) }
+{
+    let Some(behind) = offset.checked_add(n) else {
+        return Err(LowerRefusal::TooLarge);
+    };
+    let from = beside(t);
+    out.offset(t, base, behind, 0)?;
+    out.offset(from, base, offset, 0)?;
+    copy(out, k, t, from, beside(from), bytes)
+}
+
+/// Copies of the first n bytes at an offset, behind them up to the whole.
+fn spread(
+    out: &mut Code,
+    k: &Level,
+    base: Base,
+    t: u32,
+    offset: u32,
+    n: u32,
+    whole: u32,
+) -> Result<(), LowerRefusal>
+    requires { t ≤ 4294960000 }
+    ensures { OnOk result (out.new ≡ out.old ++ spread_code (scope_of k.now) base t offset n whole) }
+{
+    if whole <= n {
+        return Ok(());
+    }
+    copies(out, k, base, t, offset, n, whole - n)
+}
+
+/// The first value of a set.
+fn zero(
+    out: &mut Code,
+    k: &Level,
+    base: Base,
+    t: u32,
+    offset: u32,
+    whole: u32,
+) -> Result<(), LowerRefusal>
+    requires { t ≤ 4294960000 }
+    ensures { OnOk result (out.new ≡ out.old ++ zero_code (scope_of k.now) base t offset whole) }
+{
+    number(out, base, t, offset, 0)?;
+    spread(out, k, base, t, offset, 4, whole)
+}
+
+/// So many bytes of one value, up to four, the lowest first.
+fn bytes_below(n: u32, byte: u32) -> u32
+    requires some { 1 ≤ n }
+    requires few { n ≤ 4 }
+    requires small { byte ≤ 255 }
+    ensures { result ≡ bytes_below n byte }
+{
+    if n == 1 {
+        return byte;
+    }
+    if n == 2 {
+        return 0x101 * byte;
+    }
+    if n == 3 {
+        return 0x1_0101 * byte;
+    }
+    0x101_0101 * byte
+}
+
+/// The byte of a number from 0 to 255.
+fn byte_of(number: i32) -> Result<u32, LowerRefusal>
+    ensures value { IfOk result (λ byte. byte ≡ natural number) }
+    ensures small { IfOk result (λ byte. byte ≤ 255) }
+{
+    let Ok(byte) = u8::try_from(number) else {
+        return Err(LowerRefusal::TooLarge);
+    };
+    Ok(u32::from(byte))
+}
+
+/// A word of so many bytes of one value, up to four.
+fn byte_word(n: u32, first: i32) -> Result<i32, LowerRefusal>
+    requires some { 1 ≤ n }
+    requires few { n ≤ 4 }
+    ensures { IfOk result (λ word. word ≡ byte_word n first) }
+{
+    let byte = byte_of(first)?;
+    Ok(bytes_below(n, byte).cast_signed())
+}
+
+/// The whole words of so many bytes of one value.
+fn whole_bytes(
+    out: &mut Code,
+    k: &Level,
+    base: Base,
+    t: u32,
+    offset: u32,
+    count: u32,
+    first: i32,
+) -> Result<(), LowerRefusal>
+    requires { t ≤ 4294960000 }
+    ensures { OnOk result (out.new ≡ out.old ++ whole_bytes (scope_of k.now) base t offset count first) }
+{
+    if count < 4 {
+        return Ok(());
+    }
+    let word = byte_word(4, first)?;
+    number(out, base, t, offset, word)?;
+    spread(out, k, base, t, offset, 4, 4 * (count / 4))
+}
+
+/// The last word, where they do not fill it.
+fn last_bytes(
+    out: &mut Code,
+    base: Base,
+    t: u32,
+    offset: u32,
+    count: u32,
+    first: i32,
+) -> Result<(), LowerRefusal>
+    ensures { OnOk result (out.new ≡ out.old ++ last_bytes base t offset count first) }
+{
+    let left = count % 4;
+    if left == 0 {
+        return Ok(());
+    }
+    let Some(behind) = offset.checked_add(4 * (count / 4)) else {
+        return Err(LowerRefusal::TooLarge);
+    };
+    let word = byte_word(left, first)?;
+    number(out, base, t, behind, word)
+}
+
+/// So many bytes of one value, filled up to whole words.
+fn bytes(
+    out: &mut Code,
+    k: &Level,
+    base: Base,
+    t: u32,
+    offset: u32,
+    count: u32,
+    first: i32,
+) -> Result<(), LowerRefusal>
+    requires { t ≤ 4294960000 }
+    ensures { OnOk result (out.new ≡ out.old ++ bytes_code (scope_of k.now) base t offset count first) }
+{
+    whole_bytes(out, k, base, t, offset, count, first)?;
+    last_bytes(out, base, t, offset, count, first)
+}
+
+/// A byte array.
+fn byte_array(
+    out: &mut Code,
+    k: &Level,
+    component: &Ty,
+    index: Ordinal,
+    base: Base,
+    t: u32,
+    offset: u32,
+) -> Result<(), LowerRefusal>
+    requires { t ≤ 4294960000 }
+    ensures { OnOk result (out.new ≡ out.old ++ bytes_code (scope_of k.now) base t offset (value_count index) (first_of (type_of component.now))) }
+{
+    let count = narrow(index.value_count())?;
+    bytes(out, k, base, t, offset, count, first_of(component))
+}
+
+/// The bytes of an array whose components take so many each.
+fn array_bytes(index: Ordinal, each: u32) -> Result<u32, LowerRefusal>
+    ensures { IfOk result (λ n. n ≡ value_count index * each) }
+{
+    let Some(whole) = index.value_count().checked_mul(u64::from(each)) else {
+        return Err(LowerRefusal::TooLarge);
+    };
+    narrow(whole)
+}
+
+/// The first value of a variable of a type at an offset from a base.
+#[cycle(firsts)]
+#[tactic(auto, using(crate::proofs::Spreading::record_first), unfolding(ps_tree::specs::TypeView::type_of))]
+fn first(
+    out: &mut Code,
+    k: &Level,
+    ty: &Ty,
+    base: Base,
+    t: u32,
+    offset: u32,
+    deep: u32,
+) -> Result<(), LowerRefusal>
+    requires { t ≤ 4294960000 }
+    ensures { OnOk result (out.new ≡ out.old ++ first_code (scope_of k.now) base t offset (shape_of (type_of ty.now))) }
+{
+    if deep == 0 {
+        return Err(LowerRefusal::NotYet);
+    }
+    match ty {
+        Ty::Simple(ordinal) => number(out, base, t, offset, first_ordinal(*ordinal)),
+        Ty::Pointer { .. } | Ty::Nil => number(out, base, t, offset, 0),
+        Ty::Set { .. } | Ty::EmptySet => zero(out, k, base, t, offset, 32),
+        Ty::Text { length } => bytes(out, k, base, t, offset, *length, 0),
+        Ty::Array {
+            packed,
+            index,
+            component,
+            ..
+        } => array(
+            out,
+            k,
+            component.ty(),
+            *packed,
+            *index,
+            base,
+            t,
+            offset,
+            deep - 1,
+        ),
+        Ty::Record { fields, .. } => fields_of(out, k, fields.types(), base, t, offset, deep - 1),
+    }
+}
+
+/// The first value of an array.
+#[cycle(firsts)]
+fn array(
+    out: &mut Code,
+    k: &Level,
+    component: &Ty,
+    packed: bool,
+    index: Ordinal,
+    base: Base,
+    t: u32,
+    offset: u32,
+    deep: u32,
+) -> Result<(), LowerRefusal>
+    requires { t ≤ 4294960000 }
+    ensures { OnOk result (out.new ≡ out.old ++ first_code (scope_of k.now) base t offset (array_shape packed index (type_of component.now))) }
+{
+    if packed && fits_byte(component) {
+        byte_array(out, k, component, index, base, t, offset)
+    } else {
+        components(out, k, component, index, base, t, offset, deep)
+    }
+}
+
+/// The first component of an array, and copies of it.
+#[cycle(firsts)]
+fn components(
+    out: &mut Code,
+    k: &Level,
+    component: &Ty,
+    index: Ordinal,
+    base: Base,
+    t: u32,
+    offset: u32,
+    deep: u32,
+) -> Result<(), LowerRefusal>
+    requires { t ≤ 4294960000 }
+    ensures { OnOk result (out.new ≡ out.old ++ first_code (scope_of k.now) base t offset (ArrayShape (value_count index) (shape_of (type_of component.now)))) }
+{
+    let each = byte_count(component)?;
+    let whole = array_bytes(index, each)?;
+    if whole == 0 {
+        return Ok(());
+    }
+    first(out, k, component, base, t, offset, deep)?;
+    spread(out, k, base, t, offset, each, whole)
+}
+
+/// The first value of a field, and the offset behind it.
+#[cycle(firsts)]
+fn field(
+    out: &mut Code,
+    k: &Level,
+    ty: &Ty,
+    base: Base,
+    t: u32,
+    offset: u32,
+    deep: u32,
+) -> Result<u32, LowerRefusal>
+    requires { t ≤ 4294960000 }
+    ensures code { OnOk result (out.new ≡ out.old ++ first_code (scope_of k.now) base t offset (shape_of (type_of ty.now))) }
+    ensures next { IfOk result (λ next. next ≡ offset + byte_count (shape_of (type_of ty.now))) }
+{
+    let Some(next) = offset.checked_add(byte_count(ty)?) else {
+        return Err(LowerRefusal::TooLarge);
+    };
+    first(out, k, ty, base, t, offset, deep)?;
+    Ok(next)
+}
+
+/// The fields of a record, one behind another.
+#[cycle(firsts)]
+fn fields_of(
+    out: &mut Code,
+    k: &Level,
+    types: &[Ty],
+    base: Base,
+    t: u32,
+    begin: u32,
+    deep: u32,
+) -> Result<(), LowerRefusal>
+    requires { t ≤ 4294960000 }
+    ensures { OnOk result (out.new ≡ out.old ++ fields_code (scope_of k.now) base t begin (shapes_of (types_of types.now))) }
+{
+    let mut offset = begin;
+    for ty in types {
+        offset = field(out, k, ty, base, t, offset, deep)?;
+    }
+    Ok(())
+}
+
+/// The first value of an object whose address is in a temporary.
+pub fn first_object(
+    out: &mut Code,
+    k: &Level,
+    ty: &Ty,
+    object: u32,
+    t: u32,
+) -> Result<(), LowerRefusal>
+    requires { t ≤ 4294960000 }
+    ensures { OnOk result (out.new ≡ out.old ++ first_code (scope_of k.now) (base.Temporary object) t 0 (shape_of (type_of ty.now))) }
+{
+    first(out, k, ty, Base::Temporary(object), t, 0, DEEPEST_TYPE)
+}
+
 /// The first value of a variable at a word of the frame, and the word behind it.
-fn first_at(out: &mut Code, k: &Level, ty: &Ty, t: u32, place: u32) -> Result<u32, LowerRefusal>
+pub fn first_at(out: &mut Code, k: &Level, ty: &Ty, t: u32, place: u32) -> Result<u32, LowerRefusal>
+    requires { t ≤ DEEPEST }
     ensures code { OnOk result (out.new ≡ out.old ++ first_code (scope_of k.now) base.Frame t (4 * place) (shape_of (type_of ty.now))) }
     ensures next { IfOk result (λ next. next ≡ place + word_count (shape_of (type_of ty.now))) }
 {
@@ -59,7 +399,7 @@ fn first_at(out: &mut Code, k: &Level, ty: &Ty, t: u32, place: u32) -> Result<u3
     let Some(next) = place.checked_add(words(ty)?) else {
         return Err(LowerRefusal::TooLarge);
     };
-    first(out, k, ty, t, offset)?;
+    first(out, k, ty, Base::Frame, t, offset, DEEPEST_TYPE)?;
     Ok(next)
 }
 
@@ -71,6 +411,7 @@ pub fn firsts(
     t: u32,
     begin: u32,
 ) -> Result<(), LowerRefusal>
+    requires { t ≤ DEEPEST }
     ensures { OnOk result (out.new ≡ out.old ++ firsts_code (scope_of k.now) t begin (map type_of variables.now)) }
 {
     let mut place = begin;

@@ -1,13 +1,12 @@
 // Where the entries of a routine's frame stand.
 
-ghost use Rattle.std.specs.Prelude.{◌≡◌, ◌<◌, ◌^◌, map, IfOk};
-ghost use Rattle.ps_layout.specs.Frames.{variable_kinds, entries};
+ghost use Rattle.std.specs.Prelude.{◌≡◌, map, IfOk};
+ghost use Rattle.ps_layout.specs.Frames.{variable_kinds};
 ghost use Rattle.ps_layout.specs.Shapes.{shape_of, word_count};
-ghost use Rattle.ps_lower.specs.Walks.{passed, walked, beginning};
-ghost use Rattle.ps_tree.specs.View.{type_of, routine_of};
+ghost use Rattle.ps_lower.specs.Walks.{passed, walked};
+ghost use Rattle.ps_tree.specs.View.{type_of};
 
 use crate::refusal::LowerRefusal;
-use ps_tree::tree::Routine;
 use ps_tree::types::Ty;
 
 /// An entry of a frame: its offset in bytes, and whether it is the address of a variable.
@@ -71,23 +70,4 @@ pub fn over_variables(walk: Walk, variables: &[Ty]) -> Result<Walk, LowerRefusal
         walk = pass(walk, words(ty)?, false)?;
     }
     Ok(walk)
-}
-
-/// A walk over the entries of a block without parameters and result.
-pub fn over_entries(index: u64, routine: &Routine) -> Result<Walk, LowerRefusal>
-    requires { index < 2 ^ 33 }
-    ensures { IfOk result (λ walk. walk ≡ walked (beginning index) (entries (routine_of routine.now))) }
-{
-    if routine.result.is_some() || !routine.formals.is_empty() {
-        return Err(LowerRefusal::NotYet);
-    }
-    let walk = Walk {
-        place: 1,
-        left: index + 1,
-        spot: Spot {
-            offset: 0,
-            reference: false,
-        },
-    };
-    over_variables(walk, &routine.variables)
 }

@@ -1,12 +1,13 @@
 // The frames of the routines round a routine, and the entries in them.
 
-ghost use Rattle.std.specs.Prelude.{◌≡◌, ◌<◌, ◌^◌, ◌++◌, map, option_map, OnOk, IfOk};
-ghost use Rattle.ps_code.specs.Scopes.{kind_at, routine_up, is_outermost, hops, frame_code, frame_base};
+ghost use Rattle.std.specs.Prelude.{◌≡◌, ◌<◌, ◌≤◌, ◌^◌, ◌++◌, map, option_map, OnOk, IfOk};
+ghost use Rattle.ps_code.specs.Scopes.{kind_at, routine_up, is_outermost, hops, frame_code, frame_base, link_code, formal_code};
 ghost use Rattle.ps_layout.specs.Frames.{kind_words, kind_of, result_kinds, listed_kinds, kinds_of, entries, entry_offset};
 ghost use Rattle.ps_lower.specs.Levels.{scope_of, is_reference_at};
 ghost use Rattle.ps_lower.specs.Walks.{is_reference, passed, walked, beginning};
 ghost use Rattle.ps_tree.specs.View.{type_of, formal_of, formals_of, routine_of};
 
+use crate::depth::beside;
 use crate::frame::{Spot, Walk, over_variables, pass, words};
 use crate::level::Level;
 use crate::out::Code;
@@ -49,6 +50,21 @@ pub fn frame(out: &mut Code, k: &Level, t: u32, up: u32) -> Result<Base, LowerRe
     Ok(Base::Temporary(t))
 }
 
+/// The address of the frame so many levels up.
+#[tactic(auto, using(crate::proofs::Hopping::own_link, crate::proofs::Hopping::outer_link, crate::proofs::Hopping::between_link))]
+pub fn link(out: &mut Code, k: &Level, t: u32, up: u32) -> Result<(), LowerRefusal>
+    ensures { OnOk result (out.new ≡ out.old ++ link_code (scope_of k.now) t up) }
+{
+    if up == 0 {
+        return out.offset(t, Base::Frame, 0, 0);
+    }
+    if is_outermost(k, up) {
+        return out.offset(t, Base::Program, 0, 0);
+    }
+    out.load(t, Base::Frame, 0)?;
+    hops(out, k, t, up - 1)
+}
+
 fn over_result(walk: Walk, result_type: &Option<Ty>) -> Result<Walk, LowerRefusal>
     ensures { IfOk result (λ next. next ≡ walked walk (result_kinds (option_map type_of result_type.now))) }
 {
@@ -80,7 +96,7 @@ fn over_formals(walk: Walk, formals: &[Formal]) -> Result<Walk, LowerRefusal>
 }
 
 /// A walk over the entries of a routine, to one of them.
-fn over_all(index: u32, routine: &Routine) -> Result<Walk, LowerRefusal>
+pub fn over_all(index: u32, routine: &Routine) -> Result<Walk, LowerRefusal>
     ensures { IfOk result (λ walk. walk ≡ walked (beginning index) (entries (routine_of routine.now))) }
 {
     let walk = Walk {
@@ -108,4 +124,18 @@ pub fn entry(k: &Level, up: u32, index: u32) -> Result<Spot, LowerRefusal>
         return Err(LowerRefusal::NotYet);
     };
     Ok(over_all(index, routine)?.spot)
+}
+
+/// The routine of a procedural or functional parameter, and its static link beside.
+pub fn formal(out: &mut Code, k: &Level, t: u32, up: u32, index: u32) -> Result<(), LowerRefusal>
+    requires { t ≤ 4294960000 }
+    ensures { OnOk result (out.new ≡ out.old ++ formal_code (scope_of k.now) t up index) }
+{
+    let base = frame(out, k, t, up)?;
+    let place = entry(k, up, index)?.offset;
+    let Some(behind) = place.checked_add(4) else {
+        return Err(LowerRefusal::TooLarge);
+    };
+    out.load(beside(t), base, behind)?;
+    out.load(t, base, place)
 }

@@ -338,6 +338,43 @@ impl Code {
         })
     }
 
+    /// A call of the routine in a temporary.
+    pub fn call_value(
+        &mut self,
+        to: u32,
+        callee: u32,
+        operands: &[u32],
+        line: u16,
+    ) -> Result<(), LowerRefusal>
+        ensures { OnOk result (self.new ≡ self.old ++ i.CallValue to callee operands.now line ∷ []) }
+    {
+        let operands = listed(self.alloc, operands)?;
+        self.push(Instruction::CallValue {
+            to,
+            callee,
+            operands,
+            line,
+        })
+    }
+
+    /// A routine as a value.
+    pub fn routine_value(&mut self, to: u32, routine: u32) -> Result<(), LowerRefusal>
+        ensures { OnOk result (self.new ≡ self.old ++ i.RoutineValue to routine ∷ []) }
+    {
+        self.push(Instruction::RoutineValue { to, routine })
+    }
+
+    /// A new object.
+    pub fn new_object(&mut self, to: u32, object_type: u32, line: u16) -> Result<(), LowerRefusal>
+        ensures { OnOk result (self.new ≡ self.old ++ i.New to object_type line ∷ []) }
+    {
+        self.push(Instruction::New {
+            to,
+            object_type,
+            line,
+        })
+    }
+
     /// Room for a jump whose distance isn't known yet, and its place.
     pub fn room(&mut self) -> Result<usize, LowerRefusal>
         ensures place { IfOk result (λ place. place ≡ length self.old) }

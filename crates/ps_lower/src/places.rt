@@ -1,8 +1,9 @@
 // Variables: what reaches them, and where they stand then.
 
-ghost use Rattle.std.specs.Prelude.{◌≡◌, ◌++◌, ◌≤◌, ◌∷◌, [], ◌+◌, None, false, OnOk, IfOk};
+ghost use Rattle.std.specs.Prelude.{◌≡◌, ◌++◌, ◌≤◌, ◌∷◌, [], ◌+◌, None, Some, slice_get, false, OnOk, IfOk};
 ghost use Rattle.ps_code.specs.Scopes.{kind_at, frame_base, site_code};
-ghost use Rattle.ps_code.specs.Values.{reference_code, entry_site, name_code, name_site, place_temporary, element_site, index_code, is_byte_selector, is_byte_after, is_byte, load_code, store_code};
+ghost use Rattle.ps_code.specs.Values.{field_site, reference_code, entry_site, name_code, name_site, place_temporary, element_site, index_code, is_byte_selector, is_byte_after, is_byte, load_code, store_code};
+ghost use Rattle.ps_layout.specs.Shapes.{shape_of, field_offset};
 ghost use Rattle.ps_lower.specs.Levels.{scope_of, site_of};
 ghost use Rattle.ps_lower.specs.Sites.{site_behind, site_at};
 ghost use Rattle.ps_tree.specs.View.{type_of, base_of, selector_of, selectors_of, place_of};
@@ -14,7 +15,7 @@ use crate::level::Level;
 use crate::levels::{entry, frame};
 use crate::out::Code;
 use crate::refusal::LowerRefusal;
-use crate::shapes::{component_bytes, index_of, is_byte_array};
+use crate::shapes::{component_bytes, field_offset, index_of, is_byte_array};
 use crate::site::Site;
 use ps_tree::tree::{Place, PlaceBase, Selector};
 use ps_tree::types::Ty;
@@ -83,7 +84,28 @@ fn reference(
     }
 }
 
-/// What a name denotes. The fields of records that `with` opened aren't lowered yet.
+/// Where a record stands that `with` opened; the innermost is 0.
+#[tactic(auto, using(crate::proofs::Opening::turned))]
+fn opened(k: &Level, which: u32) -> Result<Site, LowerRefusal>
+    ensures { IfOk result (λ s. slice_get (scope_of k.now).opened which ≡ Some (site_of s)) }
+{
+    let count = k.opened.len();
+    let further = which as usize;
+    if count <= further {
+        return Err(LowerRefusal::NotYet);
+    }
+    Ok(k.opened[count - 1 - further])
+}
+
+/// A field of a record that `with` opened.
+fn field(k: &Level, which: u32, ty: &Ty, number: u32) -> Result<Site, LowerRefusal>
+    ensures { IfOk result (λ s. site_of s ≡ field_site (scope_of k.now) (slice_get (scope_of k.now).opened which) (field_offset (shape_of (type_of ty.now)) number)) }
+{
+    let record = opened(k, which)?;
+    behind(record, field_offset(ty, number)?)
+}
+
+/// What a name denotes.
 pub fn name(out: &mut Code, k: &Level, name: &PlaceBase, t: u32) -> Result<Site, LowerRefusal>
     ensures code { OnOk result (out.new ≡ out.old ++ name_code (scope_of k.now) (base_of name.now) t) }
     ensures site { IfOk result (λ s. site_of s ≡ name_site (scope_of k.now) (base_of name.now) t) }
@@ -93,7 +115,7 @@ pub fn name(out: &mut Code, k: &Level, name: &PlaceBase, t: u32) -> Result<Site,
             let base = frame(out, k, t, *up)?;
             reference(out, k, base, t, *up, *index)
         }
-        PlaceBase::Opened { .. } => Err(LowerRefusal::NotYet),
+        PlaceBase::Opened { which, ty, number } => field(k, *which, ty, *number),
     }
 }
 

@@ -1,23 +1,30 @@
-// The code of routines. Only a program block is lowered yet.
+// The code of routines.
 
-ghost use Rattle.std.specs.Prelude.{◌≡◌, ◌++◌, ◌+◌, ◌*◌, ◌≤◌, IsTrue, OnOk, IfOk};
+ghost use Rattle.std.specs.Prelude.{◌≡◌, ◌++◌, ◌+◌, ◌*◌, ◌≤◌, [], ◌∷◌, pos, OnOk, IfOk, option_map};
 ghost use Rattle.ps_code.specs.Programs.{tac_of};
-ghost use Rattle.ps_code.specs.Routines.{input_code, begin_code, end_code, routine_code, scope_of as scope_in};
+ghost use Rattle.ps_code.specs.Routines.{input_code, parameter_total, begin_code, result_end, end_code, routine_code, scope_of as scope_in};
 ghost use Rattle.ps_code.specs.Statements.{statements_code};
-ghost use Rattle.ps_lower.specs.Firsts.{words_in, IsPlain};
+ghost use Rattle.ps_layout.specs.Frames.{is_program_block, result_kinds, words_of_all, layout_of};
+ghost use Rattle.ps_lower.specs.Firsts.{result_at, head_code, words_in};
 ghost use Rattle.ps_lower.specs.Levels.{scope_of};
 ghost use Rattle.ps_tree.specs.Checked.{program_in};
-ghost use Rattle.ps_tree.specs.View.{routine_of};
+ghost use Rattle.ps_tree.specs.View.{type_of, routine_of};
+ghost use Rattle.tac_code.specs.declared.code.Base.TheVariants as base;
+ghost use Rattle.tac_code.specs.declared.code.Instruction.TheVariants as i;
 
 use crate::count::{scratch_in, temporaries_in};
-use crate::firsts::firsts;
-use crate::frame::over_entries;
+use crate::depth::DEEPEST;
+use crate::firsts::{first_at, firsts};
 use crate::level::Level;
+use crate::levels::over_all;
+use crate::numbers::{larger, narrow};
 use crate::out::Code;
+use crate::parameters::{count_parameters, parameters};
 use crate::refusal::LowerRefusal;
 use crate::statements::statements;
 use ps_tree::program::Checked;
 use ps_tree::tree::Routine;
+use ps_tree::types::Ty;
 use std::alloc::Global;
 use tac_code::code::{Base, Body, TacRoutine};
 
@@ -31,19 +38,16 @@ fn level<'a>(checked: &'a Checked, routine: &'a Routine) -> Level<'a>
     Level {
         checked,
         chain: routine.chain.as_slice(),
+        opened: &[],
     }
 }
 
-fn is_plain(routine: &Routine) -> bool
-    ensures { IsTrue result → IsPlain (routine_of routine.now) }
+/// The program block alone has no routine round it.
+#[tactic(auto, using(crate::proofs::Begins::block_told))]
+fn is_program_block(routine: &Routine) -> bool
+    ensures { result ≡ is_program_block (routine_of routine.now).chain }
 {
-    if routine.chain.len() > 1 {
-        return false;
-    }
-    if routine.result.is_some() || !routine.formals.is_empty() {
-        return false;
-    }
-    true
+    routine.chain.len() <= 1
 }
 
 /// The words of a routine's static link and entries.
@@ -51,64 +55,172 @@ fn words_in(routine: &Routine) -> Result<u32, LowerRefusal>
     ensures exact { IfOk result (λ n. n ≡ words_in (routine_of routine.now)) }
     ensures small { IfOk result (λ n. n ≤ MOST_WORDS) }
 {
-    let words = over_entries(0, routine)?.place;
+    let words = over_all(0, routine)?.place;
     if MOST_WORDS < words {
         return Err(LowerRefusal::TooLarge);
     }
     Ok(words)
 }
 
-/// Nothing was taken ahead of the input, and no line was begun.
-fn input(out: &mut Code, routine: &Routine, words: u32) -> Result<(), LowerRefusal>
+/// The bytes of a routine's frame, of which the program block's ends with two words of the input's.
+fn frame_bytes(routine: &Routine, words: u32) -> u32
     requires small { words ≤ MOST_WORDS }
     requires exact { words ≡ words_in (routine_of routine.now) }
-    ensures { OnOk result (out.new ≡ out.old ++ input_code (routine_of routine.now) 0) }
+    ensures { result ≡ 4 * (layout_of (routine_of routine.now)).size }
+{
+    if is_program_block(routine) {
+        4 * words + 8
+    } else {
+        4 * words
+    }
+}
+
+/// How many temporaries the parameters of a routine come in.
+fn parameter_total(routine: &Routine) -> Result<u32, LowerRefusal>
+    ensures exact { IfOk result (λ n. n ≡ parameter_total (routine_of routine.now)) }
+    ensures small { IfOk result (λ n. n ≤ DEEPEST) }
+{
+    if is_program_block(routine) {
+        return Ok(0);
+    }
+    count_parameters(routine.formals.as_slice())
+}
+
+/// Nothing was taken ahead of the input, and no line was begun.
+fn input(out: &mut Code, routine: &Routine, words: u32, t: u32) -> Result<(), LowerRefusal>
+    requires small { words ≤ MOST_WORDS }
+    requires exact { words ≡ words_in (routine_of routine.now) }
+    ensures { OnOk result (out.new ≡ out.old ++ input_code (routine_of routine.now) t) }
 {
     let _place = routine;
-    out.literal(0, -2)?;
-    out.store(Base::Frame, 4 * words, 0)?;
-    out.literal(0, 0)?;
-    out.store(Base::Frame, 4 * words + 4, 0)
+    out.literal(t, -2)?;
+    out.store(Base::Frame, 4 * words, t)?;
+    out.literal(t, 0)?;
+    out.store(Base::Frame, 4 * words + 4, t)
 }
 
-/// The code of a program block.
-fn block(out: &mut Code, k: &Level, routine: &Routine, words: u32) -> Result<(), LowerRefusal>
+/// The input's words of the program block, or the static link.
+fn head(out: &mut Code, routine: &Routine, words: u32, t: u32) -> Result<(), LowerRefusal>
     requires small { words ≤ MOST_WORDS }
     requires exact { words ≡ words_in (routine_of routine.now) }
-    requires plain { IsPlain (routine_of routine.now) }
-    ensures { OnOk result (out.new ≡ out.old ++ (begin_code (scope_of k.now) (routine_of routine.now) ++ statements_code (scope_of k.now) (routine_of routine.now).body 0 ++ end_code (routine_of routine.now))) }
+    ensures { OnOk result (out.new ≡ out.old ++ head_code (routine_of routine.now) t) }
 {
-    input(out, routine, words)?;
-    firsts(out, k, routine.variables.as_slice(), 0, 1)?;
-    statements(out, k, routine.body.as_slice(), 0)?;
-    out.end()
+    if is_program_block(routine) {
+        return input(out, routine, words, t);
+    }
+    out.store(Base::Frame, 0, 0)
 }
 
-/// The instructions of a program block.
+/// The first value of a result, and the word behind it.
+fn first_result(
+    out: &mut Code,
+    k: &Level,
+    result_type: &Option<Ty>,
+    t: u32,
+) -> Result<u32, LowerRefusal>
+    requires { t ≤ DEEPEST }
+    ensures code { OnOk result (out.new ≡ out.old ++ result_at (scope_of k.now) (option_map type_of result_type.now) t 1) }
+    ensures next { IfOk result (λ next. next ≡ 1 + words_of_all (result_kinds (option_map type_of result_type.now))) }
+{
+    match result_type {
+        None => Ok(1),
+        Some(ty) => first_at(out, k, ty, t, 1),
+    }
+}
+
+/// What a routine does before its statements.
+fn begin(
+    out: &mut Code,
+    k: &Level,
+    routine: &Routine,
+    words: u32,
+    t: u32,
+) -> Result<(), LowerRefusal>
+    requires small { words ≤ MOST_WORDS }
+    requires exact { words ≡ words_in (routine_of routine.now) }
+    requires free { t ≤ DEEPEST }
+    requires total { t ≡ parameter_total (routine_of routine.now) }
+    ensures { OnOk result (out.new ≡ out.old ++ begin_code (scope_of k.now) (routine_of routine.now)) }
+{
+    head(out, routine, words, t)?;
+    let place = first_result(out, k, &routine.result, t)?;
+    let place = parameters(out, k, routine.formals.as_slice(), place, t)?;
+    firsts(out, k, routine.variables.as_slice(), t, place)
+}
+
+/// The return of 0.
+fn give_nothing(out: &mut Code) -> Result<(), LowerRefusal>
+    ensures { OnOk result (out.new ≡ out.old ++ i.Literal 0 (pos 0) ∷ i.Return 0 ∷ []) }
+{
+    out.literal(0, 0)?;
+    out.return_from(0)
+}
+
+/// The return of a result, which is the first entry.
+fn give_result(out: &mut Code) -> Result<(), LowerRefusal>
+    ensures { OnOk result (out.new ≡ out.old ++ i.Load 0 base.Frame 4 ∷ i.Return 0 ∷ []) }
+{
+    out.load(0, Base::Frame, 4)?;
+    out.return_from(0)
+}
+
+/// The return of a function's result, or of 0.
+fn give_back(out: &mut Code, routine: &Routine) -> Result<(), LowerRefusal>
+    ensures { OnOk result (out.new ≡ out.old ++ result_end (routine_of routine.now) (routine_of routine.now).result) }
+{
+    match &routine.result {
+        None => give_nothing(out),
+        Some(_) => give_result(out),
+    }
+}
+
+/// The return of a routine, or the end of the program.
+fn finish(out: &mut Code, routine: &Routine) -> Result<(), LowerRefusal>
+    ensures { OnOk result (out.new ≡ out.old ++ end_code (routine_of routine.now)) }
+{
+    if is_program_block(routine) {
+        return out.end();
+    }
+    give_back(out, routine)
+}
+
+/// The code of a routine.
+fn block(
+    out: &mut Code,
+    k: &Level,
+    routine: &Routine,
+    words: u32,
+    t: u32,
+) -> Result<(), LowerRefusal>
+    requires small { words ≤ MOST_WORDS }
+    requires exact { words ≡ words_in (routine_of routine.now) }
+    requires free { t ≤ DEEPEST }
+    requires total { t ≡ parameter_total (routine_of routine.now) }
+    ensures { OnOk result (out.new ≡ out.old ++ (begin_code (scope_of k.now) (routine_of routine.now) ++ statements_code (scope_of k.now) (routine_of routine.now).body 0 ++ end_code (routine_of routine.now))) }
+{
+    begin(out, k, routine, words, t)?;
+    statements(out, k, routine.body.as_slice(), 0)?;
+    finish(out, routine)
+}
+
+/// The instructions of a routine.
 fn body(
     alloc: Global,
     checked: &Checked,
     routine: &Routine,
     words: u32,
+    t: u32,
 ) -> Result<Body, LowerRefusal>
     requires small { words ≤ MOST_WORDS }
     requires exact { words ≡ words_in (routine_of routine.now) }
-    requires plain { IsPlain (routine_of routine.now) }
+    requires free { t ≤ DEEPEST }
+    requires total { t ≡ parameter_total (routine_of routine.now) }
     ensures { IfOk result (λ body. body ≡ routine_code (program_in checked.now) (routine_of routine.now)) }
 {
     let k = level(checked, routine);
     let mut out = Code::new(alloc);
-    block(&mut out, &k, routine, words)?;
+    block(&mut out, &k, routine, words, t)?;
     Ok(out.into_body())
-}
-
-fn narrow(number: u64) -> Result<u32, LowerRefusal>
-    ensures { IfOk result (λ n. n ≡ number) }
-{
-    let Ok(n) = u32::try_from(number) else {
-        return Err(LowerRefusal::TooLarge);
-    };
-    Ok(n)
 }
 
 /// A routine of the program.
@@ -119,17 +231,15 @@ pub fn tac_routine(
 ) -> Result<TacRoutine, LowerRefusal>
     ensures { IfOk result (λ made. made ≡ tac_of (program_in checked.now) (routine_of routine.now)) }
 {
-    if !is_plain(routine) {
-        return Err(LowerRefusal::NotYet);
-    }
     let words = words_in(routine)?;
-    let body = body(alloc, checked, routine, words)?;
-    let temporaries = narrow(temporaries_in(body.as_slice()))?;
+    let parameters = parameter_total(routine)?;
+    let body = body(alloc, checked, routine, words, parameters)?;
+    let temporaries = larger(parameters, temporaries_in(body.as_slice()))?;
     let scratch = narrow(scratch_in(body.as_slice()))?;
     Ok(TacRoutine {
-        parameters: 0,
+        parameters,
         temporaries,
-        frame: 4 * words + 8,
+        frame: frame_bytes(routine, words),
         scratch,
         line: routine.line.number,
         body,

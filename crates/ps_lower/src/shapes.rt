@@ -25,7 +25,7 @@ pub fn byte_count(ty: &Ty) -> Result<u32, LowerRefusal>
 
 /// Whether all values of a type lie in 0..255.
 #[tactic(auto, unfolding(ps_tree::specs::TypeView::type_of))]
-fn fits_byte(ty: &Ty) -> bool
+pub fn fits_byte(ty: &Ty) -> bool
     ensures { result ≡ fits_byte (type_of ty.now) }
 {
     match ty {

@@ -1,26 +1,31 @@
 // The code of statements. The scratch block holds nothing from one to the next.
 
-ghost use Rattle.std.specs.Prelude.{◌≡◌, ◌++◌, ◌≤◌, ◌∷◌, [], length, OnOk, IfOk};
+ghost use Rattle.std.specs.Prelude.{◌≡◌, ◌++◌, ◌≤◌, ◌∷◌, [], length, map, OnOk, IfOk};
 ghost use Rattle.ps_code.specs.Statements.{statement_code, statements_code};
 ghost use Rattle.ps_lower.specs.Cases.{element_code, open_elements, ends_from};
 ghost use Rattle.ps_lower.specs.Levels.{scope_of, then_code};
 ghost use Rattle.ps_tree.specs.Tree as tree;
-ghost use Rattle.ps_tree.specs.View.{expr_of, statement_of, statements_of, elements_of};
+ghost use Rattle.ps_tree.specs.View.{expr_of, place_of, statement_of, statements_of, elements_of};
 ghost use Rattle.ps_tree.specs.declared.tree.CaseElement.{out-CaseElement};
 ghost use Rattle.tac_code.specs.declared.code.Instruction.TheVariants as i;
 
-use crate::assign::assign;
-use crate::calling::statement_calls;
+use crate::assign::{assign, assign_set, assign_structure};
+use crate::calling::{statement_calls, with_calls};
 use crate::cases::{close_elements, close_tests, tests};
 use crate::depth::DEEPEST;
 use crate::known::{left_in, opposite, relation_in, right_in};
 use crate::level::Level;
+use crate::objects::create;
+use crate::openings::open_all;
 use crate::out::Code;
+use crate::packing::{pack, unpack};
+use crate::procedures::{call_formal_procedure, call_procedure};
+use crate::reads::{readln, reads};
 use crate::refusal::LowerRefusal;
 use crate::turns::{Control, control_of, end_turn, open_turns, past_relation, turns_of};
 use crate::values::{front, value};
 use crate::writes::{writeln, writes};
-use ps_tree::tree::{CaseElement, Expr, Statement};
+use ps_tree::tree::{CaseElement, Expr, Place, Statement};
 
 /// The code of a statement.
 #[cycle(statements)]
@@ -67,6 +72,7 @@ pub fn statement(out: &mut Code, k: &Level, action: &Statement, d: u32) -> Resul
             to,
             to_line,
             body,
+            ..
         } => {
             let (from_line, to_line) = (from_line.number, to_line.number);
             let control = control_of(*variable, low, high, *direction, from_line, to_line);
@@ -74,7 +80,50 @@ pub fn statement(out: &mut Code, k: &Level, action: &Statement, d: u32) -> Resul
         }
         Statement::Write { parameters } => writes(out, k, parameters, d),
         Statement::Writeln { parameters } => writeln(out, k, parameters, d),
-        _ => Err(LowerRefusal::NotYet),
+        Statement::AssignSet {
+            target,
+            low,
+            high,
+            value,
+            line,
+        } => assign_set(out, k, target, low, high, value, line.number, d),
+        Statement::AssignStructure { target, value } => assign_structure(out, k, target, value, d),
+        Statement::Call {
+            routine,
+            up,
+            arguments,
+            line,
+        } => call_procedure(out, k, arguments, *routine, *up, line.number, d),
+        Statement::CallFormal {
+            up,
+            index,
+            arguments,
+            line,
+        } => call_formal_procedure(out, k, arguments, *up, *index, line.number, d),
+        Statement::With { places, body } => act_with(out, k, body, places, d),
+        Statement::New {
+            place,
+            pointer,
+            line,
+        } => create(out, k, place, *pointer, line.number, d),
+        Statement::Pack {
+            from,
+            from_ty,
+            index,
+            line,
+            to,
+            to_ty,
+        } => pack(out, k, from, from_ty, index, line.number, to, to_ty, d),
+        Statement::Unpack {
+            from,
+            from_ty,
+            to,
+            to_ty,
+            index,
+            line,
+        } => unpack(out, k, from, from_ty, to, to_ty, index, line.number, d),
+        Statement::Read { variables } => reads(out, k, variables, d),
+        Statement::Readln { variables, line } => readln(out, k, variables, line.number, d),
     }
 }
 
@@ -271,4 +320,25 @@ fn act_case(
     out.trap(7, line)?;
     close_elements(out, &ends);
     Ok(())
+}
+
+/// A statement within records that are opened for it.
+#[cycle(statements)]
+fn act_with(
+    out: &mut Code,
+    k: &Level,
+    body: &Statement,
+    places: &[Place],
+    d: u32,
+) -> Result<(), LowerRefusal>
+    ensures { OnOk result (out.new ≡ out.old ++ statement_code (scope_of k.now) (tree.With (map place_of places.now) (statement_of body.now)) d) }
+{
+    let calls = with_calls(body, places);
+    let opened = open_all(out, k, places, calls, d)?;
+    let inner = Level {
+        checked: k.checked,
+        chain: k.chain,
+        opened: opened.sites.as_slice(),
+    };
+    statement(out, &inner, body, opened.depth)
 }

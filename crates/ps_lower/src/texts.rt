@@ -1,16 +1,20 @@
 // Strings of the text, as constants of the code.
 
-ghost use Rattle.std.specs.Prelude.{◌≡◌, ◌++◌, ◌≤◌, ◌∷◌, [], pos, codes, OnOk, IfOk};
+ghost use Rattle.std.specs.Prelude.{◌≡◌, ◌++◌, ◌≤◌, ◌∷◌, ◌+◌, ◌*◌, ◌/◌, [], pos, codes, OnOk, IfOk};
 ghost use Rattle.ps_code.specs.Scopes.{Scope};
 ghost use Rattle.ps_code.specs.Statements.{truth_text};
-ghost use Rattle.ps_code.specs.Values.{structure_code, text_length};
+ghost use Rattle.ps_code.specs.Values.{text_length, structure_bytes};
 ghost use Rattle.ps_layout.specs.Words.{filled};
-ghost use Rattle.ps_tree.specs.View.{structure_of};
+ghost use Rattle.ps_tree.specs.Tree as tree;
+ghost use Rattle.ps_tree.specs.Tree.{Place};
+ghost use Rattle.ps_tree.specs.View.{type_of, structure_of};
 ghost use Rattle.tac_code.specs.declared.code.Instruction.TheVariants as i;
 
 use crate::out::Code;
 use crate::refusal::LowerRefusal;
+use crate::shapes::byte_count;
 use ps_tree::tree::Structure;
+use ps_tree::types::Ty;
 use std::alloc::Global;
 use tac_code::code::{Operand, Relation};
 
@@ -33,19 +37,20 @@ pub fn text(out: &mut Code, characters: &[u8], d: u32) -> Result<(), LowerRefusa
     out.text(d, bytes)
 }
 
-/// The address of a structure. Only strings of the text are lowered yet.
-#[tactic(auto, unfolding(ps_tree::specs::View::structure_of))]
-pub fn structure(out: &mut Code, e: &Structure, d: u32) -> Result<(), LowerRefusal>
-    ensures { (k : Scope) → OnOk result (out.new ≡ out.old ++ structure_code k (structure_of e.now) d 0) }
+/// The number of characters of the strings of a type.
+fn contents_length(ty: &Ty) -> Result<u32, LowerRefusal>
+    ensures value { (p : Place) → IfOk result (λ n. n ≡ text_length (tree.Contents p (type_of ty.now))) }
+    ensures small { IfOk result (λ n. n ≤ 2147483647) }
 {
-    match e {
-        Structure::Literal(characters) => text(out, characters, d),
-        Structure::Contents { .. } => Err(LowerRefusal::NotYet),
+    let length = ty.string_length().unwrap_or(0);
+    if 0x7FFF_FFFF < length {
+        return Err(LowerRefusal::TooLarge);
     }
+    Ok(length)
 }
 
 /// The number of a string's characters.
-#[tactic(auto, unfolding(ps_tree::specs::View::structure_of))]
+#[tactic(auto, using(ps_tree::proofs::TreeLemmas::structure_of_Contents), unfolding(ps_tree::specs::View::structure_of))]
 pub fn text_length(e: &Structure) -> Result<u32, LowerRefusal>
     ensures value { IfOk result (λ n. n ≡ text_length (structure_of e.now)) }
     ensures small { IfOk result (λ n. n ≤ 2147483647) }
@@ -55,7 +60,34 @@ pub fn text_length(e: &Structure) -> Result<u32, LowerRefusal>
             Ok(length) => Ok(length as u32),
             Err(_) => Err(LowerRefusal::TooLarge),
         },
-        Structure::Contents { .. } => Err(LowerRefusal::NotYet),
+        Structure::Contents { ty, .. } => contents_length(ty),
+    }
+}
+
+/// The bytes of so many characters, filled up to whole words.
+fn filled_length(length: usize) -> Result<u32, LowerRefusal>
+    ensures { IfOk result (λ n. n ≡ 4 * ((length + 3) / 4)) }
+{
+    let Some(above) = length.checked_add(3) else {
+        return Err(LowerRefusal::TooLarge);
+    };
+    let Ok(words) = u32::try_from(above / 4) else {
+        return Err(LowerRefusal::TooLarge);
+    };
+    let Some(bytes) = words.checked_mul(4) else {
+        return Err(LowerRefusal::TooLarge);
+    };
+    Ok(bytes)
+}
+
+/// The bytes of a structure's words.
+#[tactic(auto, using(ps_tree::proofs::TreeLemmas::structure_of_Contents, crate::proofs::Strings::filled_length), unfolding(ps_tree::specs::View::structure_of))]
+pub fn structure_bytes(e: &Structure) -> Result<u32, LowerRefusal>
+    ensures { IfOk result (λ n. n ≡ structure_bytes (structure_of e.now)) }
+{
+    match e {
+        Structure::Literal(characters) => filled_length(characters.len()),
+        Structure::Contents { ty, .. } => byte_count(ty),
     }
 }
 

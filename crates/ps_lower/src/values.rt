@@ -3,24 +3,37 @@
 
 ghost use Rattle.std.specs.Prelude.{◌≡◌, ◌++◌, ◌≤◌, suc, OnOk, IfOk};
 ghost use Rattle.ps_code.specs.Scopes.{even_from, unless_known};
-ghost use Rattle.ps_code.specs.Values.{literal_of, negated, truth_finish, minus_code, front_code, steps_code, operands_code, place_code, place_site, selectors_code, selectors_site};
+ghost use Rattle.ps_code.specs.Values.{literal_of, negated, minus_code, front_code, steps_code, operands_code, place_code, place_site, selectors_code, selectors_site, structure_code, argument_code, arguments_code, set_code, set_steps_code, members_code, member_code};
 ghost use Rattle.ps_code.specs.Statements.{expr_code};
 ghost use Rattle.ps_lower.specs.Levels.{scope_of, site_of};
 ghost use Rattle.ps_lower.specs.Sites.{selector_code, selector_site};
 ghost use Rattle.ps_tree.specs.Tree as tree;
-ghost use Rattle.ps_tree.specs.View.{expr_of, arithmetic_of, operands_of, place_of, selector_of, selectors_of, type_of};
+ghost use Rattle.ps_tree.specs.View.{expr_of, arithmetic_of, operands_of, place_of, selector_of, selectors_of, structure_of, argument_of, arguments_of, set_of, set_steps_of, members_of, member_of, type_of};
 
-use crate::calling::{expr_calls, operands_call, steps_call};
-use crate::depth::{DEEPEST, even_above, kept};
+use crate::calling::{expr_calls, operands_call, steps_call, structure_calls};
+use crate::calls::{
+    argument_end, arguments_call, call, call_formal, copied, routine_value, scratch_end, tail,
+};
+use crate::depth::{DEEPEST, even_above, even_from, held, kept};
+use crate::helpers::compare_strings;
+use crate::input::{look_ahead, look_on};
 use crate::known::{bit_operator, literal, negated, operand, operator};
 use crate::level::Level;
+use crate::levels::formal;
 use crate::out::Code;
-use crate::pieces::{finish, function, moved, number, truth_finish};
-use crate::places::{behind, fetch, indexed, is_byte, name, place_temporary, pointed};
+use crate::pieces::{finish, fitting, function, moved, number, truth_finish};
+use crate::places::{address, behind, fetch, indexed, is_byte, name, place_temporary, pointed};
 use crate::refusal::LowerRefusal;
-use crate::shapes::{field_offset, known_steps};
+use crate::sets::{
+    above, add_member, add_members, clear, combined, compare_sets, copied_set, hand_set, is_member,
+};
+use crate::shapes::{byte_count, field_offset, known_steps};
 use crate::site::Site;
-use ps_tree::tree::{ArithmeticStep, BooleanOperator, Expr, Place, RequiredFunction, Selector};
+use crate::texts::text;
+use ps_tree::tree::{
+    Argument, ArithmeticStep, BooleanOperator, Expr, Member, Place, Selector, SetExpr, SetStep,
+    Structure,
+};
 use ps_tree::types::Ty;
 use tac_code::code::{Operand, Operator};
 
@@ -35,7 +48,10 @@ pub fn front(out: &mut Code, k: &Level, e: &Expr, d: u32, x: u32) -> Result<(), 
     match e {
         Expr::Number(n) => number(out, n, d),
         Expr::Nil => out.literal(d, 0),
-        Expr::Load(place) => load(out, k, place, d, x),
+        Expr::Load(variable) => {
+            let site = place(out, k, variable, d, x)?;
+            fetch(out, is_byte(variable), d, site)
+        }
         Expr::Plus(operand) => value(out, k, operand, d, x),
         Expr::Minus { operand, line } => minus(out, k, operand, line.number, d, x),
         Expr::Not(operand) => front(out, k, operand, d, x),
@@ -51,7 +67,8 @@ pub fn front(out: &mut Code, k: &Level, e: &Expr, d: u32, x: u32) -> Result<(), 
             rest,
         } => {
             let truth = kept(operands_call(rest), d);
-            word(out, k, first, truth, x)?;
+            front(out, k, first, truth, x)?;
+            truth_finish(out, first, truth)?;
             go_on_with(out, k, *operator, rest, truth, x)?;
             moved(out, truth, d)
         }
@@ -61,17 +78,58 @@ pub fn front(out: &mut Code, k: &Level, e: &Expr, d: u32, x: u32) -> Result<(), 
             unless_known(out, k, right, even_above(held), x)
         }
         Expr::Apply {
-            function,
+            function: required,
             operand,
             line,
-        } => apply(out, k, *function, operand, line.number, d, x),
-        Expr::CompareSets { .. }
-        | Expr::CompareStrings { .. }
-        | Expr::In { .. }
-        | Expr::Eof
-        | Expr::Eoln { .. }
-        | Expr::Call { .. }
-        | Expr::CallFormal { .. } => Err(LowerRefusal::NotYet),
+        } => {
+            value(out, k, operand, d, x)?;
+            function(out, *required, d, line.number)
+        }
+        Expr::CompareStrings { left, right, .. } => {
+            let first = held(structure_calls(right), d);
+            let second = even_above(first);
+            structure(out, k, left, first, x)?;
+            structure(out, k, right, second, x)?;
+            compare_strings(out, k, left, first, second, d)
+        }
+        Expr::Call {
+            routine,
+            up,
+            arguments: actual,
+            line,
+        } => {
+            arguments(out, k, actual, d, x)?;
+            call(out, k, actual, *routine, *up, line.number, d, d)
+        }
+        Expr::CallFormal {
+            up,
+            index,
+            arguments: actual,
+            line,
+        } => {
+            arguments(out, k, actual, d, x)?;
+            call_formal(out, k, actual, *up, *index, line.number, d, d)
+        }
+        Expr::Eof => look_ahead(out, k, d),
+        Expr::Eoln { line } => look_on(out, k, line.number, d),
+        Expr::CompareSets {
+            relation,
+            left,
+            right,
+        } => {
+            let t = even_from(d);
+            let behind = above(x)?;
+            set(out, k, left, t, x)?;
+            set(out, k, right, t, behind)?;
+            compare_sets(out, k, *relation, t, x, d)
+        }
+        Expr::In { left, right } => {
+            let member = held(true, d);
+            let t = even_above(member);
+            value(out, k, left, member, x)?;
+            set(out, k, right, t, x)?;
+            is_member(out, k, member, t, x, d)
+        }
     }
 }
 
@@ -82,15 +140,6 @@ pub fn value(out: &mut Code, k: &Level, e: &Expr, d: u32, x: u32) -> Result<(), 
 {
     front(out, k, e, d, x)?;
     finish(out, e, d)
-}
-
-/// The truth of an expression, as 0 or 1.
-#[cycle(values)]
-fn word(out: &mut Code, k: &Level, e: &Expr, d: u32, x: u32) -> Result<(), LowerRefusal>
-    ensures { OnOk result (out.new ≡ out.old ++ (front_code (scope_of k.now) (expr_of e.now) d x ++ truth_finish (expr_of e.now) d)) }
-{
-    front(out, k, e, d, x)?;
-    truth_finish(out, e, d)
 }
 
 /// The word of an expression, unless the expression is a number.
@@ -125,23 +174,6 @@ fn minus(
             out.arithmetic(Operator::Subtract, d, d, Operand::Temporary(t), 1, line)
         }
     }
-}
-
-#[cycle(values)]
-fn apply(
-    out: &mut Code,
-    k: &Level,
-    required: RequiredFunction,
-    operand: &Expr,
-    line: u16,
-    d: u32,
-    x: u32,
-) -> Result<(), LowerRefusal>
-    requires { d ≤ DEEPEST }
-    ensures { OnOk result (out.new ≡ out.old ++ front_code (scope_of k.now) (tree.Apply required (expr_of operand.now) line) d x) }
-{
-    value(out, k, operand, d, x)?;
-    function(out, required, d, line)
 }
 
 /// The steps of a chain, whose number so far stands in a.
@@ -180,7 +212,8 @@ fn go_on_with(
 {
     let t = even_above(a);
     for operand in operands {
-        word(out, k, operand, t, x)?;
+        front(out, k, operand, t, x)?;
+        truth_finish(out, operand, t)?;
         out.bits(bit_operator(operator), a, a, Operand::Temporary(t))?;
     }
     Ok(())
@@ -196,16 +229,6 @@ pub fn place(out: &mut Code, k: &Level, place: &Place, d: u32, x: u32) -> Result
     let t = place_temporary(place, d);
     let site = name(out, k, &place.base, t)?;
     along(out, k, &place.selectors, site, t, x)
-}
-
-/// The value of a variable.
-#[cycle(values)]
-fn load(out: &mut Code, k: &Level, variable: &Place, d: u32, x: u32) -> Result<(), LowerRefusal>
-    requires { d ≤ DEEPEST }
-    ensures { OnOk result (out.new ≡ out.old ++ front_code (scope_of k.now) (tree.Load (place_of variable.now)) d x) }
-{
-    let site = place(out, k, variable, d, x)?;
-    fetch(out, is_byte(variable), d, site)
 }
 
 /// From a site to the next, selector by selector.
@@ -283,4 +306,174 @@ fn element(
             indexed(out, ty, site, t, at, line)
         }
     }
+}
+
+/// A set, which stands in the scratch block from x on.
+#[cycle(values)]
+pub fn set(out: &mut Code, k: &Level, e: &SetExpr, d: u32, x: u32) -> Result<(), LowerRefusal>
+    ensures { OnOk result (out.new ≡ out.old ++ set_code (scope_of k.now) (set_of e.now) d x) }
+{
+    if DEEPEST < d {
+        return Err(LowerRefusal::TooLarge);
+    }
+    match e {
+        SetExpr::Load(variable) => {
+            let site = place(out, k, variable, d, x)?;
+            copied_set(out, k, site, d, x)
+        }
+        SetExpr::Constructor(list) => {
+            clear(out, even_from(d), x)?;
+            members(out, k, list, d, x)
+        }
+        SetExpr::Combine { first, steps } => {
+            set(out, k, first, d, x)?;
+            combine(out, k, steps, d, x)
+        }
+    }
+}
+
+/// The operators behind the first set, and their operands. The set so far stands from x on.
+#[cycle(values)]
+fn combine(out: &mut Code, k: &Level, steps: &[SetStep], d: u32, x: u32) -> Result<(), LowerRefusal>
+    requires { d ≤ DEEPEST }
+    ensures { OnOk result (out.new ≡ out.old ++ set_steps_code (scope_of k.now) (set_steps_of steps.now) d x) }
+{
+    let behind = above(x)?;
+    for step in steps {
+        set(out, k, &step.operand, d, behind)?;
+        combined(out, k, step.operator, d, x)?;
+    }
+    Ok(())
+}
+
+/// The members of a constructor go into the set from x on.
+#[cycle(values)]
+fn members(out: &mut Code, k: &Level, list: &[Member], d: u32, x: u32) -> Result<(), LowerRefusal>
+    requires { d ≤ DEEPEST }
+    ensures { OnOk result (out.new ≡ out.old ++ members_code (scope_of k.now) (members_of list.now) d x) }
+{
+    for one in list {
+        member(out, k, one, d, x)?;
+    }
+    Ok(())
+}
+
+/// A member, or those from one to another, whose values are worked out behind the set.
+#[cycle(values)]
+#[tactic(auto, unfolding(ps_tree::specs::View::member_of))]
+fn member(out: &mut Code, k: &Level, one: &Member, d: u32, x: u32) -> Result<(), LowerRefusal>
+    requires { d ≤ DEEPEST }
+    ensures { OnOk result (out.new ≡ out.old ++ member_code (scope_of k.now) (member_of one.now) d x) }
+{
+    let behind = above(x)?;
+    match one {
+        Member::One { value: e, line } => {
+            let t = even_from(d);
+            value(out, k, e, t, behind)?;
+            add_member(out, k, t, x, line.number)
+        }
+        Member::Range { from, to, line } => {
+            let first = held(expr_calls(to), d);
+            let last = even_above(first);
+            value(out, k, from, first, behind)?;
+            value(out, k, to, last, behind)?;
+            add_members(out, k, first, last, x, line.number)
+        }
+    }
+}
+
+/// The address of a structure.
+#[cycle(values)]
+#[tactic(auto, using(ps_tree::proofs::TreeLemmas::structure_of_Contents), unfolding(ps_tree::specs::View::structure_of))]
+pub fn structure(
+    out: &mut Code,
+    k: &Level,
+    e: &Structure,
+    d: u32,
+    x: u32,
+) -> Result<(), LowerRefusal>
+    requires { d ≤ 4294950000 }
+    ensures { OnOk result (out.new ≡ out.old ++ structure_code (scope_of k.now) (structure_of e.now) d x) }
+{
+    match e {
+        Structure::Literal(characters) => text(out, characters, d),
+        Structure::Contents {
+            place: variable,
+            ty,
+        } => {
+            let site = place(out, k, variable, d, x)?;
+            address(out, d, site, byte_count(ty)?)
+        }
+    }
+}
+
+/// An actual parameter, whose words are to stand from t on.
+#[cycle(values)]
+#[tactic(auto, using(ps_tree::proofs::TreeLemmas::argument_of_Variable), unfolding(ps_tree::specs::View::argument_of))]
+fn argument(
+    out: &mut Code,
+    k: &Level,
+    argument: &Argument,
+    t: u32,
+    x: u32,
+) -> Result<(), LowerRefusal>
+    requires { t ≤ 4294950000 }
+    ensures { OnOk result (out.new ≡ out.old ++ argument_code (scope_of k.now) (argument_of argument.now) t x) }
+{
+    match argument {
+        Argument::Value {
+            value: e,
+            range,
+            line,
+        } => {
+            value(out, k, e, t, x)?;
+            fitting(out, literal(e), t, *range, line.number)
+        }
+        Argument::Set {
+            value: e,
+            low,
+            high,
+            line,
+        } => {
+            set(out, k, e, t, x)?;
+            hand_set(out, k, t, x, low, high, line.number)
+        }
+        Argument::Copy { value: e, ty } => {
+            structure(out, k, e, t, x)?;
+            copied(out, k, ty, t, x)
+        }
+        Argument::Variable(variable) => {
+            let site = place(out, k, variable, t, x)?;
+            address(out, t, site, 0)
+        }
+        Argument::Routine { routine, up } => routine_value(out, k, *routine, *up, t),
+        Argument::Formal { up, index } => formal(out, k, t, *up, *index),
+    }
+}
+
+/// Actual parameters, from left to right.
+#[cycle(values)]
+pub fn arguments(
+    out: &mut Code,
+    k: &Level,
+    arguments: &[Argument],
+    d: u32,
+    x: u32,
+) -> Result<(), LowerRefusal>
+    ensures { OnOk result (out.new ≡ out.old ++ arguments_code (scope_of k.now) (arguments_of arguments.now) d x) }
+{
+    let mut depth = d;
+    let mut scratch = x;
+    let mut rest = arguments;
+    for one in arguments {
+        if DEEPEST < depth {
+            return Err(LowerRefusal::TooLarge);
+        }
+        rest = tail(rest);
+        let t = held(arguments_call(rest), depth);
+        argument(out, k, one, t, scratch)?;
+        depth = argument_end(one, t);
+        scratch = scratch_end(one, scratch)?;
+    }
+    Ok(())
 }

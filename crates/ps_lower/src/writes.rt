@@ -1,7 +1,7 @@
 // The code of write and writeln.
 
 ghost use Rattle.std.specs.Prelude.{◌≡◌, ◌++◌, ◌≤◌, ◌∷◌, [], pos, map, OnOk};
-ghost use Rattle.ps_code.specs.Scopes.{even_from, RunTime, run_time_number, helper};
+ghost use Rattle.ps_code.specs.Scopes.{even_from};
 ghost use Rattle.ps_code.specs.Statements.{width_code, write_code, writes_code};
 ghost use Rattle.ps_lower.specs.Levels.{scope_of};
 ghost use Rattle.ps_tree.specs.Tree as tree;
@@ -10,14 +10,14 @@ ghost use Rattle.tac_code.specs.declared.code.Instruction.TheVariants as i;
 
 use crate::calling::width_calls;
 use crate::depth::{DEEPEST, beside, even_above, even_from, held};
-use crate::entries::run_time_number;
+use crate::helpers::help;
 use crate::known::literal;
 use crate::level::Level;
 use crate::out::Code;
 use crate::pieces::check;
 use crate::refusal::LowerRefusal;
-use crate::texts::{count, structure, text_length, truth_text};
-use crate::values::value;
+use crate::texts::{count, text_length, truth_text};
+use crate::values::{structure, value};
 use ps_tree::tree::{Expr, Structure, Width, WriteParameter};
 
 const WRITE_NUMBER: u32 = 10;
@@ -39,20 +39,6 @@ fn width(out: &mut Code, k: &Level, width: &Width, default: u32, t: u32) -> Resu
             check(out, literal(e), t, 1, i32::MAX, 11, line.number)
         }
     }
-}
-
-/// A call of a run-time routine.
-fn help(
-    out: &mut Code,
-    k: &Level,
-    number: u32,
-    operands: &[u32],
-    to: u32,
-) -> Result<(), LowerRefusal>
-    ensures { (routine : RunTime) → number ≡ run_time_number routine → OnOk result (out.new ≡ out.old ++ helper (scope_of k.now) routine operands.now to ∷ []) }
-{
-    let number = run_time_number(k, number)?;
-    out.call(to, number, operands, 1)
 }
 
 /// A number and its width, and the call that writes them.
@@ -127,7 +113,7 @@ fn write_string(
     let w = even_above(t);
     let size = beside(w);
     let length = text_length(e)?;
-    structure(out, e, t)?;
+    structure(out, k, e, t, 0)?;
     width(out, k, given, length, w)?;
     count(out, length, size)?;
     help(out, k, WRITE_STRING, &[t, size, w], even_from(d))

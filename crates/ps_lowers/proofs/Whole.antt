@@ -35,7 +35,7 @@ use Rattle.ps_relation.specs.Here.{Setting, costs_in, code_in, machine_of, Work,
 use Rattle.ps_relation.specs.Outcomes.{Runs}
 use Rattle.ps_relation.specs.RunTime.{WritesDo}
 use Rattle.ps_relation.proofs.Memory.{pieces_placed}
-use Rattle.ps_calls.specs.Entering.{entering, Places}
+use Rattle.ps_calls.specs.Entering.{entering, Places, CanCopy}
 use Rattle.ps_calls.specs.Binding.{Extends, variable_slots}
 use Rattle.ps_calls.proofs.Binding.{variables_extend, variables_first, variables_from, variables_kinds, variables_at}
 use Rattle.ps_calls.proofs.First.{firsts_fit}
@@ -119,6 +119,7 @@ module _ (p : Setting) (fits : ProgramFits p.program) (does : WritesDo p) (input
         spent = λ pc t. ap (λ m. m + 0) cost_first ∙ sym sum_first;
         told = λ pc t. refl;
         below = tt;
+        only = (λ e. refl, tt);
       }
 
   abbrev tac : TacRoutine
@@ -200,8 +201,11 @@ module _ (p : Setting) (fits : ProgramFits p.program) (does : WritesDo p) (input
   enough : length block.variables ≤ length (layout_of block).places
   enough = subst (λ ks. length block.variables ≤ length (places_from 1 ks)) (sym (variables_kinds block.variables 0) ∙ entry_kinds) (places_length 1 block.variables)
 
+  can : CanCopy p outermost [] world (scope_of p.program block) 1 (layout_of block).size
+  can = record { does = does; program = sym (length_map (tac_of p.program) p.program.routines); number = omega arith; frames = tt; waiting = tt; small = fits.small.frames 0 }
+
   places : (mid : ℕ) → Stands (code_in p) 0 0 (begin_code (scope_of p.program block) block) mid → Places p outermost [] world (parameter_total block) words first_work 0 mid (pieces p.program world ghost)
-  places mid st = places_outermost p outermost [] world ghost (scope_of p.program block) words first_work 0 mid fits.outermost refl enough apart (extends.input ∙ ap whole_input (sym (ap (λ i. i.left) extends.input))) (variables_first block.variables (first_world input)) (fits.routines 0 fits.begins).variables st
+  places mid st = places_outermost p outermost [] world 1 (layout_of block).size ghost (scope_of p.program block) words first_work 0 mid can (count_none (layout_of block).size) (omega arith) fits.outermost refl enough apart (extends.input ∙ ap whole_input (sym (ap (λ i. i.left) extends.input))) (variables_first block.variables (first_world input)) (fits.routines 0 fits.begins).variables st
 
   -- ---- the run
 
@@ -229,7 +233,7 @@ module _ (p : Setting) (fits : ProgramFits p.program) (does : WritesDo p) (input
       let stands = subst (λ chain. Stands (code_in p) 0 cut.0 (statements_code (record { program = p.program; chain = chain; opened = [] }) block.body 0) cut1.0) fits.chain cut.2 in
       let body_fits = subst (λ chain. StatementsFit (record { program = p.program; chain = chain; opened = [] }) [] block.body) fits.chain (fits.routines 0 fits.begins).body in
       subst (λ s. Stops (machine_of p) n s (shown (meant n))) (sym entered_is)
-      (comes_stops a.comes (ends n a.work cut.0 cut1.0 (length tac.body) (meant n) (execute_runs p does n outermost active (Block block.body) 0 o world a.work cut.0 cut1.0 (alive a.work (omega (arith, more)) a.scratch) tt body_fits stands) cut1.2))
+      (comes_stops a.comes (ends n a.work cut.0 cut1.0 (length tac.body) (meant n) (execute_runs p does fits.routines n outermost active (Block block.body) 0 o world a.work cut.0 cut1.0 (alive a.work (omega (arith, more)) a.scratch) tt body_fits stands) cut1.2))
 
   abbrev tac_shows : ℕ → Shown
   tac_shows n = tac_run (code_in p) (machine_of p).frames (machine_of p).objects p.stack p.heap input n

@@ -40,7 +40,7 @@ entries_placed st k n (x ∷ xs) h =
     let c = slot_counted st x in
     (omega (arith, c, h), entries_above st (k + kind_words (slot_kind x)) xs (record { place = k; words = slot_words st x }) (omega (arith, c)), entries_placed st (k + kind_words (slot_kind x)) n xs (omega arith))
 
-size_length : (n : ℕ) → length (replicate {A = Option Word} n None) ≡ n
+pub size_length : (n : ℕ) → length (replicate {A = Option Word} n None) ≡ n
 size_length zero = refl
 size_length (suc n) = ap suc (size_length n)
 
@@ -268,7 +268,7 @@ module _ (program : Program) where
           (sym (slots_other w.store (layout_at program x.routine).places x.slots x.base h.0 name v h.1 (inl l)))
 
   -- the block of a ghost after a stretch of an own entry was replaced
-  block_written : (w : World) (g : Ghost) (m n i k j : ℕ) (shape : Shape) (name : ℕ) (v : Value) (ns : Words) → slot_kinds g.slots ≡ entries (routine_at program g.routine) → SlotsFrom g.slots m n → slice_get (layout_at program g.routine).places i ≡ Some k → slice_get g.slots i ≡ Some (OwnSlot shape name) → j + length ns ≤ word_count shape → value_words shape v ≡ spliced j ns (value_words shape (w.store name)) → spliced (k + j) ns (block_words program w g) ≡ block_words program (renewed w name v) g
+  pub block_written : (w : World) (g : Ghost) (m n i k j : ℕ) (shape : Shape) (name : ℕ) (v : Value) (ns : Words) → slot_kinds g.slots ≡ entries (routine_at program g.routine) → SlotsFrom g.slots m n → slice_get (layout_at program g.routine).places i ≡ Some k → slice_get g.slots i ≡ Some (OwnSlot shape name) → j + length ns ≤ word_count shape → value_words shape v ≡ spliced j ns (value_words shape (w.store name)) → spliced (k + j) ns (block_words program w g) ≡ block_words program (renewed w name v) g
   block_written w g m n i k j shape name v ns e f p h l q =
       let base = replicate {A = Option Word} (layout_at program g.routine).size None in
       let apart = subst (λ n. ArePlaced n (pieces program w g)) (sym (size_length (layout_at program g.routine).size)) (pieces_placed program w g e) in
@@ -278,7 +278,7 @@ module _ (program : Program) where
       ∙ ap (λ ws. placed (first ∷ with_words (entry_pieces w.store (layout_at program g.routine).places g.slots) i ws) base) (sym q)
       ∙ ap (λ ps. placed (first ∷ ps) base) (sym (slots_set w.store (layout_at program g.routine).places g.slots m n i k shape name v f p h))
 
-  named_in : (xs : List Ghost) (n a : ℕ) (g : Ghost) → Names xs n → found xs a ≡ Some g → (k : ℕ) × ((l : ℕ) × SlotsFrom g.slots k l)
+  pub named_in : (xs : List Ghost) (n a : ℕ) (g : Ghost) → Names xs n → found xs a ≡ Some g → (k : ℕ) × ((l : ℕ) × SlotsFrom g.slots k l)
   named_in [] n a g h q = some_none q
   named_in (x ∷ xs) n a g h q = go (nat_eq x.number a) q (named_in xs x.base a g h.3)
     where

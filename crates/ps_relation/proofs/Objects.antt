@@ -17,13 +17,13 @@ use Rattle.ps_relation.specs.Ghosts.{objects_of, ObjectsFit, ObjectAt, Ghost}
 use Rattle.ps_relation.proofs.Spans.{nested, span_in}
 
 module _ (program : Program) where
-  object_words : (all made : List ℕ) (vs : List Value) (k t : ℕ) → ObjectsFit program all made vs → slice_get made k ≡ Some t → slice_get (objects_of program made vs) k ≡ Some (value_words (shape_of (domain_at program t)) (get_or vs k unset))
+  pub object_words : (all made : List ℕ) (vs : List Value) (k t : ℕ) → ObjectsFit program all made vs → slice_get made k ≡ Some t → slice_get (objects_of program made vs) k ≡ Some (value_words (shape_of (domain_at program t)) (get_or vs k unset))
   object_words all [] vs k t f h = some_none h
   object_words all (s ∷ made) [] k t f h = absurd f
   object_words all (s ∷ made) (v ∷ vs) zero t f h = ap (λ u. Some (value_words (shape_of (domain_at program u)) v)) (same_some h)
   object_words all (s ∷ made) (v ∷ vs) (suc k) t f h = object_words all made vs k t f.1 h
 
-  object_fits : (all made : List ℕ) (vs : List Value) (k t : ℕ) → ObjectsFit program all made vs → slice_get made k ≡ Some t → HasShape all (get_or vs k unset) (shape_of (domain_at program t))
+  pub object_fits : (all made : List ℕ) (vs : List Value) (k t : ℕ) → ObjectsFit program all made vs → slice_get made k ≡ Some t → HasShape all (get_or vs k unset) (shape_of (domain_at program t))
   object_fits all [] vs k t f h = some_none h
   object_fits all (s ∷ made) [] k t f h = absurd f
   object_fits all (s ∷ made) (v ∷ vs) zero t f h = subst (λ u. HasShape all v (shape_of (domain_at program u))) (same_some h) f.0
@@ -35,7 +35,7 @@ module _ (program : Program) where
   object_set all (s ∷ made) (u ∷ vs) zero t v f h q = (subst (λ x. HasShape all v (shape_of (domain_at program x))) (sym (same_some h)) q, f.1)
   object_set all (s ∷ made) (u ∷ vs) (suc k) t v f h q = (f.0, object_set all made vs k t v f.1 h q)
 
-  object_changed : (all made : List ℕ) (vs : List Value) (k t : ℕ) (v : Value) (change : Words → Option Words) → ObjectsFit program all made vs → slice_get made k ≡ Some t → change (value_words (shape_of (domain_at program t)) (get_or vs k unset)) ≡ Some (value_words (shape_of (domain_at program t)) v) → changed_object (objects_of program made vs) k change ≡ Some (objects_of program made (set vs k v))
+  pub object_changed : (all made : List ℕ) (vs : List Value) (k t : ℕ) (v : Value) (change : Words → Option Words) → ObjectsFit program all made vs → slice_get made k ≡ Some t → change (value_words (shape_of (domain_at program t)) (get_or vs k unset)) ≡ Some (value_words (shape_of (domain_at program t)) v) → changed_object (objects_of program made vs) k change ≡ Some (objects_of program made (set vs k v))
   object_changed all [] vs k t v change f h c = some_none h
   object_changed all (s ∷ made) [] k t v change f h c = absurd f
   object_changed all (s ∷ made) (u ∷ vs) zero t v change f h c =

@@ -178,7 +178,7 @@ overlaid_self (m ∷ ms) (w ∷ ws) h l =
     ap (λ x. x ∷ overlaid ms ws) (sym e) ∙ ap (λ l. w ∷ l) (overlaid_self ms ws (λ i b. h (suc i) (omega (arith, b))) (omega arith))
 
 -- a stretch put where it stands already
-spliced_self : (a : ℕ) (ms ws : Words) → ((i : ℕ) → i < length ms → slice_get ws (a + i) ≡ slice_get ms i) → a + length ms ≤ length ws → spliced a ms ws ≡ ws
+pub spliced_self : (a : ℕ) (ms ws : Words) → ((i : ℕ) → i < length ms → slice_get ws (a + i) ≡ slice_get ms i) → a + length ms ≤ length ws → spliced a ms ws ≡ ws
 spliced_self zero ms ws h l = overlaid_self ms ws (λ i b. let e : i ≡ 0 + i = omega arith in ap (slice_get ws) e ∙ h i b) (omega arith)
 spliced_self (suc a) ms [] h l = refl
 spliced_self (suc a) ms (w ∷ ws) h l = ap (λ l. w ∷ l) (spliced_self a ms ws (λ i b. let e : suc (a + i) ≡ suc a + i = omega arith in ap (slice_get (w ∷ ws)) e ∙ h i b) (omega arith))

@@ -57,8 +57,12 @@ first_or_end (b ∷ rest) = pos b
 abbrev pub ahead : Input → ℤ
 ahead i = if i.looked then first_or_end i.left else negsuc 1
 
+-- 1 where a line was begun and not ended
+abbrev pub begun : Input → ℤ
+begun i = if i.in_line then pos 1 else pos 0
+
 abbrev pub input_words : Input → Words
-input_words i = Some (Number (ahead i)) ∷ Some (Number (if i.in_line then pos 1 else pos 0)) ∷ []
+input_words i = Some (Number (ahead i)) ∷ Some (Number (begun i)) ∷ []
 
 abbrev pub tape_of : Input → (transcript : List ℕ) → Tape
 tape_of i transcript = record { input = if i.looked then drop 1 i.left else i.left; ended = i.looked && is_empty i.left; transcript = transcript }
@@ -129,6 +133,11 @@ SlotsFit made store [] = Unit {0}
 SlotsFit made store (x ∷ xs) = SlotFits made store x × SlotsFit made store xs
 
 module _ (program : Program) where
+  -- the first activation alone is of the program block
+  abbrev pub OnlyFirst : List Ghost → Type 0
+  OnlyFirst [] = Unit {0}
+  OnlyFirst (g ∷ gs) = (is_program_block (routine_at program g.routine).chain ≡ true → g.number ≡ 0) × OnlyFirst gs
+
   -- each ghost has the entries of its routine, with values of their shapes
   abbrev pub GhostsFit : (made : List ℕ) → (ℕ → Value) → List Ghost → Type 0
   GhostsFit made store [] = Unit {0}

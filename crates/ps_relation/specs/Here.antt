@@ -22,7 +22,7 @@ use Rattle.ps_layout.specs.Paths.{Sort, NumberSort, PointerSort, HasSort}
 use Rattle.ps_code.specs.Scopes.{Site}
 use Rattle.ps_code.specs.Routines.{routine_code}
 use Rattle.ps_code.specs.Programs.{scratch_in, code_of}
-use Rattle.ps_relation.specs.Ghosts.{Ghost, frames_of, objects_of, tape_of, PlaceAt, EnvAt, Holds}
+use Rattle.ps_relation.specs.Ghosts.{Ghost, frames_of, objects_of, tape_of, PlaceAt, EnvAt, Holds, OnlyFirst}
 
 -- a program with its run-time routines, what it costs and what it may
 pub record Setting : Type 0 where
@@ -88,10 +88,11 @@ abbrev pub Below : ℕ → List Living → Type 0
 Below n [] = Unit {0}
 Below n (b ∷ bs) = (b.number < n) × Below n bs
 
--- every frame and every object has less than 2 ^ 31 bytes
+-- every frame, every object and every scratch block has less than 2 ^ 31 bytes
 pub record AreSmall (program : Program) : Type 0 where
   pub frames : (r : ℕ) → 4 * (layout_of (routine_at program r)).size < 2147483648
   pub objects : (t : ℕ) → byte_count (shape_of (domain_at program t)) < 2147483648
+  pub scratch : (r : ℕ) → scratch_in (routine_code program (routine_at program r)) < 2147483648
 
 -- what is fixed of an activation that runs
 pub record IsActive (p : Setting) (c : Activated) : Type 0 where
@@ -102,6 +103,7 @@ pub record IsActive (p : Setting) (c : Activated) : Type 0 where
   pub spent : (pc : ℕ) (t : Temporaries) → open_bytes (code_in p) (λ r. get_or p.frames r 0) (activation c pc t ∷ c.callers) ≡ sum_by (λ r. get_or p.frames r 0) c.active
   pub told : (pc : ℕ) (t : Temporaries) → open_calls (length (code_in p).program) (activation c pc t) c.callers ≡ c.calls
   pub below : Below c.number c.waiting
+  pub only : OnlyFirst p.program c.ghosts
 
 -- what holds of it at each place: the objects that its environment may speak of are more and more
 pub record Alive (p : Setting) (c : Activated) (w : World) (k : Work) : Type 0 where

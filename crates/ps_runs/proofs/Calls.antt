@@ -13,6 +13,7 @@ use Rattle.tac_steps.proofs.Pieces.{some_none}
 use Rattle.ps_code.specs.Programs.{tac_of}
 use Rattle.ps_code.specs.Routines.{parameter_total}
 use Rattle.ps_relation.specs.Ghosts.{Ghost, found, Numbered}
+use Rattle.ps_layout.specs.Frames.{is_program_block}
 use Rattle.ps_relation.specs.Here.{Setting, costs_in, code_in, machine_of, Work, Activated, IsActive, Below, activation, state}
 
 -- the activation that a call enters: its blocks are named by the count of those before
@@ -66,8 +67,8 @@ module _ (p : Setting) (c : Activated) (active : IsActive p c) where
       ∙ ap (nat_lt p.stack) (spent_more r pc t)
 
   -- what is fixed of the activation that is entered
-  pub called_active : (k : Work) (pc t line r : ℕ) (outer : List ℕ) (env : Env) (ghost mine : Ghost) → r < length p.program.routines → (routine_at p.program r).chain ≡ r ∷ outer → found c.ghosts c.number ≡ Some mine → Numbered c.ghosts k.count → IsActive p (called c k pc t line r outer env ghost)
-  called_active k pc t line r outer env ghost mine within chain there numbered =
+  pub called_active : (k : Work) (pc t line r : ℕ) (outer : List ℕ) (env : Env) (ghost mine : Ghost) → r < length p.program.routines → (routine_at p.program r).chain ≡ r ∷ outer → found c.ghosts c.number ≡ Some mine → Numbered c.ghosts k.count → is_program_block (routine_at p.program ghost.routine).chain ≡ false → IsActive p (called c k pc t line r outer env ghost)
+  called_active k pc t line r outer env ghost mine within chain there numbered inner =
       record {
         small = active.small;
         within = within;
@@ -75,9 +76,10 @@ module _ (p : Setting) (c : Activated) (active : IsActive p c) where
         spent = λ pc' t'. ap (λ m. m + open_bytes (code_in p) (machine_of p).frames (activation c (suc pc) k.temporaries ∷ c.callers)) (cost_of r within) ∙ spent_more r (suc pc) k.temporaries;
         told = λ pc' t'. ap (λ b. if b then line ∷ open_calls (length (code_in p).program) (activation c (suc pc) k.temporaries) c.callers else open_calls (length (code_in p).program) (activation c (suc pc) k.temporaries) c.callers) (lt-ltb r (length (code_in p).program) (omega (arith, within, program_length))) ∙ ap (λ l. line ∷ l) (active.told (suc pc) k.temporaries);
         below = let l = found_below c.ghosts k.count c.number mine numbered there in (l, below_more c.number k.count c.waiting (omega (arith, l)) active.below);
+        only = (λ e. let no : true ≡ false = sym e ∙ inner in absurd (cc), active.only);
       }
 
-map_there : (program : Program) (rs : List Routine) (more : List TacRoutine) (r : ℕ) → r < length rs → slice_get (map (tac_of program) rs ++ more) r ≡ Some (tac_of program (get_or rs r no_routine))
+pub map_there : (program : Program) (rs : List Routine) (more : List TacRoutine) (r : ℕ) → r < length rs → slice_get (map (tac_of program) rs ++ more) r ≡ Some (tac_of program (get_or rs r no_routine))
 map_there program [] more r l = absurd (omega arith)
 map_there program (x ∷ rs) more zero l = refl
 map_there program (x ∷ rs) more (suc r) l = map_there program rs more r (omega arith)

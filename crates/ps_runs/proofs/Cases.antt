@@ -1,4 +1,5 @@
 -- `case` statements.
+use Rattle.ps_runs.proofs.Calling.{Callable}
 use Rattle.std.proofs.Common.{◌≡◌, ℕ, suc, ◌+◌, ℤ, Bool, true, false, not, ◌||◌, if◌then◌else◌, List, [], ◌∷◌, ◌++◌, length, Some, refl, sym, ap, ◌∙◌, subst, arith}
 use Rattle.ps_tree.specs.Tree.{Expr, Statement, Case, Elements, no_element, element_before}
 use Rattle.tac_code.specs.declared.code.Value.TheVariants.{Number as Numeral}
@@ -33,7 +34,7 @@ or_none : (b : Bool) → (b || false) ≡ b
 or_none true = refl
 or_none false = refl
 
-module _ (p : Setting) (n : ℕ) (call : Caller) (next : Next) (c : Activated) (active : IsActive p c) (nexts : NextRuns p n next) (does : WritesDo p) where
+module _ (p : Setting) (n : ℕ) (call : Caller) (next : Next) (c : Activated) (active : IsActive p c) (nexts : NextRuns p n next) (does : WritesDo p) (calls : Callable p n call) where
   -- past the tests, or past so many instructions behind them
   abbrev Tested : World → Work → (pc mid past : ℕ) → Bool → Type 0
   Tested w k pc mid past b = Comes (machine_of p) (state p c w k pc) (state p c w k (if b then mid else mid + past))
@@ -87,7 +88,7 @@ module _ (p : Setting) (n : ℕ) (call : Caller) (next : Next) (c : Activated) (
       (λ k' a' y. y)
   jumps_past (Ends out en) d w k pc mid far pc' at e r = r
 
-  pub elements_then : (constants : List ℤ) (s : Statement) (rest : Elements) → StatementRuns p n call next c active nexts does s → ElementsRun rest → ElementsRun (element_before constants s rest)
+  pub elements_then : (constants : List ℤ) (s : Statement) (rest : Elements) → StatementRuns p n call next c active nexts does calls s → ElementsRun rest → ElementsRun (element_before constants s rest)
   elements_then constants s rest rs rr d line o w k pc pc' z alive opened fits at st =
       let code = scope_in p c o in
       let ctx = context_in c o in
@@ -115,10 +116,10 @@ module _ (p : Setting) (n : ℕ) (call : Caller) (next : Next) (c : Activated) (
           let there : mid + suc l ≡ suc mid2 = omega (arith, ls) in
           runs_from p (suc n) c d 0 w w k k pc (suc mid2) pc' B Nothing (subst (λ q. Comes (machine_of p) (state p c w k pc) (state p c w k q)) there tested) (keeps_refl d 0 w k) r2
 
-  pub case_run : (e : Expr) (els : Elements) (line : ℕ) → ElementsRun els → StatementRuns p n call next c active nexts does (Case e els line)
+  pub case_run : (e : Expr) (els : Elements) (line : ℕ) → ElementsRun els → StatementRuns p n call next c active nexts does calls (Case e els line)
   case_run e els line re d o w k pc pc' alive opened fits st =
       let ctx = context_in c o in
       let cut = split (code_in p) c.routine pc (expr_code (scope_in p c o) e d 0) (elements_code (scope_in p c o) els d line) pc' st in
       runs_bind p (suc n) c d 0 d 0 d 0 w k pc cut.0 pc' (value call e ctx w) (λ y w1. selected p.program (costs_in p) call next els (number_of y) line ctx w1) (λ v w' k'. WordIn k'.temporaries w'.made d NumberSort v) Nothing (omega arith) (omega arith) (omega arith) (omega arith)
-      (expr_runs p n call c active e d 0 o w k pc cut.0 NumberSort alive opened fits.0 cut.1)
+      (expr_runs p n call c active calls e d 0 o w k pc cut.0 NumberSort alive opened fits.0 cut.1)
       (λ y w1 k1 alive1 kept1 r1. re d line o w1 k1 cut.0 pc' (number_of y) alive1 (opened_kept p c d 0 d w w1 k k1 o (omega arith) kept1 opened) fits.1 r1.word cut.2)

@@ -86,7 +86,7 @@ module _ (p : Setting) (n : ℕ) (c : Activated) (active : IsActive p c) where
   written_state w k pc (Declared name) path v = refl
   written_state w k pc (Made object) path v = refl
 
-  written_made : (w : World) (root : Root) (path : List ℕ) (v : Value) → (with_contents w (record { root = root; path = path }) v).made ≡ w.made
+  pub written_made : (w : World) (root : Root) (path : List ℕ) (v : Value) → (with_contents w (record { root = root; path = path }) v).made ≡ w.made
   written_made w (Declared name) path v = refl
   written_made w (Made object) path v = refl
 

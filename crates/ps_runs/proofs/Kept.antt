@@ -28,7 +28,7 @@ module _ (p : Setting) (c : Activated) where
   pub place_grows : (made more : List ℕ) (s : Spot) (b : Block) (o : ℕ) (part : Part) → PlaceAt p.program c.ghosts made s b o part → PlaceAt p.program c.ghosts (made ++ more) s b o part
   place_grows made more s b o part h = root_grows made more s.root s.path b o part h
 
-  base_same : (t t' : Temporaries) (d : ℕ) (b : Base) → IsBelow d b → ((i : ℕ) → i < d → t' i ≡ t i) → base_at c.number t' b ≡ base_at c.number t b
+  pub base_same : (t t' : Temporaries) (d : ℕ) (b : Base) → IsBelow d b → ((i : ℕ) → i < d → t' i ≡ t i) → base_at c.number t' b ≡ base_at c.number t b
   base_same t t' d base.Frame l h = refl
   base_same t t' d base.Scratch l h = refl
   base_same t t' d base.Program l h = refl

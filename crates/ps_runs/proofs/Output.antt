@@ -1,4 +1,5 @@
 -- Write statements of integers and characters.
+use Rattle.ps_runs.proofs.Calling.{Callable}
 use Rattle.std.proofs.Common.{◌≡◌, ℕ, suc, ◌+◌, ◌%◌, ◌<◌, ◌≤◌, ℤ, pos, negsuc, unsigned_abs, int_lt, int_le, Bool, true, false, not, ◌&&◌, if◌then◌else◌, IsTrue, List, [], ◌∷◌, ◌++◌, length, Some, unwrap_or, refl, sym, ap, ◌∙◌, subst, arith, ltb-true}
 use Rattle.ps_tree.specs.Tree.{Expr, Width, DefaultWidth, GivenWidth, WriteInteger, WriteChar}
 use Rattle.tac_code.specs.Memory.{Memory}
@@ -58,7 +59,7 @@ positive : (x : ℤ) → int_lt x (pos 1) ≡ false → x ≡ pos (unsigned_abs 
 positive (pos m) e = refl
 positive (negsuc m) e = absurd (cc)
 
-module _ (p : Setting) (n : ℕ) (call : Caller) (next : Next) (c : Activated) (active : IsActive p c) (does : WritesDo p) where
+module _ (p : Setting) (n : ℕ) (call : Caller) (next : Next) (c : Activated) (active : IsActive p c) (does : WritesDo p) (calls : Callable p n call) where
   abbrev pub WidthIn : (t width : ℕ) → Work → Type 0
   WidthIn t width k = (k.temporaries t ≡ Some (Numeral (pos width))) × (width < 2147483648)
 
@@ -72,7 +73,7 @@ module _ (p : Setting) (n : ℕ) (call : Caller) (next : Next) (c : Activated) (
       let ctx = context_in c o in
       let cut = split (code_in p) c.routine pc (expr_code code e t 0) (check_code (literal_of e) t (pos 1) greatest 11 line) pc' st in
       runs_bind p (suc n) c t 0 t 0 t 0 w k pc cut.0 pc' (value call e ctx w) (λ v w1. (if int_lt (number_of v) (pos 1) then fault 11 line ctx else give (Some (unsigned_abs (number_of v)))) w1) (λ v w' k'. WordIn k'.temporaries w'.made t NumberSort v × ((v0 : Value) (w0 : World) → value call e ctx w ≡ Gives v0 w0 → v ≡ v0)) (λ u w' k'. WidthIn t (unwrap_or u default) k') (omega arith) (omega arith) (omega arith) (omega arith)
-      (runs_told p (suc n) c t 0 w k pc cut.0 (value call e ctx w) (λ v w' k'. WordIn k'.temporaries w'.made t NumberSort v) (expr_runs p n call c active e t 0 o w k pc cut.0 NumberSort alive (opened_kept p c d 0 t w w k k o l (keeps_refl d 0 w k) opened) fits cut.1))
+      (runs_told p (suc n) c t 0 w k pc cut.0 (value call e ctx w) (λ v w' k'. WordIn k'.temporaries w'.made t NumberSort v) (expr_runs p n call c active calls e t 0 o w k pc cut.0 NumberSort alive (opened_kept p c d 0 t w w k k o l (keeps_refl d 0 w k) opened) fits cut.1))
       (λ v w1 k1 alive1 kept1 r1.
       tested v w1 k1 cut.0 (int_lt (number_of v) (pos 1)) refl r1.0
       (check_runs p (suc n) c active t 0 o w1 k1 cut.0 pc' t (pos 1) greatest 11 line (literal_of e) v (omega arith) alive1 (λ z q. let known_ = known_is p n call c active e z o w q fits in ap number_of (r1.1 known_.v w known_.gives_it) ∙ known_.is) r1.0 cut.2))
@@ -98,7 +99,7 @@ module _ (p : Setting) (n : ℕ) (call : Caller) (next : Next) (c : Activated) (
       let cut = split (code_in p) c.routine pc (expr_code code e a 0) (width_code code width default t) cut2.0 cut2.1 in
       let behind : length p.program.routines + routine ≡ length (code_in p).program + routine = ap (λ m. m + routine) (sym (length_map (tac_of p.program) p.program.routines)) in
       runs_bind p (suc n) c d 0 a 0 d 0 w k pc cut.0 pc' (value call e ctx w) (λ v w1. and_then (width_value p.program (costs_in p) call next width ctx w1) (λ u w2. write_text (text (number_of v) (unwrap_or u default)) w2)) (λ v w' k'. WordIn k'.temporaries w'.made a NumberSort v) (λ u w' k'. Unit {0}) la (omega arith) (omega arith) (omega arith)
-      (expr_runs p n call c active e a 0 o w k pc cut.0 NumberSort alive (opened_kept p c d 0 a w w k k o la (keeps_refl d 0 w k) opened) fits cut.1)
+      (expr_runs p n call c active calls e a 0 o w k pc cut.0 NumberSort alive (opened_kept p c d 0 a w w k k o la (keeps_refl d 0 w k) opened) fits cut.1)
       (λ v w1 k1 alive1 kept1 r1.
       runs_bind p (suc n) c d 0 t 0 d 0 w1 k1 cut.0 cut2.0 pc' (width_value p.program (costs_in p) call next width ctx w1) (λ u w2. write_text (text (number_of v) (unwrap_or u default)) w2) (λ u w' k'. WidthIn t (unwrap_or u default) k') (λ u w' k'. Unit {0}) (omega (arith, la, lt)) (omega arith) (omega arith) (omega arith)
       (width_runs width default d 0 t o w1 k1 cut.0 cut2.0 small (omega (arith, la, lt)) alive1 (opened_kept p c d 0 d w w1 k k1 o (omega arith) (keeps_less d 0 a 0 la (omega arith) kept1) opened) wide cut.2)

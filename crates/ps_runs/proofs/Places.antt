@@ -150,7 +150,7 @@ module _ (p : Setting) (n : ℕ) (c : Activated) where
   abbrev pub NameIn : Opening → PlaceBase → (t : ℕ) → Part → World → Work → Type 0
   NameIn o name t part w k = SiteAt p c w.made k.temporaries (name_site (scope_in p c o) name t) (denoted name (context_in c o)) part × IsBelow (suc t) (name_site (scope_in p c o) name t).base
 
-  frame_base_below : (o : Opening) (t up : ℕ) → IsBelow (suc t) (frame_base (scope_in p c o) t up)
+  pub frame_base_below : (o : Opening) (t up : ℕ) → IsBelow (suc t) (frame_base (scope_in p c o) t up)
   frame_base_below o t zero = tt
   frame_base_below o t (suc up) = go (is_outermost (scope_in p c o) (suc up))
     where

@@ -1,4 +1,5 @@
 -- The code of statements does what they mean.
+use Rattle.ps_runs.proofs.Calling.{Callable}
 use Rattle.std.proofs.Common.{◌≡◌, ℕ, suc, ◌+◌, ◌-◌, ◌*◌, ◌≤◌, ℤ, pos, Bool, true, false, not, if◌then◌else◌, IsTrue, List, [], ◌∷◌, ◌++◌, length, Option, Some, None, refl, sym, ap, ◌∙◌, subst, arith, append-nil, ◌&&◌, int_le}
 use Rattle.ps_tree.specs.declared.tree.Range.{Range}
 use Rattle.ps_tree.specs.declared.tree.Range.TheVariants.{Any, Within}
@@ -87,7 +88,7 @@ held_more : (d e : ℕ) (a : Operand) → d ≤ e → IsHeld d a → IsHeld e a
 held_more d e (operand.Temporary u) l h = omega (arith, l, h)
 held_more d e (operand.Number z) l h = tt
 
-module _ (p : Setting) (n : ℕ) (call : Caller) (next : Next) (c : Activated) (active : IsActive p c) (nexts : NextRuns p n next) (does : WritesDo p) where
+module _ (p : Setting) (n : ℕ) (call : Caller) (next : Next) (c : Activated) (active : IsActive p c) (nexts : NextRuns p n next) (does : WritesDo p) (calls : Callable p n call) where
   abbrev pub StatementRuns : Statement → Type 0
   StatementRuns s =
       (d : ℕ) (o : Opening) (w : World) (k : Work) (pc pc' : ℕ) → Alive p c w k → IsOpened p c w k d o → StatementFits (plain_scope p c) o.shapes s → Stands (code_in p) c.routine pc (statement_code (scope_in p c o) s d) pc'
@@ -140,7 +141,7 @@ module _ (p : Setting) (n : ℕ) (call : Caller) (next : Next) (c : Activated) (
   fitted (Within low high) (RecordShape a) sort v d w k o pc mid pc' t line literal site s l below sorted ranged alive at r known fit st = absurd ranged
 
   -- the same for a part of either kind
-  fitted_part : (range : Range) (part : Part) (sort : Sort) (v : Value) (d : ℕ) (w : World) (k : Work) (o : Opening) (pc mid pc' t line : ℕ) (literal : Option ℤ) (site : Site) (s : Spot) → d ≤ suc t → IsBelow (suc t) site.base → SortOf part sort → RangeFits range part → Alive p c w k → SiteAt p c w.made k.temporaries site s part → WordIn k.temporaries w.made t sort v → ((z : ℤ) → sort ≡ NumberSort → literal ≡ Some z → number_of v ≡ z) → Stands (code_in p) c.routine pc (fitting_code literal t range line) mid → Stands (code_in p) c.routine mid (store_code (is_byte_part p n call c active part) site t) pc'
+  pub fitted_part : (range : Range) (part : Part) (sort : Sort) (v : Value) (d : ℕ) (w : World) (k : Work) (o : Opening) (pc mid pc' t line : ℕ) (literal : Option ℤ) (site : Site) (s : Spot) → d ≤ suc t → IsBelow (suc t) site.base → SortOf part sort → RangeFits range part → Alive p c w k → SiteAt p c w.made k.temporaries site s part → WordIn k.temporaries w.made t sort v → ((z : ℤ) → sort ≡ NumberSort → literal ≡ Some z → number_of v ≡ z) → Stands (code_in p) c.routine pc (fitting_code literal t range line) mid → Stands (code_in p) c.routine mid (store_code (is_byte_part p n call c active part) site t) pc'
       → Runs p (suc n) c d 0 w k pc pc' (and_then (fitting range v line (context_in c o) w) (λ u. put s u)) Nothing
   fitted_part range (Whole shape) sort v d w k o pc mid pc' t line literal site s l below sorted ranged alive at r known fit st = fitted range shape sort v d w k o pc mid pc' t line literal site s l below sorted ranged alive at r known fit st
   fitted_part Any Byte sort v d w k o pc mid pc' t line literal site s l below sorted ranged alive at r known fit st = absurd ranged
@@ -151,7 +152,7 @@ module _ (p : Setting) (n : ℕ) (call : Caller) (next : Next) (c : Activated) (
       subst (λ q. Reached p c d 0 w1 k1 (state p c w1 k1 mid) pc' (λ w' k'. Unit {0}) (with_contents w1 s q)) (sym y.0)
       (store_byte_runs p (suc n) c active d 0 w1 k1 mid pc' t site s v alive1 (site_kept p c (suc t) 0 w w1 k k1 site s Byte below kept1 at) (byte_range low (number_of v) high ranged y.2) y.1 st))
 
-  base_below : (a b : ℕ) (x : Base) → a ≤ b → IsBelow a x → IsBelow b x
+  pub base_below : (a b : ℕ) (x : Base) → a ≤ b → IsBelow a x → IsBelow b x
   base_below a b base.Frame l h = tt
   base_below a b base.Scratch l h = tt
   base_below a b base.Program l h = tt
@@ -174,11 +175,11 @@ module _ (p : Setting) (n : ℕ) (call : Caller) (next : Next) (c : Activated) (
       let part = fits.0 in
       let sort = fits.3.0 in
       runs_bind p (suc n) c d 0 d0 0 d 0 w k pc cut1.0 pc' (access call q ctx w) (λ s w1. and_then (value call e ctx w1) (λ y w2. and_then (fitting range y line ctx w2) (λ v. put s v))) (λ s w' k'. PlaceIn p n call c active site tp s fits.0 w' k') Nothing l0 (omega arith) (omega arith) (omega arith)
-      (place_run p n call c active q d0 0 o w k pc cut1.0 fits.0 alive (opened_kept p c d 0 d0 w w k k o l0 (keeps_refl d 0 w k) opened) fits.1 cut1.1)
+      (place_run p n call c active calls q d0 0 o w k pc cut1.0 fits.0 alive (opened_kept p c d 0 d0 w w k k o l0 (keeps_refl d 0 w k) opened) fits.1 cut1.1)
       (λ s w1 k1 alive1 kept1 r1.
       let open1 = opened_kept p c d 0 t w w1 k k1 o (omega (arith, l0, lp, lt)) (keeps_less d 0 d0 0 l0 (omega arith) kept1) opened in
       runs_bind p (suc n) c d 0 t 0 d 0 w1 k1 cut1.0 cut2.0 pc' (value call e ctx w1) (λ y w2. and_then (fitting range y line ctx w2) (λ v. put s v)) (λ v w' k'. WordIn k'.temporaries w'.made t sort v × ((v0 : Value) (w0 : World) → value call e ctx w1 ≡ Gives v0 w0 → v ≡ v0)) Nothing (omega (arith, l0, lp, lt)) (omega arith) (omega arith) (omega arith)
-      (runs_told p (suc n) c t 0 w1 k1 cut1.0 cut2.0 (value call e ctx w1) (λ v w' k'. WordIn k'.temporaries w'.made t sort v) (expr_runs p n call c active e t 0 o w1 k1 cut1.0 cut2.0 sort alive1 open1 fits.3.2 cut1.2))
+      (runs_told p (suc n) c t 0 w1 k1 cut1.0 cut2.0 (value call e ctx w1) (λ v w' k'. WordIn k'.temporaries w'.made t sort v) (expr_runs p n call c active calls e t 0 o w1 k1 cut1.0 cut2.0 sort alive1 open1 fits.3.2 cut1.2))
       (λ v w2 k2 alive2 kept2 r2.
       let at = site_kept p c t 0 w1 w2 k1 k2 site s part (base_below (suc tp) t site.base lt r1.1) kept2 r1.0 in
       fitted_part range part sort v d w2 k2 o cut2.0 cut3.0 pc' t line (literal_of e) site s (omega (arith, l0, lp, lt)) (base_below (suc tp) (suc t) site.base (omega (arith, lt)) r1.1) fits.3.1 fits.2 alive2 at r2.0
@@ -196,7 +197,7 @@ module _ (p : Setting) (n : ℕ) (call : Caller) (next : Next) (c : Activated) (
       let ctx = context_in c o in
       let cut = split (code_in p) c.routine pc (front_code code e d 0) (i.Branch (opposite (relation_in e)) (left_in e d) (right_in e d) (length (statement_code code s d)) ∷ statement_code code s d) pc' st in
       runs_bind p (suc n) c d 0 d 0 d 0 w k pc cut.0 pc' (value call e ctx w) (λ y w1. (if is_true (number_of y) then act p.program (costs_in p) call next s ctx else give done) w1) (λ v w' k'. FrontIn e d NumberSort v w'.made k'.temporaries) Nothing (omega arith) (omega arith) (omega arith) (omega arith)
-      (front_runs p n call c active e d 0 o w k pc cut.0 NumberSort alive opened fits.0 cut.1)
+      (front_runs p n call c active calls e d 0 o w k pc cut.0 NumberSort alive opened fits.0 cut.1)
       (λ y w1 k1 alive1 kept1 f. choose y w1 k1 cut.0 alive1 f (is_true (number_of y)) refl cut.2 (rs d o w1 k1 (suc cut.0) pc' alive1 (opened_kept p c d 0 d w w1 k k1 o (omega arith) kept1 opened) fits.1 cut.2.1))
     where
       choose : (y : Value) (w1 : World) (k1 : Work) (m : ℕ) → Alive p c w1 k1 → FrontIn e d NumberSort y w1.made k1.temporaries → (b : Bool) → is_true (number_of y) ≡ b → Stands (code_in p) c.routine m (i.Branch (opposite (relation_in e)) (left_in e d) (right_in e d) (length (statement_code (code_of o) s d)) ∷ statement_code (code_of o) s d) pc' → Runs p (suc n) c d 0 w1 k1 (suc m) pc' (act p.program (costs_in p) call next s (context_in c o) w1) Nothing → Runs p (suc n) c d 0 w1 k1 m pc' ((if b then act p.program (costs_in p) call next s (context_in c o) else give done) w1) Nothing
@@ -219,7 +220,7 @@ module _ (p : Setting) (n : ℕ) (call : Caller) (next : Next) (c : Activated) (
       let ls = stands_length (code_in p) c.routine (suc cut.0) S cut2.0 cut.2.1 in
       let lt = stands_length (code_in p) c.routine (suc cut2.0) T pc' cut2.2.1 in
       runs_bind p (suc n) c d 0 d 0 d 0 w k pc cut.0 pc' (value call e ctx w) (λ y w1. (if is_true (number_of y) then act p.program (costs_in p) call next s ctx else act p.program (costs_in p) call next t ctx) w1) (λ v w' k'. FrontIn e d NumberSort v w'.made k'.temporaries) Nothing (omega arith) (omega arith) (omega arith) (omega arith)
-      (front_runs p n call c active e d 0 o w k pc cut.0 NumberSort alive opened fits.0 cut.1)
+      (front_runs p n call c active calls e d 0 o w k pc cut.0 NumberSort alive opened fits.0 cut.1)
       (λ y w1 k1 alive1 kept1 f.
       let back = opened_kept p c d 0 d w w1 k k1 o (omega arith) kept1 opened in
       choose y w1 k1 cut.0 cut2.0 alive1 f (is_true (number_of y)) refl cut.2.0 cut2.2.0 ls lt
@@ -263,7 +264,7 @@ module _ (p : Setting) (n : ℕ) (call : Caller) (next : Next) (c : Activated) (
       let A = act p.program (costs_in p) call next s ctx in
       let again : Act Done = A >> next (Again (While e s)) ctx in
       runs_bind p (suc n) c d 0 d 0 d 0 w k pc cut.0 pc' (value call e ctx w) (λ y w1. (if is_true (number_of y) then again else give done) w1) (λ v w' k'. FrontIn e d NumberSort v w'.made k'.temporaries) Nothing (omega arith) (omega arith) (omega arith) (omega arith)
-      (front_runs p n call c active e d 0 o w k pc cut.0 NumberSort alive opened fits.0 cut.1)
+      (front_runs p n call c active calls e d 0 o w k pc cut.0 NumberSort alive opened fits.0 cut.1)
       (λ y w1 k1 alive1 kept1 f.
       let back = opened_kept p c d 0 d w w1 k k1 o (omega arith) kept1 opened in
       test_back d w1 k1 cut.0 pc' start (length S + length F) (relation_in e) (left_in e d) (right_in e d) (is_true (number_of y)) again (f.relates refl) cut.2 (omega (arith, ls, lf)) alive1
@@ -299,7 +300,7 @@ module _ (p : Setting) (n : ℕ) (call : Caller) (next : Next) (c : Activated) (
       (λ u w1 k1 alive1 kept1 y1.
       let back = opened_kept p c d 0 d w w1 k k1 o (omega arith) kept1 opened in
       runs_bind p (suc n) c d 0 d 0 d 0 w1 k1 cut2.0 cut.0 pc' (value call e ctx w1) (λ y w2. (if is_true (number_of y) then give done else again) w2) (λ v w' k'. FrontIn e d NumberSort v w'.made k'.temporaries) Nothing (omega arith) (omega arith) (omega arith) (omega arith)
-      (front_runs p n call c active e d 0 o w1 k1 cut2.0 cut.0 NumberSort alive1 back fits.1 cut2.2)
+      (front_runs p n call c active calls e d 0 o w1 k1 cut2.0 cut.0 NumberSort alive1 back fits.1 cut2.2)
       (λ y w2 k2 alive2 kept2 f.
       let b = is_true (number_of y) in
       subst (λ a. Runs p (suc n) c d 0 w2 k2 cut.0 pc' a Nothing) (sym (if_not b (give done) again w2))
@@ -471,11 +472,11 @@ module _ (p : Setting) (n : ℕ) (call : Caller) (next : Next) (c : Activated) (
       let le = body.2.1.1 in
       let rest : Value → Value → Act Done = λ x y. (if is_past direction (number_of x) (number_of y) then give done else (λ w0. and_then (fitting (Within low high) x fl ctx w0) (λ u w1. and_then (fitting (Within low high) y tl ctx w1) (λ v w2. (put (own_spot variable ctx) x >> (act p.program (costs_in p) call next s ctx >> next (Further variable direction (number_of y) s) ctx)) w2)))) in
       runs_bind p (suc n) c d 0 ta 0 d 0 w k pc cut0.0 pc' (value call a ctx w) (λ x w1. and_then (value call b ctx w1) (λ y w2. rest x y w2)) (λ v w' k'. WordIn k'.temporaries w'.made ta NumberSort v × ((v0 : Value) (w0 : World) → value call a ctx w ≡ Gives v0 w0 → v ≡ v0)) Nothing la (omega arith) (omega arith) (omega arith)
-      (runs_told p (suc n) c ta 0 w k pc cut0.0 (value call a ctx w) (λ v w' k'. WordIn k'.temporaries w'.made ta NumberSort v) (expr_runs p n call c active a ta 0 o w k pc cut0.0 NumberSort alive (opened_kept p c d 0 ta w w k k o la (keeps_refl d 0 w k) opened) fits.1 cut0.1))
+      (runs_told p (suc n) c ta 0 w k pc cut0.0 (value call a ctx w) (λ v w' k'. WordIn k'.temporaries w'.made ta NumberSort v) (expr_runs p n call c active calls a ta 0 o w k pc cut0.0 NumberSort alive (opened_kept p c d 0 ta w w k k o la (keeps_refl d 0 w k) opened) fits.1 cut0.1))
       (λ x w1 k1 alive1 kept1 r1.
       let open1 = opened_kept p c d 0 d w w1 k k1 o (omega arith) (keeps_less d 0 ta 0 la (omega arith) kept1) opened in
       runs_bind p (suc n) c d 0 tb 0 d 0 w1 k1 cut0.0 m pc' (value call b ctx w1) (λ y w2. rest x y w2) (λ y w' k'. OperandIn p n call c active lit tb y w' k') Nothing (omega (arith, la, lb)) (omega arith) (omega arith) (omega arith)
-      (operand_runs p n call c active b (front_runs p n call c active b) tb 0 o w1 k1 cut0.0 m alive1 (opened_kept p c d 0 tb w1 w1 k1 k1 o (omega (arith, la, lb)) (keeps_refl d 0 w1 k1) open1) fits.2 cut0.2)
+      (operand_runs p n call c active b (front_runs p n call c active calls b) tb 0 o w1 k1 cut0.0 m alive1 (opened_kept p c d 0 tb w1 w1 k1 k1 o (omega (arith, la, lb)) (keeps_refl d 0 w1 k1) open1) fits.2 cut0.2)
       (λ y w2 k2 alive2 kept2 r2.
       let first_word : WordIn k2.temporaries w2.made ta NumberSort x = record { word = kept2.temporaries ta (omega (arith, lb)) ∙ r1.0.word; fits = r1.0.fits } in
       let open2 = opened_kept p c d 0 d w1 w2 k1 k2 o (omega arith) (keeps_less d 0 tb 0 (omega (arith, la, lb)) (omega arith) kept2) open1 in
@@ -511,10 +512,10 @@ module _ (p : Setting) (n : ℕ) (call : Caller) (next : Next) (c : Activated) (
   -- ---- output
 
   write_run : (q : WriteParameter) (d : ℕ) (o : Opening) (w : World) (k : Work) (pc pc' : ℕ) → Alive p c w k → IsOpened p c w k d o → WriteFits (plain_scope p c) o.shapes q → Stands (code_in p) c.routine pc (write_code (code_of o) q d) pc' → Runs p (suc n) c d 0 w k pc pc' (write p.program (costs_in p) call next q (context_in c o) w) Nothing
-  write_run (WriteInteger e width) d o w k pc pc' alive opened fits st = write_integer_run p n call next c active does e width d o w k pc pc' alive opened fits st
-  write_run (WriteChar e width) d o w k pc pc' alive opened fits st = write_char_run p n call next c active does e width d o w k pc pc' alive opened fits st
-  write_run (WriteBoolean e width) d o w k pc pc' alive opened fits st = write_boolean_run p n call next c active does e width d o w k pc pc' alive opened fits st
-  write_run (WriteText e width) d o w k pc pc' alive opened fits st = write_text_run p n call next c active does e width d o w k pc pc' alive opened fits st
+  write_run (WriteInteger e width) d o w k pc pc' alive opened fits st = write_integer_run p n call next c active does calls e width d o w k pc pc' alive opened fits st
+  write_run (WriteChar e width) d o w k pc pc' alive opened fits st = write_char_run p n call next c active does calls e width d o w k pc pc' alive opened fits st
+  write_run (WriteBoolean e width) d o w k pc pc' alive opened fits st = write_boolean_run p n call next c active does calls e width d o w k pc pc' alive opened fits st
+  write_run (WriteText e width) d o w k pc pc' alive opened fits st = write_text_run p n call next c active does calls e width d o w k pc pc' alive opened fits st
 
   pub writes_run : (ps : List WriteParameter) (d : ℕ) (o : Opening) (w : World) (k : Work) (pc pc' : ℕ) → Alive p c w k → IsOpened p c w k d o → WritesFit (plain_scope p c) o.shapes ps → Stands (code_in p) c.routine pc (writes_code (code_of o) ps d) pc' → Runs p (suc n) c d 0 w k pc pc' (writes p.program (costs_in p) call next ps (context_in c o) w) Nothing
   writes_run [] d o w k pc pc' alive opened fits st = here p (suc n) c d 0 w k pc pc' (Nothing done) st alive tt

@@ -1,4 +1,5 @@
 -- Write statements of truths and strings.
+use Rattle.ps_runs.proofs.Calling.{Callable}
 use Rattle.std.proofs.Common.{◌≡◌, ℕ, zero, suc, ◌+◌, ◌%◌, ◌<◌, ◌≤◌, ℤ, pos, Bool, true, false, not, List, [], ◌∷◌, ◌++◌, length, Some, unwrap_or, refl, sym, ap, ◌∙◌, subst, arith}
 use Rattle.std.specs.Prelude.{codes}
 use Rattle.ps_tree.specs.Tree.{Expr, Width, Literal, Contents, Structure, WriteBoolean, WriteText}
@@ -85,12 +86,12 @@ characters_back (b ∷ rest) h =
     let e : b % 256 ≡ b = omega (arith, l) in
     ap (λ x. x ∷ characters (text_values rest)) e ∙ ap (λ xs. b ∷ xs) (characters_back rest (other_bytes b rest h))
 
-module _ (p : Setting) (n : ℕ) (call : Caller) (next : Next) (c : Activated) (active : IsActive p c) (does : WritesDo p) where
+module _ (p : Setting) (n : ℕ) (call : Caller) (next : Next) (c : Activated) (active : IsActive p c) (does : WritesDo p) (calls : Callable p n call) where
   behind : (routine : ℕ) → length p.program.routines + routine ≡ length (code_in p).program + routine
   behind routine = ap (λ m. m + routine) (sym (length_map (tac_of p.program) p.program.routines))
 
   -- a string and its length are named, and the code comes to the call
-  named_run : (d a b t : ℕ) (w : World) (k : Work) (pc q r pc' : ℕ) (text : List ℕ) (width : ℕ) → d ≤ t → t < a → a < b → Alive p c w k → AreBytes text → length text < 2147483648 → WidthIn p n call next c active does t width k
+  named_run : (d a b t : ℕ) (w : World) (k : Work) (pc q r pc' : ℕ) (text : List ℕ) (width : ℕ) → d ≤ t → t < a → a < b → Alive p c w k → AreBytes text → length text < 2147483648 → WidthIn p n call next c active does calls t width k
       → Comes (machine_of p) (state p c w k pc) (state p c w k q) → fetch (code_in p) c.routine q ≡ Some (i.Text a (filled text)) → fetch (code_in p) c.routine (suc q) ≡ Some (i.Literal b (pos (length text)))
       → ((k' : Work) → Comes (machine_of p) (state p c w k' (suc (suc q))) (state p c w k' r)) → Stands (code_in p) c.routine r (i.Call (even_from d) (length p.program.routines + 12) (a ∷ b ∷ t ∷ []) 1 ∷ []) pc'
       → Runs p (suc n) c d 0 w k pc pc' (write_text (fitted width text) w) (λ u w' k'. Unit {0})
@@ -112,7 +113,7 @@ module _ (p : Setting) (n : ℕ) (call : Caller) (next : Next) (c : Activated) (
       (subst (λ m. Stands (code_in p) c.routine r (i.Call (even_from d) m (a ∷ b ∷ t ∷ []) 1 ∷ []) pc') (behind 12) st)))))
 
   -- the string of a truth
-  truth_run : (code : Scope) (d a t : ℕ) (w : World) (k : Work) (pc mid pc' : ℕ) (z : ℤ) (width : ℕ) → d ≤ t → Alive p c w k → k.temporaries a ≡ Some (Numeral z) → WidthIn p n call next c active does t width k → Stands (code_in p) c.routine pc (truth_text code a (beside t) (beside (beside t))) mid
+  truth_run : (code : Scope) (d a t : ℕ) (w : World) (k : Work) (pc mid pc' : ℕ) (z : ℤ) (width : ℕ) → d ≤ t → Alive p c w k → k.temporaries a ≡ Some (Numeral z) → WidthIn p n call next c active does calls t width k → Stands (code_in p) c.routine pc (truth_text code a (beside t) (beside (beside t))) mid
       → Stands (code_in p) c.routine mid (i.Call (even_from d) (length p.program.routines + 12) (beside t ∷ beside (beside t) ∷ t ∷ []) 1 ∷ []) pc'
       → Runs p (suc n) c d 0 w k pc pc' (write_text (fitted width (boolean_text (is_true z))) w) (λ u w' k'. Unit {0})
   truth_run code d a t w k pc mid pc' z width lt alive at width_in st last =
@@ -150,10 +151,10 @@ module _ (p : Setting) (n : ℕ) (call : Caller) (next : Next) (c : Activated) (
       let cut2 = split (code_in p) c.routine pc (expr_code code e a 0 ++ width_code code width 5 t) (truth_text code a (beside t) (beside (beside t))) cut3.0 cut3.1 in
       let cut = split (code_in p) c.routine pc (expr_code code e a 0) (width_code code width 5 t) cut2.0 cut2.1 in
       runs_bind p (suc n) c d 0 a 0 d 0 w k pc cut.0 pc' (value call e ctx w) (λ v w1. and_then (width_value p.program (costs_in p) call next width ctx w1) (λ u w2. write_text (fitted (unwrap_or u 5) (boolean_text (is_true (number_of v)))) w2)) (λ v w' k'. WordIn k'.temporaries w'.made a NumberSort v) (λ u w' k'. Unit {0}) la (omega arith) (omega arith) (omega arith)
-      (expr_runs p n call c active e a 0 o w k pc cut.0 NumberSort alive (opened_kept p c d 0 a w w k k o la (keeps_refl d 0 w k) opened) fits.0 cut.1)
+      (expr_runs p n call c active calls e a 0 o w k pc cut.0 NumberSort alive (opened_kept p c d 0 a w w k k o la (keeps_refl d 0 w k) opened) fits.0 cut.1)
       (λ v w1 k1 alive1 kept1 r1.
-      runs_bind p (suc n) c d 0 t 0 d 0 w1 k1 cut.0 cut2.0 pc' (width_value p.program (costs_in p) call next width ctx w1) (λ u w2. write_text (fitted (unwrap_or u 5) (boolean_text (is_true (number_of v)))) w2) (λ u w' k'. WidthIn p n call next c active does t (unwrap_or u 5) k') (λ u w' k'. Unit {0}) (omega (arith, la, lt)) (omega arith) (omega arith) (omega arith)
-      (width_runs p n call next c active does width 5 d 0 t o w1 k1 cut.0 cut2.0 (omega arith) (omega (arith, la, lt)) alive1 (opened_kept p c d 0 d w w1 k k1 o (omega arith) (keeps_less d 0 a 0 la (omega arith) kept1) opened) fits.1 cut.2)
+      runs_bind p (suc n) c d 0 t 0 d 0 w1 k1 cut.0 cut2.0 pc' (width_value p.program (costs_in p) call next width ctx w1) (λ u w2. write_text (fitted (unwrap_or u 5) (boolean_text (is_true (number_of v)))) w2) (λ u w' k'. WidthIn p n call next c active does calls t (unwrap_or u 5) k') (λ u w' k'. Unit {0}) (omega (arith, la, lt)) (omega arith) (omega arith) (omega arith)
+      (width_runs p n call next c active does calls width 5 d 0 t o w1 k1 cut.0 cut2.0 (omega arith) (omega (arith, la, lt)) alive1 (opened_kept p c d 0 d w w1 k k1 o (omega arith) (keeps_less d 0 a 0 la (omega arith) kept1) opened) fits.1 cut.2)
       (λ u w2 k2 alive2 kept2 r2.
       truth_run code d a t w2 k2 cut2.0 cut3.0 pc' (number_of v) (unwrap_or u 5) (omega (arith, la, lt)) alive2 (kept2.temporaries a (omega (arith, lt)) ∙ r1.word) r2 cut2.2 cut3.2))
 
@@ -178,8 +179,8 @@ module _ (p : Setting) (n : ℕ) (call : Caller) (next : Next) (c : Activated) (
       subst (λ s. Runs p (suc n) c d 0 w k pc pc' (rest s w) (λ u w' k'. Unit {0})) (sym (characters_back text fits.0.0))
       (runs_word p (suc n) c d 0 w k pc (suc pc) pc' a address (rest text w) (λ u w' k'. Unit {0}) (text_step (machine_of p) (state p c w k pc) a (filled text) st.0) refl la alive
       (λ alive0.
-      runs_bind p (suc n) c d 0 t 0 d 0 w k0 (suc pc) cut.0 pc' (width_value p.program (costs_in p) call next width ctx w) (λ u w2. write_text (fitted (unwrap_or u (length text)) text) w2) (λ u w' k'. WidthIn p n call next c active does t (unwrap_or u (length text)) k') (λ u w' k'. Unit {0}) (omega (arith, la, lt)) (omega arith) (omega arith) (omega arith)
-      (width_runs p n call next c active does width (length text) d 0 t o w k0 (suc pc) cut.0 small (omega (arith, la, lt)) alive0 back fits.1 cut.1)
+      runs_bind p (suc n) c d 0 t 0 d 0 w k0 (suc pc) cut.0 pc' (width_value p.program (costs_in p) call next width ctx w) (λ u w2. write_text (fitted (unwrap_or u (length text)) text) w2) (λ u w' k'. WidthIn p n call next c active does calls t (unwrap_or u (length text)) k') (λ u w' k'. Unit {0}) (omega (arith, la, lt)) (omega arith) (omega arith) (omega arith)
+      (width_runs p n call next c active does calls width (length text) d 0 t o w k0 (suc pc) cut.0 small (omega (arith, la, lt)) alive0 back fits.1 cut.1)
       (λ u w2 k2 alive2 kept2 r2.
       let k3 = with_temporary k2 b count in
       let nab : a ≡ b → ⊥ = λ e. omega (arith, lt, e) in
@@ -223,7 +224,7 @@ module _ (p : Setting) (n : ℕ) (call : Caller) (next : Next) (c : Activated) (
       runs_bind p (suc n) c d 0 a 0 d 0 w k pc cut1.0 pc' (and_then (access call q ctx w) (λ s w1. Gives (HeldSpot s) w1)) (λ h w1. and_then (width_value p.program (costs_in p) call next width ctx w1) (λ u w2. and_then (contents_of h w2) (λ v w3. write_text (fitted (unwrap_or u (length (characters (components_of v)))) (characters (components_of v))) w3)))
       (λ h w' k'. (s : Spot) × (h ≡ HeldSpot s) × TextIn a count first s w' k') (λ u w' k'. Unit {0}) la (omega arith) (omega arith) (omega arith)
       (runs_bind p (suc n) c a 0 a 0 a 0 w k pc cut.0 cut1.0 (access call q ctx w) (λ s w1. Gives (HeldSpot s) w1) (λ s w' k'. PlaceIn p n call c active site (place_temporary q a) s (Whole (ByteShape count first)) w' k') (λ h w' k'. (s : Spot) × (h ≡ HeldSpot s) × TextIn a count first s w' k') (omega arith) (omega arith) (omega arith) (omega arith)
-      (place_run p n call c active q a 0 o w k pc cut.0 (Whole (ByteShape count first)) alive (opened_kept p c d 0 a w w k k o la (keeps_refl d 0 w k) opened) fits.0.4 cut.1)
+      (place_run p n call c active calls q a 0 o w k pc cut.0 (Whole (ByteShape count first)) alive (opened_kept p c d 0 a w w k k o la (keeps_refl d 0 w k) opened) fits.0.4 cut.1)
       (λ s w1 k1 alive1 kept1 r1.
       let r = address_run a a (byte_count (shape_of type)) count first w1 k1 cut.0 cut1.0 site s (omega arith) alive1 r1.0 cut.2 in
       record { work = r.work; alive = r.alive; keeps = r.keeps; comes = r.comes; result = (s, refl, r.result) }))
@@ -232,8 +233,8 @@ module _ (p : Setting) (n : ℕ) (call : Caller) (next : Next) (c : Activated) (
       let open1 = opened_kept p c d 0 d w w1 k k1 o (omega arith) (keeps_less d 0 a 0 la (omega arith) kept1) opened in
       let size = place_end p.program c.ghosts active.small w1 k1.count alive1.holds s r1.2.0 r1.2.1.0 (Whole (ByteShape count first)) r1.2.1.2 in
       subst (λ y. Runs p (suc n) c d 0 w1 k1 cut1.0 pc' (and_then (width_value p.program (costs_in p) call next width ctx w1) (λ u w2. and_then (contents_of y w2) (λ v w3. write_text (fitted (unwrap_or u (length (characters (components_of v)))) (characters (components_of v))) w3))) (λ u w' k'. Unit {0})) (sym r1.1)
-      (runs_bind p (suc n) c d 0 t 0 d 0 w1 k1 cut1.0 cut2.0 pc' (width_value p.program (costs_in p) call next width ctx w1) (λ u w2. write_text (fitted (unwrap_or u (length (characters (components_of (contents_in w2 s))))) (characters (components_of (contents_in w2 s)))) w2) (λ u w' k'. WidthIn p n call next c active does t (unwrap_or u m) k') (λ u w' k'. Unit {0}) (omega (arith, la, lt)) (omega arith) (omega arith) (omega arith)
-      (width_runs p n call next c active does width m d 0 t o w1 k1 cut1.0 cut2.0 (omega (arith, size, known_length)) (omega (arith, la, lt)) alive1 open1 fits.1 cut1.2)
+      (runs_bind p (suc n) c d 0 t 0 d 0 w1 k1 cut1.0 cut2.0 pc' (width_value p.program (costs_in p) call next width ctx w1) (λ u w2. write_text (fitted (unwrap_or u (length (characters (components_of (contents_in w2 s))))) (characters (components_of (contents_in w2 s)))) w2) (λ u w' k'. WidthIn p n call next c active does calls t (unwrap_or u m) k') (λ u w' k'. Unit {0}) (omega (arith, la, lt)) (omega arith) (omega arith) (omega arith)
+      (width_runs p n call next c active does calls width m d 0 t o w1 k1 cut1.0 cut2.0 (omega (arith, size, known_length)) (omega (arith, la, lt)) alive1 open1 fits.1 cut1.2)
       (λ u w2 k2 alive2 kept2 r2.
       let block = r1.2.0 in
       let offset = r1.2.1.0 in

@@ -1,4 +1,5 @@
 -- `with` statements: records are opened one after another.
+use Rattle.ps_runs.proofs.Calling.{Callable}
 use Rattle.std.proofs.Common.{◌≡◌, ℕ, suc, ◌≤◌, Bool, ◌||◌, List, [], ◌∷◌, refl, sym, subst, arith}
 use Rattle.ps_tree.specs.Tree.{Place, Statement, With}
 use Rattle.ps_meaning.specs.Values.{Spot}
@@ -33,7 +34,7 @@ with_above (q ∷ rest) calls d =
     let r = with_above rest calls (suc (place_temporary q (held calls d))) in
     omega (arith, a, b, r)
 
-module _ (p : Setting) (n : ℕ) (call : Caller) (next : Next) (c : Activated) (active : IsActive p c) (nexts : NextRuns p n next) (does : WritesDo p) where
+module _ (p : Setting) (n : ℕ) (call : Caller) (next : Next) (c : Activated) (active : IsActive p c) (nexts : NextRuns p n next) (does : WritesDo p) (callable : Callable p n call) where
   with_scope_is : (places : List Place) (o : Opening) (calls : Bool) (d : ℕ) → with_scope (scope_in p c o) places calls d ≡ record { program = p.program; chain = chain_of c; opened = (with_scope (scope_in p c o) places calls d).opened }
   with_scope_is [] o calls d = refl
   with_scope_is (q ∷ rest) o calls d = with_scope_is rest (record { sites = place_site (scope_in p c o) q (held calls d) ∷ o.sites; spots = o.spots; shapes = o.shapes }) calls (suc (place_temporary q (held calls d)))
@@ -55,13 +56,13 @@ module _ (p : Setting) (n : ℕ) (call : Caller) (next : Next) (c : Activated) (
       let cut = split (code_in p) c.routine pc (place_code code q h 0) (with_code (within_site code site) rest calls (suc t)) pc' st in
       runs_bind p (suc n) c d 0 h 0 (suc t) 0 w k pc cut.0 pc' (access call q ctx w) (λ s w1. opening p.program (costs_in p) call next rest (with_opened (s ∷ o.spots) ctx) w1) (λ s w' k'. PlaceIn p n call c active site t s (Whole fits.0) w' k')
       (λ ss w' k'. OpenedNow w' k' (with_depth rest calls (suc t)) (with_scope (within_site code site) rest calls (suc t)).opened ss os) l (omega arith) (omega (arith, l, lt)) (omega arith)
-      (place_run p n call c active q h 0 o w k pc cut.0 (Whole fits.0) alive (opened_kept p c d 0 h w w k k o l (keeps_refl d 0 w k) opened) fits.1 cut.1)
+      (place_run p n call c active callable q h 0 o w k pc cut.0 (Whole fits.0) alive (opened_kept p c d 0 h w w k k o l (keeps_refl d 0 w k) opened) fits.1 cut.1)
       (λ s w1 k1 alive1 kept1 r1.
       let o1 : Opening = record { sites = site ∷ o.sites; spots = s ∷ o.spots; shapes = fits.0 ∷ o.shapes } in
       let back = opened_kept p c d 0 (suc t) w w1 k k1 o (omega (arith, l, lt)) (keeps_less d 0 h 0 l (omega arith) kept1) opened in
       opening_run rest calls (suc t) o1 w1 k1 cut.0 pc' os alive1 (r1.0, r1.1, back) fits.2 cut.2)
 
-  pub with_run : (places : List Place) (s : Statement) → StatementRuns p n call next c active nexts does s → StatementRuns p n call next c active nexts does (With places s)
+  pub with_run : (places : List Place) (s : Statement) → StatementRuns p n call next c active nexts does callable s → StatementRuns p n call next c active nexts does callable (With places s)
   with_run places s rs d o w k pc pc' alive opened fits st =
       let code = scope_in p c o in
       let ctx = context_in c o in

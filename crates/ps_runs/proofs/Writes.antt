@@ -20,16 +20,16 @@ use Rattle.ps_relation.proofs.Bytes.{AreBytes}
 use Rattle.ps_relation.proofs.Frames.{level}
 use Rattle.ps_runs.proofs.Calls.{found_below}
 
-numbered_more : (gs : List Ghost) (m n : ℕ) → m ≤ n → Numbered gs m → Numbered gs n
+pub numbered_more : (gs : List Ghost) (m n : ℕ) → m ≤ n → Numbered gs m → Numbered gs n
 numbered_more [] m n l h = tt
 numbered_more (g ∷ gs) m n l h = (omega (arith, l, h.0), h.1)
 
-waiting_below : (m n : ℕ) (bs : List Living) → m ≤ n → Below m bs → AreBelow n bs
+pub waiting_below : (m n : ℕ) (bs : List Living) → m ≤ n → Below m bs → AreBelow n bs
 waiting_below m n [] l h = tt
 waiting_below m n (b ∷ bs) l h = (omega (arith, l, h.0), waiting_below m n bs l h.1)
 
 module _ (p : Setting) (c : Activated) (active : IsActive p c) where
-  frames_below : (w : World) (gs : List Ghost) (count m : ℕ) → m ≤ count → Numbered gs m → AreBelow count (frames_of p.program w gs)
+  pub frames_below : (w : World) (gs : List Ghost) (count m : ℕ) → m ≤ count → Numbered gs m → AreBelow count (frames_of p.program w gs)
   frames_below w [] count m l h = tt
   frames_below w (g ∷ gs) count m l h = let low = h.0 in (omega (arith, l, low), frames_below w gs count g.number (omega (arith, l, low)) h.1)
 

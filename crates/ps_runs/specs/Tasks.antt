@@ -23,6 +23,7 @@ use Rattle.ps_code.specs.Fits.{StatementFits, StatementsFit}
 use Rattle.ps_relation.specs.Here.{Setting, code_in, costs_in, Work, Activated, IsActive, Alive}
 use Rattle.ps_relation.specs.Outcomes.{Runs}
 use Rattle.ps_relation.specs.RunTime.{WritesDo}
+use Rattle.ps_calls.specs.Routines.{RoutinesFit}
 use Rattle.ps_runs.specs.Openings.{plain_scope, Opening, scope_in, context_in, IsOpened}
 
 abbrev pub Nothing : Done → World → Work → Type 0
@@ -71,6 +72,6 @@ module _ (p : Setting) where
       (c : Activated) → IsActive p c → (task : Task) (d : ℕ) (o : Opening) (w : World) (k : Work) (pc pc' : ℕ) → Alive p c w k → IsOpened p c w k d o → TaskFits c o task → TaskStands c o task d k pc pc'
       → Runs p n c d 0 w k pc pc' (next task (context_in c o) w) Nothing
 
--- with every fuel, each task's code does what the task means
+-- With every fuel, each task's code does what the task means, where the routines that it may call fit.
 abbrev pub EveryFuel : Type 0
-EveryFuel = (p : Setting) → WritesDo p → (n : ℕ) → NextRuns p n (execute p.program (costs_in p) n)
+EveryFuel = (p : Setting) → WritesDo p → RoutinesFit p.program → (n : ℕ) → NextRuns p n (execute p.program (costs_in p) n)

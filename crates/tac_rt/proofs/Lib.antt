@@ -11,9 +11,11 @@ pub mod Unpacks
 pub mod Joins
 pub mod Inclusions
 pub mod Members
+pub mod Additions
 pub mod Lines
 pub mod Soundness
 pub mod Looks
 pub mod Copies
 pub mod Characters
+pub mod Integers
 mod Examples

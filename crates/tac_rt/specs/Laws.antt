@@ -1,5 +1,6 @@
 -- What the run-time routines do, in the words of what programs mean.
-use Rattle.std.specs.Prelude.{◌==◌, ◌/◌, not, ◌-ℤ◌, if◌then◌else◌, zero, suc, ◌*◌, ◌%◌, ◌≡◌, ℤ, unsigned_abs, IsTrue, Bool, true, false, ◌++◌, Option, Some, None, negsuc, ℕ, ◌+◌, ◌<◌, pos, List, [], ◌∷◌, length}
+use Rattle.std.specs.Prelude.{int_lt, ◌==◌, ◌/◌, not, ◌-ℤ◌, if◌then◌else◌, zero, suc, ◌*◌, ◌%◌, ◌≡◌, ℤ, unsigned_abs, IsTrue, Bool, true, false, ◌++◌, Option, Some, None, negsuc, ℕ, ◌+◌, ◌<◌, pos, List, [], ◌∷◌, length}
+use Rattle.std.specs.List.{All}
 use Rattle.tac_code.specs.declared.code.Block.{Block}
 use Rattle.tac_code.specs.declared.code.BitOperator.{BitOperator}
 use Rattle.tac_code.specs.declared.code.BitOperator.TheVariants.{And, Or, AndNot, ShiftLeft}
@@ -7,11 +8,12 @@ use Rattle.tac_code.specs.declared.code.Value.{Value}
 use Rattle.tac_code.specs.declared.code.Value.TheVariants.{Number, Address}
 use Rattle.tac_code.specs.Memory.{Memory, Constants, load, load_byte, store, store_byte}
 use Rattle.tac_code.specs.Numbers.{is_integer, bits, truth, same_number, is_in_range}
-use Rattle.tac_code.specs.Meaning.{Code, Tape, text_at}
+use Rattle.tac_code.specs.Meaning.{Code, State, Tape, text_at, fetch, values_of, giving}
 use Rattle.tac_code.specs.Sound.{AreSoundRoutines, AreLeaves}
-use Rattle.tac_steps.specs.Runs.{Machine}
-use Rattle.tac_steps.specs.Routines.{Does, wrote}
-use Rattle.ps_meaning.specs.Text.{Input, next_character, looked_at, look_marks, taken, as_character, after_line, line_marks, right_aligned, fitted, integer_text}
+use Rattle.tac_steps.specs.Runs.{Machine, Comes}
+use Rattle.tac_steps.specs.Routines.{Does, Fresh, wrote}
+use Rattle.tac_code.specs.declared.code.Instruction.TheVariants.{Call}
+use Rattle.ps_meaning.specs.Text.{Input, next_character, looked_at, look_marks, taken, as_character, Reading, EndFound, NoInteger, Integer, scan_integer, marks_to, after_integer, after_line, line_marks, right_aligned, fitted, integer_text}
 use Rattle.tac_rt.specs.Bodies.{run_time_routines}
 use Rattle.tac_rt.specs.Calls.{HasRoutines, BytesAt}
 use Rattle.tac_rt.specs.Inputs.{ahead, begun, tape_of, InputAt, kind_of}
@@ -68,6 +70,34 @@ ReadsCharacters =
     HasRoutines m → InputAt (text_at m.code) before block offset i →
     Renewed before block offset (taken i) after →
     Does m 14 (Address block offset ∷ []) before (tape_of i transcript) (Number (character_or_end (next_character i))) after (tape_of (taken i) (transcript ++ look_marks i))
+
+-- What the routine tells of an integer that was found, and where it leaves it: 0 where it is one of 32 bits, 1 where it is not.
+abbrev pub IntegerRead : (fits : Bool) → (middle : Memory) → (to : Block) (place : ℕ) → ℤ → (code : ℤ) → (after : Memory) → Type 0
+IntegerRead true middle to place x code after = (code ≡ pos 0) × (store middle to place (Number x) ≡ Some after)
+IntegerRead false middle to place x code after = code ≡ pos 1
+
+-- 2 where no integer stands there, 3 at the end of the input
+abbrev pub NumberRead : (middle : Memory) → (to : Block) (place : ℕ) → Reading → (code : ℤ) → (after : Memory) → Type 0
+NumberRead middle to place EndFound code after = code ≡ pos 3
+NumberRead middle to place NoInteger code after = code ≡ pos 2
+NumberRead middle to place (Integer x) code after = IntegerRead (is_integer x) middle to place x code after
+
+-- what a call in a state comes to
+pub record ReadNumber (m : Machine) (to : Block) (place : ℕ) (i : Input) (middle : Memory) (transcript : List ℕ) (s : State) (t : ℕ) : Type 0 where
+  pub code : ℤ
+  pub after : Memory
+  pub read : NumberRead middle to place (scan_integer i.left).found code after
+  pub comes : Comes m s (record s { current = giving t (Number code) s.current; memory = after; tape = tape_of (after_integer (scan_integer i.left).rest) (transcript ++ marks_to i (scan_integer i.left).rest); count = suc s.count })
+
+-- An integer (6.9.1): the address of the words of the input, and where it goes. Where one is found, the words of the input are renewed first.
+abbrev pub ReadsNumbers : Type 0
+ReadsNumbers =
+    (m : Machine) (block : Block) (offset : ℕ) (to : Block) (place : ℕ) (i : Input) (middle : Memory) (transcript : List ℕ) (s : State) (t line : ℕ) (operands : List ℕ) →
+    HasRoutines m → s.tape ≡ tape_of i transcript → InputAt (text_at m.code) s.memory block offset i → All (λ b. b < 256) i.left →
+    Renewed s.memory block offset (after_integer (scan_integer i.left).rest) middle → ((z : ℤ) → (memory : Memory) × (store middle to place (Number z) ≡ Some memory)) →
+    Fresh s → values_of s.current.temporaries operands ≡ Some (Address block offset ∷ Address to place ∷ []) →
+    fetch m.code s.current.routine s.current.place ≡ Some (Call t (length m.code.program + 15) operands line) →
+    ReadNumber m to place i middle transcript s t
 
 -- 1 where nothing is left to read
 abbrev pub nothing_left : Option ℕ → ℤ
@@ -157,6 +187,18 @@ pub record JoinedSets : Type 0 where
   pub union : JoinsSets 2 Or
   pub difference : JoinsSets 3 AndNot
   pub intersection : JoinsSets 4 And
+
+-- so many members from n on are added, one after another: each is a bit of the word where it stands
+abbrev pub AddedUp : Constants → (before : Memory) → Block → (offset : ℕ) → (n count : ℕ) → (after : Memory) → Type 0
+AddedUp constants before block offset n zero after = before ≡ after
+AddedUp constants before block offset n (suc count) after =
+    (w : ℤ) × (middle : Memory) × (load constants before block (offset + 4 * (n / 32)) ≡ Some (Number w)) × (store before block (offset + 4 * (n / 32)) (Number (bits Or w (bits ShiftLeft (pos 1) (pos n)))) ≡ Some middle) × AddedUp constants middle block offset (suc n) count after
+
+-- The members from one to another are added to a set (6.7.1): the address of its eight words, the first and the last. There are none where the first is
+-- above the last; else both lie in 0..255.
+pub record AddsMembers : Type 0 where
+  pub none : (m : Machine) (x y : ℤ) (block : Block) (offset : ℕ) (memory : Memory) (tape : Tape) → HasRoutines m → int_lt y x ≡ true → Does m 1 (Address block offset ∷ Number x ∷ Number y ∷ []) memory tape (Number (pos 0)) memory tape
+  pub some : (m : Machine) (n count : ℕ) (block : Block) (offset : ℕ) (before after : Memory) (tape : Tape) → HasRoutines m → n + count < 256 → AddedUp (text_at m.code) before block offset n (suc count) after → offset + 32 < 2147483648 → Does m 1 (Address block offset ∷ Number (pos n) ∷ Number (pos (n + count)) ∷ []) before tape (Number (pos 0)) after tape
 
 -- numbers stand in the words of a block from an offset on
 abbrev pub WordsAt : Constants → Memory → Block → (offset : ℕ) → List ℤ → Type 0

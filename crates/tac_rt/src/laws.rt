@@ -1,6 +1,6 @@
 // Laws of the run-time routines. Each is the contract of a function that does nothing when it runs.
 
-ghost use Rattle.tac_rt.specs.Laws.{RoutinesAreSound, ComparesBytes, ReadsLines, PacksBytes, UnpacksBytes, JoinedSets, IncludesSets, FindsMembers, WritesNumbers, WritesCharacters, WritesStrings, LooksAhead, ReadsCharacters, CopiesWords};
+ghost use Rattle.tac_rt.specs.Laws.{RoutinesAreSound, AddsMembers, ComparesBytes, ReadsLines, PacksBytes, UnpacksBytes, JoinedSets, IncludesSets, FindsMembers, WritesNumbers, WritesCharacters, WritesStrings, LooksAhead, ReadsCharacters, CopiesWords, ReadsNumbers};
 
 /// The routine that writes a string writes what the meaning says: the string right-aligned in its field, or its first characters (6.9.3.6).
 #[tactic(auto, using(crate::proofs::Strings::writes_strings))]
@@ -83,4 +83,15 @@ pub fn includes_sets()
 #[tactic(auto, using(crate::proofs::Members::finds_members))]
 pub fn finds_members()
     ensures { FindsMembers }
+{}
+
+/// The members from one to another are added to a set, none where the first is above the last (6.7.1).
+#[tactic(auto, using(crate::proofs::Additions::adds_members))]
+pub fn adds_members()
+    ensures { AddsMembers }
+{}
+
+/// An integer is read as the meaning says: blanks are passed, a sign and digits are taken, and what stands behind them is looked at (6.9.1).
+pub fn reads_numbers()
+    ensures { ReadsNumbers }
 {}

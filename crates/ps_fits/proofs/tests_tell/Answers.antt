@@ -1,4 +1,4 @@
-use Rattle.ps_fits.proofs.Tell.{program_tells}
+use Rattle.ps_fits.proofs.Programs.{program_tells}
 use Rattle.ps_fits.proofs.tests_tell.Goals as goal
 
 pub returns : goal.returns

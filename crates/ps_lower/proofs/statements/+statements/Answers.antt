@@ -1,8 +1,11 @@
-use Rattle.std.proofs.Common.{[], ◌∷◌, ◌++◌, length, ap, ◌∙◌}
-use Rattle.ps_tree.specs.View.{expr_of, statement_of, elements_of}
+use Rattle.std.proofs.Common.{[], ◌∷◌, ◌++◌, length, map, ap, ◌∙◌}
+use Rattle.ps_tree.specs.View.{expr_of, place_of, statement_of, elements_of}
 use Rattle.ps_tree.specs.declared.tree.CaseElement.{out-CaseElement}
 use Rattle.ps_code.specs.Statements.{statement_code}
-use Rattle.ps_lower.specs.Levels.{scope_of}
+use Rattle.ps_lower.specs.Levels.{scope_of, within}
+use Rattle.ps_lower.proofs.Gathering.{assign_set_is}
+use Rattle.ps_lower.proofs.Deeds.{assign_structure_is, procedure_is, formal_procedure_is, with_is, with_told}
+use Rattle.ps_lower.proofs.Doings.{new_is, pack_is, unpack_is, read_is, readln_is}
 use Rattle.ps_lower.proofs.Appends.{added_start, added_next, added_all}
 use Rattle.ps_lower.proofs.Rows.{statements_added, statements_nothing, statements_further}
 use Rattle.ps_lower.proofs.Acts.{act, told_empty, assign_is, compound_is, if_is, if_else_is, while_is, repeat_is, write_is, writeln_is}
@@ -58,7 +61,7 @@ pub statement-returns-in-For : goal.statement-returns-in-For
 statement-returns-in-For t c =
     act (scope_of c.args.k.now) c.args.action.now _ c.args.d c.act_for.result c.act_for.new.out c.args.out.now
     (ap (λ (y : Control). tree.For y.variable y.low y.high (expr_of c.in-For.from) y.from_line y.direction (expr_of c.in-For.to) y.to_line (statement_of c.deref-in-For.result.now)) c.control_of-control.ensures
-    ∙ for_is _ _ _ _ _ _ _ _ _ _ _ c.in-For.is c.deref-in-For.ensures)
+    ∙ for_is _ _ _ _ _ _ _ _ _ _ _ _ c.in-For.is c.deref-in-For.ensures)
     c.act_for.ensures
 
 pub statement-returns-in-Case : goal.statement-returns-in-Case
@@ -95,3 +98,38 @@ act_elements-returns-clause-ends t c = ends_all (scope_of c.args.k.now) c.args.d
 
 pub act_case-returns : goal.act_case-returns
 act_case-returns t c = case_made (scope_of c.args.k.now) (expr_of c.args.index.now) (elements_of c.args.elements.now) c.args.line c.args.d c.args.out.now _ _ _ _ _ c.in_ok-value.ensures c.in_ok-ends.ensures.code (c.deref.ensures.value ∙ c.in_ok-ends.ensures.ends) c.in_ok-trap.ensures c.close_elements.ensures
+
+pub statement-returns-in-AssignStructure : goal.statement-returns-in-AssignStructure
+statement-returns-in-AssignStructure t c = act (scope_of c.args.k.now) c.args.action.now _ c.args.d c.assign_structure.result c.assign_structure.new.out c.args.out.now (assign_structure_is _ _ _ c.in-AssignStructure.is) c.assign_structure.ensures
+
+pub statement-returns-in-Call : goal.statement-returns-in-Call
+statement-returns-in-Call t c = act (scope_of c.args.k.now) c.args.action.now _ c.args.d c.call_procedure.result c.call_procedure.new.out c.args.out.now (procedure_is _ _ _ _ _ _ c.in-Call.is c.deref-in-Call.ensures.value) c.call_procedure.ensures
+
+pub statement-returns-in-CallFormal : goal.statement-returns-in-CallFormal
+statement-returns-in-CallFormal t c = act (scope_of c.args.k.now) c.args.action.now _ c.args.d c.call_formal_procedure.result c.call_formal_procedure.new.out c.args.out.now (formal_procedure_is _ _ _ _ _ _ c.in-CallFormal.is c.deref-in-CallFormal.ensures.value) c.call_formal_procedure.ensures
+
+pub statement-returns-in-With : goal.statement-returns-in-With
+statement-returns-in-With t c = act (scope_of c.args.k.now) c.args.action.now _ c.args.d c.act_with.result c.act_with.new.out c.args.out.now (with_is _ _ _ _ _ c.in-With.is c.deref-in-With-2.ensures.value c.deref-in-With.ensures) c.act_with.ensures
+
+pub act_with-returns : goal.act_with-returns
+act_with-returns t c =
+    with_told (scope_of c.args.k.now) (map place_of c.args.places.now) (statement_of c.args.body.now) c.with_calls-calls.result c.args.d c.in_ok-opened.opened.depth (within (scope_of c.args.k.now) c.as_slice.result.now) c.statement.result c.statement.new.out c.open_all.new.out c.args.out.now
+    c.with_calls-calls.ensures c.in_ok-opened.ensures.code (ap (within (scope_of c.args.k.now)) c.as_slice.ensures.value ∙ c.in_ok-opened.ensures.scope) c.in_ok-opened.ensures.depth c.statement.ensures
+
+pub statement-returns-in-AssignSet : goal.statement-returns-in-AssignSet
+statement-returns-in-AssignSet t c = act (scope_of c.args.k.now) c.args.action.now _ c.args.d c.assign_set.result c.assign_set.new.out c.args.out.now (assign_set_is _ _ _ _ _ _ c.in-AssignSet.is) c.assign_set.ensures
+
+pub statement-returns-in-New : goal.statement-returns-in-New
+statement-returns-in-New t c = act (scope_of c.args.k.now) c.args.action.now _ c.args.d c.create.result c.create.new.out c.args.out.now (new_is _ _ _ _ c.in-New.is) c.create.ensures
+
+pub statement-returns-in-Pack : goal.statement-returns-in-Pack
+statement-returns-in-Pack t c = act (scope_of c.args.k.now) c.args.action.now _ c.args.d c.pack.result c.pack.new.out c.args.out.now (pack_is _ _ _ _ _ _ _ c.in-Pack.is) c.pack.ensures
+
+pub statement-returns-in-Unpack : goal.statement-returns-in-Unpack
+statement-returns-in-Unpack t c = act (scope_of c.args.k.now) c.args.action.now _ c.args.d c.unpack.result c.unpack.new.out c.args.out.now (unpack_is _ _ _ _ _ _ _ c.in-Unpack.is) c.unpack.ensures
+
+pub statement-returns-in-Read : goal.statement-returns-in-Read
+statement-returns-in-Read t c = act (scope_of c.args.k.now) c.args.action.now _ c.args.d c.reads.result c.reads.new.out c.args.out.now (read_is _ _ _ c.in-Read.is c.deref-in-Read.ensures.value) c.reads.ensures
+
+pub statement-returns-in-Readln : goal.statement-returns-in-Readln
+statement-returns-in-Readln t c = act (scope_of c.args.k.now) c.args.action.now _ c.args.d c.readln.result c.readln.new.out c.args.out.now (readln_is _ _ _ _ c.in-Readln.is c.deref-in-Readln.ensures.value) c.readln.ensures

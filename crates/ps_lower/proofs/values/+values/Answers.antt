@@ -1,14 +1,21 @@
-use Rattle.std.proofs.Common.{◌≡◌, ◌++◌, OnOk, sym, ap, subst, ◌∙◌, ⊎_elim}
+use Rattle.std.proofs.Common.{◌≡◌, ◌+◌, [], ◌∷◌, ◌++◌, pos, OnOk, sym, ap, subst, ◌∙◌, ⊎_elim}
 use Rattle.ps_tree.specs.declared.tree.Expr.{Expr}
-use Rattle.ps_tree.specs.View.{selector_of, place_of, expr_of, arithmetic_of, operands_of}
-use Rattle.ps_code.specs.Scopes.{kept, unless_known}
+use Rattle.ps_tree.specs.declared.tree.Structure.{Structure}
+use Rattle.ps_tree.specs.declared.tree.SetStep.{out-SetStep}
+use Rattle.ps_tree.specs.View.{selector_of, place_of, expr_of, arithmetic_of, operands_of, structure_of, argument_of, set_of, member_of, members_of}
+use Rattle.tac_code.specs.declared.code.Instruction.TheVariants as i
+use Rattle.ps_code.specs.Scopes.{kept, held, beside, unless_known, helper, CompareBytes}
 use Rattle.ps_code.specs.Statements.{expr_code}
-use Rattle.ps_code.specs.Values.{literal_of}
+use Rattle.ps_code.specs.Values.{literal_of, truth_finish, is_byte, text_length, structure_code, argument_code, argument_end, argument_scratch, set_code, member_code}
 use Rattle.ps_lower.specs.Levels.{scope_of, site_of}
 use Rattle.ps_lower.specs.Sites.{selector_code, selector_site}
 use Rattle.ps_lower.proofs.Selecting.{led_start, led_next, led_code, led_site}
 use Rattle.ps_lower.proofs.Placing.{load_told}
-use Rattle.ps_lower.proofs.Arms.{number_is, nil_is, load_is, plus_is, minus_is, not_is, apply_is, arithmetic_is, logic_is, compare_is, compare_pointers_is, arm, sum_made, truth_made, pair_made}
+use Rattle.ps_lower.proofs.Arms.{number_is, nil_is, load_is, plus_is, minus_is, not_is, apply_is, arithmetic_is, logic_is, compare_is, compare_pointers_is, arm, behind, sum_made, truth_made, pair_made}
+use Rattle.ps_lower.proofs.Actuals.{handed_start, handed_next, handed_all}
+use Rattle.ps_lower.proofs.Gathering.{compare_sets_is, in_is, load_set_is, constructor_is, combine_is, set_arm, members_added, members_nothing, members_further, one_made, several_made, set_steps_added, set_step_added, set_steps_nothing, set_steps_further, load_set_made, constructor_made, compared_made, in_made, set_handed, variable_handed}
+use Rattle.ps_lower.proofs.Handing.{contents_made, compare_strings_is, strings_made, call_is, call_made, call_formal_is, call_formal_made}
+use Rattle.ps_lower.proofs.Looking.{eof_is, eoln_is}
 use Rattle.ps_lower.proofs.Appends.{and_then, added_start, added_next, added_all}
 use Rattle.ps_lower.proofs.Chains.{steps_added, steps_nothing, steps_further, step_added, step_told, operands_added, operands_nothing, operands_further, operand_added, operand_told}
 use Rattle.ps_lower.proofs.values.+values.Goals as goal
@@ -19,8 +26,10 @@ front-returns-in-Number t c = arm (scope_of c.args.k.now) c.args.e.now _ c.args.
 pub front-returns-in-Nil : goal.front-returns-in-Nil
 front-returns-in-Nil t c = arm (scope_of c.args.k.now) c.args.e.now _ c.args.d c.args.x c.literal.result c.literal.new.self c.args.out.now (nil_is _ c.in-Nil.is) c.literal.ensures
 
-pub front-returns-in-Load : goal.front-returns-in-Load
-front-returns-in-Load t c = arm (scope_of c.args.k.now) c.args.e.now _ c.args.d c.args.x c.load.result c.load.new.out c.args.out.now (load_is _ _ _ c.in-Load.is c.deref.ensures) c.load.ensures
+pub front-returns-in_ok-site-in-Load : goal.front-returns-in_ok-site-in-Load
+front-returns-in_ok-site-in-Load t c =
+    arm (scope_of c.args.k.now) c.args.e.now _ c.args.d c.args.x c.fetch.result c.fetch.new.out c.args.out.now (load_is _ _ _ c.in-Load.is c.deref.ensures)
+    (load_told (scope_of c.args.k.now) (place_of c.deref.result.now) c.args.d c.args.x (site_of c.in_ok-site-in-Load.site) c.is_byte.result c.fetch.result c.fetch.new.out c.place.new.out c.args.out.now c.in_ok-site-in-Load.ensures.code c.in_ok-site-in-Load.ensures.site (c.is_byte.ensures ∙ ap (λ y. is_byte (place_of y)) (c.deref-in-Load.ensures ∙ sym c.deref.ensures)) c.fetch.ensures)
 
 pub front-returns-in-Plus : goal.front-returns-in-Plus
 front-returns-in-Plus t c = arm (scope_of c.args.k.now) c.args.e.now _ c.args.d c.args.x c.value.result c.value.new.out c.args.out.now (plus_is _ _ _ c.in-Plus.is c.deref-in-Plus.ensures) c.value.ensures
@@ -31,8 +40,10 @@ front-returns-in-Minus t c = arm (scope_of c.args.k.now) c.args.e.now _ c.args.d
 pub front-returns-in-Not : goal.front-returns-in-Not
 front-returns-in-Not t c = arm (scope_of c.args.k.now) c.args.e.now _ c.args.d c.args.x c.front.result c.front.new.out c.args.out.now (not_is _ _ _ c.in-Not.is c.deref-in-Not.ensures) c.front.ensures
 
-pub front-returns-in-Apply : goal.front-returns-in-Apply
-front-returns-in-Apply t c = arm (scope_of c.args.k.now) c.args.e.now _ c.args.d c.args.x c.apply.result c.apply.new.out c.args.out.now (apply_is _ _ _ _ _ c.in-Apply.is c.deref-in-Apply.ensures) c.apply.ensures
+pub front-returns-in_ok-value-in-Apply : goal.front-returns-in_ok-value-in-Apply
+front-returns-in_ok-value-in-Apply t c =
+    arm (scope_of c.args.k.now) c.args.e.now _ c.args.d c.args.x c.function.result c.function.new.out c.args.out.now (apply_is _ _ _ _ _ c.in-Apply.is c.deref-in-Apply.ensures)
+    (behind c.function.result c.function.new.out c.value-in-Apply.new.out c.args.out.now _ _ c.in_ok-value-in-Apply.ensures c.function.ensures)
 
 pub go_on-loop-step-init : goal.go_on-loop-step-init
 go_on-loop-step-init t c = added_start (steps_added (scope_of c.args.k.now) c.args.a c.args.x) _ _
@@ -60,10 +71,10 @@ pub front-returns-in_ok-go_on_with-in-Logic : goal.front-returns-in_ok-go_on_wit
 front-returns-in_ok-go_on_with-in-Logic t c =
     arm (scope_of c.args.k.now) c.args.e.now _ c.args.d c.args.x c.moved-in-Logic.result c.moved-in-Logic.new.out c.args.out.now
     (logic_is c.args.e.now c.in-Logic.operator c.in-Logic.first c.in-Logic.rest c.deref-in-Logic-2.result.now c.deref-in-Logic.result.now c.in-Logic.is c.deref-in-Logic-2.ensures c.deref-in-Logic.ensures.value)
-    (truth_made (scope_of c.args.k.now) c.in-Logic.operator (expr_of c.deref-in-Logic-2.result.now) (operands_of c.deref-in-Logic.result.now) c.args.d c.args.x c.kept-truth.result c.moved-in-Logic.result c.moved-in-Logic.new.out c.go_on_with.new.out c.word.new.out c.args.out.now
+    (truth_made (scope_of c.args.k.now) c.in-Logic.operator (expr_of c.deref-in-Logic-2.result.now) (operands_of c.deref-in-Logic.result.now) c.args.d c.args.x c.kept-truth.result c.moved-in-Logic.result c.moved-in-Logic.new.out c.go_on_with.new.out c.truth_finish.new.out c.args.out.now
     (c.kept-truth.ensures.value ∙ ap (λ b. kept b c.args.d) c.operands_call.ensures)
-    c.in_ok-word-in-Logic.ensures
-    (c.in_ok-go_on_with-in-Logic.ensures ∙ ap (λ l. c.word.new.out ++ operands_added (scope_of c.args.k.now) c.in-Logic.operator c.kept-truth.result c.args.x l) (c.deref-in-Logic-3.ensures.value ∙ sym c.deref-in-Logic.ensures.value))
+    (and_then _ _ _ _ _ c.in_ok-front-in-Logic.ensures (c.in_ok-truth_finish-in-Logic.ensures ∙ ap (λ (y : Expr). c.front-in-Logic.new.out ++ truth_finish (expr_of y) c.kept-truth.result) (c.deref-in-Logic-3.ensures ∙ sym c.deref-in-Logic-2.ensures)))
+    (c.in_ok-go_on_with-in-Logic.ensures ∙ ap (λ l. c.truth_finish.new.out ++ operands_added (scope_of c.args.k.now) c.in-Logic.operator c.kept-truth.result c.args.x l) (c.deref-in-Logic-4.ensures.value ∙ sym c.deref-in-Logic.ensures.value))
     c.moved-in-Logic.ensures)
 
 pub front-returns-in_ok-value-in-Compare : goal.front-returns-in_ok-value-in-Compare
@@ -87,7 +98,7 @@ go_on-loop-step-preserved t c =
 pub go_on_with-loop-operand-preserved : goal.go_on_with-loop-operand-preserved
 go_on_with-loop-operand-preserved t c =
     added_next (operands_added (scope_of c.args.k.now) c.args.operator c.args.a c.args.x) (operand_added (scope_of c.args.k.now) c.args.operator c.args.a c.args.x) (operands_further (scope_of c.args.k.now) c.args.operator c.args.a c.args.x) _ _ _ _ _ c.operand-item.result c.loop-operand-test.true c.loop-operand.invariant
-    (and_then _ _ _ _ _ c.in_ok-word.ensures c.in_ok-bits.ensures
+    (and_then _ _ _ _ _ (and_then _ _ _ _ _ c.in_ok-front.ensures c.in_ok-truth_finish.ensures) c.in_ok-bits.ensures
     ∙ ap (λ l. c.loop-operand.out ++ l) (operand_told (scope_of c.args.k.now) c.args.operator c.args.a c.args.x c.even_above-t.result c.operand-item.result c.bit_operator.result c.even_above-t.ensures.value c.bit_operator.ensures ∙ ap (operand_added (scope_of c.args.k.now) c.args.operator c.args.a c.args.x) c.operand-item.is))
 
 -- ---- variables
@@ -107,5 +118,118 @@ along-returns-clause-code t c = led_code (scope_of c.args.k.now) c.args.t c.args
 pub along-returns-clause-site : goal.along-returns-clause-site
 along-returns-clause-site t c = led_site (scope_of c.args.k.now) c.args.t c.args.x _ _ _ _ _ _ c.loop-selector-test.false c.loop-selector.invariant
 
-pub load-returns : goal.load-returns
-load-returns t c = load_told (scope_of c.args.k.now) (place_of c.args.variable.now) c.args.d c.args.x (site_of c.in_ok-site.site) c.is_byte.result c.fetch.result c.fetch.new.out c.place.new.out c.args.out.now c.in_ok-site.ensures.code c.in_ok-site.ensures.site c.is_byte.ensures c.fetch.ensures
+-- ---- structures and calls
+
+pub structure-returns-in_ok-byte_count-in-Contents : goal.structure-returns-in_ok-byte_count-in-Contents
+structure-returns-in_ok-byte_count-in-Contents t c = contents_made (scope_of c.args.k.now) c.args.e.now c.in-Contents.variable c.in-Contents.ty c.deref-in-Contents.result.now c.in_ok-byte_count-in-Contents.field-0 c.args.d c.args.x (site_of c.in_ok-site-in-Contents.site) c.address.result c.address.new.out c.place.new.out c.args.out.now c.in-Contents.is c.deref-in-Contents.ensures c.in_ok-byte_count-in-Contents.ensures c.in_ok-site-in-Contents.ensures.code c.in_ok-site-in-Contents.ensures.site c.address.ensures
+
+pub front-returns-in_ok-structure-in-CompareStrings-2 : goal.front-returns-in_ok-structure-in-CompareStrings-2
+front-returns-in_ok-structure-in-CompareStrings-2 t c =
+    arm (scope_of c.args.k.now) c.args.e.now _ c.args.d c.args.x c.compare_strings.result c.compare_strings.new.out c.args.out.now
+    (compare_strings_is c.args.e.now c.in-CompareStrings.relation c.in-CompareStrings.left c.deref-in-CompareStrings-2.result.now c.in-CompareStrings.right c.deref-in-CompareStrings.result.now c.in-CompareStrings.is c.deref-in-CompareStrings-2.ensures c.deref-in-CompareStrings.ensures)
+    (strings_made (scope_of c.args.k.now) c.in-CompareStrings.relation (structure_of c.deref-in-CompareStrings-2.result.now) (structure_of c.deref-in-CompareStrings.result.now) c.args.d c.args.x c.held-first.result c.even_above-second.result c.compare_strings.result c.compare_strings.new.out c.structure-in-CompareStrings.new.out c.structure.new.out c.args.out.now
+    (c.held-first.ensures.value ∙ ap (λ b. held b c.args.d) c.structure_calls.ensures) c.even_above-second.ensures.value c.in_ok-structure-in-CompareStrings.ensures
+    (c.in_ok-structure-in-CompareStrings-2.ensures ∙ ap (λ (y : Structure). c.structure.new.out ++ structure_code (scope_of c.args.k.now) (structure_of y) c.even_above-second.result c.args.x) (c.deref-in-CompareStrings-3.ensures ∙ sym c.deref-in-CompareStrings.ensures))
+    (subst (λ (y : Structure). OnOk c.compare_strings.result (c.compare_strings.new.out ≡ c.structure-in-CompareStrings.new.out ++ i.Literal (beside c.even_above-second.result) (pos (text_length (structure_of y))) ∷ helper (scope_of c.args.k.now) CompareBytes (c.held-first.result ∷ c.even_above-second.result ∷ beside c.even_above-second.result ∷ []) c.args.d ∷ [])) (c.deref-in-CompareStrings-4.ensures ∙ sym c.deref-in-CompareStrings-2.ensures) c.compare_strings.ensures))
+
+pub front-returns-in_ok-arguments-in-Call : goal.front-returns-in_ok-arguments-in-Call
+front-returns-in_ok-arguments-in-Call t c =
+    arm (scope_of c.args.k.now) c.args.e.now _ c.args.d c.args.x c.call.result c.call.new.out c.args.out.now
+    (call_is c.args.e.now c.in-Call.routine c.in-Call.up c.in-Call.actual c.in-Call.line c.deref-in-Call.result.now c.in-Call.is c.deref-in-Call.ensures.value)
+    (call_made (scope_of c.args.k.now) c.deref-in-Call.result.now c.deref-in-Call-2.result.now c.in-Call.routine c.in-Call.up c.in-Call.line.number c.args.d c.args.x c.args.d c.call.result c.call.new.out c.arguments.new.out c.args.out.now (c.deref-in-Call-2.ensures.value ∙ sym c.deref-in-Call.ensures.value) c.in_ok-arguments-in-Call.ensures c.call.ensures)
+
+pub front-returns-in_ok-arguments-in-CallFormal : goal.front-returns-in_ok-arguments-in-CallFormal
+front-returns-in_ok-arguments-in-CallFormal t c =
+    arm (scope_of c.args.k.now) c.args.e.now _ c.args.d c.args.x c.call_formal.result c.call_formal.new.out c.args.out.now
+    (call_formal_is c.args.e.now c.in-CallFormal.up c.in-CallFormal.index c.in-CallFormal.actual c.in-CallFormal.line c.deref-in-CallFormal.result.now c.in-CallFormal.is c.deref-in-CallFormal.ensures.value)
+    (call_formal_made (scope_of c.args.k.now) c.deref-in-CallFormal.result.now c.deref-in-CallFormal-2.result.now c.in-CallFormal.up c.in-CallFormal.index c.in-CallFormal.line.number c.args.d c.args.x c.args.d c.call_formal.result c.call_formal.new.out c.arguments-in-CallFormal.new.out c.args.out.now (c.deref-in-CallFormal-2.ensures.value ∙ sym c.deref-in-CallFormal.ensures.value) c.in_ok-arguments-in-CallFormal.ensures c.call_formal.ensures)
+
+pub front-returns-in-Eof : goal.front-returns-in-Eof
+front-returns-in-Eof t c = arm (scope_of c.args.k.now) c.args.e.now _ c.args.d c.args.x c.look_ahead.result c.look_ahead.new.out c.args.out.now (eof_is _ c.in-Eof.is) c.look_ahead.ensures
+
+pub front-returns-in-Eoln : goal.front-returns-in-Eoln
+front-returns-in-Eoln t c = arm (scope_of c.args.k.now) c.args.e.now _ c.args.d c.args.x c.look_on.result c.look_on.new.out c.args.out.now (eoln_is _ _ c.in-Eoln.is) c.look_on.ensures
+
+pub arguments-loop-one-init : goal.arguments-loop-one-init
+arguments-loop-one-init t c = handed_start (scope_of c.args.k.now) _ _ _ _
+
+pub arguments-loop-one-preserved : goal.arguments-loop-one-preserved
+arguments-loop-one-preserved t c =
+    handed_next (scope_of c.args.k.now) _ _ _ _ _ _ _ _ _ _ _ _ _ _ c.one-item.result c.loop-one-test.true c.loop-one.invariant c.tail-rest.ensures
+    (c.held-t.ensures.value ∙ ap (λ b. held b c.loop-one.depth) c.arguments_call.ensures)
+    (c.in_ok-argument.ensures ∙ ap (λ y. c.loop-one.out ++ argument_code (scope_of c.args.k.now) (argument_of y) c.held-t.result c.loop-one.scratch) c.one-item.is)
+    (c.argument_end-depth.ensures.value ∙ ap (λ y. argument_end (argument_of y) c.held-t.result) c.one-item.is)
+    (c.in_ok-scratch.ensures ∙ ap (λ y. c.loop-one.scratch + argument_scratch (argument_of y)) c.one-item.is)
+
+pub arguments-returns : goal.arguments-returns
+arguments-returns t c = handed_all (scope_of c.args.k.now) _ _ _ _ _ _ _ _ _ c.loop-one-test.false c.loop-one.invariant
+
+pub argument-returns-in_ok-site-in-Variable : goal.argument-returns-in_ok-site-in-Variable
+argument-returns-in_ok-site-in-Variable t c = variable_handed (scope_of c.args.k.now) c.args.argument.now _ c.args.t c.args.x (site_of c.in_ok-site-in-Variable.site) c.address.result c.address.new.out c.place.new.out c.args.out.now c.in-Variable.is c.in_ok-site-in-Variable.ensures.code c.in_ok-site-in-Variable.ensures.site c.address.ensures
+
+-- ---- sets
+
+pub argument-returns-in_ok-set-in-Set : goal.argument-returns-in_ok-set-in-Set
+argument-returns-in_ok-set-in-Set t c = set_handed (scope_of c.args.k.now) c.args.argument.now _ _ _ _ c.args.t c.args.x c.hand_set.result c.hand_set.new.out c.set.new.out c.args.out.now c.in-Set.is c.in_ok-set-in-Set.ensures c.hand_set.ensures
+
+pub front-returns-in_ok-set-in-CompareSets-2 : goal.front-returns-in_ok-set-in-CompareSets-2
+front-returns-in_ok-set-in-CompareSets-2 t c =
+    arm (scope_of c.args.k.now) c.args.e.now _ c.args.d c.args.x c.compare_sets.result c.compare_sets.new.out c.args.out.now
+    (compare_sets_is c.args.e.now c.in-CompareSets.relation c.in-CompareSets.left c.deref-in-CompareSets.result.now c.in-CompareSets.right c.deref-in-CompareSets-2.result.now c.in-CompareSets.is c.deref-in-CompareSets.ensures c.deref-in-CompareSets-2.ensures)
+    (compared_made (scope_of c.args.k.now) c.in-CompareSets.relation (set_of c.deref-in-CompareSets.result.now) (set_of c.deref-in-CompareSets-2.result.now) c.args.d c.args.x c.even_from-t.result c.in_ok-behind-in-CompareSets.behind c.compare_sets.result c.compare_sets.new.out c.set-in-CompareSets.new.out c.set.new.out c.args.out.now
+    c.even_from-t.ensures.value c.in_ok-behind-in-CompareSets.ensures c.in_ok-set-in-CompareSets.ensures c.in_ok-set-in-CompareSets-2.ensures c.compare_sets.ensures)
+
+pub front-returns-in_ok-set-in-In : goal.front-returns-in_ok-set-in-In
+front-returns-in_ok-set-in-In t c =
+    arm (scope_of c.args.k.now) c.args.e.now _ c.args.d c.args.x c.is_member.result c.is_member.new.out c.args.out.now
+    (in_is c.args.e.now c.in-In.left c.deref-in-In.result.now c.in-In.right c.deref-in-In-2.result.now c.in-In.is c.deref-in-In.ensures c.deref-in-In-2.ensures)
+    (in_made (scope_of c.args.k.now) (expr_of c.deref-in-In.result.now) (set_of c.deref-in-In-2.result.now) c.args.d c.args.x c.held-member.result c.even_above-t.result c.is_member.result c.is_member.new.out c.set-in-In.new.out c.value-in-In.new.out c.args.out.now
+    c.held-member.ensures.value c.even_above-t.ensures.value c.in_ok-value-in-In.ensures c.in_ok-set-in-In.ensures c.is_member.ensures)
+
+pub set-returns-in_ok-site-in-Load : goal.set-returns-in_ok-site-in-Load
+set-returns-in_ok-site-in-Load t c =
+    set_arm (scope_of c.args.k.now) c.args.e.now _ c.args.d c.args.x c.copied_set.result c.copied_set.new.out c.args.out.now (load_set_is _ _ _ c.in-Load.is c.deref.ensures)
+    (load_set_made (scope_of c.args.k.now) (place_of c.deref.result.now) c.args.d c.args.x (site_of c.in_ok-site-in-Load.site) c.copied_set.result c.copied_set.new.out c.place.new.out c.args.out.now c.in_ok-site-in-Load.ensures.code c.in_ok-site-in-Load.ensures.site c.copied_set.ensures)
+
+pub set-returns-in_ok-clear-in-Constructor : goal.set-returns-in_ok-clear-in-Constructor
+set-returns-in_ok-clear-in-Constructor t c =
+    set_arm (scope_of c.args.k.now) c.args.e.now _ c.args.d c.args.x c.members.result c.members.new.out c.args.out.now (constructor_is _ _ _ c.in-Constructor.is c.deref-in-Constructor.ensures.value)
+    (constructor_made (scope_of c.args.k.now) (members_of c.deref-in-Constructor.result.now) c.args.d c.args.x c.even_from.result c.members.result c.members.new.out c.clear.new.out c.args.out.now c.even_from.ensures.value c.in_ok-clear-in-Constructor.ensures c.members.ensures)
+
+pub set-returns-in_ok-set-in-Combine : goal.set-returns-in_ok-set-in-Combine
+set-returns-in_ok-set-in-Combine t c =
+    set_arm (scope_of c.args.k.now) c.args.e.now _ c.args.d c.args.x c.combine.result c.combine.new.out c.args.out.now (combine_is _ _ _ _ _ c.in-Combine.is c.deref-in-Combine.ensures c.deref-in-Combine-2.ensures.value)
+    (behind c.combine.result c.combine.new.out c.set.new.out c.args.out.now _ _ c.in_ok-set-in-Combine.ensures c.combine.ensures)
+
+pub combine-loop-step-init : goal.combine-loop-step-init
+combine-loop-step-init t c = added_start (set_steps_added (scope_of c.args.k.now) c.args.d c.args.x) _ _
+
+pub combine-loop-step-preserved : goal.combine-loop-step-preserved
+combine-loop-step-preserved t c =
+    added_next (set_steps_added (scope_of c.args.k.now) c.args.d c.args.x) (set_step_added (scope_of c.args.k.now) c.args.d c.args.x) (set_steps_further (scope_of c.args.k.now) c.args.d c.args.x) _ _ _ _ _ c.step-item.result c.loop-step-test.true c.loop-step.invariant
+    (and_then _ _ _ _ _ (c.in_ok-set.ensures ∙ ap (λ n. c.loop-step.out ++ set_code (scope_of c.args.k.now) (set_of (out-SetStep c.step-item.result).operand) c.args.d n) c.in_ok-behind.ensures) c.in_ok-combined.ensures
+    ∙ ap (λ s. c.loop-step.out ++ set_step_added (scope_of c.args.k.now) c.args.d c.args.x s) c.step-item.is)
+
+pub combine-returns : goal.combine-returns
+combine-returns t c = added_all (set_steps_added (scope_of c.args.k.now) c.args.d c.args.x) (set_steps_nothing (scope_of c.args.k.now) c.args.d c.args.x) _ _ _ _ c.loop-step-test.false c.loop-step.invariant
+
+pub members-loop-one-init : goal.members-loop-one-init
+members-loop-one-init t c = added_start (members_added (scope_of c.args.k.now) c.args.d c.args.x) _ _
+
+pub members-loop-one-preserved : goal.members-loop-one-preserved
+members-loop-one-preserved t c =
+    added_next (members_added (scope_of c.args.k.now) c.args.d c.args.x) (λ m. member_code (scope_of c.args.k.now) (member_of m) c.args.d c.args.x) (members_further (scope_of c.args.k.now) c.args.d c.args.x) _ _ _ _ _ c.one-item.result c.loop-one-test.true c.loop-one.invariant
+    (c.in_ok-member.ensures ∙ ap (λ m. c.loop-one.out ++ member_code (scope_of c.args.k.now) (member_of m) c.args.d c.args.x) c.one-item.is)
+
+pub members-returns : goal.members-returns
+members-returns t c = added_all (members_added (scope_of c.args.k.now) c.args.d c.args.x) (members_nothing (scope_of c.args.k.now) c.args.d c.args.x) _ _ _ _ c.loop-one-test.false c.loop-one.invariant
+
+pub member-returns-in_ok-value-in-One : goal.member-returns-in_ok-value-in-One
+member-returns-in_ok-value-in-One t c =
+    one_made (scope_of c.args.k.now) c.args.one.now _ _ c.args.d c.args.x c.even_from-t.result c.in_ok-behind.behind c.add_member.result c.add_member.new.out c.value.new.out c.args.out.now
+    c.in-One.is c.even_from-t.ensures.value c.in_ok-behind.ensures c.in_ok-value-in-One.ensures c.add_member.ensures
+
+pub member-returns-in_ok-value-in-Range-2 : goal.member-returns-in_ok-value-in-Range-2
+member-returns-in_ok-value-in-Range-2 t c =
+    several_made (scope_of c.args.k.now) c.args.one.now _ _ _ c.args.d c.args.x c.held-first.result c.even_above-last.result c.in_ok-behind.behind c.add_members.result c.add_members.new.out c.value-in-Range-2.new.out c.value-in-Range.new.out c.args.out.now
+    c.in-Range.is (c.held-first.ensures.value ∙ ap (λ b. held b c.args.d) c.expr_calls.ensures) c.even_above-last.ensures.value c.in_ok-behind.ensures c.in_ok-value-in-Range.ensures c.in_ok-value-in-Range-2.ensures c.add_members.ensures

@@ -1,0 +1,29 @@
+// What the code of a program takes, and that it keeps the invariant of three-address code.
+#![tactic(auto)]
+
+ghost use Rattle.ps_bounds.specs.Fields.{OffsetsAreSmall};
+ghost use Rattle.ps_bounds.specs.Laws.{CodeIsSound};
+ghost use Rattle.ps_bounds.specs.Sizes.{RoutinesAreBounded, ObjectsAreBounded};
+
+/// A routine's code takes at most 32 bytes, 4 for each of its cells and 64 for each of its nodes.
+#[tactic(auto, using(crate::proofs::Routines::sizes_bounded))]
+pub fn routines_are_bounded()
+    ensures { RoutinesAreBounded }
+{}
+
+/// An object takes at most 4 bytes for each cell of its type.
+#[tactic(auto, using(crate::proofs::Cells::objects_bounded))]
+pub fn objects_are_bounded()
+    ensures { ObjectsAreBounded }
+{}
+
+/// The code of a program within the limits, whose tree is formed, keeps the invariant of three-address code.
+pub fn code_is_sound()
+    ensures { CodeIsSound }
+{}
+
+/// In a program within the limits, whose variables lie within their frames and objects, every offset and count of bytes in the code is below
+/// 2,147,483,648.
+pub fn offsets_are_small()
+    ensures { OffsetsAreSmall }
+{}

@@ -1,0 +1,96 @@
+-- `with`: records that are opened one after another.
+use Rattle.std.proofs.Common.{◌≡◌, ℕ, suc, ◌+◌, ◌-◌, ◌<◌, ◌≤◌, Bool, List, [], ◌∷◌, ◌++◌, length, map, drop, get_or, slice_get, Some, refl, sym, ap, ◌∙◌, append_assoc, arith}
+use Rattle.std.specs.Prelude.{reverse}
+use Rattle.std.proofs.Math.Seq.{drop-cons}
+use Rattle.std.proofs.lemmas.List.{append-nil, drop_all, map-append, reverse-append, length-map, length-reverse, get_or-map, get_or-reverse}
+use Rattle.std.proofs.lemmas.Option.{slice_get-get_or}
+use Rattle.ps_tree.specs.Tree as t
+use Rattle.ps_tree.specs.declared.tree.Place.{Place}
+use Rattle.ps_tree.specs.View.{place_of}
+use Rattle.tac_code.specs.declared.code.Instruction.{Instruction}
+use Rattle.ps_code.specs.Scopes.{Scope, Site as CodeSite, held}
+use Rattle.ps_code.specs.Values.{place_code, place_site, place_temporary}
+use Rattle.ps_code.specs.Statements.{within_site, with_code, with_scope, with_depth}
+use Rattle.ps_lower.specs.declared.site.Site.{Site}
+use Rattle.ps_lower.specs.Levels.{site_of, within}
+
+-- the innermost is the last
+pub turned : (l : List Site) (w n : ℕ) (s d : Site) → w < length l → n ≡ length l - 1 - w → s ≡ get_or l n d → slice_get (reverse (map site_of l)) w ≡ Some (site_of s)
+turned l w n s d h e is =
+    let m : length (map site_of l) ≡ length l = length-map l site_of in
+    let inside : w < length (map site_of l) = omega (arith, m, h) in
+    let r : length (reverse (map site_of l)) ≡ length (map site_of l) = length-reverse (map site_of l) in
+    let turned_inside : w < length (reverse (map site_of l)) = omega (arith, r, inside) in
+    let place : length (map site_of l) - 1 - w ≡ n = omega (arith, m, e) in
+    let small : n < length l = omega (arith, h, e) in
+    slice_get-get_or (reverse (map site_of l)) w (site_of d) turned_inside
+    ∙ ap Some (get_or-reverse (map site_of l) w (site_of d) inside ∙ ap (λ j. get_or (map site_of l) j (site_of d)) place ∙ get_or-map site_of l n d (site_of d) small ∙ ap site_of (sym is))
+
+abbrev pub with_open : Scope → List CodeSite → Scope
+with_open k l = record { program = k.program; chain = k.chain; opened = l }
+
+further_in : (k : Scope) (l : List Site) (s : Site) → within k (l ++ s ∷ []) ≡ within_site (within k l) (site_of s)
+further_in k l s = ap (with_open k) (ap reverse (map-append site_of l (s ∷ [])) ∙ reverse-append (map site_of l) (site_of s ∷ []))
+
+abbrev pub records_code : Scope → Bool → List Place → ℕ → List Instruction
+records_code k c l d = with_code k (map place_of l) c d
+
+abbrev pub records_scope : Scope → Bool → List Place → ℕ → Scope
+records_scope k c l d = with_scope k (map place_of l) c d
+
+abbrev pub records_depth : Bool → List Place → ℕ → ℕ
+records_depth c l d = with_depth (map place_of l) c d
+
+pub record Opening (k : Scope) (c : Bool) (d : ℕ) (start : List Instruction) (items : List Place) (i : ℕ) (now : List Instruction) (sites : List Site) (depth : ℕ) : Type 0 where
+  pub code : now ++ records_code (within k sites) c (drop i items) depth ≡ start ++ records_code k c items d
+  pub scope : records_scope (within k sites) c (drop i items) depth ≡ records_scope k c items d
+  pub end : records_depth c (drop i items) depth ≡ records_depth c items d
+
+pub opening_start : (k : Scope) (c : Bool) (d : ℕ) (start : List Instruction) (items : List Place) (sites : List Site) → within k sites ≡ k → Opening k c d start items 0 start sites d
+opening_start k c d start items sites e = record {
+  code = ap (λ (y : Scope). start ++ records_code y c items d) e;
+  scope = ap (λ (y : Scope). records_scope y c items d) e;
+  end = refl;
+}
+
+pub opening_next : (k : Scope) (c : Bool) (d : ℕ) (start : List Instruction) (items : List Place) (i : ℕ) (now next : List Instruction) (sites more : List Site) (depth n m below : ℕ) (s : Site) (p : Place) → i < length items → Opening k c d start items i now sites depth → n ≡ held c depth → next ≡ now ++ place_code (within k sites) (place_of (get_or items i p)) n 0 → site_of s ≡ place_site (within k sites) (place_of (get_or items i p)) n → more ≡ sites ++ s ∷ [] → m ≡ place_temporary (place_of (get_or items i p)) n → below ≡ m + 1 → Opening k c d start items (i + 1) next more below
+opening_next k c d start items i now next sites more depth n m below s p h o is e f g b w =
+    let j : i + 1 ≡ suc i = omega arith in
+    let item : t.Place = place_of (get_or items i p) in
+    let rest : List Place = drop (suc i) items in
+    let here : Scope = within k sites in
+    let further : within k more ≡ within_site here (place_site here item (held c depth)) =
+    ap (within k) g ∙ further_in k sites s ∙ ap (within_site here) (f ∙ ap (place_site here item) is)
+    in
+    let deep : below ≡ suc (place_temporary item (held c depth)) = (let u : below ≡ suc m = omega (arith, w) in u ∙ ap suc (b ∙ ap (λ y. place_temporary item y) is)) in
+    let at : drop i items ≡ get_or items i p ∷ rest = drop-cons items i p h in
+    record {
+      code =
+          ap (λ n. next ++ records_code (within k more) c (drop n items) below) j
+          ∙ ap (λ (y : Scope). next ++ records_code y c rest below) further
+          ∙ ap (λ n. next ++ records_code (within_site here (place_site here item (held c depth))) c rest n) deep
+          ∙ ap (λ o. o ++ records_code (within_site here (place_site here item (held c depth))) c rest (suc (place_temporary item (held c depth)))) (e ∙ ap (λ y. now ++ place_code here item y 0) is)
+          ∙ append_assoc now (place_code here item (held c depth) 0) (records_code (within_site here (place_site here item (held c depth))) c rest (suc (place_temporary item (held c depth))))
+          ∙ ap (λ l. now ++ records_code here c l depth) (sym at)
+          ∙ o.code;
+      scope =
+          ap (λ n. records_scope (within k more) c (drop n items) below) j
+          ∙ ap (λ (y : Scope). records_scope y c rest below) further
+          ∙ ap (λ n. records_scope (within_site here (place_site here item (held c depth))) c rest n) deep
+          ∙ ap (λ l. records_scope here c l depth) (sym at)
+          ∙ o.scope;
+      end =
+          ap (λ n. records_depth c (drop n items) below) j
+          ∙ ap (λ n. records_depth c rest n) deep
+          ∙ ap (λ l. records_depth c l depth) (sym at)
+          ∙ o.end;
+    }
+
+pub opening_code : (k : Scope) (c : Bool) (d : ℕ) (start : List Instruction) (items : List Place) (i : ℕ) (now : List Instruction) (sites : List Site) (depth : ℕ) → length items ≤ i → Opening k c d start items i now sites depth → now ≡ start ++ records_code k c items d
+opening_code k c d start items i now sites depth h o = sym (append-nil now) ∙ ap (λ l. now ++ records_code (within k sites) c l depth) (sym (drop_all i items h)) ∙ o.code
+
+pub opening_scope : (k : Scope) (c : Bool) (d : ℕ) (start : List Instruction) (items : List Place) (i : ℕ) (now : List Instruction) (sites : List Site) (depth : ℕ) → length items ≤ i → Opening k c d start items i now sites depth → within k sites ≡ records_scope k c items d
+opening_scope k c d start items i now sites depth h o = ap (λ l. records_scope (within k sites) c l depth) (sym (drop_all i items h)) ∙ o.scope
+
+pub opening_end : (k : Scope) (c : Bool) (d : ℕ) (start : List Instruction) (items : List Place) (i : ℕ) (now : List Instruction) (sites : List Site) (depth : ℕ) → length items ≤ i → Opening k c d start items i now sites depth → depth ≡ records_depth c items d
+opening_end k c d start items i now sites depth h o = ap (λ l. records_depth c l depth) (sym (drop_all i items h)) ∙ o.end

@@ -1,0 +1,14 @@
+use Rattle.std.proofs.Common.{◌≡◌, ◌++◌, ◌∷◌, [], pos, OnOk, refl, ap, subst, ◌∙◌}
+use Rattle.ps_tree.specs.View.{structure_of}
+use Rattle.tac_code.specs.declared.code.Instruction.TheVariants as i
+use Rattle.ps_code.specs.Scopes.{CompareBytes, helper}
+use Rattle.ps_code.specs.Values.{text_length}
+use Rattle.ps_lower.specs.Levels.{scope_of}
+use Rattle.ps_lower.proofs.Arms.{behind}
+use Rattle.ps_lower.proofs.helpers.compare_strings.Goals as goal
+
+pub returns : goal.returns
+returns c =
+    subst (λ y. OnOk c.help.result (c.help.new.out ≡ c.args.out.now ++ i.Literal y (pos (text_length (structure_of c.args.e.now))) ∷ helper (scope_of c.args.k.now) CompareBytes (c.args.left ∷ c.args.right ∷ y ∷ []) c.args.to ∷ [])) c.beside-t.ensures.value
+    (behind c.help.result c.help.new.out c.amount.new.out c.args.out.now (i.Literal c.beside-t.result (pos (text_length (structure_of c.args.e.now))) ∷ []) (helper (scope_of c.args.k.now) CompareBytes (c.args.left ∷ c.args.right ∷ c.beside-t.result ∷ []) c.args.to ∷ [])
+    (c.in_ok-amount.ensures ∙ ap (λ n. c.args.out.now ++ i.Literal c.beside-t.result (pos n) ∷ []) c.in_ok-text_length.ensures.value) (c.help.ensures CompareBytes refl))

@@ -1,0 +1,16 @@
+use Rattle.std.proofs.Common.{◌+◌, ◌++◌, List, OnOk, map, ap, subst, ◌∙◌, ◌≡◌}
+use Rattle.ps_tree.specs.declared.types.Ty.{Ty}
+use Rattle.ps_tree.specs.View.{type_of, formals_of, routine_of}
+use Rattle.ps_layout.specs.Frames.{kinds_of, listed_kinds, words_of_all}
+use Rattle.ps_lower.specs.Firsts.{firsts_code, parameters_at}
+use Rattle.ps_lower.specs.Levels.{scope_of}
+use Rattle.ps_lower.proofs.Begins.{begin_made}
+use Rattle.ps_lower.proofs.routines.begin.Goals as goal
+
+pub returns : goal.returns
+returns c =
+    begin_made (scope_of c.args.k.now) (routine_of c.args.routine.now) c.args.t c.in_ok-place.place c.in_ok-place-2.place c.firsts.result c.firsts.new.out c.parameters.new.out c.first_result.new.out c.head.new.out c.args.out.now
+    c.requires.total c.in_ok-head.ensures c.in_ok-place.ensures.code c.in_ok-place.ensures.next
+    (c.in_ok-place-2.ensures.code ∙ ap (λ l. c.first_result.new.out ++ parameters_at (scope_of c.args.k.now) (kinds_of (formals_of l)) 1 c.in_ok-place.place c.args.t) c.as_slice.ensures.value)
+    (c.in_ok-place-2.ensures.next ∙ ap (λ l. c.in_ok-place.place + words_of_all (listed_kinds (kinds_of (formals_of l)))) c.as_slice.ensures.value)
+    (subst (λ (l : List Ty). OnOk c.firsts.result (c.firsts.new.out ≡ c.parameters.new.out ++ firsts_code (scope_of c.args.k.now) c.args.t c.in_ok-place-2.place (map type_of l))) c.as_slice-2.ensures.value c.firsts.ensures)

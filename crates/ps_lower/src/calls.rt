@@ -1,0 +1,239 @@
+// Calls: their actual parameters by where these stand, and what stands behind their code.
+
+ghost use Rattle.std.specs.Prelude.{ℕ, ◌≡◌, ◌++◌, ◌+◌, ◌≤◌, ◌∷◌, [], OnOk, IfOk, if◌then◌else◌, suc, drop};
+ghost use Rattle.ps_code.specs.Calling.{argument_calls, arguments_call};
+ghost use Rattle.ps_code.specs.Scopes.{even_from, beside, link_code, formal_code, copy_code};
+ghost use Rattle.ps_code.specs.Values.{argument_words, argument_end, argument_scratch, arguments_words, arguments_end};
+ghost use Rattle.ps_layout.specs.Shapes.{shape_of, byte_count};
+ghost use Rattle.ps_lower.specs.Levels.{scope_of};
+ghost use Rattle.ps_tree.specs.View.{type_of, argument_of, arguments_of};
+ghost use Rattle.tac_code.specs.declared.code.Base.TheVariants as base;
+ghost use Rattle.tac_code.specs.declared.code.Instruction.TheVariants as i;
+
+use crate::calling::{expr_calls, place_calls};
+use crate::depth::{DEEPEST, beside, even_from, held};
+use crate::helpers::copy;
+use crate::level::Level;
+use crate::levels::{formal, link};
+use crate::out::Code;
+use crate::refusal::LowerRefusal;
+use crate::shapes::byte_count;
+use ps_tree::tree::Argument;
+use ps_tree::types::Ty;
+use std::alloc::Global;
+use tac_code::code::Base;
+
+/// Whether the code of an actual parameter calls.
+#[tactic(auto, using(ps_tree::proofs::TreeLemmas::argument_of_Variable), unfolding(ps_tree::specs::View::argument_of))]
+fn argument_calls(argument: &Argument) -> bool
+    ensures { result ≡ argument_calls (argument_of argument.now) }
+{
+    match argument {
+        Argument::Value { value, .. } => expr_calls(value),
+        Argument::Set { .. } | Argument::Copy { .. } => true,
+        Argument::Variable(place) => place_calls(place),
+        Argument::Routine { .. } | Argument::Formal { .. } => false,
+    }
+}
+
+/// Whether the code of actual parameters calls.
+pub fn arguments_call(arguments: &[Argument]) -> bool
+    ensures { result ≡ arguments_call (arguments_of arguments.now) }
+{
+    for argument in arguments {
+        if argument_calls(argument) {
+            return true;
+        }
+    }
+    false
+}
+
+/// What stands behind the first.
+pub fn tail<'a>(arguments: &'a [Argument]) -> &'a [Argument]
+    ensures { result.now ≡ drop 1 arguments.now }
+{
+    if arguments.is_empty() {
+        arguments
+    } else {
+        &arguments[1..]
+    }
+}
+
+/// Whether an actual parameter has two words.
+#[tactic(auto, using(ps_tree::proofs::TreeLemmas::argument_of_Variable), unfolding(ps_tree::specs::View::argument_of))]
+fn is_pair(argument: &Argument) -> bool
+    ensures words { (t : ℕ) → argument_words (argument_of argument.now) t ≡ (if result then t ∷ beside t ∷ [] else (t ∷ [])) }
+    ensures end { (t : ℕ) → argument_end (argument_of argument.now) t ≡ (if result then suc (beside t) else suc t) }
+{
+    match argument {
+        Argument::Routine { .. } | Argument::Formal { .. } => true,
+        Argument::Value { .. }
+        | Argument::Set { .. }
+        | Argument::Copy { .. }
+        | Argument::Variable(_) => false,
+    }
+}
+
+/// The first temporary behind the words of an actual parameter.
+pub fn argument_end(argument: &Argument, t: u32) -> u32
+    requires { t ≤ 4294960000 }
+    ensures value { result ≡ argument_end (argument_of argument.now) t }
+    ensures small { result ≤ t + 3 }
+{
+    if is_pair(argument) {
+        beside(t) + 1
+    } else {
+        t + 1
+    }
+}
+
+/// The scratch that an actual parameter holds, behind x.
+#[tactic(auto, using(ps_tree::proofs::TreeLemmas::argument_of_Variable), unfolding(ps_tree::specs::View::argument_of))]
+fn argument_scratch(argument: &Argument) -> Result<u32, LowerRefusal>
+    ensures { IfOk result (λ n. n ≡ argument_scratch (argument_of argument.now)) }
+{
+    match argument {
+        Argument::Set { .. } => Ok(32),
+        Argument::Copy { ty, .. } => byte_count(ty),
+        Argument::Value { .. }
+        | Argument::Variable(_)
+        | Argument::Routine { .. }
+        | Argument::Formal { .. } => Ok(0),
+    }
+}
+
+/// The end of the scratch that an actual parameter holds from x on.
+pub fn scratch_end(argument: &Argument, x: u32) -> Result<u32, LowerRefusal>
+    ensures { IfOk result (λ n. n ≡ x + argument_scratch (argument_of argument.now)) }
+{
+    let bytes = argument_scratch(argument)?;
+    let Some(end) = x.checked_add(bytes) else {
+        return Err(LowerRefusal::TooLarge);
+    };
+    Ok(end)
+}
+
+/// The first temporary behind the words of actual parameters.
+fn arguments_end(arguments: &[Argument], d: u32) -> Result<u32, LowerRefusal>
+    ensures { IfOk result (λ t. t ≡ arguments_end (arguments_of arguments.now) d) }
+{
+    let mut depth = d;
+    let mut rest = arguments;
+    for argument in arguments {
+        if DEEPEST < depth {
+            return Err(LowerRefusal::TooLarge);
+        }
+        rest = tail(rest);
+        depth = argument_end(argument, held(arguments_call(rest), depth));
+    }
+    Ok(depth)
+}
+
+/// The temporary of the static link, or of a formal's routine.
+pub fn link_temporary(arguments: &[Argument], d: u32) -> Result<u32, LowerRefusal>
+    ensures value { IfOk result (λ t. t ≡ even_from (arguments_end (arguments_of arguments.now) d)) }
+    ensures small { IfOk result (λ t. t ≤ DEEPEST + 1) }
+{
+    let end = arguments_end(arguments, d)?;
+    if DEEPEST < end {
+        return Err(LowerRefusal::TooLarge);
+    }
+    Ok(even_from(end))
+}
+
+/// Adds the temporaries of an actual parameter.
+fn add_words(list: &mut Vec<u32>, argument: &Argument, t: u32) -> Result<(), LowerRefusal>
+    requires { t ≤ 4294960000 }
+    ensures { OnOk result (list.new.items ≡ list.old.items ++ argument_words (argument_of argument.now) t) }
+{
+    list.push(t)?;
+    if is_pair(argument) {
+        list.push(beside(t))?;
+    }
+    Ok(())
+}
+
+/// The temporaries that a call hands over, the static link's first.
+fn words(alloc: Global, arguments: &[Argument], link: u32, d: u32) -> Result<Vec<u32>, LowerRefusal>
+    ensures { IfOk result (λ list. list.items ≡ link ∷ arguments_words (arguments_of arguments.now) d) }
+{
+    let mut list = Vec::new(alloc);
+    list.push(link)?;
+    let mut depth = d;
+    let mut rest = arguments;
+    for argument in arguments {
+        if DEEPEST < depth {
+            return Err(LowerRefusal::TooLarge);
+        }
+        rest = tail(rest);
+        let t = held(arguments_call(rest), depth);
+        add_words(&mut list, argument, t)?;
+        depth = argument_end(argument, t);
+    }
+    Ok(list)
+}
+
+/// The static link and the call of a routine.
+pub fn call(
+    out: &mut Code,
+    k: &Level,
+    arguments: &[Argument],
+    routine: u32,
+    up: u32,
+    line: u16,
+    d: u32,
+    to: u32,
+) -> Result<(), LowerRefusal>
+    ensures { OnOk result (out.new ≡ out.old ++ (link_code (scope_of k.now) (even_from (arguments_end (arguments_of arguments.now) d)) up ++ i.Call to routine (even_from (arguments_end (arguments_of arguments.now) d) ∷ arguments_words (arguments_of arguments.now) d) line ∷ [])) }
+{
+    let t = link_temporary(arguments, d)?;
+    link(out, k, t, up)?;
+    let operands = words(out.alloc(), arguments, t, d)?;
+    out.call(to, routine, &operands, line)
+}
+
+/// The routine of a formal parameter, and its call.
+pub fn call_formal(
+    out: &mut Code,
+    k: &Level,
+    arguments: &[Argument],
+    up: u32,
+    index: u32,
+    line: u16,
+    d: u32,
+    to: u32,
+) -> Result<(), LowerRefusal>
+    ensures { OnOk result (out.new ≡ out.old ++ (formal_code (scope_of k.now) (even_from (arguments_end (arguments_of arguments.now) d)) up index ++ i.CallValue to (even_from (arguments_end (arguments_of arguments.now) d)) (beside (even_from (arguments_end (arguments_of arguments.now) d)) ∷ arguments_words (arguments_of arguments.now) d) line ∷ [])) }
+{
+    let t = link_temporary(arguments, d)?;
+    formal(out, k, t, up, index)?;
+    let operands = words(out.alloc(), arguments, beside(t), d)?;
+    out.call_value(to, t, &operands, line)
+}
+
+/// A routine that is handed over, and its static link.
+pub fn routine_value(
+    out: &mut Code,
+    k: &Level,
+    routine: u32,
+    up: u32,
+    t: u32,
+) -> Result<(), LowerRefusal>
+    requires { t ≤ 4294960000 }
+    ensures { OnOk result (out.new ≡ out.old ++ i.RoutineValue t routine ∷ link_code (scope_of k.now) (beside t) up) }
+{
+    out.routine_value(t, routine)?;
+    link(out, k, beside(t), up)
+}
+
+/// A structure whose address is in t is copied to scratch, and the copy's address goes to t.
+pub fn copied(out: &mut Code, k: &Level, ty: &Ty, t: u32, x: u32) -> Result<(), LowerRefusal>
+    requires { t ≤ 4294960000 }
+    ensures { OnOk result (out.new ≡ out.old ++ i.Offset (beside t) base.Scratch x (byte_count (shape_of (type_of ty.now))) ∷ copy_code (scope_of k.now) (beside t) t (beside (beside t)) (byte_count (shape_of (type_of ty.now))) ++ i.Offset t base.Scratch x (byte_count (shape_of (type_of ty.now))) ∷ []) }
+{
+    let bytes = byte_count(ty)?;
+    let to = beside(t);
+    out.offset(to, Base::Scratch, x, bytes)?;
+    copy(out, k, to, t, beside(to), bytes)?;
+    out.offset(t, Base::Scratch, x, bytes)
+}

@@ -1,0 +1,76 @@
+// Calls of run-time routines.
+
+ghost use Rattle.std.specs.Prelude.{◌≡◌, ◌++◌, ◌≤◌, ◌∷◌, [], pos, OnOk};
+ghost use Rattle.ps_code.specs.Scopes.{RunTime, CompareBytes, run_time_number, beside, helper, copy_code};
+ghost use Rattle.ps_code.specs.Values.{text_length};
+ghost use Rattle.ps_lower.specs.Levels.{scope_of};
+ghost use Rattle.ps_tree.specs.View.{structure_of};
+ghost use Rattle.tac_code.specs.declared.code.Instruction.TheVariants as i;
+
+use crate::depth::beside;
+use crate::entries::run_time_number;
+use crate::level::Level;
+use crate::out::Code;
+use crate::refusal::LowerRefusal;
+use crate::texts::text_length;
+use ps_tree::tree::Structure;
+
+const COPY_WORDS: u32 = 0;
+
+const COMPARE_BYTES: u32 = 7;
+
+/// A number from 0 on.
+pub fn amount(out: &mut Code, n: u32, t: u32) -> Result<(), LowerRefusal>
+    ensures { OnOk result (out.new ≡ out.old ++ i.Literal t (pos n) ∷ []) }
+{
+    let Ok(number) = i32::try_from(n) else {
+        return Err(LowerRefusal::TooLarge);
+    };
+    out.literal(t, number)
+}
+
+/// A call of a run-time routine.
+pub fn help(
+    out: &mut Code,
+    k: &Level,
+    number: u32,
+    operands: &[u32],
+    to: u32,
+) -> Result<(), LowerRefusal>
+    ensures { (routine : RunTime) → number ≡ run_time_number routine → OnOk result (out.new ≡ out.old ++ helper (scope_of k.now) routine operands.now to ∷ []) }
+{
+    let number = run_time_number(k, number)?;
+    out.call(to, number, operands, 1)
+}
+
+/// The words at the address in `from` go to the address in `to`. The temporary t is used.
+pub fn copy(
+    out: &mut Code,
+    k: &Level,
+    to: u32,
+    from: u32,
+    t: u32,
+    bytes: u32,
+) -> Result<(), LowerRefusal>
+    ensures { OnOk result (out.new ≡ out.old ++ copy_code (scope_of k.now) to from t bytes) }
+{
+    amount(out, bytes, t)?;
+    help(out, k, COPY_WORDS, &[to, from, t], t)
+}
+
+/// The comparison of a string with another of the same length.
+pub fn compare_strings(
+    out: &mut Code,
+    k: &Level,
+    e: &Structure,
+    left: u32,
+    right: u32,
+    to: u32,
+) -> Result<(), LowerRefusal>
+    requires { right ≤ 4294960000 }
+    ensures { OnOk result (out.new ≡ out.old ++ i.Literal (beside right) (pos (text_length (structure_of e.now))) ∷ helper (scope_of k.now) CompareBytes (left ∷ right ∷ beside right ∷ []) to ∷ []) }
+{
+    let t = beside(right);
+    amount(out, text_length(e)?, t)?;
+    help(out, k, COMPARE_BYTES, &[left, right, t], to)
+}

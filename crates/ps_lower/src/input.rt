@@ -1,0 +1,63 @@
+// What is asked of the input ahead of its use.
+
+ghost use Rattle.std.specs.Prelude.{◌≡◌, ◌++◌, ◌≤◌, ◌∷◌, [], pos, OnOk, IfOk};
+ghost use Rattle.ps_code.specs.Scopes.{even_from, input_site, site_code, helper, LookAhead};
+ghost use Rattle.ps_layout.specs.Frames.{layout_of};
+ghost use Rattle.ps_lower.specs.Levels.{scope_of, site_of};
+ghost use Rattle.ps_tree.specs.Checked.{program_in};
+ghost use Rattle.ps_tree.specs.Tree.{routine_at};
+ghost use Rattle.tac_code.specs.declared.code.Instruction.TheVariants as i;
+
+use crate::depth::{DEEPEST, even_from};
+use crate::helpers::help;
+use crate::level::Level;
+use crate::levels::over_all;
+use crate::out::Code;
+use crate::places::address;
+use crate::refusal::LowerRefusal;
+use crate::site::Site;
+use tac_code::code::Base;
+
+const LOOK_AHEAD: u32 = 13;
+
+fn input_words(k: &Level) -> Result<u32, LowerRefusal>
+    ensures { IfOk result (λ n. n ≡ (layout_of (routine_at (program_in k.now.checked.now) 0)).input) }
+{
+    let Some(routine) = k.checked.routines().get(0) else {
+        return Err(LowerRefusal::NotYet);
+    };
+    Ok(over_all(0, routine)?.place)
+}
+
+/// Where the words stand that tell what of the input was taken ahead.
+pub fn input(k: &Level) -> Result<Site, LowerRefusal>
+    ensures { IfOk result (λ s. site_of s ≡ input_site (scope_of k.now)) }
+{
+    let Some(offset) = input_words(k)?.checked_mul(4) else {
+        return Err(LowerRefusal::TooLarge);
+    };
+    Ok(Site {
+        base: Base::Program,
+        offset,
+    })
+}
+
+/// What stands next in the input: a character, the end of a line, or the end of all.
+pub fn look_ahead(out: &mut Code, k: &Level, d: u32) -> Result<(), LowerRefusal>
+    requires { d ≤ DEEPEST }
+    ensures { OnOk result (out.new ≡ out.old ++ (site_code (even_from d) (input_site (scope_of k.now)) 8 ++ helper (scope_of k.now) LookAhead (even_from d ∷ []) d ∷ [])) }
+{
+    let t = even_from(d);
+    let site = input(k)?;
+    address(out, t, site, 8)?;
+    help(out, k, LOOK_AHEAD, &[t], d)
+}
+
+/// The same, where the end of all is an error.
+pub fn look_on(out: &mut Code, k: &Level, line: u16, d: u32) -> Result<(), LowerRefusal>
+    requires { d ≤ DEEPEST }
+    ensures { OnOk result (out.new ≡ out.old ++ (site_code (even_from d) (input_site (scope_of k.now)) 8 ++ helper (scope_of k.now) LookAhead (even_from d ∷ []) d ∷ i.CheckRange d (pos 1) (pos 2) 9 line ∷ [])) }
+{
+    look_ahead(out, k, d)?;
+    out.check_range(d, 1, 2, 9, line)
+}

@@ -1,0 +1,59 @@
+// New objects.
+
+ghost use Rattle.std.specs.Prelude.{◌≡◌, ◌++◌, ◌∷◌, ◌≤◌, OnOk};
+ghost use Rattle.ps_code.specs.Statements.{first_code, statement_code};
+ghost use Rattle.ps_layout.specs.Shapes.{shape_of};
+ghost use Rattle.ps_lower.specs.Levels.{scope_of};
+ghost use Rattle.ps_tree.specs.Tree as tree;
+ghost use Rattle.ps_tree.specs.Tree.{domain_at};
+ghost use Rattle.ps_tree.specs.View.{place_of};
+ghost use Rattle.tac_code.specs.declared.code.Base.TheVariants as base;
+ghost use Rattle.tac_code.specs.declared.code.Instruction.TheVariants as i;
+
+use crate::depth::{DEEPEST, even_above, held};
+use crate::firsts::first_object;
+use crate::level::Level;
+use crate::out::Code;
+use crate::places::{is_byte, keep};
+use crate::refusal::LowerRefusal;
+use crate::values::place;
+use ps_tree::tree::Place;
+
+/// An object of the type that a pointer type points to, with its first values; its address in a temporary.
+fn object(
+    out: &mut Code,
+    k: &Level,
+    pointer: u32,
+    to: u32,
+    t: u32,
+    line: u16,
+) -> Result<(), LowerRefusal>
+    requires { t ≤ 4294960000 }
+    ensures { OnOk result (out.new ≡ out.old ++ i.New to pointer line ∷ first_code (scope_of k.now) (base.Temporary to) t 0 (shape_of (domain_at (scope_of k.now).program pointer))) }
+{
+    let Some(ty) = k.checked.domains().get(pointer as usize) else {
+        return Err(LowerRefusal::NotYet);
+    };
+    out.new_object(to, pointer, line)?;
+    first_object(out, k, ty, to, t)
+}
+
+/// An object that a pointer variable points to from now on.
+pub fn create(
+    out: &mut Code,
+    k: &Level,
+    target: &Place,
+    pointer: u32,
+    line: u16,
+    d: u32,
+) -> Result<(), LowerRefusal>
+    requires { d ≤ DEEPEST }
+    ensures { OnOk result (out.new ≡ out.old ++ statement_code (scope_of k.now) (tree.New (place_of target.now) pointer line) d) }
+{
+    let at = held(true, d);
+    let to = held(true, at + 1);
+    let free = even_above(to);
+    let site = place(out, k, target, at, 0)?;
+    object(out, k, pointer, to, free, line)?;
+    keep(out, is_byte(target), site, to)
+}

@@ -1,0 +1,198 @@
+// Pack and unpack.
+
+ghost use Rattle.std.specs.Prelude.{◌≡◌, ◌++◌, ◌∷◌, ◌≤◌, ◌*◌, ◌+ℤ◌, [], pos, false, Bool, OnOk, IfOk};
+ghost use Rattle.ps_code.specs.Scopes.{RunTime, PackBytes, UnpackBytes, run_time_number, helper};
+ghost use Rattle.ps_code.specs.Values.{is_byte_array};
+ghost use Rattle.ps_code.specs.Statements.{components_code, room_code, statement_code};
+ghost use Rattle.ps_layout.specs.Shapes.{shape_of, component_bytes};
+ghost use Rattle.ps_lower.specs.Levels.{scope_of, site_of};
+ghost use Rattle.ps_meaning.specs.Expressions.{index_of};
+ghost use Rattle.ps_tree.specs.Tree as tree;
+ghost use Rattle.ps_tree.specs.View.{type_of, expr_of, place_of};
+ghost use Rattle.tac_code.specs.declared.code.Base.TheVariants as base;
+ghost use Rattle.tac_code.specs.declared.code.Instruction.TheVariants as i;
+
+use crate::depth::{DEEPEST, even_above, held};
+use crate::helpers::{amount, copy, help};
+use crate::level::Level;
+use crate::numbers::narrow;
+use crate::out::Code;
+use crate::places::address;
+use crate::refusal::LowerRefusal;
+use crate::shapes::{component_bytes, index_of, is_byte_array};
+use crate::site::Site;
+use crate::values::{place, value};
+use ps_tree::tree::{Expr, Place};
+use ps_tree::types::{Ordinal, Ty};
+use tac_code::code::Base;
+
+const PACK_BYTES: u32 = 8;
+
+const UNPACK_BYTES: u32 = 9;
+
+/// The address of the component of an array whose index stands in a temporary, or error 5.
+fn component(
+    out: &mut Code,
+    ty: &Ty,
+    site: Site,
+    t: u32,
+    index: u32,
+    line: u16,
+) -> Result<(), LowerRefusal>
+    ensures { OnOk result (out.new ≡ out.old ++ i.Index t (site_of site).base index (index_of (type_of ty.now)).low (index_of (type_of ty.now)).high (component_bytes (shape_of (type_of ty.now))) 5 line ∷ i.Offset t (base.Temporary t) (site_of site).offset 0 ∷ []) }
+{
+    let width = component_bytes(ty)?;
+    out.index(t, site.base, index, index_of(ty), width, line)?;
+    out.offset(t, Base::Temporary(t), site.offset, 0)
+}
+
+/// The lowest value of a range, and so much above it.
+fn above(range: Ordinal, more: u32) -> Result<i32, LowerRefusal>
+    ensures { IfOk result (λ n. n ≡ range.low +ℤ pos more) }
+{
+    let Ok(n) = i32::try_from(i64::from(range.low) + i64::from(more)) else {
+        return Err(LowerRefusal::TooLarge);
+    };
+    Ok(n)
+}
+
+/// The test of an index that lies at most so far above the lowest.
+fn check_room(
+    out: &mut Code,
+    t: u32,
+    range: Ordinal,
+    more: u32,
+    line: u16,
+) -> Result<(), LowerRefusal>
+    ensures { OnOk result (out.new ≡ out.old ++ i.CheckRange t range.low (range.low +ℤ pos more) 5 line ∷ []) }
+{
+    let last = above(range, more)?;
+    out.check_range(t, range.low, last, 5, line)
+}
+
+/// The test of the room that a part of so many components has in an array behind an index, or error 5.
+fn room(out: &mut Code, whole_ty: &Ty, part_ty: &Ty, t: u32, line: u16) -> Result<(), LowerRefusal>
+    ensures { OnOk result (out.new ≡ out.old ++ room_code (type_of whole_ty.now) (type_of part_ty.now) t line) }
+{
+    let whole = index_of(whole_ty);
+    let count = whole.value_count();
+    let part = index_of(part_ty).value_count();
+    if count < part {
+        return out.trap(5, line);
+    }
+    let more = narrow(count - part)?;
+    check_room(out, t, whole, more, line)
+}
+
+/// So many components from one address to another by a run-time routine.
+fn bytes(
+    out: &mut Code,
+    k: &Level,
+    number: u32,
+    a: u32,
+    b: u32,
+    count: u32,
+    t: u32,
+) -> Result<(), LowerRefusal>
+    ensures { (routine : RunTime) → number ≡ run_time_number routine → OnOk result (out.new ≡ out.old ++ i.Literal t (pos count) ∷ helper (scope_of k.now) routine (b ∷ a ∷ t ∷ []) t ∷ []) }
+{
+    amount(out, count, t)?;
+    help(out, k, number, &[b, a, t], t)
+}
+
+/// The same by words, where neither array is one of bytes.
+fn words(
+    out: &mut Code,
+    k: &Level,
+    a: u32,
+    b: u32,
+    count: u32,
+    width: u32,
+    t: u32,
+) -> Result<(), LowerRefusal>
+    ensures { (packing : Bool) → OnOk result (out.new ≡ out.old ++ components_code (scope_of k.now) packing a b count false false width t) }
+{
+    let Some(bytes) = count.checked_mul(width) else {
+        return Err(LowerRefusal::TooLarge);
+    };
+    copy(out, k, b, a, t, bytes)
+}
+
+/// The components of a part, from the address in a to the address in b.
+fn components(
+    out: &mut Code,
+    k: &Level,
+    from_ty: &Ty,
+    to_ty: &Ty,
+    count: u32,
+    a: u32,
+    b: u32,
+    t: u32,
+) -> Result<(), LowerRefusal>
+    ensures { (packing : Bool) → OnOk result (out.new ≡ out.old ++ components_code (scope_of k.now) packing a b count (is_byte_array (shape_of (type_of from_ty.now))) (is_byte_array (shape_of (type_of to_ty.now))) (component_bytes (shape_of (type_of from_ty.now))) t) }
+{
+    if is_byte_array(to_ty) {
+        return bytes(out, k, PACK_BYTES, a, b, count, t);
+    }
+    if is_byte_array(from_ty) {
+        return bytes(out, k, UNPACK_BYTES, a, b, count, t);
+    }
+    let width = component_bytes(from_ty)?;
+    words(out, k, a, b, count, width, t)
+}
+
+/// `pack(from, index, to)`
+pub fn pack(
+    out: &mut Code,
+    k: &Level,
+    from: &Place,
+    from_ty: &Ty,
+    index: &Expr,
+    line: u16,
+    to: &Place,
+    to_ty: &Ty,
+    d: u32,
+) -> Result<(), LowerRefusal>
+    requires { d ≤ DEEPEST }
+    ensures { OnOk result (out.new ≡ out.old ++ statement_code (scope_of k.now) (tree.Pack (place_of from.now) (type_of from_ty.now) (expr_of index.now) line (place_of to.now) (type_of to_ty.now)) d) }
+{
+    let a = held(true, d);
+    let b = held(true, a + 1);
+    let c = held(true, b + 1);
+    let count = narrow(index_of(to_ty).value_count())?;
+    let first = place(out, k, from, a, 0)?;
+    value(out, k, index, b, 0)?;
+    component(out, from_ty, first, a, b, line)?;
+    let second = place(out, k, to, c, 0)?;
+    room(out, from_ty, to_ty, b, line)?;
+    address(out, c, second, 0)?;
+    components(out, k, from_ty, to_ty, count, a, c, even_above(c))
+}
+
+/// `unpack(from, to, index)`
+pub fn unpack(
+    out: &mut Code,
+    k: &Level,
+    from: &Place,
+    from_ty: &Ty,
+    to: &Place,
+    to_ty: &Ty,
+    index: &Expr,
+    line: u16,
+    d: u32,
+) -> Result<(), LowerRefusal>
+    requires { d ≤ DEEPEST }
+    ensures { OnOk result (out.new ≡ out.old ++ statement_code (scope_of k.now) (tree.Unpack (place_of from.now) (type_of from_ty.now) (place_of to.now) (type_of to_ty.now) (expr_of index.now) line) d) }
+{
+    let a = held(true, d);
+    let b = held(true, a + 1);
+    let c = held(true, b + 1);
+    let count = narrow(index_of(from_ty).value_count())?;
+    let first = place(out, k, from, a, 0)?;
+    address(out, a, first, 0)?;
+    let second = place(out, k, to, b, 0)?;
+    value(out, k, index, c, 0)?;
+    component(out, to_ty, second, b, c, line)?;
+    room(out, to_ty, from_ty, c, line)?;
+    components(out, k, from_ty, to_ty, count, a, b, even_above(c))
+}

@@ -1,0 +1,191 @@
+// The code of read and readln.
+
+ghost use Rattle.std.specs.Prelude.{◌≡◌, ◌++◌, ◌≤◌, ◌∷◌, [], pos, map, OnOk};
+ghost use Rattle.ps_code.specs.Scopes.{even_from, beside, greatest, range_code, site_code, input_site, ReadCharacter, ReadNumber, ReadLine, helper};
+ghost use Rattle.ps_code.specs.Statements.{read_code, reads_code, statement_code};
+ghost use Rattle.ps_lower.specs.Levels.{scope_of};
+ghost use Rattle.ps_lower.specs.Reads.{character_taken, number_taken, line_taken};
+ghost use Rattle.ps_tree.specs.Tree as tree;
+ghost use Rattle.ps_tree.specs.View.{place_of, read_of};
+ghost use Rattle.tac_code.specs.declared.code.Base.TheVariants as base;
+ghost use Rattle.tac_code.specs.declared.code.Instruction.TheVariants as i;
+
+use crate::depth::{DEEPEST, beside, even_above, even_from, held};
+use crate::helpers::help;
+use crate::input::input;
+use crate::level::Level;
+use crate::out::Code;
+use crate::pieces::range;
+use crate::places::{address, is_byte, keep};
+use crate::refusal::LowerRefusal;
+use crate::values::place;
+use ps_tree::tree::{Place, ReadVariable};
+use tac_code::code::Base;
+
+const READ_CHARACTER: u32 = 14;
+
+const READ_NUMBER: u32 = 15;
+
+const READ_LINE: u32 = 16;
+
+/// The address of the words that tell what of the input was taken ahead.
+fn ahead(out: &mut Code, k: &Level, t: u32) -> Result<(), LowerRefusal>
+    ensures { OnOk result (out.new ≡ out.old ++ site_code t (input_site (scope_of k.now)) 8) }
+{
+    let site = input(k)?;
+    address(out, t, site, 8)
+}
+
+/// The test of a variable's range.
+fn fits(out: &mut Code, t: u32, low: &i32, high: &i32, line: u16) -> Result<(), LowerRefusal>
+    ensures { OnOk result (out.new ≡ out.old ++ range_code t low.now high.now 4 line) }
+{
+    range(out, t, *low, *high, 4, line)
+}
+
+/// A character from the input whose address is in a, or error 9.
+fn take_character(
+    out: &mut Code,
+    k: &Level,
+    a: u32,
+    low: &i32,
+    high: &i32,
+    line: u16,
+) -> Result<(), LowerRefusal>
+    ensures { OnOk result (out.new ≡ out.old ++ character_taken (scope_of k.now) low.now high.now line a) }
+{
+    help(out, k, READ_CHARACTER, &[a], a)?;
+    out.check_range(a, 0, i32::MAX, 9, line)?;
+    fits(out, a, low, high, line)
+}
+
+/// How the reading of a number went: error 9 at the end of the input, 10 if there is no number, 4 if it is too large.
+fn check_number(out: &mut Code, a: u32, line: u16) -> Result<(), LowerRefusal>
+    ensures { OnOk result (out.new ≡ out.old ++ (i.CheckRange a (pos 0) (pos 2) 9 line ∷ i.CheckRange a (pos 0) (pos 1) 10 line ∷ i.CheckRange a (pos 0) (pos 0) 4 line ∷ [])) }
+{
+    out.check_range(a, 0, 2, 9, line)?;
+    out.check_range(a, 0, 1, 10, line)?;
+    out.check_range(a, 0, 0, 4, line)
+}
+
+/// A number from the input whose address is in a.
+fn take_number(
+    out: &mut Code,
+    k: &Level,
+    a: u32,
+    low: &i32,
+    high: &i32,
+    line: u16,
+) -> Result<(), LowerRefusal>
+    requires { a ≤ 4294960000 }
+    ensures { OnOk result (out.new ≡ out.old ++ number_taken (scope_of k.now) low.now high.now line a) }
+{
+    let into = beside(a);
+    out.offset(into, Base::Scratch, 0, 4)?;
+    help(out, k, READ_NUMBER, &[a, into], a)?;
+    check_number(out, a, line)?;
+    out.load(a, Base::Scratch, 0)?;
+    fits(out, a, low, high, line)
+}
+
+fn read_character(
+    out: &mut Code,
+    k: &Level,
+    target: &Place,
+    low: &i32,
+    high: &i32,
+    line: u16,
+    d: u32,
+) -> Result<(), LowerRefusal>
+    requires { d ≤ DEEPEST }
+    ensures { OnOk result (out.new ≡ out.old ++ read_code (scope_of k.now) (tree.ReadChar (place_of target.now) low.now high.now line) d) }
+{
+    let t = held(true, d);
+    let a = even_above(t);
+    let site = place(out, k, target, t, 0)?;
+    ahead(out, k, a)?;
+    take_character(out, k, a, low, high, line)?;
+    keep(out, is_byte(target), site, a)
+}
+
+fn read_number(
+    out: &mut Code,
+    k: &Level,
+    target: &Place,
+    low: &i32,
+    high: &i32,
+    line: u16,
+    d: u32,
+) -> Result<(), LowerRefusal>
+    requires { d ≤ DEEPEST }
+    ensures { OnOk result (out.new ≡ out.old ++ read_code (scope_of k.now) (tree.ReadInteger (place_of target.now) low.now high.now line) d) }
+{
+    let t = held(true, d);
+    let a = even_above(t);
+    let site = place(out, k, target, t, 0)?;
+    ahead(out, k, a)?;
+    take_number(out, k, a, low, high, line)?;
+    keep(out, is_byte(target), site, a)
+}
+
+#[tactic(auto, unfolding(ps_tree::specs::View::read_of))]
+fn read(out: &mut Code, k: &Level, variable: &ReadVariable, d: u32) -> Result<(), LowerRefusal>
+    requires { d ≤ DEEPEST }
+    ensures { OnOk result (out.new ≡ out.old ++ read_code (scope_of k.now) (read_of variable.now) d) }
+{
+    match variable {
+        ReadVariable::Char {
+            place,
+            low,
+            high,
+            line,
+        } => read_character(out, k, place, low, high, line.number, d),
+        ReadVariable::Integer {
+            place,
+            low,
+            high,
+            line,
+        } => read_number(out, k, place, low, high, line.number, d),
+    }
+}
+
+/// The variables of read or readln, one after another.
+pub fn reads(
+    out: &mut Code,
+    k: &Level,
+    variables: &[ReadVariable],
+    d: u32,
+) -> Result<(), LowerRefusal>
+    requires { d ≤ DEEPEST }
+    ensures { OnOk result (out.new ≡ out.old ++ reads_code (scope_of k.now) (map read_of variables.now) d) }
+{
+    for variable in variables {
+        read(out, k, variable, d)?;
+    }
+    Ok(())
+}
+
+/// The rest of the line, or error 9 at the end of the input.
+fn take_line(out: &mut Code, k: &Level, a: u32, line: u16) -> Result<(), LowerRefusal>
+    ensures { OnOk result (out.new ≡ out.old ++ line_taken (scope_of k.now) line a) }
+{
+    help(out, k, READ_LINE, &[a], a)?;
+    out.check_range(a, 0, 0, 9, line)
+}
+
+/// The variables of readln, and the rest of the line.
+pub fn readln(
+    out: &mut Code,
+    k: &Level,
+    variables: &[ReadVariable],
+    line: u16,
+    d: u32,
+) -> Result<(), LowerRefusal>
+    requires { d ≤ DEEPEST }
+    ensures { OnOk result (out.new ≡ out.old ++ statement_code (scope_of k.now) (tree.Readln (map read_of variables.now) line) d) }
+{
+    let a = even_from(d);
+    reads(out, k, variables, d)?;
+    ahead(out, k, a)?;
+    take_line(out, k, a, line)
+}

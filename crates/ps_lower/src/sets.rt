@@ -1,0 +1,372 @@
+// Sets, each of which stands in the scratch block from a byte on, and what is made of them there.
+
+ghost use Rattle.std.specs.Prelude.{◌≡◌, ◌++◌, ◌+◌, ◌≤◌, ◌∷◌, [], pos, suc, OnOk, IfOk};
+ghost use Rattle.ps_code.specs.Scopes.{even_from, moved, helper, AddRange, IsIncluded, IsMember, run_time_number};
+ghost use Rattle.ps_code.specs.Values.{set_routine, set_check, included_code, same_sets_code, sets_code, range_members};
+ghost use Rattle.ps_lower.specs.Levels.{scope_of, site_of};
+ghost use Rattle.ps_lower.specs.Sets.{cleared_code, offsets_code, combined_code, includes_code, least_member, greatest_member, bounds_code, within_code, one_member, copied_code, kept_code};
+ghost use Rattle.tac_code.specs.declared.code.Base.TheVariants as base;
+ghost use Rattle.tac_code.specs.declared.code.Instruction.TheVariants as i;
+ghost use Rattle.tac_code.specs.declared.code.Operand.TheVariants as operand;
+ghost use Rattle.tac_code.specs.declared.code.Relation.TheVariants.{Equal};
+
+use crate::depth::{DEEPEST, beside, even_above, even_from, next};
+use crate::helpers::{copy, help};
+use crate::level::Level;
+use crate::out::Code;
+use crate::pieces::moved;
+use crate::places::address;
+use crate::refusal::LowerRefusal;
+use crate::site::Site;
+use ps_tree::tree::{SetOperator, SetRelation};
+use tac_code::code::{Base, BitOperator, Operand, Relation};
+
+const ADD_RANGE: u32 = 1;
+
+const UNITE_SETS: u32 = 2;
+
+const SUBTRACT_SET: u32 = 3;
+
+const INTERSECT_SETS: u32 = 4;
+
+const IS_INCLUDED: u32 = 5;
+
+const IS_MEMBER: u32 = 6;
+
+/// What lies behind the set from x on.
+pub fn above(x: u32) -> Result<u32, LowerRefusal>
+    ensures { IfOk result (λ n. n ≡ x + 32) }
+{
+    let Some(end) = x.checked_add(32) else {
+        return Err(LowerRefusal::TooLarge);
+    };
+    Ok(end)
+}
+
+/// No members in the set from x on.
+pub fn clear(out: &mut Code, t: u32, x: u32) -> Result<(), LowerRefusal>
+    ensures { OnOk result (out.new ≡ out.old ++ cleared_code t x) }
+{
+    if DEEPEST < x {
+        return Err(LowerRefusal::TooLarge);
+    }
+    out.literal(t, 0)?;
+    out.store(Base::Scratch, x, t)?;
+    out.store(Base::Scratch, x + 4, t)?;
+    out.store(Base::Scratch, x + 8, t)?;
+    out.store(Base::Scratch, x + 12, t)?;
+    out.store(Base::Scratch, x + 16, t)?;
+    out.store(Base::Scratch, x + 20, t)?;
+    out.store(Base::Scratch, x + 24, t)?;
+    out.store(Base::Scratch, x + 28, t)
+}
+
+/// The words of a set at a site, as the set from x on.
+pub fn copied_set(out: &mut Code, k: &Level, site: Site, d: u32, x: u32) -> Result<(), LowerRefusal>
+    requires { d ≤ DEEPEST }
+    ensures { OnOk result (out.new ≡ out.old ++ copied_code (scope_of k.now) (site_of site) (even_from (suc d)) x) }
+{
+    let from = even_above(d);
+    let to = beside(from);
+    address(out, from, site, 32)?;
+    out.offset(to, Base::Scratch, x, 32)?;
+    copy(out, k, to, from, beside(to), 32)
+}
+
+/// The addresses of the set from x on and of the one behind it.
+fn offsets(out: &mut Code, first: u32, second: u32, x: u32) -> Result<(), LowerRefusal>
+    ensures { OnOk result (out.new ≡ out.old ++ offsets_code first second x) }
+{
+    let behind = above(x)?;
+    out.offset(first, Base::Scratch, x, 32)?;
+    out.offset(second, Base::Scratch, behind, 32)
+}
+
+fn set_routine(operator: SetOperator) -> u32
+    ensures { result ≡ run_time_number (set_routine operator) }
+{
+    match operator {
+        SetOperator::Union => UNITE_SETS,
+        SetOperator::Difference => SUBTRACT_SET,
+        SetOperator::Intersection => INTERSECT_SETS,
+    }
+}
+
+/// An operator on the set from x on and the one behind it.
+pub fn combined(
+    out: &mut Code,
+    k: &Level,
+    operator: SetOperator,
+    d: u32,
+    x: u32,
+) -> Result<(), LowerRefusal>
+    requires { d ≤ DEEPEST }
+    ensures { OnOk result (out.new ≡ out.old ++ combined_code (scope_of k.now) operator (even_from d) x) }
+{
+    let t = even_from(d);
+    let second = beside(t);
+    offsets(out, t, second, x)?;
+    help(out, k, set_routine(operator), &[t, second], t)
+}
+
+/// Whether the first of two sets lies in the second.
+fn is_included(
+    out: &mut Code,
+    k: &Level,
+    first: u32,
+    second: u32,
+    to: u32,
+) -> Result<(), LowerRefusal>
+    ensures { OnOk result (out.new ≡ out.old ++ helper (scope_of k.now) IsIncluded (first ∷ second ∷ []) to ∷ []) }
+{
+    help(out, k, IS_INCLUDED, &[first, second], to)
+}
+
+/// Whether the set from x on lies in the one behind it.
+fn included(
+    out: &mut Code,
+    k: &Level,
+    first: u32,
+    second: u32,
+    to: u32,
+    x: u32,
+) -> Result<(), LowerRefusal>
+    ensures { OnOk result (out.new ≡ out.old ++ included_code (scope_of k.now) first second to x) }
+{
+    offsets(out, first, second, x)?;
+    is_included(out, k, first, second, to)
+}
+
+/// Whether the set behind the one from x on lies in that one.
+fn includes(out: &mut Code, k: &Level, t: u32, x: u32) -> Result<(), LowerRefusal>
+    requires { t ≤ 4294960000 }
+    ensures { OnOk result (out.new ≡ out.old ++ includes_code (scope_of k.now) t x) }
+{
+    let second = beside(t);
+    offsets(out, t, second, x)?;
+    is_included(out, k, second, t, t)
+}
+
+/// Whether the set from x on is the one behind it.
+fn same_sets(out: &mut Code, k: &Level, t: u32, x: u32) -> Result<(), LowerRefusal>
+    requires { t ≤ 4294960000 }
+    ensures { OnOk result (out.new ≡ out.old ++ same_sets_code (scope_of k.now) t x) }
+{
+    let both = next(t);
+    included(out, k, t, beside(t), both, x)?;
+    includes(out, k, t, x)?;
+    out.bits(BitOperator::And, t, t, Operand::Temporary(both))
+}
+
+fn other_sets(out: &mut Code, k: &Level, t: u32, x: u32) -> Result<(), LowerRefusal>
+    requires { t ≤ 4294960000 }
+    ensures { OnOk result (out.new ≡ out.old ++ (same_sets_code (scope_of k.now) t x ++ i.Compare Equal t t (operand.Number (pos 0)) ∷ [])) }
+{
+    same_sets(out, k, t, x)?;
+    out.compare(Relation::Equal, t, t, Operand::Number(0))
+}
+
+/// The truth of a relation between the set from x on and the one behind it.
+fn truth(
+    out: &mut Code,
+    k: &Level,
+    relation: SetRelation,
+    t: u32,
+    x: u32,
+) -> Result<(), LowerRefusal>
+    requires { t ≤ 4294960000 }
+    ensures { OnOk result (out.new ≡ out.old ++ sets_code (scope_of k.now) relation t x) }
+{
+    match relation {
+        SetRelation::Included => included(out, k, t, beside(t), t, x),
+        SetRelation::Includes => includes(out, k, t, x),
+        SetRelation::Same => same_sets(out, k, t, x),
+        SetRelation::Other => other_sets(out, k, t, x),
+    }
+}
+
+/// The same, moved to where it is wanted.
+pub fn compare_sets(
+    out: &mut Code,
+    k: &Level,
+    relation: SetRelation,
+    t: u32,
+    x: u32,
+    d: u32,
+) -> Result<(), LowerRefusal>
+    requires { t ≤ 4294960000 }
+    ensures { OnOk result (out.new ≡ out.old ++ (sets_code (scope_of k.now) relation t x ++ moved t d)) }
+{
+    truth(out, k, relation, t, x)?;
+    moved(out, t, d)
+}
+
+/// Whether what `member` holds is a member of the set from x on.
+pub fn is_member(
+    out: &mut Code,
+    k: &Level,
+    member: u32,
+    t: u32,
+    x: u32,
+    to: u32,
+) -> Result<(), LowerRefusal>
+    ensures { OnOk result (out.new ≡ out.old ++ i.Offset t base.Scratch x 32 ∷ helper (scope_of k.now) IsMember (member ∷ t ∷ []) to ∷ []) }
+{
+    out.offset(t, Base::Scratch, x, 32)?;
+    help(out, k, IS_MEMBER, &[member, t], to)
+}
+
+/// The members from what `first` holds to what `last` holds go into a set.
+fn add_range(
+    out: &mut Code,
+    k: &Level,
+    set: u32,
+    first: u32,
+    last: u32,
+    to: u32,
+) -> Result<(), LowerRefusal>
+    ensures { OnOk result (out.new ≡ out.old ++ helper (scope_of k.now) AddRange (set ∷ first ∷ last ∷ []) to ∷ []) }
+{
+    help(out, k, ADD_RANGE, &[set, first, last], to)
+}
+
+/// A member goes into the set from x on.
+pub fn add_member(
+    out: &mut Code,
+    k: &Level,
+    member: u32,
+    x: u32,
+    line: u16,
+) -> Result<(), LowerRefusal>
+    requires { member ≤ 4294960000 }
+    ensures { OnOk result (out.new ≡ out.old ++ one_member (scope_of k.now) member x line) }
+{
+    let set = beside(member);
+    out.check_range(member, 0, 255, 8, line)?;
+    out.offset(set, Base::Scratch, x, 32)?;
+    add_range(out, k, set, member, member, member)
+}
+
+/// The members from a first to a last go into the set from x on.
+pub fn add_members(
+    out: &mut Code,
+    k: &Level,
+    first: u32,
+    last: u32,
+    x: u32,
+    line: u16,
+) -> Result<(), LowerRefusal>
+    requires { last ≤ 4294960000 }
+    ensures { OnOk result (out.new ≡ out.old ++ range_members (scope_of k.now) first last x line) }
+{
+    let set = beside(last);
+    out.branch(Relation::Less, last, Operand::Temporary(first), 4)?;
+    out.check_range(first, 0, 255, 8, line)?;
+    out.check_range(last, 0, 255, 8, line)?;
+    out.offset(set, Base::Scratch, x, 32)?;
+    add_range(out, k, set, first, last, set)
+}
+
+fn least_member(low: &i32) -> i32
+    ensures { result ≡ least_member low.now }
+{
+    if *low < 0 { 0 } else { *low }
+}
+
+fn greatest_member(high: &i32) -> i32
+    ensures { result ≡ greatest_member high.now }
+{
+    if 255 < *high { 255 } else { *high }
+}
+
+/// The least member that a base can have.
+fn least(out: &mut Code, t: u32, low: &i32) -> Result<(), LowerRefusal>
+    ensures { OnOk result (out.new ≡ out.old ++ i.Literal t (least_member low.now) ∷ []) }
+{
+    out.literal(t, least_member(low))
+}
+
+/// The greatest.
+fn greatest(out: &mut Code, t: u32, high: &i32) -> Result<(), LowerRefusal>
+    ensures { OnOk result (out.new ≡ out.old ++ i.Literal t (greatest_member high.now) ∷ []) }
+{
+    out.literal(t, greatest_member(high))
+}
+
+/// The set of all members within the bounds of a base, from x on.
+fn bounds(
+    out: &mut Code,
+    k: &Level,
+    t: u32,
+    x: u32,
+    low: &i32,
+    high: &i32,
+) -> Result<(), LowerRefusal>
+    requires { t ≤ 4294960000 }
+    ensures { OnOk result (out.new ≡ out.old ++ bounds_code (scope_of k.now) t x low.now high.now) }
+{
+    let first = beside(t);
+    let last = beside(first);
+    clear(out, t, x)?;
+    out.offset(t, Base::Scratch, x, 32)?;
+    least(out, first, low)?;
+    greatest(out, last, high)?;
+    add_range(out, k, t, first, last, first)
+}
+
+/// The set from x on lies in another, or error 8.
+fn within(out: &mut Code, k: &Level, t: u32, x: u32, line: u16) -> Result<(), LowerRefusal>
+    requires { t ≤ 4294960000 }
+    ensures { OnOk result (out.new ≡ out.old ++ within_code (scope_of k.now) t x line) }
+{
+    let set = beside(t);
+    out.offset(set, Base::Scratch, x, 32)?;
+    is_included(out, k, set, t, t)?;
+    out.branch(Relation::NotEqual, t, Operand::Number(0), 1)?;
+    out.trap(8, line)
+}
+
+/// The set from x on lies within the bounds of a base, or error 8.
+pub fn check_set(
+    out: &mut Code,
+    k: &Level,
+    t: u32,
+    x: u32,
+    low: &i32,
+    high: &i32,
+    line: u16,
+) -> Result<(), LowerRefusal>
+    requires { t ≤ 4294960000 }
+    ensures { OnOk result (out.new ≡ out.old ++ set_check (scope_of k.now) t x low.now high.now line) }
+{
+    bounds(out, k, t, above(x)?, low, high)?;
+    within(out, k, t, x, line)
+}
+
+/// The set from x on as an actual parameter of a formal's base.
+pub fn hand_set(
+    out: &mut Code,
+    k: &Level,
+    t: u32,
+    x: u32,
+    low: &i32,
+    high: &i32,
+    line: u16,
+) -> Result<(), LowerRefusal>
+    requires { t ≤ 4294950000 }
+    ensures { OnOk result (out.new ≡ out.old ++ (set_check (scope_of k.now) (even_from t) x low.now high.now line ++ i.Offset t base.Scratch x 32 ∷ [])) }
+{
+    check_set(out, k, even_from(t), x, low, high, line)?;
+    out.offset(t, Base::Scratch, x, 32)
+}
+
+/// The set at the beginning of the scratch block goes to a site.
+pub fn keep_set(out: &mut Code, k: &Level, site: Site, t: u32) -> Result<(), LowerRefusal>
+    requires { t ≤ 4294960000 }
+    ensures { OnOk result (out.new ≡ out.old ++ kept_code (scope_of k.now) (site_of site) t) }
+{
+    let from = beside(t);
+    address(out, t, site, 32)?;
+    out.offset(from, Base::Scratch, 0, 32)?;
+    copy(out, k, t, from, beside(from), 32)
+}
