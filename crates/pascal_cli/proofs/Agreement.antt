@@ -18,9 +18,9 @@ use Rattle.clap.specs.ValueTests.{is_signed_in, is_unsigned_in}
 use Rattle.clap.specs.Walk.{Held, Names, Row, Step, Text, Walk, after_step, arg_by_id, arg_by_long, arg_by_short, finished, first_of, idle, long_or_other, nothing_held, one_of, row_text, rows_after, settled, subcommand_met, subcommand_or_other, trailing, walk_from, walked}
 use Rattle.clap.specs.declared.error.kind.ErrorKind.TheVariants as kind
 use Rattle.pascal_cli.specs.App.{HasLimits, IsWithin, fault_in, is_memory, pascal_app, row_limits, row_path, row_request, row_work, whole}
-use Rattle.pascal_cli.specs.Command.{Given, Limits, Request, Work, compile, compile_given, compile_request, default_limits, go, go_request, has_letters, image_name, is_line_fault, limit_names, limits_of, number_of, read, request_of, run, run_request, source_name, standard_request, value_of}
+use Rattle.pascal_cli.specs.Command.{Given, Limits, Request, Work, compile, compile_given, compile_request, default_limits, go, go_request, has_letters, image_name, is_line_fault, limit_names, limits_of, list, list_given, list_request, number_of, read, request_of, run, run_request, source_name, standard_request, value_of}
 use Rattle.pascal_cli.proofs.GivenRows.{AllFit, Fails, One, fails_left, fails_right, row, same_text, value_fits}
-use Rattle.pascal_cli.proofs.Leaves.{LeafEnds, budget_text, compile_leaf, compile_ones, end_look, end_row, end_rows, go_label, go_leaf, help_or_none, has_good_default, leaf_ends, leaf_fault, limited_ones, or_defaults, run_label, run_leaf, steps_text}
+use Rattle.pascal_cli.proofs.Leaves.{LeafEnds, budget_text, compile_leaf, compile_ones, end_look, end_row, end_rows, go_label, go_leaf, help_or_none, has_good_default, leaf_ends, leaf_fault, limited_ones, list_leaf, list_ones, or_defaults, run_label, run_leaf, steps_text}
 use Rattle.pascal_cli.proofs.LineWalk.{Leaf, letters_fail, letters_none, long_help, rules, short_help}
 
 -- a parse that enters a command finds what is asked for, or fails where nothing is
@@ -97,7 +97,7 @@ limits_agree name given all_fit =
       (stack.0, heap.0, steps.0),
     )
 
--- ---- the three commands
+-- ---- the commands
 
 abbrev is_there : Option Row → Bool
 is_there o = option_map_or (λ r. explicit_source r.source) o false
@@ -153,21 +153,28 @@ go_agrees words = limited_agrees go_label source_name (λ text. go text) (λ row
 abbrev compile_label : Text
 compile_label = codes "compile"
 
--- compile takes no limits, so it was given none
-no_limit : (name : Text) → arg_by_id (rules compile_ones) name ≡ None → or_defaults name None (rules compile_ones) ≡ None
-    → (given : Given) → AllFit (rules compile_ones) given → one_of name (end_rows compile_ones given) ≡ None
-no_limit name none none_is given all_fit = one_at compile_ones name given ∙ go (value_of name given) refl
-  where
-    go : (o : Option Text) → value_of name given ≡ o → option_and_then row_text (or_defaults name (option_map (row name) o) (rules compile_ones)) ≡ None
-    go None e = ap (option_and_then row_text) none_is
-    go (Some t) e = absurd (true≢false (sym (value_fits (rules compile_ones) name t given all_fit e).1 ∙ ap (λ o. is_some o) none))
+abbrev list_label : Text
+list_label = codes "list"
 
-no_limits : (given : Given) → AllFit (rules compile_ones) given
-    → (row_limits (end_rows compile_ones given) ≡ default_limits) × HasLimits (end_rows compile_ones given)
-no_limits given all_fit =
-    let stack = no_limit (codes "stack") refl refl given all_fit in
-    let heap = no_limit (codes "heap") refl refl given all_fit in
-    let steps = no_limit (codes "steps") refl refl given all_fit in (
+-- the commands have no such option, and no default for it
+abbrev IsNoOptionOf : List One → Text → Type 0
+IsNoOptionOf ones name = (arg_by_id (rules ones) name ≡ None) × (or_defaults name None (rules ones) ≡ None)
+
+-- compile and list take no limits, so they were given none
+no_limit : (ones : List One) (name : Text) → IsNoOptionOf ones name → (given : Given) → AllFit (rules ones) given → one_of name (end_rows ones given) ≡ None
+no_limit ones name none given all_fit = one_at ones name given ∙ go (value_of name given) refl
+  where
+    go : (o : Option Text) → value_of name given ≡ o → option_and_then row_text (or_defaults name (option_map (row name) o) (rules ones)) ≡ None
+    go None e = ap (option_and_then row_text) none.1
+    go (Some t) e = absurd (true≢false (sym (value_fits (rules ones) name t given all_fit e).1 ∙ ap (λ o. is_some o) none.0))
+
+no_limits : (ones : List One) → IsNoOptionOf ones (codes "stack") → IsNoOptionOf ones (codes "heap") → IsNoOptionOf ones (codes "steps")
+    → (given : Given) → AllFit (rules ones) given
+    → (row_limits (end_rows ones given) ≡ default_limits) × HasLimits (end_rows ones given)
+no_limits ones no_stack no_heap no_steps given all_fit =
+    let stack = no_limit ones (codes "stack") no_stack given all_fit in
+    let heap = no_limit ones (codes "heap") no_heap given all_fit in
+    let steps = no_limit ones (codes "steps") no_steps given all_fit in (
       limits_by _ _ _ _ _ _ (ap (λ o. option_map_or whole o 4194304) stack) (ap (λ o. option_map_or whole o 1048576) heap) (ap (λ o. option_map_or whole o 1000000000) steps),
       (
         subst (λ o. IfSome o (IsWithin 0 16777152)) (sym stack) tt,
@@ -206,7 +213,35 @@ compile_agrees words = go_on (read [] (source_name ∷ image_name ∷ []) None [
         (found (value_of source_name given) (value_of image_name given) (leaf_fault compile_label compile_ones words) (end_rows compile_ones given)
         (ends.0 ∙ ap₂ (λ a b. missing (not (is_there a) || (not (is_there b) || false))) source image)
         (ap₂ (λ a b. compile (unwrap_or (first_text a) []) (unwrap_or (first_text b) [])) source image)
-        (no_limits given ends.2))
+        (no_limits compile_ones (refl, refl) (refl, refl) (refl, refl) given ends.2))
+
+list_agrees : (words : List Text) → Agrees (list_request words) (leaf_fault list_label list_ones words) (list_label, rows_after (rules list_ones) [] words)
+list_agrees words = go_on (read [] (source_name ∷ []) None [] words) (leaf_ends list_label list_ones [] (source_name ∷ []) list_leaf refl words)
+  where
+    asked : Option Text → Option Request
+    asked source = option_map (λ s. requested (list s) default_limits) source
+
+    lacks : Option Text → Kinds
+    lacks source = missing (not (is_there (or_defaults source_name (option_map (row source_name) source) (rules list_ones))) || false)
+
+    texts : Option Text → Work
+    texts source = list (unwrap_or (first_text (or_defaults source_name (option_map (row source_name) source) (rules list_ones))) [])
+
+    found : (source : Option Text) (faults : Kinds) (rows : List Row) → faults ≡ lacks source → row_work list_label rows ≡ texts source
+        → (row_limits rows ≡ default_limits) × HasLimits rows → Agrees (asked source) faults (list_label, rows)
+    found None faults rows e w l = subst Fails (sym e) tt
+    found (Some s) faults rows e w l = (e, ap₂ requested w l.0, l.1)
+
+    go_on : (o : Option Given) → LeafEnds list_label list_ones words o
+        → Agrees (option_and_then list_given o) (leaf_fault list_label list_ones words) (list_label, rows_after (rules list_ones) [] words)
+    go_on None ends = ends
+    go_on (Some given) ends =
+        let source = end_look (rules list_ones) source_name given in
+        subst (λ rows. Agrees (list_given given) (leaf_fault list_label list_ones words) (list_label, rows)) (sym ends.1)
+        (found (value_of source_name given) (leaf_fault list_label list_ones words) (end_rows list_ones given)
+        (ends.0 ∙ ap (λ a. missing (not (is_there a) || false)) source)
+        (ap (λ a. list (unwrap_or (first_text a) [])) source)
+        (no_limits list_ones (refl, refl) (refl, refl) (refl, refl) given ends.2))
 
 -- ---- the program
 
@@ -332,28 +367,30 @@ stray_turn word words false (Some nv) = top_bad (stray_now false (Some nv) word)
 stray_turn word words false None = top_bad (stray_now false None word) (stray_after false None word) words (plain_stray word (has_letters word) refl)
 
 -- the command that the word names, by its tests
-abbrev command_by : Bool → Bool → Bool → Bool → Option Text
-command_by a b c d = option_map (λ (s : Text × List Text). s.0) (cond (a || false) (Some (compile_label, [])) (cond (b || false) (Some (run_label, []))
-    (cond (c || false) (Some (go_label, [])) (cond (d || false) (Some (codes "help", [])) None))))
+abbrev command_by : Bool → Bool → Bool → Bool → Bool → Option Text
+command_by a b c d e = option_map (λ (s : Text × List Text). s.0) (cond (a || false) (Some (compile_label, [])) (cond (b || false) (Some (list_label, []))
+    (cond (c || false) (Some (run_label, [])) (cond (d || false) (Some (go_label, [])) (cond (e || false) (Some (codes "help", [])) None)))))
 
-first_turn : (word : Text) (words : List Text) (a b c d : Bool) → bytes_eq (codes "help") word ≡ d
-    → TopTurn (if a then compile_request words else if b then run_request words else if c then go_request words
+first_turn : (word : Text) (words : List Text) (a b c d e : Bool) → bytes_eq (codes "help") word ≡ e
+    → TopTurn (if a then compile_request words else if b then list_request words else if c then run_request words else if d then go_request words
     else if bytes_eq word (codes "--") then standard_request words else None)
-    (top_now (command_by a b c d) word) (top_after (command_by a b c d) word) words
-first_turn word words true b c d e = command_turn compile_label compile_ones words (compile_request words) refl refl (compile_agrees words)
-first_turn word words false true c d e = command_turn run_label (limited_ones image_name) words (run_request words) refl refl (run_agrees words)
-first_turn word words false false true d e = command_turn go_label (limited_ones source_name) words (go_request words) refl refl (go_agrees words)
-first_turn word words false false false true e =
+    (top_now (command_by a b c d e) word) (top_after (command_by a b c d e) word) words
+first_turn word words true b c d e h = command_turn compile_label compile_ones words (compile_request words) refl refl (compile_agrees words)
+first_turn word words false true c d e h = command_turn list_label list_ones words (list_request words) refl refl (list_agrees words)
+first_turn word words false false true d e h = command_turn run_label (limited_ones image_name) words (run_request words) refl refl (run_agrees words)
+first_turn word words false false false true e h = command_turn go_label (limited_ones source_name) words (go_request words) refl refl (go_agrees words)
+first_turn word words false false false false true h =
     subst (λ w. TopTurn (if bytes_eq w (codes "--") then standard_request words else None) (top_now (Some (codes "help")) w) (top_after (Some (codes "help")) w) words)
-    (same_text (codes "help") word e) (top_bad (kind.DisplayHelp ∷ kind.InvalidSubcommand ∷ []) (top_after (Some (codes "help")) (codes "help")) words tt)
-first_turn word words false false false false e = stray_turn word words (bytes_eq word (codes "--")) (long_of word)
+    (same_text (codes "help") word h) (top_bad (kind.DisplayHelp ∷ kind.InvalidSubcommand ∷ []) (top_after (Some (codes "help")) (codes "help")) words tt)
+first_turn word words false false false false false h = stray_turn word words (bytes_eq word (codes "--")) (long_of word)
 
 -- a parse of the words finds what they ask for, and fails where they ask for nothing
 pub top_agrees : (words : List Text) → TopAgrees (request_of words) (fault_of pascal_app words) (subcommand_of pascal_app words)
 unfolding walk_fault defaults_fault
 top_agrees [] = (refl, refl, tt)
 top_agrees (word ∷ words) = top_turn _ word words
-    (first_turn word words (bytes_eq (codes "compile") word) (bytes_eq (codes "run") word) (bytes_eq (codes "go") word) (bytes_eq (codes "help") word) refl)
+    (first_turn word words (bytes_eq (codes "compile") word) (bytes_eq (codes "list") word) (bytes_eq (codes "run") word) (bytes_eq (codes "go") word)
+    (bytes_eq (codes "help") word) refl)
 
 -- ---- what the code answers
 

@@ -223,7 +223,7 @@ leaf_ends label ones options paths facts clean words = go (read options paths No
           ends.2,
         )
 
--- ---- the three commands
+-- ---- the commands
 
 abbrev path_one : Text → ℕ → One
 path_one name i = record { name = name; long = None; index = Some i; value_names = 0; defaults = []; parser = vp.String; required = true }
@@ -259,6 +259,9 @@ steps_one = record {
 abbrev pub compile_ones : List One
 compile_ones = path_one source_name 1 ∷ path_one image_name 2 ∷ []
 
+abbrev pub list_ones : List One
+list_ones = path_one source_name 1 ∷ []
+
 abbrev pub limited_ones : Text → List One
 limited_ones name = path_one name 1 ∷ stack_one ∷ heap_one ∷ steps_one ∷ []
 
@@ -278,6 +281,14 @@ compile_leaf = record {
     record { by_id = refl; fitting = λ text. refl; reads = refl },
     (path_one image_name 2, refl, refl, record { by_id = refl; fitting = λ text. refl; reads = refl }, refl),
   );
+}
+
+pub list_leaf : Leaf list_ones [] (source_name ∷ [])
+list_leaf = record {
+  known = λ name e. absurd (true≢false (sym e));
+  other = λ name e. help_or_none (bytes_eq (codes "help") name);
+  short = λ x. help_or_none (104 == x);
+  places = (path_one source_name 1, refl, refl, record { by_id = refl; fitting = λ text. refl; reads = refl }, refl);
 }
 
 -- the option of the first test that holds

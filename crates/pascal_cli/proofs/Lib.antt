@@ -1,4 +1,5 @@
 pub mod Agreement
+pub mod Called
 pub mod GivenRows
 pub mod Leaves
 pub mod LineWalk

@@ -13,7 +13,7 @@ use Rattle.clap.specs.declared.builder.value_parser.ValueParser.TheVariants as v
 use Rattle.clap.specs.declared.error.Error.{Error}
 use Rattle.clap.specs.declared.error.kind.ErrorKind.{ErrorKind}
 use Rattle.clap.specs.declared.error.kind.ErrorKind.TheVariants as kind
-use Rattle.pascal_cli.specs.Command.{Limits, Request, Work, compile, default_limits, go, go_standard_input, image_name, run, source_name}
+use Rattle.pascal_cli.specs.Command.{Limits, Request, Work, compile, default_limits, go, go_standard_input, image_name, list, run, source_name}
 use Rattle.pascal_cli.specs.declared.job.CommandFault.{CommandFault}
 use Rattle.pascal_cli.specs.declared.job.CommandFault.TheVariants as fault
 
@@ -51,6 +51,9 @@ limited app = with_rule (with_rule (with_rule app (budget_rule (codes "stack") (
 abbrev pub compile_app : App
 compile_app = with_rule (with_rule (new_app (codes "compile")) (path_rule (codes "SRC"))) (path_rule (codes "IMG"))
 
+abbrev pub list_app : App
+list_app = with_rule (new_app (codes "list")) (path_rule (codes "SRC"))
+
 abbrev pub run_app : App
 run_app = limited (with_rule (new_app (codes "run")) (path_rule (codes "IMG")))
 
@@ -59,9 +62,9 @@ go_app = limited (with_rule (new_app (codes "go")) (path_rule (codes "SRC")))
 
 -- the program, whose words begin after its name
 abbrev pub pascal_app : App
-pascal_app = with_subcommand (with_subcommand (with_subcommand
+pascal_app = with_subcommand (with_subcommand (with_subcommand (with_subcommand
     (on_top (λ shape. record shape { no_binary_name = true }) (new_app (codes "pascal")))
-    compile_app.top) run_app.top) go_app.top
+    compile_app.top) list_app.top) run_app.top) go_app.top
 
 -- ---- what the rows of a parse ask for
 
@@ -72,6 +75,7 @@ row_path name rows = unwrap_or (first_of name rows) []
 abbrev pub row_work : Text → List Row → Work
 row_work name rows =
     if bytes_eq name (codes "compile") then compile (row_path source_name rows) (row_path image_name rows)
+    else if bytes_eq name (codes "list") then list (row_path source_name rows)
     else if bytes_eq name (codes "run") then run (row_path image_name rows)
     else go (row_path source_name rows)
 

@@ -16,9 +16,10 @@ use Rattle.pascal_cli.specs.declared.job.Task.TheVariants as task
 abbrev pub Text : Type 0
 Text = List ℕ
 
--- to compile a source to an image, to run an image, to compile a source and run it, or to do so with standard input
+-- to compile a source to an image, to compile a source and list its image, to run an image, to compile a source and run it, or to do so with standard input
 pub data Work : Type 0 where
   compile : Text → Text → Work
+  list : Text → Work
   run : Text → Work
   go : Text → Work
   go_standard_input : Work
@@ -141,6 +142,12 @@ compile_given given = option_and_then (λ source. option_map (λ image. record {
   limits = default_limits;
 }) (value_of image_name given)) (value_of source_name given)
 
+abbrev pub list_given : Given → Option Request
+list_given given = option_map (λ source. record {
+  work = list source;
+  limits = default_limits;
+}) (value_of source_name given)
+
 abbrev pub run_given : Given → Option Request
 run_given given = option_map (λ image. record {
   work = run image;
@@ -153,9 +160,12 @@ go_given given = option_map (λ source. record {
   limits = limits_of given;
 }) (value_of source_name given)
 
--- `compile SRC IMG`; and `run IMG` and `go SRC`, with limits
+-- `compile SRC IMG` and `list SRC`; and `run IMG` and `go SRC`, with limits
 abbrev pub compile_request : List Text → Option Request
 compile_request words = option_and_then compile_given (read [] (source_name ∷ image_name ∷ []) None [] words)
+
+abbrev pub list_request : List Text → Option Request
+list_request words = option_and_then list_given (read [] (source_name ∷ []) None [] words)
 
 abbrev pub run_request : List Text → Option Request
 run_request words = option_and_then run_given (read limit_names (image_name ∷ []) None [] words)
@@ -174,6 +184,7 @@ abbrev pub request_of : List Text → Option Request
 request_of [] = standard_request []
 request_of (word ∷ rest) =
     if bytes_eq (codes "compile") word then compile_request rest
+    else if bytes_eq (codes "list") word then list_request rest
     else if bytes_eq (codes "run") word then run_request rest
     else if bytes_eq (codes "go") word then go_request rest
     else if bytes_eq word (codes "--") then standard_request rest
@@ -183,6 +194,7 @@ request_of (word ∷ rest) =
 
 abbrev pub work_of : Task → Work
 work_of (task.Compile source image) = compile source.now image.now
+work_of (task.List source) = list source.now
 work_of (task.Run image) = run image.now
 work_of (task.Go source) = go source.now
 work_of task.GoStandardInput = go_standard_input

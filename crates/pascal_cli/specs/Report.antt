@@ -1,5 +1,5 @@
 -- The statuses of the program, and the lines that it writes to standard error (docs/REFUSALS.md).
-use Rattle.std.specs.Prelude.{ℕ, nat_eq, if◌then◌else◌, List, [], ◌++◌, Option, Some, None, Result, Ok, Err, codes, decimal}
+use Rattle.std.specs.Prelude.{ℕ, nat_eq, if◌then◌else◌, List, [], ◌∷◌, ◌++◌, Option, Some, None, Result, Ok, Err, codes, decimal}
 use Rattle.ps_build.specs.Refusals.{number_of, name_of, line_of}
 use Rattle.ps_build.specs.declared.outcome.FaultKind.{FaultKind}
 use Rattle.ps_build.specs.declared.outcome.FaultKind.TheVariants.{BadWord, BadAddress, BadDivisor, BadJump, UnknownTrap}
@@ -12,7 +12,7 @@ status_of (Ok Normal) = 0
 status_of (Err refusal) = 1
 status_of (Ok InputFault) = 1
 status_of (Ok OutputFault) = 1
-status_of (Ok (Error number line)) = 2
+status_of (Ok (Error number line trail)) = 2
 status_of (Ok (Stack number line)) = 3
 status_of (Ok (Heap number line)) = 3
 status_of (Ok Steps) = 4
@@ -45,6 +45,18 @@ fault_name UnknownTrap = codes "UnknownTrap"
 abbrev pub error_text : ℕ → ℕ → List ℕ
 error_text number line = codes "line " ++ (decimal line ++ (codes ": " ++ (words_of number ++ codes "\n")))
 
+abbrev pub call_text : ℕ → List ℕ
+call_text line = codes "called at line " ++ (decimal line ++ codes "\n")
+
+-- a line for each of the open calls, innermost first
+abbrev pub calls_text : List ℕ → List ℕ
+calls_text [] = []
+calls_text (line ∷ rest) = call_text line ++ calls_text rest
+
+abbrev pub trail_text : Option (List ℕ) → List ℕ
+trail_text None = []
+trail_text (Some lines) = calls_text lines
+
 abbrev pub refusal_text : Option ℕ → ℕ → List ℕ → List ℕ
 refusal_text (Some line) number name = codes "refused at line " ++ (decimal line ++ (codes ": " ++ (decimal number ++ (codes " " ++ (name ++ codes "\n")))))
 refusal_text None number name = codes "refused: " ++ (decimal number ++ (codes " " ++ (name ++ codes "\n")))
@@ -55,7 +67,7 @@ message_of (Ok Normal) = []
 message_of (Err refusal) = refusal_text (line_of refusal) (number_of refusal) (name_of refusal)
 message_of (Ok InputFault) = codes "input fault\n"
 message_of (Ok OutputFault) = codes "output fault\n"
-message_of (Ok (Error number line)) = error_text number line
+message_of (Ok (Error number line trail)) = error_text number line ++ trail_text trail
 message_of (Ok (Stack number line)) = error_text number line
 message_of (Ok (Heap number line)) = error_text number line
 message_of (Ok Steps) = codes "step limit\n"

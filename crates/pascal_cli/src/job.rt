@@ -2,7 +2,7 @@
 
 ghost use Rattle.std.specs.Prelude.{◌≡◌, ◌≤◌, IfOk, IfErr, IfSome, List, None, Some, codes, ℕ, true, false, map};
 ghost use Rattle.clap.specs.Words.{app_of, fault_of, found_of, one_of, rows_of, rule_of, subcommand_rows_of};
-ghost use Rattle.pascal_cli.specs.App.{HasLimits, IsLineOf, IsWithin, compile_app, fault_in, go_app, has_globals, limited, pascal_app, path_rule, row_path, row_request, row_work, budget_rule, run_app, steps_rule, whole};
+ghost use Rattle.pascal_cli.specs.App.{HasLimits, IsLineOf, IsWithin, compile_app, fault_in, go_app, has_globals, limited, list_app, pascal_app, path_rule, row_path, row_request, row_work, budget_rule, run_app, steps_rule, whole};
 ghost use Rattle.pascal_cli.specs.Command.{is_line_fault, request_in, request_of, work_of};
 ghost use Rattle.pascal_cli.specs.declared.job.CommandFault.TheVariants.{OutOfMemory};
 
@@ -27,6 +27,8 @@ const DEFAULT_STEPS: u64 = 1_000_000_000;
 pub enum Task<'a> {
     /// Compiles a source and writes its image.
     Compile { source: &'a str, image: &'a str },
+    /// Compiles a source and lists its image.
+    List { source: &'a str },
     /// Runs an image.
     Run { image: &'a str },
     /// Compiles a source and runs it.
@@ -129,6 +131,15 @@ fn compile_command<'a>(alloc: Global) -> Result<Command<'a>, AllocError>
         .arg(path(alloc, "IMG", "The image"))
 }
 
+fn list_command<'a>(alloc: Global) -> Result<Command<'a>, AllocError>
+    ensures app { IfOk result (λ r. app_of r ≡ list_app) }
+    ensures local { IfOk result (λ r. has_globals r ≡ false) }
+{
+    Command::new(alloc, "list")
+        .about("Compiles a text and writes the listing of its image to standard output")
+        .arg(path(alloc, "SRC", "The Pascal text"))
+}
+
 fn run_command<'a>(alloc: Global) -> Result<Command<'a>, AllocError>
     ensures app { IfOk result (λ r. app_of r ≡ run_app) }
     ensures local { IfOk result (λ r. has_globals r ≡ false) }
@@ -157,6 +168,7 @@ fn pascal<'a>(alloc: Global) -> Result<Command<'a>, AllocError>
         .no_binary_name(true)
         .bin_name("pascal")?
         .subcommand(compile_command(alloc)?)?
+        .subcommand(list_command(alloc)?)?
         .subcommand(run_command(alloc)?)?
         .subcommand(go_command(alloc)?)
 }
@@ -202,6 +214,9 @@ fn task_of<'a>(name: &str, matches: &ArgMatches<'a>) -> Task<'a>
         "compile" => Task::Compile {
             source: path_of(matches, "SRC"),
             image: path_of(matches, "IMG"),
+        },
+        "list" => Task::List {
+            source: path_of(matches, "SRC"),
         },
         "run" => Task::Run {
             image: path_of(matches, "IMG"),

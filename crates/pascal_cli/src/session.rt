@@ -5,7 +5,7 @@ ghost use Rattle.std.specs.Prelude.{◌<◌, ◌^◌};
 use crate::job::{CommandFault, Job, Task, command};
 use crate::report::{message, status};
 use crate::transfer::{Counted, ReadFault, put_all, read_up_to};
-use ps_build::{Budget, Outcome, Refusal, build, go, run_image};
+use ps_build::{Budget, Built, Outcome, Refusal, build, go, list, run_image};
 use risc_machine::Streams;
 use std::alloc::Global;
 use std::io::{self, BufReader};
@@ -63,6 +63,7 @@ fn run_words<R: Files + Print + Eprint + Input + AllocGlobal>(rt: &R, words: &[S
 fn do_job<R: Files + Print + Eprint + Input + AllocGlobal>(rt: &R, job: &Job<'_>) -> u8 {
     match job.task {
         Task::Compile { source, image } => compile(rt, source, image),
+        Task::List { source } => list_file(rt, source),
         Task::Run { image } => run_file(rt, job, image),
         Task::Go { source } => go_file(rt, job, source),
         Task::GoStandardInput => go_standard_input(rt, job),
@@ -108,14 +109,22 @@ fn budget_of(job: &Job<'_>) -> Budget {
     }
 }
 
-fn compile<R: Files + Eprint + AllocGlobal>(rt: &R, source: &str, image: &str) -> u8 {
-    let text = match read_file(rt, source, TEXT_LIMIT) {
+// Builds the text of a file. Where there is none, or it is refused, that is told, and the status is given.
+fn build_file<R: Files + Eprint + AllocGlobal>(rt: &R, path: &str) -> Result<Built, u8> {
+    let text = match read_file(rt, path, TEXT_LIMIT) {
         Ok(text) => text,
-        Err(fault) => return tell_read_fault(rt, fault, source),
+        Err(fault) => return Err(tell_read_fault(rt, fault, path)),
     };
-    let built = match build(rt.alloc(), &text) {
+    match build(rt.alloc(), &text) {
+        Ok(built) => Ok(built),
+        Err(refusal) => Err(tell(rt, &Err(refusal))),
+    }
+}
+
+fn compile<R: Files + Eprint + AllocGlobal>(rt: &R, source: &str, image: &str) -> u8 {
+    let built = match build_file(rt, source) {
         Ok(built) => built,
-        Err(refusal) => return tell(rt, &Err(refusal)),
+        Err(status) => return status,
     };
     let Ok(file) = fs::create(rt, image) else {
         return cannot(rt, "write", image);
@@ -123,6 +132,20 @@ fn compile<R: Files + Eprint + AllocGlobal>(rt: &R, source: &str, image: &str) -
     match put_all(&mut Counted::new(file), built.bytes()) {
         Ok(()) => 0,
         Err(_) => cannot(rt, "write", image),
+    }
+}
+
+fn list_file<R: Files + Print + Eprint + AllocGlobal>(rt: &R, source: &str) -> u8 {
+    let built = match build_file(rt, source) {
+        Ok(built) => built,
+        Err(status) => return status,
+    };
+    let Ok(listing) = list(rt.alloc(), &built) else {
+        return tell(rt, &Err(Refusal::OutOfMemory));
+    };
+    match put_all(&mut Counted::new(io::writer(rt)), listing.as_bytes()) {
+        Ok(()) => 0,
+        Err(_) => cannot(rt, "write", STANDARD_OUTPUT),
     }
 }
 

@@ -73,7 +73,7 @@ fn do_job<R: Files + Print + Eprint + Input + AllocGlobal>(rt: &R, job: &Job<'_>
             Ok(text) => go(rt, &text, &[], job.steps),
             Err(fault) => tell_read_fault(rt, fault, "standard input"),
         },
-        Task::Compile { .. } | Task::Run { .. } => {
+        Task::Compile { .. } | Task::List { .. } | Task::Run { .. } => {
             let _ = eprintln!(rt; "pascal_reference has no images: it runs a text by `go`");
             FAILED
         }
@@ -142,6 +142,7 @@ fn outcome_of(ending: Ending) -> Outcome {
         Ending::Error { number, line } => Outcome::Error {
             number: u32::from(number),
             line: u32::from(line),
+            trail: None,
         },
         Ending::Stack { line } => Outcome::Stack {
             number: 12,

@@ -14,6 +14,7 @@ fn told(alloc: Global, job: &Job<'_>) -> Result<String, AllocError> {
         Task::Compile { source, image } => {
             format!(in alloc; "compile {source} to {image}, {numbers}")
         }
+        Task::List { source } => format!(in alloc; "list {source}, {numbers}"),
         Task::Run { image } => format!(in alloc; "run {image}, {numbers}"),
     }
 }

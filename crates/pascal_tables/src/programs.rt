@@ -1,6 +1,7 @@
 //! Programs that are built and run, and images that are run.
 
-use ps_build::{Budget, Outcome, Refusal, build, go, run_image};
+use pascal_cli::message;
+use ps_build::{Budget, Outcome, Refusal, build, go, list, run_image};
 use risc_machine::{Fused, Streams};
 use std::alloc::{AllocError, Global};
 
@@ -70,6 +71,21 @@ pub(crate) fn ran(alloc: Global, image: &[u8], job: Job) -> Result<String, Alloc
     let mut console = Fused::new(alloc, b"", 100, 0, job.failing_put)?;
     let end = run_image(alloc, image, job.budget, &mut console, job.steps);
     told(alloc, end, console.output())
+}
+
+/// What is told of how an image runs.
+pub(crate) fn reported(alloc: Global, image: &[u8], job: Job) -> Result<String, AllocError> {
+    let mut console = Fused::new(alloc, b"", 100, 0, job.failing_put)?;
+    let end = run_image(alloc, image, job.budget, &mut console, job.steps);
+    message(alloc, &end)
+}
+
+/// The listing of the image that is built of a text, or the text's refusal.
+pub(crate) fn listed(alloc: Global, text: &[u8]) -> Result<String, AllocError> {
+    match build(alloc, text) {
+        Ok(built) => list(alloc, &built),
+        Err(refusal) => format!(in alloc; "{refusal:?}"),
+    }
 }
 
 /// How the image that is built of a text runs.

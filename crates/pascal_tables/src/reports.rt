@@ -1,7 +1,7 @@
 //! Statuses and messages.
 
 use pascal_cli::{message, status};
-use ps_build::{FaultKind, Outcome, Refusal};
+use ps_build::{FaultKind, Outcome, Refusal, Trail};
 use std::alloc::{AllocError, Global};
 
 fn number(word: Option<&str>) -> u32 {
@@ -16,6 +16,19 @@ fn refusal(name: &str, line: u32) -> Refusal {
     }
 }
 
+/// The lines of calls that the words behind the first three tell; none where there are no such words.
+fn trail_of(row: &str) -> Option<Trail> {
+    let mut trail = None;
+    for word in row.split(' ').skip(3) {
+        let mut lines = trail.unwrap_or(Trail::new());
+        if lines.len() < 16 {
+            lines.push(number(Some(word)));
+        }
+        trail = Some(lines);
+    }
+    trail
+}
+
 /// The end that a row tells: a word, and numbers.
 fn end_of(row: &str) -> Result<Outcome, Refusal> {
     let mut words = row.split(' ');
@@ -27,6 +40,7 @@ fn end_of(row: &str) -> Result<Outcome, Refusal> {
         "error" => Ok(Outcome::Error {
             number: number(first),
             line,
+            trail: trail_of(row),
         }),
         "stack" => Ok(Outcome::Stack {
             number: number(first),

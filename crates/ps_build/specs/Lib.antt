@@ -4,6 +4,7 @@ pub mod Refusals
 pub mod Accepts
 pub mod Faults
 pub mod Headline
+pub mod Listed
 pub mod Bounds
 pub mod Made
 pub mod Devices

@@ -1,12 +1,12 @@
 -- What a run of an image over a console comes to.
-use Rattle.std.specs.Prelude.{◌≡◌, ℕ, ◌<◌, List, [], ◌++◌, Option, Some, None}
+use Rattle.std.specs.Prelude.{◌≡◌, ℕ, ◌<◌, nat_eq, if◌then◌else◌, List, ◌++◌, Option, Some, None, option_map}
 use Rattle.behavior.specs.Endings as ending
 use Rattle.behavior.specs.Transcripts.{output, AreBytes}
 use Rattle.risc_machine.specs.Console.{World, one_more}
 use Rattle.risc_machine.specs.declared.stop.Stop.{Stop}
 use Rattle.risc_machine.specs.declared.stop.Stop.TheVariants as m
 use Rattle.risc_machine.specs.Step.{State}
-use Rattle.risc_machine.specs.Exec.{Tape, fresh, row_at, trap_ending, fault_kind}
+use Rattle.risc_machine.specs.Exec.{Tape, fresh, row_at, fault_kind}
 use Rattle.risc_image.specs.Image.{Image}
 use Rattle.risc_image.specs.Format.{IsImage}
 use Rattle.risc_image.specs.Refusal.{IsRefused}
@@ -19,20 +19,26 @@ use Rattle.ps_build.specs.declared.refusal.Refusal.{Refusal}
 use Rattle.ps_build.specs.declared.refusal.Refusal.TheVariants.{OutOfMemory, Magic, Truncated, Trailing, TooLarge, BadTable, BudgetTooLarge, BudgetUneven}
 use Rattle.ps_build.specs.declared.outcome.Outcome.{Outcome}
 use Rattle.ps_build.specs.declared.outcome.Outcome.TheVariants.{Normal, Error, Stack, Heap, Steps, InputFault, OutputFault, Fault}
-use Rattle.risc_load.specs.Shows.{IsBudget}
+use Rattle.risc_load.specs.Shows.{trap_rows, IsBudget}
 use Rattle.risc_runs.specs.Outcome.{image_outcome}
+use Rattle.risc_trail.specs.Told.{trail_of}
+use Rattle.ps_build.specs.declared.outcome.FaultKind.TheVariants.{UnknownTrap}
 use Rattle.ps_build.specs.Faults.{kind_told}
 use Rattle.ps_build.specs.Devices.{reached, AsksInput, AsksOutput}
 
--- The outcome that tells an ending, without the calls that are open at an error. No run of an image is stuck.
-abbrev pub outcome_told : ending.Ending → Option Outcome
-outcome_told ending.More = Some Steps
-outcome_told ending.Normal = Some Normal
-outcome_told (ending.Error number line calls) = Some (Error number line)
-outcome_told (ending.Stack line) = Some (Stack 12 line)
-outcome_told (ending.Heap line) = Some (Heap 13 line)
-outcome_told (ending.Fault kind) = Some (Fault (kind_told kind))
-outcome_told ending.Stuck = None
+-- the lines of the open calls as an outcome has them: none of an image without a table of calls
+abbrev pub trail_told : Image → List ℕ → Option (List ℕ)
+trail_told image calls = option_map (λ rows. calls) image.calls
+
+-- The outcome that tells an ending of an image. No run of an image is stuck.
+abbrev pub outcome_told : Image → ending.Ending → Option Outcome
+outcome_told image ending.More = Some Steps
+outcome_told image ending.Normal = Some Normal
+outcome_told image (ending.Error number line calls) = Some (Error number line (trail_told image calls))
+outcome_told image (ending.Stack line) = Some (Stack 12 line)
+outcome_told image (ending.Heap line) = Some (Heap 13 line)
+outcome_told image (ending.Fault kind) = Some (Fault (kind_told kind))
+outcome_told image ending.Stuck = None
 
 -- the loaded machine and its tape after at most so many steps
 abbrev pub stands_at : Image → Budget → List ℕ → ℕ → State × Tape
@@ -46,7 +52,7 @@ pub record Moved (image : Image) (budget : Budget) (input before : List ℕ) (st
 -- No device failed: the console is as the image leaves it after n steps, and the outcome tells how the image ends.
 pub record Ends (image : Image) (budget : Budget) (n : ℕ) (input before : List ℕ) (after : World) (outcome : Outcome) : Type 0 where
   pub moved : Moved image budget input before n after
-  pub ending : outcome_told (image_outcome image budget.heap budget.stack input n).1 ≡ Some outcome
+  pub ending : outcome_told image (image_outcome image budget.heap budget.stack input n).1 ≡ Some outcome
 
 -- A device failed: the console is as the image leaves it after some fewer steps, of which the next asks just that device. So nothing
 -- that was written before is held back or lost, and nothing was taken that the image had not asked for.
@@ -61,7 +67,7 @@ abbrev pub Tells : Outcome → Image → Budget → ℕ → (input before : List
 Tells InputFault image budget n input before after = Breaks AsksInput image budget n input before after
 Tells OutputFault image budget n input before after = Breaks AsksOutput image budget n input before after
 Tells Normal image budget n input before after = Ends image budget n input before after Normal
-Tells (Error number line) image budget n input before after = Ends image budget n input before after (Error number line)
+Tells (Error number line trail) image budget n input before after = Ends image budget n input before after (Error number line trail)
 Tells (Stack number line) image budget n input before after = Ends image budget n input before after (Stack number line)
 Tells (Heap number line) image budget n input before after = Ends image budget n input before after (Heap number line)
 Tells Steps image budget n input before after = Ends image budget n input before after Steps
@@ -72,7 +78,7 @@ abbrev pub CountsFaults : Outcome → World → World → Type 0
 CountsFaults InputFault old new = new.faults ≡ one_more old.faults
 CountsFaults OutputFault old new = new.faults ≡ one_more old.faults
 CountsFaults Normal old new = new.faults ≡ old.faults
-CountsFaults (Error number line) old new = new.faults ≡ old.faults
+CountsFaults (Error number line trail) old new = new.faults ≡ old.faults
 CountsFaults (Stack number line) old new = new.faults ≡ old.faults
 CountsFaults (Heap number line) old new = new.faults ≡ old.faults
 CountsFaults Steps old new = new.faults ≡ old.faults
@@ -91,14 +97,20 @@ pub record RunsImage (bytes : List ℕ) (budget : Budget) (n : ℕ) (old new : W
   pub only : (other : Image) → IsImage bytes other → image ≡ other
   pub runs : Runs image budget n old new outcome
 
--- what an outcome tells of a stop, by the trap table's rows
-abbrev pub IsToldBy : List (ℕ × ℕ × ℕ) → Stop → Outcome → Type 0
-IsToldBy traps m.Normal outcome = outcome ≡ Normal
-IsToldBy traps (m.Trap link) outcome = outcome_told (trap_ending (row_at link traps) []) ≡ Some outcome
-IsToldBy traps m.Steps outcome = outcome ≡ Steps
-IsToldBy traps m.InputFault outcome = outcome ≡ InputFault
-IsToldBy traps m.OutputFault outcome = outcome ≡ OutputFault
-IsToldBy traps (m.Fault kind) outcome = outcome_told (ending.Fault (fault_kind kind)) ≡ Some outcome
+-- the outcome of a stop by a row of the trap table, where these calls are open
+abbrev pub trap_told : Option (ℕ × ℕ × ℕ) → (trail : Option (List ℕ)) → Outcome
+trap_told None trail = Fault UnknownTrap
+trap_told (Some row) trail =
+    if nat_eq row.1 12 then Stack 12 row.2 else if nat_eq row.1 13 then Heap 13 row.2 else Error row.1 row.2 trail
+
+-- what an outcome tells of a stop, in which the image's machine was left
+abbrev pub IsToldBy : Image → State → Stop → Outcome → Type 0
+IsToldBy image left m.Normal outcome = outcome ≡ Normal
+IsToldBy image left (m.Trap link) outcome = outcome ≡ trap_told (row_at link (trap_rows image)) (trail_of image left)
+IsToldBy image left m.Steps outcome = outcome ≡ Steps
+IsToldBy image left m.InputFault outcome = outcome ≡ InputFault
+IsToldBy image left m.OutputFault outcome = outcome ≡ OutputFault
+IsToldBy image left (m.Fault kind) outcome = outcome ≡ Fault (kind_told (fault_kind kind))
 
 -- why an image isn't loaded under a budget; memory is wanted only for a budget that fits
 abbrev pub IsLoadRefused : Image → Budget → Refusal → Type 0

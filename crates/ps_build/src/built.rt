@@ -17,7 +17,9 @@ use ps_parse::parse;
 use ps_scan::scan;
 use ps_text::Source;
 use ps_tree::program::Checked;
-use risc_image::{FrameRow, Parts, TrapRow, write};
+use risc_alloc::placer::Placer;
+use risc_alloc::scan::Scan;
+use risc_image::{FrameRow, ImageView, Parts, TrapRow, write};
 use std::alloc::Global;
 use std::marker::Model;
 
@@ -29,10 +31,13 @@ pub struct Built {
 
 impl Model for Built {
     ghost use Rattle.std.specs.Prelude.{List, ℕ};
+    ghost use Rattle.ps_build.specs.Listed.{AreImage};
 
     ghost Value = { List ℕ };
 
     ghost view = { λ built. built.bytes.items };
+
+    ghost invariant = { λ built. AreImage built.bytes.items };
 }
 
 impl Built {
@@ -41,6 +46,16 @@ impl Built {
         ensures { result.now ≡ self.now }
     {
         &self.bytes
+    }
+
+    // The image that they are.
+    pub(crate) fn view(&self) -> ImageView<'_>
+        ensures { IsImage self.now result }
+    {
+        match ImageView::read(&self.bytes) {
+            Ok(view) => view,
+            Err(_) => unreachable!(),
+        }
     }
 }
 
@@ -105,27 +120,37 @@ fn program_of(alloc: Global, text: &[u8]) -> Result<Checked, Refusal>
 }
 
 // The bytes of the image of a text: that of what it writes, where it only writes strings, and else that of its three-address code.
-fn image_built(alloc: Global, text: &[u8]) -> Result<Vec<u8>, Refusal>
+fn image_built<P: Placer>(alloc: Global, text: &[u8], placer: &P) -> Result<Vec<u8>, Refusal>
     ensures ok { IfOk result (λ bytes. Compiles text.now bytes.items) }
     ensures err { IfErr result (IsRefused text.now) }
 {
     let checked = program_of(alloc, text)?;
     match strings_of(alloc, &checked) {
         Ok(program) => image_of(alloc, &program),
-        Err(Refusal::NotYet) => image_made(alloc, &checked),
+        Err(Refusal::NotYet) => image_made(alloc, &checked, placer),
         Err(refusal) => Err(refusal),
     }
 }
 
-/// Builds the program of a text: the image does on every input and under every budget what the program means.
+/// Builds the program of a text, with homes for its temporaries that a placer chooses: the image does on every input and under every
+/// budget what the program means.
 ///
 /// Refused are a text that isn't accepted, with a refusal of 1, 2 or 10 to 45, a program that isn't compiled yet, and
 /// one whose code would be too large.
+pub fn build_with<P: Placer>(alloc: Global, text: &[u8], placer: &P) -> Result<Built, Refusal>
+    ensures compiles { IfOk result (Compiles text.now) }
+    ensures refused { IfErr result (IsRefused text.now) }
+    ensures accepts { IfErr result (λ refusal. IsFaulty refusal → IsNotAccepted text.now) }
+{
+    let bytes = image_built(alloc, text, placer)?;
+    Ok(Built { bytes })
+}
+
+/// Builds the program of a text as `build_with` does, with registers for the temporaries that have room there.
 pub fn build(alloc: Global, text: &[u8]) -> Result<Built, Refusal>
     ensures compiles { IfOk result (Compiles text.now) }
     ensures refused { IfErr result (IsRefused text.now) }
     ensures accepts { IfErr result (λ refusal. IsFaulty refusal → IsNotAccepted text.now) }
 {
-    let bytes = image_built(alloc, text)?;
-    Ok(Built { bytes })
+    build_with(alloc, text, &Scan)
 }

@@ -5,14 +5,17 @@ mod bounds;
 mod built;
 mod emit;
 pub mod laws;
+mod listing;
 mod making;
 mod outcome;
 mod refusal;
 mod run;
 mod strings;
 
-pub use built::{Built, build};
+pub use built::{Built, build, build_with};
+pub use listing::list;
 pub use outcome::{FaultKind, Outcome};
 pub use refusal::Refusal;
 pub use risc_load::Budget;
+pub use risc_trail::Trail;
 pub use run::{go, run_image};

@@ -5,6 +5,7 @@ ghost use Rattle.risc_machine.specs.Exec.{fault_kind};
 ghost use Rattle.ps_build.specs.Faults.{kind_told};
 
 use risc_machine::Fault;
+use risc_trail::Trail;
 
 /// What a processor could not do, or a stop whose link the trap table doesn't have.
 #[derive(Clone, Copy, PartialEq, Eq, Debug)]
@@ -21,12 +22,23 @@ pub enum FaultKind {
 pub enum Outcome {
     /// The program came to its end.
     Normal,
-    /// An error of the program, 1 to 11.
-    Error { number: u32, line: u32 },
+    /// An error of the program, 1 to 11, with the lines of the calls that were open there, innermost first, 16 at most. An image of
+    /// the first version of the format has no table of calls and tells no lines.
+    Error {
+        number: u32,
+        line: u32,
+        trail: Option<Trail>,
+    },
     /// The frames would have passed the stack: 12, at the `begin` of the block that would have been entered.
-    Stack { number: u32, line: u32 },
+    Stack {
+        number: u32,
+        line: u32,
+    },
     /// The objects would have passed the heap: 13, at the name `new`.
-    Heap { number: u32, line: u32 },
+    Heap {
+        number: u32,
+        line: u32,
+    },
     /// The steps were used up.
     Steps,
     /// The console gave no byte.

@@ -1,9 +1,8 @@
 //! Runs of images over a console.
 
-ghost use Rattle.std.specs.Prelude.{◌≡◌, [], Some, option_map, IfOk, IfErr, OnErr};
-ghost use Rattle.risc_machine.specs.Exec.{trap_ending};
-ghost use Rattle.risc_load.specs.Shows.{trap_row, trap_rows};
-ghost use Rattle.ps_build.specs.Runs.{outcome_told, IsToldBy, Runs, RunsImage, IsLoadRefused, IsRunRefused};
+ghost use Rattle.std.specs.Prelude.{◌≡◌, option_map, IfOk, IfErr, OnErr};
+ghost use Rattle.risc_load.specs.Shows.{trap_row};
+ghost use Rattle.ps_build.specs.Runs.{trap_told, IsToldBy, Runs, RunsImage, IsLoadRefused, IsRunRefused};
 ghost use Rattle.ps_build.specs.Goes.{Goes, IsGoRefused};
 
 use crate::built::build;
@@ -11,12 +10,13 @@ use crate::outcome::{FaultKind, Outcome};
 use crate::refusal::Refusal;
 use risc_image::{ImageView, TrapRow};
 use risc_load::{Budget, load};
-use risc_machine::{Console, Stop, run};
+use risc_machine::{Console, Machine, Stop, run};
+use risc_trail::{Trail, trail};
 use std::alloc::Global;
 
-// The outcome of a stop with this row.
-fn trap_outcome(row: Option<TrapRow>) -> Outcome
-    ensures { outcome_told (trap_ending (option_map trap_row row) []) ≡ Some result }
+// The outcome of a stop with this row, where these calls are open.
+fn trap_outcome(row: Option<TrapRow>, trail: Option<Trail>) -> Outcome
+    ensures { result ≡ trap_told (option_map trap_row row) trail }
 {
     let Some(TrapRow { error, line, .. }) = row else {
         return Outcome::Fault(FaultKind::UnknownTrap);
@@ -33,18 +33,19 @@ fn trap_outcome(row: Option<TrapRow>) -> Outcome
         _ => Outcome::Error {
             number: error,
             line,
+            trail,
         },
     }
 }
 
-// The outcome of a stop.
+// The outcome of a stop, in which the image's machine was left.
 #[tactic(auto, using(crate::proofs::Rows::row_of_link))]
-fn outcome_of(image: &ImageView<'_>, stop: Stop) -> Outcome
-    ensures { IsToldBy (trap_rows image.now) stop result }
+fn outcome_of(image: &ImageView<'_>, machine: &Machine, stop: Stop) -> Outcome
+    ensures { IsToldBy image.now machine.now stop result }
 {
     match stop {
         Stop::Normal => Outcome::Normal,
-        Stop::Trap(link) => trap_outcome(image.trap_of(link)),
+        Stop::Trap(link) => trap_outcome(image.trap_of(link), trail(machine, image)),
         Stop::Steps => Outcome::Steps,
         Stop::InputFault => Outcome::InputFault,
         Stop::OutputFault => Outcome::OutputFault,
@@ -66,7 +67,7 @@ fn run_view<C: Console>(
 {
     let mut machine = load(alloc, image, budget)?;
     let stop = run(&mut machine, console, max_steps);
-    Ok(outcome_of(image, stop))
+    Ok(outcome_of(image, &machine, stop))
 }
 
 /// Runs an image on a console for at most `max_steps` steps.
