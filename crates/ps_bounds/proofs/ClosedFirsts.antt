@@ -84,7 +84,7 @@ module _ (R T : ℕ) (k : Scope) (h : length k.program.routines ≡ R) (b : Base
 
   mutual
     pub first_closed : (t offset : ℕ) (shape : Shape) → HasFirst shape → IsSmall (byte_count shape) → Closed R T 0 0 (first_code k b t offset shape)
-    first_closed t offset (NumberShape first) f s = (to_int first f, tt, (tt, tt, tt))
+    first_closed t offset (NumberShape first narrow) f s = (to_int first f, tt, (tt, tt, tt))
     first_closed t offset (PointerShape pointer) f s = (omega arith, tt, (tt, tt, tt))
     first_closed t offset SetShape f s = zero_closed t offset 32 (omega arith)
     first_closed t offset (ByteShape count first) f s = bytes_closed t offset count first (byte_most first f) s

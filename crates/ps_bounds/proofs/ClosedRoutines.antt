@@ -45,7 +45,7 @@ kinds_small (formal_before f rest) l = (kind_small f (omega (arith, l)), kinds_s
 
 module _ (R T : ℕ) (k : Scope) (r : Routine) (h : length k.program.routines ≡ R) where
   own_closed : (shape : Shape) (t offset free : ℕ) → IsSmall (byte_count shape) → Closed R T 0 0 (own_code k shape t offset free)
-  own_closed (NumberShape first) t offset free s = (tt, tt, tt)
+  own_closed (NumberShape first narrow) t offset free s = (tt, tt, tt)
   own_closed (PointerShape pointer) t offset free s = (tt, tt, tt)
   own_closed SetShape t offset free s = omega (arith, h, s)
   own_closed (ByteShape count first) t offset free s = omega (arith, h, s)

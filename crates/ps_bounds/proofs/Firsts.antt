@@ -40,7 +40,7 @@ module _ (k : Scope) (D X : ℕ) (b : Base) (u : BaseUnder D b) where
 
   mutual
     pub first_under : (t offset : ℕ) (shape : Shape) → t + 5 ≤ D → Under D X (first_code k b t offset shape)
-    first_under t offset (NumberShape first) h = stored_under t offset first h
+    first_under t offset (NumberShape first narrow) h = stored_under t offset first h
     first_under t offset (PointerShape pointer) h = stored_under t offset (pos 0) h
     first_under t offset SetShape h = zero_under t offset 32 h
     first_under t offset (ByteShape count first) h = bytes_under t offset count first h

@@ -77,7 +77,7 @@ part_bytes (Whole shape) = byte_count shape
 part_bytes Byte = 1
 
 component_in : (shape : Shape) (count n : ℕ) → CountIs shape count → n < count → n * component_bytes shape + part_bytes (component_part shape) ≤ byte_count shape
-component_in (NumberShape first) count n e l = absurd e
+component_in (NumberShape first narrow) count n e l = absurd e
 component_in (PointerShape pointer) count n e l = absurd e
 component_in SetShape count n e l = absurd e
 component_in (ByteShape c first) count n e l = omega (arith, e, l)
@@ -86,7 +86,7 @@ component_in (ArrayShape c shape) count n e l =
 component_in (RecordShape shapes) count n e l = absurd e
 
 component_is : (shape : Shape) (count : ℕ) → CountIs shape count → component_bytes shape ≡ part_bytes (component_part shape)
-component_is (NumberShape first) count e = absurd e
+component_is (NumberShape first narrow) count e = absurd e
 component_is (PointerShape pointer) count e = absurd e
 component_is SetShape count e = absurd e
 component_is (ByteShape c first) count e = refl
@@ -111,7 +111,7 @@ field_in (shape_before shape rest) (suc n) inner e = let l = field_in rest n inn
 
 pub field_part_in : (shape : Shape) (n : ℕ) (inner : Shape) → field_part shape n ≡ Some inner → field_offset shape n + byte_count inner ≤ byte_count shape
 field_part_in (RecordShape shapes) n inner e = field_in shapes n inner e
-field_part_in (NumberShape first) n inner e = absurd (none-some inner e)
+field_part_in (NumberShape first narrow) n inner e = absurd (none-some inner e)
 field_part_in (PointerShape pointer) n inner e = absurd (none-some inner e)
 field_part_in SetShape n inner e = absurd (none-some inner e)
 field_part_in (ByteShape c first) n inner e = absurd (none-some inner e)

@@ -38,7 +38,7 @@ module _ (k : Scope) (b : Base) where
 
   mutual
     pub first_narrow : (t offset : ℕ) (shape : Shape) → offset + byte_count shape ≤ 1000000 → Narrow (first_code k b t offset shape)
-    first_narrow t offset (NumberShape first) l = (tt, (at_narrow b offset (omega (arith, l)), tt))
+    first_narrow t offset (NumberShape first narrow) l = (tt, (at_narrow b offset (omega (arith, l)), tt))
     first_narrow t offset (PointerShape pointer) l = (tt, (at_narrow b offset (omega (arith, l)), tt))
     first_narrow t offset SetShape l = zero_narrow t offset 32 (omega (arith, l))
     first_narrow t offset (ByteShape count first) l = bytes_narrow t offset count first l

@@ -137,7 +137,7 @@ module _ (k : Scope) (r : Routine) (f : FramedRoutine r) where
   entry_most n = f.offsets n
 
   own_narrow : (shape : Shape) (t n free : ℕ) → byte_count shape ≤ 400000 → Narrow (own_code k shape t (entry_offset r n) free)
-  own_narrow (NumberShape first) t n free l = let m = entry_most n in omega (arith, m)
+  own_narrow (NumberShape first narrow) t n free l = let m = entry_most n in omega (arith, m)
   own_narrow (PointerShape pointer) t n free l = let m = entry_most n in omega (arith, m)
   own_narrow SetShape t n free l = let m = entry_most n in omega (arith, m)
   own_narrow (ByteShape count first) t n free l = let m = entry_most n in omega (arith, m, l)

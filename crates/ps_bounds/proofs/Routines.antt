@@ -31,7 +31,7 @@ parameters_most (formal_before f rest) = let w = words_most f in let r = paramet
 
 module _ (k : Scope) (r : Routine) (D X : ℕ) where
   own_under : (shape : Shape) (t offset free : ℕ) → t < D → free + 5 ≤ D → Under D X (own_code k shape t offset free)
-  own_under (NumberShape first) t offset free h l = ((tt, h), tt)
+  own_under (NumberShape first narrow) t offset free h l = ((tt, h), tt)
   own_under (PointerShape pointer) t offset free h l = ((tt, h), tt)
   own_under SetShape t offset free h l = omega (arith, h, l)
   own_under (ByteShape count first) t offset free h l = omega (arith, h, l)

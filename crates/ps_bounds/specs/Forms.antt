@@ -42,7 +42,7 @@ IsPart whole part =
 
 abbrev mutual
   pub HasFirst : Shape → Type 0
-  HasFirst (NumberShape first) = IsInteger first
+  HasFirst (NumberShape first narrow) = IsInteger first
   HasFirst (PointerShape pointer) = Unit {0}
   HasFirst SetShape = Unit {0}
   HasFirst (ByteShape count first) = IsTrue (int_le (pos 0) first && int_le first (pos 255))

@@ -1,21 +1,18 @@
 -- Code that places the pieces of a frame.
-use Rattle.std.proofs.Common.{◌≡◌, ℕ, suc, ◌+◌, ◌*◌, ◌<◌, ◌≤◌, ℤ, List, [], ◌∷◌, ◌++◌, length, Some, None, if◌then◌else◌, refl, sym, ap, ◌∙◌, subst, arith}
+use Rattle.std.proofs.Common.{◌≡◌, ℕ, suc, ◌*◌, ◌<◌, ◌≤◌, ℤ, List, [], ◌∷◌, ◌++◌, length, Some, None, if◌then◌else◌, refl, ap, ◌∙◌}
 use Rattle.tac_code.specs.declared.code.Block.TheVariants.{Frame as FrameBlock}
 use Rattle.tac_code.specs.declared.code.Value.{Value as Word}
 use Rattle.tac_code.specs.declared.code.Value.TheVariants.{Number as Numeral}
 use Rattle.tac_code.specs.declared.code.Base.TheVariants as base
 use Rattle.tac_code.specs.declared.code.Instruction.TheVariants as i
 use Rattle.tac_code.specs.Memory.{Words, Living, with_word, changed, instead, behind, with_frames, store}
-use Rattle.tac_code.specs.Meaning.{put}
 use Rattle.ps_meaning.specs.Worlds.{World}
-use Rattle.tac_steps.specs.Runs.{Stands, Comes}
+use Rattle.tac_steps.specs.Runs.{Stands}
 use Rattle.tac_steps.specs.Splices.{spliced, Piece, placed}
-use Rattle.tac_steps.proofs.Runs.{stay, a_step, ◌>>◌}
-use Rattle.tac_steps.proofs.Temporaries.{eq_same, put_other}
+use Rattle.tac_steps.proofs.Temporaries.{eq_same}
 use Rattle.tac_steps.proofs.Blocks.{word_written}
-use Rattle.tac_steps.proofs.Instructions.{literal_step, store_step}
 use Rattle.ps_relation.specs.Ghosts.{Ghost, frames_of}
-use Rattle.ps_relation.specs.Here.{Setting, machine_of, code_in, Work, Activated}
+use Rattle.ps_relation.specs.Here.{Setting, code_in, Work, Activated}
 use Rattle.ps_calls.specs.Filling.{Filling}
 use Rattle.ps_calls.specs.Entering.{entering, Places, frame_filling, CanCopy}
 use Rattle.ps_calls.proofs.Filling.{with_temporary, CanFill, fills_none, fills_then, fills_as, fills_word, fills_literal}

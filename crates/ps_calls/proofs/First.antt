@@ -160,7 +160,7 @@ module _ (p : Setting) (c : Activated) (f : Filling) (k : Scope) where
       -- the first value of a shape is placed
       fills_shape : (shape : Shape) (free : ℕ) (words : Words) (work : Work) (pc pc' place offset : ℕ) → length words ≡ size → count ≤ work.count → IsNamed c f free work.temporaries → offset ≡ 4 * place → place + length (first_words shape) ≤ length words → Stands (code_in p) c.routine pc (first_code k f.base free offset shape) pc'
           → Fills p c f free words work pc pc' (record { place = place; words = first_words shape } ∷ [])
-      fills_shape (NumberShape z) free words work pc pc' place offset wide up named e l st = fills_number can.holding z free words work pc pc' place offset named e (omega arith) st
+      fills_shape (NumberShape z narrow) free words work pc pc' place offset wide up named e l st = fills_number can.holding z free words work pc pc' place offset named e (omega arith) st
       fills_shape (PointerShape pointer) free words work pc pc' place offset wide up named e l st = fills_number can.holding (pos 0) free words work pc pc' place offset named e (omega arith) st
       fills_shape SetShape free words work pc pc' place offset wide up named e l st = fills_numbers (pos 0) 7 free words work pc pc' place offset 32 wide up named e refl (omega (arith, l)) st
       fills_shape (ByteShape n z) free words work pc pc' place offset wide up named e l st =

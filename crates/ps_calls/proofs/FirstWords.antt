@@ -9,7 +9,7 @@ use Rattle.ps_meaning.specs.Values.{Value, OrdinalValue, StructureValue, first, 
 use Rattle.ps_meaning.specs.Operators.{is_between}
 use Rattle.ps_layout.specs.Shapes.{Shape, NumberShape, PointerShape, SetShape, ByteShape, ArrayShape, RecordShape, Shapes, no_shape, shape_before, shape_of, shapes_of, first_of, word_count, word_counts}
 use Rattle.ps_layout.specs.Words.{filled, byte_of, bytes_of, each, value_words, field_words}
-use Rattle.ps_layout.specs.Paths.{HasShape, HaveShape, HaveShapes, AreByteValues}
+use Rattle.ps_layout.specs.Paths.{KeepsByte, HasShape, HaveShape, HaveShapes, AreByteValues}
 use Rattle.ps_code.specs.Statements.{bytes_below, byte_word}
 use Rattle.ps_relation.proofs.Copies.{repeated, repeated_length, AreWritten, written_both, written_repeated}
 use Rattle.ps_code.specs.First.{FirstFits, FieldsFit}
@@ -23,7 +23,7 @@ words_of_bytes count b = repeated (count / 4) (Some (Numeral (byte_word 4 b)) �
 
 abbrev mutual
   pub first_words : Shape → Words
-  first_words (NumberShape z) = Some (Numeral z) ∷ []
+  first_words (NumberShape z narrow) = Some (Numeral z) ∷ []
   first_words (PointerShape pointer) = Some (Numeral (pos 0)) ∷ []
   first_words SetShape = repeated 8 (Some (Numeral (pos 0)) ∷ [])
   first_words (ByteShape count b) = words_of_bytes count b
@@ -52,7 +52,7 @@ rest_length count b = go (nat_eq (count % 4) 0) refl
 
 mutual
   pub first_counted : (shape : Shape) → length (first_words shape) ≡ word_count shape
-  first_counted (NumberShape z) = refl
+  first_counted (NumberShape z narrow) = refl
   first_counted (PointerShape pointer) = refl
   first_counted SetShape = refl
   first_counted (ByteShape count b) =
@@ -80,7 +80,7 @@ rest_written count b = go (nat_eq (count % 4) 0)
 
 mutual
   pub first_written : (shape : Shape) → AreWritten (first_words shape)
-  first_written (NumberShape z) = tt
+  first_written (NumberShape z narrow) = tt
   first_written (PointerShape pointer) = tt
   first_written SetShape = tt
   first_written (ByteShape count b) = written_both (repeated (count / 4) (Some (Numeral (byte_word 4 b)) ∷ [])) (rest_of_bytes count b) (written_repeated (count / 4) (Some (Numeral (byte_word 4 b)) ∷ []) tt) (rest_written count b)
@@ -162,19 +162,33 @@ bytes_are : (n : ℕ) (v : Value) (z : ℤ) → number_of v ≡ z → FirstFits 
 bytes_are zero v z e f = tt
 bytes_are (suc n) v z e f = (ap (λ x. is_between (pos 0) x (pos 255)) e ∙ f, bytes_are n v z e f)
 
-components_are : (made : List ℕ) (n : ℕ) (v : Value) (shape : Shape) → HasShape made v shape → HaveShape made (copies n v) n shape
-components_are made zero v shape h = tt
-components_are made (suc n) v shape h = (h, components_are made n v shape h)
+components_are : (made : List ℕ) (n : ℕ) (v : Value) (shape : Shape) → HasShape made v shape → KeepsByte v shape → HaveShape made (copies n v) n shape
+components_are made zero v shape h kept = tt
+components_are made (suc n) v shape h kept = (h, kept, components_are made n v shape h kept)
+
+array_keeps : (b : Bool) (n m : ℕ) (first : ℤ) (shape : Shape) (v : Value) → KeepsByte v (if b then ByteShape n first else ArrayShape m shape)
+array_keeps true n m first shape v = tt
+array_keeps false n m first shape v = tt
+
+first_keeps : (type : DataType) → FirstFits (shape_of type) → KeepsByte (first type) (shape_of type)
+first_keeps (OrdinalType o) f = f.1
+first_keeps (PointerType number) f = tt
+first_keeps NilType f = tt
+first_keeps (SetType denoter packing b) f = tt
+first_keeps EmptySetType f = tt
+first_keeps (TextType n) f = tt
+first_keeps (ArrayType at packed index component) f = array_keeps (packed && fits_byte component) (value_count index) (value_count index) (first_of component) (shape_of component) (first (ArrayType at packed index component))
+first_keeps (RecordType at packed fields) f = tt
 
 array_has : (made : List ℕ) (b : Bool) (n : ℕ) (component : DataType) → FirstFits (if b then ByteShape n (first_of component) else ArrayShape n (shape_of component)) → (FirstFits (shape_of component) → HasShape made (first component) (shape_of component))
     → HasShape made (StructureValue (copies n (first component))) (if b then ByteShape n (first_of component) else ArrayShape n (shape_of component))
 array_has made true n component f h = bytes_are n (first component) (first_of component) (number_first component) f
-array_has made false n component f h = components_are made n (first component) (shape_of component) (h f)
+array_has made false n component f h = components_are made n (first component) (shape_of component) (h f) (first_keeps component f)
 
 -- the first value of a type has its shape
 mutual
   pub first_has_shape : (made : List ℕ) (type : DataType) → FirstFits (shape_of type) → HasShape made (first type) (shape_of type)
-  first_has_shape made (OrdinalType o) f = f
+  first_has_shape made (OrdinalType o) f = f.0
   first_has_shape made (PointerType number) f = tt
   first_has_shape made NilType f = tt
   first_has_shape made (SetType denoter packing b) f = tt

@@ -29,7 +29,7 @@ points_grow made more (StructureValue vs) t h = absurd h
 -- a value keeps its shape
 mutual
   pub shape_grows : (made more : List ℕ) (shape : Shape) (v : Value) → HasShape made v shape → HasShape (made ++ more) v shape
-  shape_grows made more (NumberShape first) v h = h
+  shape_grows made more (NumberShape first narrow) v h = h
   shape_grows made more (PointerShape pointer) v h = points_grow made more v pointer h
   shape_grows made more SetShape v h = h
   shape_grows made more (ByteShape count b) (StructureValue vs) h = h
@@ -52,7 +52,7 @@ mutual
   components_grow made more zero shape no_value h = tt
   components_grow made more zero shape (value_before v vs) h = absurd h
   components_grow made more (suc n) shape no_value h = absurd h
-  components_grow made more (suc n) shape (value_before v vs) h = (shape_grows made more shape v h.0, components_grow made more n shape vs h.1)
+  components_grow made more (suc n) shape (value_before v vs) h = (shape_grows made more shape v h.0, h.1, components_grow made more n shape vs h.2)
 
   fields_grow : (made more : List ℕ) (shapes : Shapes) (vs : Values) → HaveShapes made vs shapes → HaveShapes (made ++ more) vs shapes
   fields_grow made more no_shape no_value h = tt
@@ -75,7 +75,7 @@ copied_kept caller old new end later shape v x l kept in_ =
 pub passed_kept : (caller : ℕ) (old new : Words) (end later : ℕ) (a : Passing) → end ≤ later → ((i : ℕ) → 4 * i < end → slice_get new i ≡ slice_get old i) → IsPassed caller old end a → IsPassed caller new later a
 passed_kept caller old new end later (PassVariable shape s b o) l kept is = tt
 passed_kept caller old new end later (PassRoutine kinds result r env w) l kept is = tt
-passed_kept caller old new end later (PassValue (NumberShape first) v x) l kept is = is
+passed_kept caller old new end later (PassValue (NumberShape first narrow) v x) l kept is = is
 passed_kept caller old new end later (PassValue (PointerShape pointer) v x) l kept is = is
 passed_kept caller old new end later (PassValue SetShape v x) l kept is = copied_kept caller old new end later SetShape v x l kept is
 passed_kept caller old new end later (PassValue (ByteShape count b) v x) l kept is = copied_kept caller old new end later (ByteShape count b) v x l kept is

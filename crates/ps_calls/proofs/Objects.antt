@@ -1,5 +1,5 @@
 -- One object more: the block that is filled, and what is known of the values and the objects before.
-use Rattle.std.proofs.Common.{◌≡◌, ℕ, zero, suc, ◌+◌, ◌*◌, List, [], ◌∷◌, ◌++◌, length, get_or, slice_get, Option, Some, sum_by, refl, sym, ap, ◌∙◌, subst, arith}
+use Rattle.std.proofs.Common.{◌≡◌, ℕ, zero, suc, ◌+◌, ◌*◌, List, [], ◌∷◌, ◌++◌, length, get_or, slice_get, Option, Some, sum_by, refl, ap, ◌∙◌, arith}
 use Rattle.std.proofs.lemmas.List.Sums.{sum_by-cons}
 use Rattle.ps_tree.specs.Tree.{Program, domain_at}
 use Rattle.tac_code.specs.declared.code.Block.TheVariants.{Object}
@@ -22,7 +22,7 @@ use Rattle.ps_calls.proofs.Grown.{points_grow}
 
 mutual
   shape_grows : (made more : List ℕ) (v : Value) (shape : Shape) → HasShape made v shape → HasShape (made ++ more) v shape
-  shape_grows made more v (NumberShape first) h = h
+  shape_grows made more v (NumberShape first narrow) h = h
   shape_grows made more v (PointerShape t) h = points_grow made more v t h
   shape_grows made more v SetShape h = tt
   shape_grows made more (StructureValue vs) (ByteShape count first) h = h
@@ -45,7 +45,7 @@ mutual
   values_grow made more no_value zero shape h = tt
   values_grow made more no_value (suc n) shape h = absurd h
   values_grow made more (value_before v vs) zero shape h = absurd h
-  values_grow made more (value_before v vs) (suc n) shape h = (shape_grows made more v shape h.0, values_grow made more vs n shape h.1)
+  values_grow made more (value_before v vs) (suc n) shape h = (shape_grows made more v shape h.0, h.1, values_grow made more vs n shape h.2)
 
   fields_grow : (made more : List ℕ) (vs : Values) (shapes : Shapes) → HaveShapes made vs shapes → HaveShapes (made ++ more) vs shapes
   fields_grow made more no_value no_shape h = tt

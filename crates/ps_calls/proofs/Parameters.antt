@@ -113,9 +113,9 @@ module _ (p : Setting) (c : Activated) (gs : List Ghost) (w : World) (k : Scope)
       (places_parameters ps (suc n) (suc j) m (t + 1) places (spliced x piece.words words) here.work cut.0 mid pc' is.1 (omega (arith, e)) (dropped_rest (layout_of r).places places j x d) (omega (arith, enough)) a.2 (spliced_length x piece.words words ∙ l) (let more = here.count in omega (arith, up, more)) h.1 f
       (words_kept work.temporaries here.work.temporaries free (t + 1) (passed_words ps) (omega (arith, low)) here.temporaries (subst (λ q. WordsIn work.temporaries q (passed_words ps)) next held.1)) (omega (arith, low)) cut.2 sv)
   places_parameters (PassValue (PointerShape z) v y ∷ ps) n j m t [] words work pc mid pc' is e d enough a l up h f held low st sv = absurd (omega (arith, enough))
-  places_parameters (PassValue (NumberShape z) v y ∷ ps) n j m t [] words work pc mid pc' is e d enough a l up h f held low st sv = absurd (omega (arith, enough))
-  places_parameters (PassValue (NumberShape z) v y ∷ ps) n j m t (x ∷ places) words work pc mid pc' is e d enough a l up h f held low st sv =
-      let cut = split (code_in p) c.routine pc (parameter_code k (Own (NumberShape z)) t (entry_offset r j) free) (parameters_code k r (passed_kinds ps) (t + 1) (suc j) free) mid st in
+  places_parameters (PassValue (NumberShape z narrow) v y ∷ ps) n j m t [] words work pc mid pc' is e d enough a l up h f held low st sv = absurd (omega (arith, enough))
+  places_parameters (PassValue (NumberShape z narrow) v y ∷ ps) n j m t (x ∷ places) words work pc mid pc' is e d enough a l up h f held low st sv =
+      let cut = split (code_in p) c.routine pc (parameter_code k (Own (NumberShape z narrow)) t (entry_offset r j) free) (parameters_code k r (passed_kinds ps) (t + 1) (suc j) free) mid st in
       let within = a.0 in
       let next : suc t ≡ t + 1 = omega arith in
       let word = Numeral (number_of (w.store n)) in

@@ -1,9 +1,7 @@
 -- The first component of a stretch is copied to the others, while a frame is entered.
-use Rattle.std.proofs.Common.{◌≡◌, ◌⊎◌, inl, inr, ℕ, zero, suc, pos, ◌+◌, ◌-◌, ◌*◌, ◌<◌, ◌≤◌, Bool, true, false, nat_le, List, [], ◌∷◌, ◌++◌, length, slice_get, Some, None, if◌then◌else◌, refl, sym, ap, ◌∙◌, subst, arith, append-nil, lt-ltb, leb-true, length-append}
-use Rattle.tac_code.specs.declared.code.Block.TheVariants.{Frame as FrameBlock}
+use Rattle.std.proofs.Common.{◌≡◌, ◌⊎◌, inl, inr, ℕ, zero, suc, pos, ◌+◌, ◌-◌, ◌*◌, ◌<◌, ◌≤◌, Bool, true, false, nat_le, List, [], ◌∷◌, ◌++◌, length, slice_get, Some, if◌then◌else◌, refl, sym, ap, ◌∙◌, subst, arith, append-nil, lt-ltb, leb-true, length-append}
 use Rattle.tac_code.specs.declared.code.Value.{Value as Word}
 use Rattle.tac_code.specs.declared.code.Value.TheVariants.{Number as Numeral, Address}
-use Rattle.tac_code.specs.declared.code.Base.TheVariants as base
 use Rattle.tac_code.specs.declared.code.Instruction.{Instruction}
 use Rattle.tac_code.specs.declared.code.Instruction.TheVariants as i
 use Rattle.tac_code.specs.Memory.{Words, Living, load}
@@ -13,8 +11,7 @@ use Rattle.tac_steps.specs.Routines.{AreBelow, Fresh}
 use Rattle.tac_steps.specs.Splices.{spliced}
 use Rattle.tac_steps.proofs.Runs.{a_step, ◌>>◌}
 use Rattle.tac_steps.proofs.Splices.{spliced_length, spliced_inside, spliced_before, spliced_behind}
-use Rattle.tac_steps.proofs.Blocks.{word_read}
-use Rattle.tac_steps.proofs.Temporaries.{eq_same, put_same, put_other}
+use Rattle.tac_steps.proofs.Temporaries.{put_same, put_other}
 use Rattle.tac_steps.proofs.Instructions.{literal_step, offset_step}
 use Rattle.ps_code.specs.Scopes.{Scope, beside}
 use Rattle.ps_code.specs.Statements.{spread_code}

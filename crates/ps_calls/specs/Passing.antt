@@ -75,7 +75,7 @@ pub record CopiedIn (caller : ℕ) (scratch : Words) (end : ℕ) (shape : Shape)
 
 -- the words of what is passed: the value's own, or the address of its copy
 abbrev pub IsPassed : (caller : ℕ) → Words → (end : ℕ) → Passing → Type 0
-IsPassed caller scratch end (PassValue (NumberShape first) v x) = x ≡ Number (number_of v)
+IsPassed caller scratch end (PassValue (NumberShape first narrow) v x) = x ≡ Number (number_of v)
 IsPassed caller scratch end (PassValue (PointerShape pointer) v x) = x ≡ pointer_word v
 IsPassed caller scratch end (PassValue shape v x) = CopiedIn caller scratch end shape v x
 IsPassed caller scratch end (PassVariable shape s b o) = Unit {0}

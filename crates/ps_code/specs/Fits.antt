@@ -1,5 +1,5 @@
 -- What the lowering needs of a program: each part of the tree has the form that its place asks for.
-use Rattle.std.specs.Prelude.{◌≡◌, ℕ, ◌<◌, ℤ, pos, List, [], ◌∷◌, length, drop, Option, Some, None, IsTrue, int_le, ◌&&◌, slice_get}
+use Rattle.std.specs.Prelude.{◌≡◌, ℕ, ◌<◌, ℤ, pos, List, [], ◌∷◌, length, drop, Option, Some, None, IsTrue, Bool, true, not, int_le, ◌&&◌, ◌||◌, slice_get}
 use Rattle.std.specs.List.{All}
 use Rattle.ps_tree.specs.declared.tree.Range.{Range}
 use Rattle.ps_tree.specs.declared.tree.Range.TheVariants.{Any, Within}
@@ -7,7 +7,7 @@ use Rattle.ps_tree.specs.declared.tree.RequiredFunction.{RequiredFunction}
 use Rattle.ps_tree.specs.declared.tree.RequiredFunction.TheVariants.{Succ, Pred}
 use Rattle.ps_tree.specs.Types.{DataType, string_length}
 use Rattle.ps_tree.specs.Sizes.{value_count}
-use Rattle.ps_tree.specs.Tree.{BySet, AssignSet, Place, Variable, PlaceBase, Entry, Opened, Selector, Element, Field, Target, Selectors, no_selector, selector_before, ArithmeticSteps, no_arithmetic_step, arithmetic_step_before, Operands, no_operand, operand_before, Expr, Number, Nil, Load, Plus, Minus, Not, Arithmetic, Logic, Compare, ComparePointers, CompareStrings, Apply, Call, CallFormal, Structure, Literal, Contents, Argument, ByValue, ByCopy, ByVariable, ByRoutine, ByFormal, Arguments, no_argument, argument_before, Width, DefaultWidth, GivenWidth, WriteParameter, WriteInteger, WriteChar, WriteBoolean, WriteText, Statement, Empty, Assign, AssignStructure, CallProcedure, CallFormalProcedure, Compound, If, IfElse, Case, While, Repeat, For, With, Write, Writeln, Statements, no_statement, statement_before, Elements, no_element, element_before, routine_at, domain_at, SetSteps, no_set_step, set_step_before, CompareSets, In, SetExpr, LoadSet, Constructor, Combine, Member, One, Several, Members, no_member, member_before, New, Eof, Eoln, ReadVariable, ReadChar, Read, Readln}
+use Rattle.ps_tree.specs.Tree.{BySet, AssignSet, Place, Variable, PlaceBase, Entry, Opened, Selector, Element, Field, Target, Selectors, no_selector, selector_before, ArithmeticSteps, no_arithmetic_step, arithmetic_step_before, Operands, no_operand, operand_before, Expr, Number, Nil, Load, Plus, Minus, Not, Arithmetic, Logic, Compare, ComparePointers, CompareStrings, Apply, Call, CallFormal, Structure, Literal, Contents, Argument, ByValue, ByCopy, ByVariable, ByRoutine, ByFormal, Arguments, no_argument, argument_before, Width, DefaultWidth, GivenWidth, WriteParameter, WriteInteger, WriteChar, WriteBoolean, WriteText, Statement, Empty, Assign, AssignStructure, CallProcedure, CallFormalProcedure, Compound, If, IfElse, Case, While, Repeat, For, With, Write, Writeln, Statements, no_statement, statement_before, Elements, no_element, element_before, routine_at, domain_at, SetSteps, no_set_step, set_step_before, CompareSets, In, SetExpr, LoadSet, Constructor, Combine, Member, One, Several, Members, no_member, member_before, New, Pack, Unpack, Eof, Eoln, ReadVariable, ReadChar, ReadInteger, Read, Readln}
 use Rattle.ps_meaning.specs.Expressions.{index_of}
 use Rattle.tac_code.specs.Numbers.{is_integer}
 use Rattle.ps_layout.specs.Shapes.{Shape, NumberShape, PointerShape, SetShape, ByteShape, ArrayShape, shape_of, field_part, Part, Whole, Byte, component_part}
@@ -38,7 +38,7 @@ IsInteger z = IsTrue (is_integer z)
 -- the sort of the value that a part holds
 abbrev pub SortOf : Part → Sort → Type 0
 SortOf Byte sort = sort ≡ NumberSort
-SortOf (Whole (NumberShape first)) sort = sort ≡ NumberSort
+SortOf (Whole (NumberShape first narrow)) sort = sort ≡ NumberSort
 SortOf (Whole (PointerShape t)) sort = sort ≡ PointerSort t
 SortOf (Whole shape) sort = ⊥
 
@@ -46,16 +46,16 @@ abbrev pub sort_of_result : Shape → Sort
 sort_of_result (PointerShape t) = PointerSort t
 sort_of_result shape = NumberSort
 
--- the range that a variable asks of a number: a byte's values are bytes, and pointers have none
+-- the range that a variable asks of a number: a variable whose type's values are bytes gets bytes, and pointers have no range
 abbrev pub RangeFits : Range → Part → Type 0
 RangeFits (Within low high) Byte = IsTrue (int_le (pos 0) low && int_le high (pos 255))
-RangeFits (Within low high) (Whole (NumberShape first)) = IsInteger low × IsInteger high
+RangeFits (Within low high) (Whole (NumberShape first narrow)) = IsInteger low × IsInteger high × IsTrue (not narrow || (int_le (pos 0) low && int_le high (pos 255)))
 RangeFits Any (Whole (PointerShape t)) = Unit {0}
 RangeFits range part = ⊥
 
 -- values of many words, which are copied
 abbrev pub IsStructure : Shape → Type 0
-IsStructure (NumberShape first) = ⊥
+IsStructure (NumberShape first narrow) = ⊥
 IsStructure (PointerShape pointer) = ⊥
 IsStructure shape = Unit {0}
 
@@ -73,6 +73,12 @@ FunctionFits _ = Unit {0}
 -- an array type, with as many components as its index has values
 abbrev pub IsArray : DataType → Type 0
 IsArray type = CountIs (shape_of type) (value_count (index_of type)) × IsInteger (index_of type).low × IsInteger (index_of type).high
+
+-- what so many components of a shape are packed to and unpacked from: as many bytes where they are bytes, or components of the same shape
+abbrev pub PacksTo : (packed : Shape) → (count : ℕ) → (component : Shape) → Type 0
+PacksTo (ByteShape n first) count (NumberShape lowest narrow) = (n ≡ count) × (narrow ≡ true)
+PacksTo (ArrayShape n shape) count component = (n ≡ count) × (shape ≡ component)
+PacksTo packed count component = ⊥
 
 -- Within records of these shapes that `with` opened, the innermost first. Where they stand counts for nothing here.
 module _ (k : Scope) where
@@ -186,10 +192,10 @@ module _ (k : Scope) where
   WritesFit os [] = Unit {0}
   WritesFit os (p ∷ rest) = WriteFits os p × WritesFit os rest
 
-  -- a variable of the range that its type asks of a character
+  -- a variable of the range that its type asks of a character or an integer
   abbrev pub ReadFits : List Shape → ReadVariable → Type 0
   ReadFits os (ReadChar p low high line) = (part : Part) × PlaceFits os p part × SortOf part NumberSort × RangeFits (Within low high) part
-  ReadFits os v = ⊥
+  ReadFits os (ReadInteger p low high line) = (part : Part) × PlaceFits os p part × SortOf part NumberSort × RangeFits (Within low high) part
 
   abbrev pub ReadsFit : List Shape → List ReadVariable → Type 0
   ReadsFit os [] = Unit {0}
@@ -199,7 +205,7 @@ module _ (k : Scope) where
     pub StatementFits : List Shape → Statement → Type 0
     StatementFits os Empty = Unit {0}
     StatementFits os (Assign p range e line) = (part : Part) × PlaceFits os p part × RangeFits range part × ((sort : Sort) × SortOf part sort × ExprFits os e sort)
-    StatementFits os (AssignStructure p e) = (shape : Shape) × PlaceFits os p (Whole shape) × ContentsFit os e shape
+    StatementFits os (AssignStructure p e) = (shape : Shape) × PlaceFits os p (Whole shape) × ContentsFit os e shape × IsStructure shape
     StatementFits os (AssignSet p low high e line) = PlaceFits os p (Whole SetShape) × SetFits os e
     StatementFits os (CallProcedure r up arguments line) = DeclaredAt r up × ArgumentsFit os arguments (kinds_of (routine_at k.program r).formals)
     StatementFits os (CallFormalProcedure up index arguments line) = (up < length k.chain) × ((kinds : Kinds) × ((result : Option Shape) × (kind_at k up index ≡ Some (Closure kinds result)) × ArgumentsFit os arguments kinds))
@@ -209,14 +215,15 @@ module _ (k : Scope) where
     StatementFits os (Case e elements line) = ExprFits os e NumberSort × ElementsFit os elements
     StatementFits os (While e s) = ExprFits os e NumberSort × StatementFits os s
     StatementFits os (Repeat body e) = StatementsFit os body × ExprFits os e NumberSort
-    StatementFits os (For variable low high a from_line direction b to_line s) = ((first : ℤ) × (kind_at k 0 variable ≡ Some (Own (NumberShape first)))) × ExprFits os a NumberSort × ExprFits os b NumberSort × StatementFits os s
+    StatementFits os (For variable low high a from_line direction b to_line s) = ((first : ℤ) × ((narrow : Bool) × (kind_at k 0 variable ≡ Some (Own (NumberShape first narrow))))) × ExprFits os a NumberSort × ExprFits os b NumberSort × StatementFits os s
     StatementFits os (With places s) = (os' : List Shape) × OpenedFit os places os' × StatementFits os' s
     StatementFits os (New p pointer line) = PlaceFits os p (Whole (PointerShape pointer)) × (pointer < length k.program.domains) × FirstFits (shape_of (domain_at k.program pointer))
+    StatementFits os (Pack p from_type e line q to_type) = (shape : Shape) × (shape_of from_type ≡ ArrayShape (value_count (index_of from_type)) shape) × PacksTo (shape_of to_type) (value_count (index_of to_type)) shape × IsArray from_type × PlaceFits os p (Whole (shape_of from_type)) × ExprFits os e NumberSort × PlaceFits os q (Whole (shape_of to_type))
+    StatementFits os (Unpack p from_type q to_type e line) = (shape : Shape) × (shape_of to_type ≡ ArrayShape (value_count (index_of to_type)) shape) × PacksTo (shape_of from_type) (value_count (index_of from_type)) shape × IsArray to_type × PlaceFits os p (Whole (shape_of from_type)) × PlaceFits os q (Whole (shape_of to_type)) × ExprFits os e NumberSort
     StatementFits os (Read variables) = (outermost_of k.chain ≡ 0) × ReadsFit os variables
     StatementFits os (Readln variables line) = (outermost_of k.chain ≡ 0) × ReadsFit os variables
     StatementFits os (Write parameters) = WritesFit os parameters
     StatementFits os (Writeln parameters) = WritesFit os parameters
-    StatementFits os s = ⊥
 
     pub StatementsFit : List Shape → Statements → Type 0
     StatementsFit os no_statement = Unit {0}

@@ -12,7 +12,7 @@ use Rattle.ps_code.specs.Statements.{first_code, statements_code}
 
 -- a parameter in temporary t goes to its entry: a copied structure is at an address of the caller's
 abbrev pub own_code : Scope → Shape → (t offset free : ℕ) → List Instruction
-own_code k (NumberShape first) t offset free = Store base.Frame offset t ∷ []
+own_code k (NumberShape first narrow) t offset free = Store base.Frame offset t ∷ []
 own_code k (PointerShape pointer) t offset free = Store base.Frame offset t ∷ []
 own_code k shape t offset free = Offset free base.Frame offset (byte_count shape) ∷ copy_code k free t (beside free) (byte_count shape)
 

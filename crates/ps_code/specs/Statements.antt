@@ -54,7 +54,7 @@ bytes_code k b t offset count first =
 -- As long as the text of the type, and not as its cells: the first component is written, and copied.
 abbrev mutual
   pub first_code : Scope → Base → (t offset : ℕ) → Shape → List Instruction
-  first_code k b t offset (NumberShape first) = i.Literal t first ∷ i.Store b offset t ∷ []
+  first_code k b t offset (NumberShape first narrow) = i.Literal t first ∷ i.Store b offset t ∷ []
   first_code k b t offset (PointerShape pointer) = i.Literal t (pos 0) ∷ i.Store b offset t ∷ []
   first_code k b t offset SetShape = zero_code k b t offset 32
   first_code k b t offset (ByteShape count first) = bytes_code k b t offset count first

@@ -27,7 +27,7 @@ each_counted (suc n) k words vs h =
 
 mutual
   pub counted : (shape : Shape) (v : Value) → length (value_words shape v) ≡ word_count shape
-  counted (NumberShape first) v = refl
+  counted (NumberShape first narrow) v = refl
   counted (PointerShape pointer) v = refl
   counted SetShape v = refl
   counted (ByteShape count first) v = filled_words (bytes_of count (components_of v)) ∙ ap (λ n. (n + 3) / 4) (bytes_length count (components_of v))

@@ -1,5 +1,5 @@
 -- Where the parts of a variable stand in its words, and which values a variable of a shape can have.
-use Rattle.std.specs.Prelude.{◌≡◌, ℕ, zero, suc, ◌+◌, ◌*◌, ◌<◌, pos, IsTrue, List, [], ◌∷◌, slice_get, Some}
+use Rattle.std.specs.Prelude.{◌≡◌, ℕ, zero, suc, ◌+◌, ◌*◌, ◌<◌, pos, IsTrue, not, ◌||◌, List, [], ◌∷◌, slice_get, Some}
 use Rattle.tac_code.specs.Numbers.{is_integer}
 use Rattle.ps_meaning.specs.Values.{Value, NilValue, ObjectValue, StructureValue, Values, no_value, value_before, number_of}
 use Rattle.ps_meaning.specs.Operators.{is_between}
@@ -27,10 +27,15 @@ AreByteValues zero (value_before v vs) = ⊥
 AreByteValues (suc n) no_value = ⊥
 AreByteValues (suc n) (value_before v vs) = IsTrue (is_between (pos 0) (number_of v) (pos 255)) × AreByteValues n vs
 
--- An ordinal is any integer, whatever the bounds of its type: only bytes keep to theirs.
+-- a component of an array is a byte where its type's values are bytes
+abbrev pub KeepsByte : Value → Shape → Type 0
+KeepsByte v (NumberShape first narrow) = IsTrue (not narrow || is_between (pos 0) (number_of v) (pos 255))
+KeepsByte v shape = Unit {0}
+
+-- An ordinal is any integer, whatever the bounds of its type, since a `for` statement steps it: only components of arrays keep to bytes.
 abbrev mutual
   pub HasShape : (made : List ℕ) → Value → Shape → Type 0
-  HasShape made v (NumberShape first) = IsTrue (is_integer (number_of v))
+  HasShape made v (NumberShape first narrow) = IsTrue (is_integer (number_of v))
   HasShape made v (PointerShape pointer) = PointsTo made v pointer
   HasShape made v SetShape = Unit {0}
   HasShape made (StructureValue vs) (ByteShape count first) = AreByteValues count vs
@@ -42,13 +47,21 @@ abbrev mutual
   HaveShape made no_value zero shape = Unit {0}
   HaveShape made no_value (suc n) shape = ⊥
   HaveShape made (value_before v vs) zero shape = ⊥
-  HaveShape made (value_before v vs) (suc n) shape = HasShape made v shape × HaveShape made vs n shape
+  HaveShape made (value_before v vs) (suc n) shape = HasShape made v shape × KeepsByte v shape × HaveShape made vs n shape
 
   pub HaveShapes : List ℕ → Values → Shapes → Type 0
   HaveShapes made no_value no_shape = Unit {0}
   HaveShapes made no_value (shape_before shape rest) = ⊥
   HaveShapes made (value_before v vs) no_shape = ⊥
   HaveShapes made (value_before v vs) (shape_before shape rest) = HasShape made v shape × HaveShapes made vs rest
+
+-- what can be put where a path leads in a variable
+abbrev pub KeepsAt : List ℕ → Value → Shape → Type 0
+KeepsAt [] v shape = Unit {0}
+KeepsAt (k ∷ path) v shape = KeepsByte v shape
+
+abbrev pub GoesTo : (made : List ℕ) → (path : List ℕ) → Value → Shape → Type 0
+GoesTo made path v shape = HasShape made v shape × KeepsAt path v shape
 
 -- what an expression of an ordinal or pointer type gives
 pub data Sort : Type 0 where

@@ -1,14 +1,14 @@
 -- What the variables of a type are in memory: types without their denoters and names.
-use Rattle.std.specs.Prelude.{ℕ, zero, suc, ◌+◌, ◌*◌, ◌/◌, ℤ, pos, ◌&&◌, if◌then◌else◌, Option, Some, None}
+use Rattle.std.specs.Prelude.{ℕ, zero, suc, ◌+◌, ◌*◌, ◌/◌, ℤ, pos, Bool, ◌&&◌, if◌then◌else◌, Option, Some, None}
 use Rattle.ps_tree.specs.Types.{DataType, OrdinalType, PointerType, NilType, SetType, EmptySetType, TextType, ArrayType, RecordType, FieldList, field_list, DataTypes, no_type, type_before}
 use Rattle.ps_tree.specs.Sizes.{value_count, fits_byte}
 use Rattle.ps_meaning.specs.Values.{first_ordinal}
 
--- An ordinal, with its first value; a pointer, with the number of its type; a set; a packed array whose components are
+-- An ordinal, with its first value and whether its values are bytes; a pointer, with the number of its type; a set; a packed array whose components are
 -- bytes, as a string has them; another array; a record.
 mutual
   pub data Shape : Type 0 where
-    NumberShape : (first : ℤ) → Shape
+    NumberShape : (first : ℤ) (narrow : Bool) → Shape
     PointerShape : (pointer : ℕ) → Shape
     SetShape : Shape
     ByteShape : (count : ℕ) (first : ℤ) → Shape
@@ -26,7 +26,7 @@ first_of _ = pos 0
 
 abbrev mutual
   pub shape_of : DataType → Shape
-  shape_of (OrdinalType o) = NumberShape (first_ordinal o)
+  shape_of (OrdinalType o) = NumberShape (first_ordinal o) (fits_byte (OrdinalType o))
   shape_of (PointerType number) = PointerShape number
   shape_of NilType = PointerShape 0
   shape_of (SetType denoter packing base) = SetShape
@@ -45,7 +45,7 @@ abbrev mutual
 -- the words of a shape: a set has a bit for each of 0..255, bytes are filled up to whole words
 abbrev mutual
   pub word_count : Shape → ℕ
-  word_count (NumberShape first) = 1
+  word_count (NumberShape first narrow) = 1
   word_count (PointerShape pointer) = 1
   word_count SetShape = 8
   word_count (ByteShape count first) = (count + 3) / 4

@@ -50,7 +50,7 @@ each (suc n) words vs = words (nth vs 0) ++ each n words (values_from vs 1)
 -- the words of a value in a variable of a shape: always as many as the shape has
 abbrev mutual
   pub value_words : Shape → Value → Words
-  value_words (NumberShape first) v = Some (Number (number_of v)) ∷ []
+  value_words (NumberShape first narrow) v = Some (Number (number_of v)) ∷ []
   value_words (PointerShape pointer) v = Some (pointer_word v) ∷ []
   value_words SetShape v = set_words (set_of v)
   value_words (ByteShape count first) v = constant_words (filled (bytes_of count (components_of v)))

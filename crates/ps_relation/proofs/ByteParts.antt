@@ -40,7 +40,7 @@ whole_byte e = absurd (cc)
 
 byte_in_path : (path : List ℕ) (outer : Shape) (j : ℕ) → PathIn path outer Byte j → ByteIn path outer j
 byte_in_path [] outer j a = whole_byte a.0
-byte_in_path (k ∷ path) (NumberShape first) j a = absurd a
+byte_in_path (k ∷ path) (NumberShape first narrow) j a = absurd a
 byte_in_path (k ∷ path) (PointerShape t) j a = absurd a
 byte_in_path (k ∷ path) SetShape j a = absurd a
 byte_in_path (k ∷ []) (ByteShape count first) j a = let e = a.2 in record { before = []; number = k; count = count; first = first; start = 0; is = refl; inside = (refl, refl); below = a.0; at = omega (arith, e) }
@@ -59,7 +59,7 @@ byte_in_path (k ∷ path) (RecordShape shapes) j a =
 -- whole parts begin at words
 aligned : (path : List ℕ) (outer inner : Shape) (j : ℕ) → PathIn path outer (Whole inner) j → (m : ℕ) × (j ≡ 4 * m)
 aligned [] outer inner j a = let e = a.1 in (0, omega (arith, e))
-aligned (k ∷ path) (NumberShape first) inner j a = absurd a
+aligned (k ∷ path) (NumberShape first narrow) inner j a = absurd a
 aligned (k ∷ path) (PointerShape t) inner j a = absurd a
 aligned (k ∷ path) SetShape inner j a = absurd a
 aligned (k ∷ []) (ByteShape count first) inner j a = byte_whole a.1

@@ -18,6 +18,7 @@ use Rattle.ps_layout.specs.Shapes.{ByteShape, Byte}
 use Rattle.ps_layout.specs.Words.{filled, byte_of, bytes_of, value_words}
 use Rattle.ps_layout.specs.Paths.{AreByteValues, HasShape}
 use Rattle.ps_relation.specs.Ghosts.{Ghost, PlaceAt, Holds}
+use Rattle.ps_relation.proofs.Spans.{goes_to}
 use Rattle.ps_relation.proofs.Bytes.{AreBytes, first_byte, other_bytes, four, word_back}
 use Rattle.ps_relation.proofs.ByteParts.{bytes_small, byte_place}
 use Rattle.ps_relation.proofs.Spots.{memory_of, spot_value, spot_read, spot_holds, spot_word_written}
@@ -53,7 +54,7 @@ module _ (a b c d x : ℕ) (ha : a < 256) (hb : b < 256) (hc : c < 256) (hd : d 
       ap (λ u. number_of_word (u - u / 16777216 % 256 * 16777216 + x * 16777216)) (word_back (four a b c d) whole) ∙ ap (λ u. number_of_word (four a b c d - u * 16777216 + x * 16777216)) q ∙ ap number_of_word r
 
 -- The word of byte k of a list, and the list's words with another byte there.
-record WordSet (words new : Words) (k x : ℕ) : Type 0 where
+pub record WordSet (words new : Words) (k x : ℕ) : Type 0 where
   pub z : ℤ
   pub there : slice_get words (k / 4) ≡ Some (Some (Number z))
   pub is : new ≡ spliced (k / 4) (Some (Number (with_byte z (k % 4) x)) ∷ []) words
@@ -68,7 +69,7 @@ first_set k x m m' ws l e =
       is = ap (λ y. Some (Number y) ∷ ws) (sym e) ∙ ap (λ i. Some (Number (with_byte (number_of_word m) i x)) ∷ ws) (sym r) ∙ ap (λ i. spliced i (Some (Number (with_byte (number_of_word m) (k % 4) x)) ∷ []) (Some (Number (number_of_word m)) ∷ ws)) (sym q);
     }
 
-bytes_set : (bs : List ℕ) (k x : ℕ) → AreBytes bs → k < length bs → WordSet (constant_words (filled bs)) (constant_words (filled (slice_set bs k x))) k x
+pub bytes_set : (bs : List ℕ) (k x : ℕ) → AreBytes bs → k < length bs → WordSet (constant_words (filled bs)) (constant_words (filled (slice_set bs k x))) k x
 bytes_set [] k x h l = absurd (omega arith)
 bytes_set (a ∷ []) zero x h l = first_set 0 x (four a 0 0 0) (four x 0 0 0) [] (omega arith) (set_0 a 0 0 0 x (first_byte a [] h) (omega arith) (omega arith) (omega arith))
 bytes_set (a ∷ []) (suc k) x h l = absurd (omega arith)
@@ -195,7 +196,7 @@ byte_word ws q r x z l e =
     ∙ ap Some (set_spliced ws q (Some (Number (with_byte z r x))))
     ∙ sym (word_written ws q (Number (with_byte z r x)) (inside_words ws q (Number z) at))
 
-byte_stored : (constants : Constants) (m : Memory) (b : Block) (q r x : ℕ) (z : ℤ) → r < 4 → load constants m b (4 * q) ≡ Some (Number z) → store_byte m b (4 * q + r) x ≡ store m b (4 * q) (Number (with_byte z r x))
+pub byte_stored : (constants : Constants) (m : Memory) (b : Block) (q r x : ℕ) (z : ℤ) → r < 4 → load constants m b (4 * q) ≡ Some (Number z) → store_byte m b (4 * q + r) x ≡ store m b (4 * q) (Number (with_byte z r x))
 byte_stored constants m (FrameBlock a) q r x z l e = ap (with_frames m) (changed_same m.frames a (λ ws. with_byte_at ws (4 * q + r) x) (λ ws. with_word ws (4 * q) (Number (with_byte z r x))) (λ ws h. byte_word ws q r x z l (ap (λ o. value_in o (4 * q)) (sym h) ∙ e)))
 byte_stored constants m (ScratchBlock a) q r x z l e = ap (with_scratch m) (changed_same m.scratch a (λ ws. with_byte_at ws (4 * q + r) x) (λ ws. with_word ws (4 * q) (Number (with_byte z r x))) (λ ws h. byte_word ws q r x z l (ap (λ o. value_in o (4 * q)) (sym h) ∙ e)))
 byte_stored constants m (Object a) q r x z l e = ap (with_objects m) (object_same m.objects a (λ ws. with_byte_at ws (4 * q + r) x) (λ ws. with_word ws (4 * q) (Number (with_byte z r x))) (λ ws h. byte_word ws q r x z l (ap (λ o. value_in o (4 * q)) (sym h) ∙ e)))
@@ -243,7 +244,7 @@ module _ (program : Program) (w : World) (gs : List Ghost) (count : ℕ) (holds 
       ap (λ i. store_byte m b i (byte_of u)) e
       ∙ byte_stored constants m b (r.start + k / 4) (k % 4) (byte_of u) set.words.z (omega arith) loaded
       ∙ ap (λ i. store m b i word) f
-      ∙ spot_word_written program w gs count holds scratch whole b (4 * r.start) shape (with_component v k u) (k / 4) word r.place set.fits (omega (arith, below)) set.words.is
+      ∙ spot_word_written program w gs count holds scratch whole b (4 * r.start) shape (with_component v k u) (k / 4) word r.place (goes_to w.made whole.path (with_component v k u) shape set.fits tt) (omega (arith, below)) set.words.is
       ∙ ap (λ y. Some (memory_of program y gs scratch)) (sym same)
 
   pub spot_byte_holds : (s : Spot) (b : Block) (o : ℕ) (u : Value) → PlaceAt program gs w.made s b o Byte → IsTrue (is_between (pos 0) (number_of u) (pos 255)) → Holds program gs (with_contents w s u) count
@@ -255,4 +256,4 @@ module _ (program : Program) (w : World) (gs : List Ghost) (count : ℕ) (holds 
       let v = contents_in w whole in
       let set = component_set v r.length_ k r.first u (spot_value program w gs count holds whole b (4 * r.start) shape r.place) r.below between in
       let same : with_contents w s u ≡ with_contents w whole (with_component v k u) = ap (λ path. with_root w s.root (with_part (value_at_root w s.root) path u)) r.is ∙ ap (with_root w s.root) (with_part_more (value_at_root w s.root) r.before k u) in
-      subst (λ y. Holds program gs y count) (sym same) (spot_holds program w gs count holds whole b (4 * r.start) shape (with_component v k u) r.place set.fits)
+      subst (λ y. Holds program gs y count) (sym same) (spot_holds program w gs count holds whole b (4 * r.start) shape (with_component v k u) r.place (goes_to w.made whole.path (with_component v k u) shape set.fits tt))

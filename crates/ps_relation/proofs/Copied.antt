@@ -1,5 +1,5 @@
 -- Copies of values of many words: from a part of a variable, or from any other block, to a stretch of a block.
-use Rattle.std.proofs.Common.{◌≡◌, ◌⊎◌, inl, inr, ℕ, zero, suc, ◌+◌, ◌*◌, ◌<◌, ◌≤◌, List, [], ◌∷◌, length, slice_get, Some, refl, sym, ap, ◌∙◌, subst, arith}
+use Rattle.std.proofs.Common.{◌≡◌, ◌⊎◌, inl, inr, ℕ, zero, suc, ◌+◌, ◌*◌, ◌<◌, ◌≤◌, List, [], ◌∷◌, length, slice_get, Option, Some, None, refl, sym, ap, ◌∙◌, subst, arith}
 use Rattle.tac_code.specs.declared.code.Block.{Block}
 use Rattle.tac_code.specs.declared.code.Block.TheVariants.{Constant as ConstantBlock}
 use Rattle.tac_code.specs.declared.code.Value.{Value as Word}
@@ -9,15 +9,15 @@ use Rattle.ps_meaning.specs.Values.{Value, Spot}
 use Rattle.ps_meaning.specs.Worlds.{World, contents_in, with_contents}
 use Rattle.tac_steps.specs.Splices.{spliced}
 use Rattle.tac_steps.proofs.Splices.{spliced_length, spliced_inside, spliced_before, spliced_behind}
-use Rattle.tac_steps.proofs.Pieces.{same_some}
+use Rattle.tac_steps.proofs.Pieces.{same_some, some_none}
 use Rattle.ps_layout.specs.Shapes.{Shape, word_count, byte_count, Whole}
 use Rattle.ps_layout.specs.Words.{value_words}
-use Rattle.ps_layout.specs.Paths.{HasShape}
+use Rattle.ps_layout.specs.Paths.{KeepsByte, GoesTo}
 use Rattle.ps_layout.proofs.Counted.{counted}
 use Rattle.ps_relation.specs.Ghosts.{Ghost, PlaceAt, Holds}
 use Rattle.ps_relation.specs.Here.{Setting, code_in}
 use Rattle.ps_relation.specs.RunTime.{CopiedUp}
-use Rattle.ps_relation.proofs.Spans.{spliced_self}
+use Rattle.ps_relation.proofs.Spans.{spliced_self, goes_to}
 use Rattle.ps_relation.proofs.Spots.{memory_of, spot_value, spot_read}
 use Rattle.ps_relation.proofs.Copies.{SameOutside, Sources, copied_up, AreWritten, written_word}
 use Rattle.ps_relation.proofs.Blocks.{with_block, IsOpen, same_or_other, block_now, block_other, block_same, block_held, word_there}
@@ -93,6 +93,38 @@ module _ (p : Setting) (m : Memory) (b : Block) (words : Words) (can : IsOpen b)
       one place v at zero l = let e : place + 0 ≡ place = omega arith in ap (slice_get words) e ∙ at
       one place v at (suc i) l = absurd (omega (arith, l))
 
+  known_back : (o : Option (Option Word)) (v : Word) → known o ≡ Some v → o ≡ Some (Some v)
+  known_back None v e = some_none e
+  known_back (Some word) v e = ap Some e
+
+  -- from wherever the words stand: there already, apart, or in another block
+  pub copied_from : (c : Block) (news : Words) (start count from : ℕ) → (c ≡ b → (from ≡ start) ⊎ ((from + count ≤ start) ⊎ (start + count ≤ from))) → AreWritten news → length news ≡ count → start + count ≤ length words → ((i : ℕ) → i < count → load (text_at (code_in p)) m c (4 * (from + i)) ≡ known (slice_get news i)) → CopiedUp p m b (4 * start) c (4 * from) count (with_block m b (spliced start news words))
+  copied_from c news start count from side written n within reads = go (same_or_other b c can)
+    where
+      after : Memory
+      after = with_block m b (spliced start news words)
+
+      sides : c ≡ b → (from ≡ start) ⊎ ((from + count ≤ start) ⊎ (start + count ≤ from)) → ((i : ℕ) → i < count → slice_get words (from + i) ≡ slice_get news i) → CopiedUp p m b (4 * start) b (4 * from) count after
+      sides e (inr apart) stands = copied_within news start count from apart written n within stands
+      sides e (inl q) stands =
+          let here : (i : ℕ) → i < count → slice_get words (start + i) ≡ slice_get news i = λ i l. ap (λ k. slice_get words (k + i)) (sym q) ∙ stands i l in
+          let self : spliced start news words ≡ words = spliced_self start news words (λ i l. here i (omega (arith, l, n))) (omega (arith, within, n)) in
+          let back : m ≡ with_block m b (spliced start news words) = sym (block_same (text_at (code_in p)) m b words can there) ∙ ap (with_block m b) (sym self) in
+          subst (λ k. CopiedUp p m b (4 * start) b (4 * k) count (with_block m b (spliced start news words))) (sym q)
+          (subst (λ y. CopiedUp p m b (4 * start) b (4 * start) count y) back
+          (copied_over count start (4 * start) refl (λ i l. let x = written_word news i written (omega (arith, n, l)) in (x.0, here i l ∙ x.1)) within))
+
+      go : (c ≡ b) ⊎ (c ≡ b → ⊥) → CopiedUp p m b (4 * start) c (4 * from) count (with_block m b (spliced start news words))
+      go (inr other) = copied_other c news start count (4 * from) other written n within (λ i l. let e : 4 * from + 4 * i ≡ 4 * (from + i) = omega arith in ap (load (text_at (code_in p)) m c) e ∙ reads i l)
+      go (inl e) =
+          subst (λ d. CopiedUp p m b (4 * start) d (4 * from) count (with_block m b (spliced start news words))) (sym e)
+          (sides e (side e)
+          (λ i l.
+          let x = written_word news i written (omega (arith, n, l)) in
+          known_back (slice_get words (from + i)) x.0
+          (sym (word_there (text_at (code_in p)) m b words (from + i) there) ∙ ap (λ d. load (text_at (code_in p)) m d (4 * (from + i))) (sym e) ∙ reads i l ∙ ap known x.1)
+          ∙ sym x.1))
+
 module _ (p : Setting) (w : World) (gs : List Ghost) (count : ℕ) (holds : Holds p.program gs w count) (scratch : List Living) (s : Spot) (b : Block) (o : ℕ) (inner : Shape) (at : PlaceAt p.program gs w.made s b o (Whole inner)) where
   abbrev memory : Memory
   memory = memory_of p.program w gs scratch
@@ -105,19 +137,19 @@ module _ (p : Setting) (w : World) (gs : List Ghost) (count : ℕ) (holds : Hold
   spot_open r place e = subst IsOpen e to.can
 
   -- a part of a variable gets the words of a value that stand in another block
-  pub copied_to : (c : Block) (from : ℕ) (v : Value) → (c ≡ b → ⊥) → HasShape w.made v inner → ((i : ℕ) → i < word_count inner → load (text_at (code_in p)) memory c (from + 4 * i) ≡ known (slice_get (value_words inner v) i)) → CopiedUp p memory b o c from (word_count inner) (memory_of p.program (with_contents w s v) gs scratch)
+  pub copied_to : (c : Block) (from : ℕ) (v : Value) → (c ≡ b → ⊥) → GoesTo w.made s.path v inner → ((i : ℕ) → i < word_count inner → load (text_at (code_in p)) memory c (from + 4 * i) ≡ known (slice_get (value_words inner v) i)) → CopiedUp p memory b o c from (word_count inner) (memory_of p.program (with_contents w s v) gs scratch)
   copied_to c from v other h reads =
       subst (λ place. CopiedUp p memory b place c from (word_count inner) (memory_of p.program (with_contents w s v) gs scratch)) (sym to.is)
       (subst (λ after. CopiedUp p memory b (4 * to.start) c from (word_count inner) after) (to.writes v h)
       (copied_other p memory b to.words to.can to.there c (value_words inner v) to.start (word_count inner) from other (value_written inner v) (counted inner v) to.within reads))
 
   -- or those of another part
-  module _ (t : Spot) (from : ℕ) (source : PlaceAt p.program gs w.made t b from (Whole inner)) where
+  module _ (t : Spot) (from : ℕ) (source : PlaceAt p.program gs w.made t b from (Whole inner)) (kept : KeepsByte (contents_in w t) inner) where
     abbrev v : Value
     v = contents_in w t
 
-    h : HasShape w.made v inner
-    h = spot_value p.program w gs count holds t b from inner source
+    h : GoesTo w.made s.path v inner
+    h = goes_to w.made s.path v inner (spot_value p.program w gs count holds t b from inner source) kept
 
     reads : (i : ℕ) → i < word_count inner → load (text_at (code_in p)) memory b (from + 4 * i) ≡ known (slice_get (value_words inner v) i)
     reads i l = spot_read p.program w gs count holds (text_at (code_in p)) scratch t b from inner i source l
@@ -167,13 +199,13 @@ module _ (p : Setting) (w : World) (gs : List Ghost) (count : ℕ) (holds : Hold
         go (inr x) = copied_apart x
 
   -- whichever blocks they are in
-  pub copied_spot : (c : Block) (t : Spot) (from : ℕ) → PlaceAt p.program gs w.made t c from (Whole inner) → CopiedUp p memory b o c from (word_count inner) (memory_of p.program (with_contents w s (contents_in w t)) gs scratch)
-  copied_spot c t from source = go (same_or_other b c to.can)
+  pub copied_spot : (c : Block) (t : Spot) (from : ℕ) → PlaceAt p.program gs w.made t c from (Whole inner) → KeepsByte (contents_in w t) inner → CopiedUp p memory b o c from (word_count inner) (memory_of p.program (with_contents w s (contents_in w t)) gs scratch)
+  copied_spot c t from source kept = go (same_or_other b c to.can)
     where
       go : (c ≡ b) ⊎ (c ≡ b → ⊥) → CopiedUp p memory b o c from (word_count inner) (memory_of p.program (with_contents w s (contents_in w t)) gs scratch)
       go (inl e) =
           subst (λ d. CopiedUp p memory b o d from (word_count inner) (memory_of p.program (with_contents w s (contents_in w t)) gs scratch)) (sym e)
-          (copied_beside t from (subst (λ d. PlaceAt p.program gs w.made t d from (Whole inner)) e source))
+          (copied_beside t from (subst (λ d. PlaceAt p.program gs w.made t d from (Whole inner)) e source) kept)
       go (inr other) =
-          copied_to c from (contents_in w t) other (spot_value p.program w gs count holds t c from inner source)
+          copied_to c from (contents_in w t) other (goes_to w.made s.path (contents_in w t) inner (spot_value p.program w gs count holds t c from inner source) kept)
           (λ i l. spot_read p.program w gs count holds (text_at (code_in p)) scratch t c from inner i source l)

@@ -37,7 +37,7 @@ Sources p memory after place count from start = (i : ℕ) → i < count → (bef
 
 module _ (p : Setting) (to : Block) (memory : Words → Memory) (holding : Holding p to memory) (from : Block) (after : Words) where
   -- one word more is the same
-  nearer : (before : Words) (place n : ℕ) (v : Word) → length before ≡ length after → place < length after → slice_get after place ≡ Some (Some v) → SameOutside before after place (place + suc n) → SameOutside (spliced place (Some v ∷ []) before) after (suc place) (suc place + n)
+  pub nearer : (before : Words) (place n : ℕ) (v : Word) → length before ≡ length after → place < length after → slice_get after place ≡ Some (Some v) → SameOutside before after place (place + suc n) → SameOutside (spliced place (Some v ∷ []) before) after (suc place) (suc place + n)
   nearer before place n v l within e same i (inr far) = spliced_behind place (Some v ∷ []) before i (omega (arith, far)) ∙ same i (inr (omega (arith, far)))
   nearer before place n v l within e same i (inl near) = go (slice_lt i place)
     where

@@ -34,7 +34,7 @@ module _ (k : Scope) (b : Base) (plain : NotScratch b) where
 
   mutual
     pub even_first : (t offset : ℕ) (shape : Shape) → Even (first_code k b t offset shape)
-    even_first t offset (NumberShape first) = more tt (more (elsewhere b offset plain) none)
+    even_first t offset (NumberShape first narrow) = more tt (more (elsewhere b offset plain) none)
     even_first t offset (PointerShape pointer) = more tt (more (elsewhere b offset plain) none)
     even_first t offset SetShape = more tt (more (elsewhere b offset plain) (even_spread t offset 4 32))
     even_first t offset (ByteShape count first) = even_bytes t offset count first
@@ -157,7 +157,7 @@ mutual
 
 module _ (k : Scope) (r : Routine) where
   even_own : (shape : Shape) (t offset free : ℕ) → Even (own_code k shape t offset free)
-  even_own (NumberShape first) t offset free = more tt none
+  even_own (NumberShape first narrow) t offset free = more tt none
   even_own (PointerShape pointer) t offset free = more tt none
   even_own SetShape t offset free = more tt (even_copy k _ _ _ 32)
   even_own (ByteShape count first) t offset free = more tt (even_copy k _ _ _ _)

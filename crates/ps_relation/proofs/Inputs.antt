@@ -1,5 +1,5 @@
 -- The two words of the input in the frame of the program block, read and written.
-use Rattle.std.proofs.Common.{◌≡◌, ℕ, ◌+◌, ◌*◌, ◌<◌, ◌≤◌, Bool, true, false, nat_eq, if◌then◌else◌, List, [], ◌∷◌, length, replicate, slice_get, Option, Some, None, refl, sym, ap, ◌∙◌, subst, arith, eqb-true}
+use Rattle.std.proofs.Common.{◌≡◌, ℕ, ◌+◌, ◌*◌, ◌<◌, Bool, true, false, nat_eq, if◌then◌else◌, List, [], ◌∷◌, length, replicate, slice_get, Option, Some, None, refl, sym, ap, ◌∙◌, subst, arith, eqb-true}
 use Rattle.ps_tree.specs.Tree.{Program, routine_at}
 use Rattle.tac_code.specs.declared.code.Block.TheVariants.{Frame as FrameBlock}
 use Rattle.tac_code.specs.declared.code.Value.{Value as Word}
@@ -12,7 +12,7 @@ use Rattle.tac_steps.proofs.Pieces.{same_some, some_none, placed_reads, placed_w
 use Rattle.tac_steps.proofs.Blocks.{word_read, word_written}
 use Rattle.ps_layout.specs.Frames.{entries, is_program_block}
 use Rattle.ps_code.specs.Fits.{outermost_of}
-use Rattle.ps_relation.specs.Ghosts.{Ghost, slot_kinds, input_words, first_piece, entry_pieces, layout_at, pieces, block_words, frames_of, found, Numbered, GhostsFit, OnlyFirst, EnvAt}
+use Rattle.ps_relation.specs.Ghosts.{Ghost, slot_kinds, input_words, first_piece, entry_pieces, layout_at, block_words, frames_of, found, Numbered, GhostsFit, OnlyFirst, EnvAt}
 use Rattle.ps_relation.proofs.Memory.{size_length, pieces_placed, placed_piece, block_length, living_found, ghost_fits}
 
 -- the world with another input

@@ -19,5 +19,9 @@ pub mod Apart
 pub mod Stretches
 pub mod Copied
 pub mod ByteParts
+pub mod Components
+pub mod Unpacked
+pub mod BytesPacked
+pub mod Packed
 pub mod ByteWrites
 pub mod Differences

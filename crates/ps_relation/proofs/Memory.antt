@@ -13,7 +13,7 @@ use Rattle.tac_steps.proofs.Pieces.{same_some, some_none, placed_length, placed_
 use Rattle.tac_steps.proofs.Blocks.{word_read, word_written}
 use Rattle.ps_layout.specs.Shapes.{Shape, word_count, Whole}
 use Rattle.ps_layout.specs.Words.{value_words}
-use Rattle.ps_layout.specs.Paths.{HasShape}
+use Rattle.ps_layout.specs.Paths.{HasShape, GoesTo}
 use Rattle.ps_layout.specs.Frames.{kind_words, entries, places_from, words_of_all, is_program_block}
 use Rattle.ps_layout.proofs.Counted.{counted}
 use Rattle.ps_relation.specs.Ghosts.{Slot, OwnSlot, ReferenceSlot, ClosureSlot, Ghost, slot_kind, slot_kinds, slot_words, first_piece, entry_pieces, layout_at, pieces, block_words, frames_of, found, SlotsFrom, Names, SlotFits, SlotsFit, GhostsFit, DeclaredAt}
@@ -292,7 +292,7 @@ module _ (program : Program) where
   placed_piece n (q ∷ qs) (suc i) p a h = placed_piece n qs i p a.2 h
 
   -- a part of a variable gets a value of one word
-  pub part_written : (m : Memory) (w : World) (gs : List Ghost) (next : ℕ) (name : ℕ) (path : List ℕ) (b : Block) (o : ℕ) (inner : Shape) (v : Value) (word : Word) → m.frames ≡ frames_of program w gs → GhostsFit program w.made w.store gs → Names gs next → DeclaredAt program gs w.made name path b o (Whole inner) → HasShape w.made v inner → word_count inner ≡ 1 → value_words inner v ≡ Some word ∷ [] → store m b o word ≡ Some (record m { frames = frames_of program (renewed w name (with_part (w.store name) path v)) gs })
+  pub part_written : (m : Memory) (w : World) (gs : List Ghost) (next : ℕ) (name : ℕ) (path : List ℕ) (b : Block) (o : ℕ) (inner : Shape) (v : Value) (word : Word) → m.frames ≡ frames_of program w gs → GhostsFit program w.made w.store gs → Names gs next → DeclaredAt program gs w.made name path b o (Whole inner) → GoesTo w.made path v inner → word_count inner ≡ 1 → value_words inner v ≡ Some word ∷ [] → store m b o word ≡ Some (record m { frames = frames_of program (renewed w name (with_part (w.store name) path v)) gs })
   part_written m w gs next name path b o inner v word fm f names at h one ws =
       let g = at.ghost in
       let fits = ghost_fits w.made w.store gs g.number g f at.there in
@@ -325,7 +325,7 @@ module _ (program : Program) where
       piece_within w g i k x e p h = (placed_piece (layout_at program g.routine).size (pieces program w g) (suc i) (record { place = k; words = slot_words w.store x }) (pieces_placed program w g e) (piece_at w.store (layout_at program g.routine).places g.slots i k x p h))
 
   -- one word of a part of a variable is replaced
-  pub part_word_written : (m : Memory) (w : World) (gs : List Ghost) (next : ℕ) (name : ℕ) (path : List ℕ) (b : Block) (o : ℕ) (inner : Shape) (v : Value) (i : ℕ) (word : Word) → m.frames ≡ frames_of program w gs → GhostsFit program w.made w.store gs → Names gs next → DeclaredAt program gs w.made name path b o (Whole inner) → HasShape w.made v inner → i < word_count inner → value_words inner v ≡ spliced i (Some word ∷ []) (value_words inner (part (w.store name) path)) → store m b (o + 4 * i) word ≡ Some (record m { frames = frames_of program (renewed w name (with_part (w.store name) path v)) gs })
+  pub part_word_written : (m : Memory) (w : World) (gs : List Ghost) (next : ℕ) (name : ℕ) (path : List ℕ) (b : Block) (o : ℕ) (inner : Shape) (v : Value) (i : ℕ) (word : Word) → m.frames ≡ frames_of program w gs → GhostsFit program w.made w.store gs → Names gs next → DeclaredAt program gs w.made name path b o (Whole inner) → GoesTo w.made path v inner → i < word_count inner → value_words inner v ≡ spliced i (Some word ∷ []) (value_words inner (part (w.store name) path)) → store m b (o + 4 * i) word ≡ Some (record m { frames = frames_of program (renewed w name (with_part (w.store name) path v)) gs })
   part_word_written m w gs next name path b o inner v i word fm f names at h in_part ws =
       let g = at.ghost in
       let fits = ghost_fits w.made w.store gs g.number g f at.there in
@@ -413,7 +413,7 @@ module _ (program : Program) where
           (f.0, slots_fit_other made st x.slots x.base h.0 name v h.1 (inl l) f.1, ih r)
 
   -- what part_written leaves still fits
-  pub part_fits : (w : World) (gs : List Ghost) (next : ℕ) (name : ℕ) (path : List ℕ) (b : Block) (o : ℕ) (inner : Shape) (v : Value) → GhostsFit program w.made w.store gs → Names gs next → DeclaredAt program gs w.made name path b o (Whole inner) → HasShape w.made v inner → GhostsFit program w.made (at_name w.store name (with_part (w.store name) path v)) gs
+  pub part_fits : (w : World) (gs : List Ghost) (next : ℕ) (name : ℕ) (path : List ℕ) (b : Block) (o : ℕ) (inner : Shape) (v : Value) → GhostsFit program w.made w.store gs → Names gs next → DeclaredAt program gs w.made name path b o (Whole inner) → GoesTo w.made path v inner → GhostsFit program w.made (at_name w.store name (with_part (w.store name) path v)) gs
   part_fits w gs next name path b o inner v f names at h =
       let g = at.ghost in
       let fits = ghost_fits w.made w.store gs g.number g f at.there in

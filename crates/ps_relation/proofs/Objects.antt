@@ -11,7 +11,7 @@ use Rattle.tac_steps.proofs.Pieces.{same_some, some_none}
 use Rattle.tac_steps.proofs.Blocks.{word_read, word_written}
 use Rattle.ps_layout.specs.Shapes.{Shape, shape_of, word_count, Whole}
 use Rattle.ps_layout.specs.Words.{value_words}
-use Rattle.ps_layout.specs.Paths.{HasShape}
+use Rattle.ps_layout.specs.Paths.{HasShape, GoesTo}
 use Rattle.ps_layout.proofs.Counted.{counted}
 use Rattle.ps_relation.specs.Ghosts.{objects_of, ObjectsFit, ObjectAt, Ghost}
 use Rattle.ps_relation.proofs.Spans.{nested, span_in}
@@ -62,7 +62,7 @@ module _ (program : Program) where
         ∙ word_read (value_words shape (get_or w.objects k unset)) (s.place + i)
         ∙ ap known (s.reads i l)
 
-    pub object_written : (m : Memory) (k : ℕ) (path : List ℕ) (b : Block) (o : ℕ) (inner : Shape) (v : Value) (word : Word) → m.objects ≡ objects_of program w.made w.objects → ObjectsFit program w.made w.made w.objects → ObjectAt program gs w.made k path b o (Whole inner) → HasShape w.made v inner → word_count inner ≡ 1 → value_words inner v ≡ Some word ∷ [] → store m b o word ≡ Some (record m { objects = objects_of program w.made (set w.objects k (with_part (get_or w.objects k unset) path v)) })
+    pub object_written : (m : Memory) (k : ℕ) (path : List ℕ) (b : Block) (o : ℕ) (inner : Shape) (v : Value) (word : Word) → m.objects ≡ objects_of program w.made w.objects → ObjectsFit program w.made w.made w.objects → ObjectAt program gs w.made k path b o (Whole inner) → GoesTo w.made path v inner → word_count inner ≡ 1 → value_words inner v ≡ Some word ∷ [] → store m b o word ≡ Some (record m { objects = objects_of program w.made (set w.objects k (with_part (get_or w.objects k unset) path v)) })
     object_written m k path b o inner v word om f at h one ws =
         let shape = shape_of (domain_at program at.pointer) in
         let old = get_or w.objects k unset in
@@ -80,7 +80,7 @@ module _ (program : Program) where
         ∙ ap (λ bs. with_objects m (changed_object bs k (λ words. with_word words o word))) om
         ∙ ap (with_objects m) (object_changed w.made w.made w.objects k at.pointer new (λ words. with_word words o word) f at.of_type changes)
 
-    pub object_word_written : (m : Memory) (k : ℕ) (path : List ℕ) (b : Block) (o : ℕ) (inner : Shape) (v : Value) (i : ℕ) (word : Word) → m.objects ≡ objects_of program w.made w.objects → ObjectsFit program w.made w.made w.objects → ObjectAt program gs w.made k path b o (Whole inner) → HasShape w.made v inner → i < word_count inner → value_words inner v ≡ spliced i (Some word ∷ []) (value_words inner (part (get_or w.objects k unset) path)) → store m b (o + 4 * i) word ≡ Some (record m { objects = objects_of program w.made (set w.objects k (with_part (get_or w.objects k unset) path v)) })
+    pub object_word_written : (m : Memory) (k : ℕ) (path : List ℕ) (b : Block) (o : ℕ) (inner : Shape) (v : Value) (i : ℕ) (word : Word) → m.objects ≡ objects_of program w.made w.objects → ObjectsFit program w.made w.made w.objects → ObjectAt program gs w.made k path b o (Whole inner) → GoesTo w.made path v inner → i < word_count inner → value_words inner v ≡ spliced i (Some word ∷ []) (value_words inner (part (get_or w.objects k unset) path)) → store m b (o + 4 * i) word ≡ Some (record m { objects = objects_of program w.made (set w.objects k (with_part (get_or w.objects k unset) path v)) })
     object_word_written m k path b o inner v i word om f at h in_part ws =
         let shape = shape_of (domain_at program at.pointer) in
         let old = get_or w.objects k unset in
@@ -99,7 +99,7 @@ module _ (program : Program) where
         ∙ ap (λ bs. with_objects m (changed_object bs k (λ words. with_word words (o + 4 * i) word))) om
         ∙ ap (with_objects m) (object_changed w.made w.made w.objects k at.pointer new (λ words. with_word words (o + 4 * i) word) f at.of_type changes)
 
-    pub object_kept : (k : ℕ) (path : List ℕ) (b : Block) (o : ℕ) (inner : Shape) (v : Value) → ObjectsFit program w.made w.made w.objects → ObjectAt program gs w.made k path b o (Whole inner) → HasShape w.made v inner → ObjectsFit program w.made w.made (set w.objects k (with_part (get_or w.objects k unset) path v))
+    pub object_kept : (k : ℕ) (path : List ℕ) (b : Block) (o : ℕ) (inner : Shape) (v : Value) → ObjectsFit program w.made w.made w.objects → ObjectAt program gs w.made k path b o (Whole inner) → GoesTo w.made path v inner → ObjectsFit program w.made w.made (set w.objects k (with_part (get_or w.objects k unset) path v))
     object_kept k path b o inner v f at h =
         let shape = shape_of (domain_at program at.pointer) in
         let s = span_in w.made (get_or w.objects k unset) path shape inner o (object_fits w.made w.made w.objects k at.pointer f at.of_type) at.inside in

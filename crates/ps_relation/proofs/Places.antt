@@ -102,7 +102,7 @@ path_more [] outer middle part k j i a b =
     let z = a.1 in
     let e : i ≡ j + i = omega (arith, z) in
     subst (λ s. PathIn (k ∷ []) s part (j + i)) (whole_same a.0) (subst (PathIn (k ∷ []) middle part) e b)
-path_more (l ∷ path) (NumberShape first) middle part k j i a b = absurd a
+path_more (l ∷ path) (NumberShape first narrow) middle part k j i a b = absurd a
 path_more (l ∷ path) (PointerShape t) middle part k j i a b = absurd a
 path_more (l ∷ path) SetShape middle part k j i a b = absurd a
 path_more (l ∷ []) (ByteShape count first) middle part k j i a b = byte_whole a.1
@@ -117,7 +117,7 @@ part_bytes Byte = 1
 -- a part ends within the variable
 pub path_within : (path : List ℕ) (outer : Shape) (part : Part) (j : ℕ) → PathIn path outer part j → j + part_bytes part ≤ byte_count outer
 path_within [] outer part j a = let e = ap part_bytes a.0 in let z = a.1 in omega (arith, e, z)
-path_within (l ∷ path) (NumberShape first) part j a = absurd a
+path_within (l ∷ path) (NumberShape first narrow) part j a = absurd a
 path_within (l ∷ path) (PointerShape t) part j a = absurd a
 path_within (l ∷ path) SetShape part j a = absurd a
 path_within (l ∷ []) (ByteShape count first) part j a = let b = a.0 in let e = ap part_bytes a.1 in let z = a.2 in omega (arith, b, e, z)
@@ -136,7 +136,7 @@ path_within (l ∷ path) (RecordShape shapes) part j a =
 
 -- a component of an array, and a field of a record
 pub component_path : (shape : Shape) (k count : ℕ) → CountIs shape count → k < count → PathIn (k ∷ []) shape (component_part shape) (k * component_bytes shape)
-component_path (NumberShape first) k count c l = absurd c
+component_path (NumberShape first narrow) k count c l = absurd c
 component_path (PointerShape t) k count c l = absurd c
 component_path SetShape k count c l = absurd c
 component_path (ByteShape n first) k count c l = (omega (arith, c, l), refl, omega arith)
@@ -144,7 +144,7 @@ component_path (ArrayShape n shape) k count c l = (omega (arith, c, l), (0, (ref
 component_path (RecordShape shapes) k count c l = absurd c
 
 pub field_path : (shape : Shape) (k : ℕ) (inner : Shape) → field_part shape k ≡ Some inner → PathIn (k ∷ []) shape (Whole inner) (field_offset shape k)
-field_path (NumberShape first) k inner e = some_none e
+field_path (NumberShape first narrow) k inner e = some_none e
 field_path (PointerShape t) k inner e = some_none e
 field_path SetShape k inner e = some_none e
 field_path (ByteShape n first) k inner e = some_none e

@@ -1,5 +1,5 @@
 -- The members that a base has among 0..255: what is asked of a set that goes into a variable.
-use Rattle.std.proofs.Common.{◌≡◌, ◌⊎◌, inl, inr, ℕ, zero, suc, ◌+◌, ◌-◌, ◌<◌, ◌≤◌, ℤ, pos, negsuc, int_lt, int_le, Bool, true, false, not, ◌&&◌, ◌||◌, nat_lt, nat_le, if◌then◌else◌, refl, sym, ap, ◌∙◌, arith, leb-true, le-leb, ltb-true, ltb-false, lt-ltb}
+use Rattle.std.proofs.Common.{◌≡◌, ◌⊎◌, inl, inr, ℕ, zero, suc, ◌+◌, ◌-◌, ◌<◌, ℤ, pos, negsuc, int_lt, int_le, Bool, true, false, not, ◌&&◌, ◌||◌, nat_lt, nat_le, if◌then◌else◌, refl, sym, ap, ◌∙◌, arith, leb-true, le-leb, ltb-true, ltb-false}
 use Rattle.ps_meaning.specs.Operators.{all_below, is_between, is_included, interval, set_fits}
 use Rattle.ps_relation.proofs.Numbers.{same_test}
 

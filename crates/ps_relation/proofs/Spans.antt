@@ -7,18 +7,18 @@ use Rattle.tac_steps.proofs.Splices.{spliced_within}
 use Rattle.tac_steps.proofs.Pieces.{same_some, some_none}
 use Rattle.ps_layout.specs.Shapes.{Shape, NumberShape, PointerShape, SetShape, ByteShape, ArrayShape, RecordShape, Shapes, no_shape, shape_before, word_count, word_counts, field_shape, words_before, Whole, Byte}
 use Rattle.ps_layout.specs.Words.{each, value_words, field_words}
-use Rattle.ps_layout.specs.Paths.{PathIn, HasShape, HaveShape, HaveShapes}
+use Rattle.ps_layout.specs.Paths.{PathIn, KeepsByte, HasShape, HaveShape, HaveShapes, KeepsAt, GoesTo}
 use Rattle.ps_layout.proofs.Counted.{counted}
 use Rattle.ps_relation.specs.Spans.{SpanIn}
 
 -- ---- lists one after another
 
-get_front : (xs ys : Words) (i : ℕ) → i < length xs → slice_get (xs ++ ys) i ≡ slice_get xs i
+pub get_front : (xs ys : Words) (i : ℕ) → i < length xs → slice_get (xs ++ ys) i ≡ slice_get xs i
 get_front [] ys i h = absurd (omega arith)
 get_front (x ∷ xs) ys zero h = refl
 get_front (x ∷ xs) ys (suc i) h = get_front xs ys i (omega arith)
 
-get_back : (xs ys : Words) (n i : ℕ) → n ≡ length xs → slice_get (xs ++ ys) (n + i) ≡ slice_get ys i
+pub get_back : (xs ys : Words) (n i : ℕ) → n ≡ length xs → slice_get (xs ++ ys) (n + i) ≡ slice_get ys i
 get_back [] ys n i e = let a : n + i ≡ i = omega arith in ap (slice_get ys) a
 get_back (x ∷ xs) ys n i e = let a : n + i ≡ suc (length xs + i) = omega arith in ap (slice_get (x ∷ (xs ++ ys))) a ∙ get_back xs ys (length xs) i refl
 
@@ -47,14 +47,14 @@ component_fits made no_value zero k shape h l = absurd (omega arith)
 component_fits made no_value (suc n) k shape h l = absurd h
 component_fits made (value_before v vs) zero k shape h l = absurd (omega arith)
 component_fits made (value_before v vs) (suc n) zero shape h l = h.0
-component_fits made (value_before v vs) (suc n) (suc k) shape h l = component_fits made vs n k shape h.1 (omega arith)
+component_fits made (value_before v vs) (suc n) (suc k) shape h l = component_fits made vs n k shape h.2 (omega arith)
 
-component_set : (made : List ℕ) (vs : Values) (n k : ℕ) (shape : Shape) (u : Value) → HaveShape made vs n shape → HasShape made u shape → HaveShape made (with_nth vs k u) n shape
-component_set made no_value zero k shape u h f = tt
-component_set made no_value (suc n) k shape u h f = absurd h
-component_set made (value_before v vs) zero k shape u h f = absurd h
-component_set made (value_before v vs) (suc n) zero shape u h f = (f, h.1)
-component_set made (value_before v vs) (suc n) (suc k) shape u h f = (h.0, component_set made vs n k shape u h.1 f)
+pub component_set : (made : List ℕ) (vs : Values) (n k : ℕ) (shape : Shape) (u : Value) → HaveShape made vs n shape → HasShape made u shape → KeepsByte u shape → HaveShape made (with_nth vs k u) n shape
+component_set made no_value zero k shape u h f kept = tt
+component_set made no_value (suc n) k shape u h f kept = absurd h
+component_set made (value_before v vs) zero k shape u h f kept = absurd h
+component_set made (value_before v vs) (suc n) zero shape u h f kept = (f, kept, h.2)
+component_set made (value_before v vs) (suc n) (suc k) shape u h f kept = (h.0, h.1, component_set made vs n k shape u h.2 f kept)
 
 each_reads : (n k i : ℕ) (shape : Shape) (vs : Values) → k < n → i < word_count shape → slice_get (each n (λ u. value_words shape u) vs) (k * word_count shape + i) ≡ slice_get (value_words shape (nth vs k)) i
 each_reads zero k i shape vs l h = absurd (omega arith)
@@ -69,7 +69,7 @@ each_reads (suc n) (suc k) i shape vs l h =
     ∙ each_reads n k i shape (values_from vs 1) (omega arith) h
     ∙ ap (λ v. slice_get (value_words shape v) i) (nth_from vs k)
 
-each_writes : (made : List ℕ) (n k : ℕ) (shape : Shape) (vs : Values) (u : Value) → HaveShape made vs n shape → k < n → each n (λ u. value_words shape u) (with_nth vs k u) ≡ spliced (k * word_count shape) (value_words shape u) (each n (λ u. value_words shape u) vs)
+pub each_writes : (made : List ℕ) (n k : ℕ) (shape : Shape) (vs : Values) (u : Value) → HaveShape made vs n shape → k < n → each n (λ u. value_words shape u) (with_nth vs k u) ≡ spliced (k * word_count shape) (value_words shape u) (each n (λ u. value_words shape u) vs)
 each_writes made zero k shape vs u h l = absurd (omega arith)
 each_writes made (suc n) k shape no_value u h l = absurd h
 each_writes made (suc n) zero shape (value_before v vs) u h l =
@@ -87,7 +87,7 @@ each_writes made (suc n) zero shape (value_before v vs) u h l =
     overlaid_all (n ∷ ns) (w ∷ ws) e = ap (λ l. n ∷ l) (overlaid_all ns ws (omega arith))
 each_writes made (suc n) (suc k) shape (value_before v vs) u h l =
     let e : suc k * word_count shape ≡ word_count shape + k * word_count shape = omega arith in
-    ap (λ l. value_words shape v ++ l) (each_writes made n k shape vs u h.1 (omega arith))
+    ap (λ l. value_words shape v ++ l) (each_writes made n k shape vs u h.2 (omega arith))
     ∙ sym (splice_back (word_count shape) (k * word_count shape) (value_words shape u) (value_words shape v) (each n (λ u. value_words shape u) vs) (sym (counted shape v)))
     ∙ ap (λ i. spliced i (value_words shape u) (value_words shape v ++ each n (λ u. value_words shape u) vs)) (sym e)
 
@@ -167,7 +167,7 @@ span_here made v outer inner j h e z =
       within = omega (arith, n);
       fits = subst (HasShape made v) (sym q) h;
       reads = λ i l. let a : 0 + i ≡ i = omega arith in ap (slice_get (value_words outer v)) a ∙ ap (λ y. slice_get (value_words y v) i) (sym q);
-      writes = λ u f. let c = counted inner u in let b = counted outer v in (ap (λ y. value_words y u) (sym q) ∙ sym (overlaid_whole (value_words inner u) (value_words outer v) (omega (arith, n, b, c))), subst (HasShape made u) q f);
+      writes = λ u f. let c = counted inner u in let b = counted outer v in (ap (λ y. value_words y u) (sym q) ∙ sym (overlaid_whole (value_words inner u) (value_words outer v) (omega (arith, n, b, c))), subst (HasShape made u) q f.0);
     }
 
 overlaid_self : (ms ws : Words) → ((i : ℕ) → i < length ms → slice_get ws i ≡ slice_get ms i) → length ms ≤ length ws → overlaid ms ws ≡ ws
@@ -186,12 +186,32 @@ spliced_self (suc a) ms (w ∷ ws) h l = ap (λ l. w ∷ l) (spliced_self a ms w
 pub nested : (a b : ℕ) (ns ms ws : Words) → ((i : ℕ) → i < length ms → slice_get ws (a + i) ≡ slice_get ms i) → a + length ms ≤ length ws → b + length ns ≤ length ms → spliced a (spliced b ns ms) ws ≡ spliced (a + b) ns ws
 nested a b ns ms ws h l k = sym (spliced_within a b ns ms ws k) ∙ ap (spliced (a + b) ns) (spliced_self a ms ws h l)
 
+-- ---- what goes to a component
+
+pub keeps_at : (path : List ℕ) (v : Value) (shape : Shape) → KeepsByte v shape → KeepsAt path v shape
+keeps_at [] v shape h = tt
+keeps_at (k ∷ path) v shape h = h
+
+pub goes_to : (made : List ℕ) (path : List ℕ) (v : Value) (shape : Shape) → HasShape made v shape → KeepsByte v shape → GoesTo made path v shape
+goes_to made path v shape h kept = (h, keeps_at path v shape kept)
+
+-- a component within which something is put is no number
+keeps_part : (w : Value) (path : List ℕ) (middle inner : Shape) (j : ℕ) → PathIn path middle (Whole inner) j → (u : Value) → KeepsByte u inner → KeepsByte (with_part w path u) middle
+keeps_part w [] middle inner j p u h = subst (KeepsByte u) (whole_same p.0) h
+keeps_part w (k ∷ path) (NumberShape first narrow) inner j p u h = absurd p
+keeps_part w (k ∷ path) (PointerShape pointer) inner j p u h = tt
+keeps_part w (k ∷ path) SetShape inner j p u h = tt
+keeps_part w (k ∷ path) (ByteShape count first) inner j p u h = tt
+keeps_part w (k ∷ path) (ArrayShape count shape) inner j p u h = tt
+keeps_part w (k ∷ path) (RecordShape shapes) inner j p u h = tt
+
 -- a span within a component
 span_deeper : (made : List ℕ) (v w : Value) (k : ℕ) (path : List ℕ) (outer middle inner : Shape) (a j j' : ℕ) → (component v k ≡ w) → SpanIn made w path middle inner j → j' ≡ 4 * a + j → a + word_count middle ≤ word_count outer
     → ((i : ℕ) → i < word_count middle → slice_get (value_words outer v) (a + i) ≡ slice_get (value_words middle w) i)
-    → ((u : Value) → HasShape made u middle → (value_words outer (with_part v (k ∷ []) u) ≡ spliced a (value_words middle u) (value_words outer v)) × HasShape made (with_part v (k ∷ []) u) outer)
+    → ((u : Value) → KeepsByte u inner → KeepsByte (with_part w path u) middle)
+    → ((u : Value) → HasShape made u middle → KeepsByte u middle → (value_words outer (with_part v (k ∷ []) u) ≡ spliced a (value_words middle u) (value_words outer v)) × HasShape made (with_part v (k ∷ []) u) outer)
     → SpanIn made v (k ∷ path) outer inner j'
-span_deeper made v w k path outer middle inner a j j' c s e within reads writes =
+span_deeper made v w k path outer middle inner a j j' c s e within reads keeps writes =
     let b = s.place in
     let is = s.is in
     let inside = s.within in
@@ -202,8 +222,8 @@ span_deeper made v w k path outer middle inner a j j' c s e within reads writes 
       fits = subst (λ z. HasShape made (part z path) inner) (sym c) s.fits;
       reads = λ i l. let q : a + b + i ≡ a + (b + i) = omega arith in ap (slice_get (value_words outer v)) q ∙ reads (b + i) (omega (arith, inside, l)) ∙ s.reads i l ∙ ap (λ z. slice_get (value_words inner (part z path)) i) (sym c);
       writes = λ u f.
-          let in_part = s.writes u f in
-          let whole = writes (with_part w path u) in_part.1 in
+          let in_part = s.writes u (goes_to made path u inner f.0 f.1) in
+          let whole = writes (with_part w path u) in_part.1 (keeps u f.1) in
           let n = counted inner u in
           let moved = ap (λ z. with_part v (k ∷ []) (with_part z path u)) c in
           (ap (value_words outer) moved ∙ whole.0 ∙ ap (λ l. spliced a l (value_words outer v)) in_part.0 ∙ nested a b (value_words inner u) (value_words middle w) (value_words outer v) (λ i l. reads i (omega (arith, counted middle w, l))) (omega (arith, counted middle w, counted outer v, within)) (omega (arith, n, counted middle w, inside)), subst (λ z. HasShape made z outer) (sym moved) whole.1);
@@ -212,7 +232,7 @@ span_deeper made v w k path outer middle inner a j j' c s e within reads writes 
 -- where a path leads there is a stretch
 pub span_in : (made : List ℕ) (v : Value) (path : List ℕ) (outer inner : Shape) (j : ℕ) → HasShape made v outer → PathIn path outer (Whole inner) j → SpanIn made v path outer inner j
 span_in made v [] outer inner j h p = span_here made v outer inner j h p.0 p.1
-span_in made v (k ∷ path) (NumberShape first) inner j h p = absurd p
+span_in made v (k ∷ path) (NumberShape first narrow) inner j h p = absurd p
 span_in made v (k ∷ path) (PointerShape pointer) inner j h p = absurd p
 span_in made v (k ∷ path) SetShape inner j h p = absurd p
 span_in made v (k ∷ []) (ByteShape count first) inner j h p = byte_whole p.1
@@ -229,7 +249,8 @@ span_in made (StructureValue vs) (k ∷ path) (ArrayShape count shape) inner j h
     let product : suc k * word_count shape ≤ count * word_count shape = mul-le-mul_right (word_count shape) below in
     span_deeper made (StructureValue vs) (nth vs k) k path (ArrayShape count shape) shape inner (k * word_count shape) i j refl deep (omega (arith, is)) (omega (arith, product))
     (λ m l. each_reads count k m shape vs below l)
-    (λ u f. (each_writes made count k shape vs u h below, component_set made vs count k shape u h f))
+    (keeps_part (nth vs k) path shape inner i p.1.1)
+    (λ u f kept. (each_writes made count k shape vs u h below, component_set made vs count k shape u h f kept))
 span_in made (OrdinalValue z) (k ∷ path) (RecordShape shapes) inner j h p = absurd h
 span_in made NilValue (k ∷ path) (RecordShape shapes) inner j h p = absurd h
 span_in made (ObjectValue o) (k ∷ path) (RecordShape shapes) inner j h p = absurd h
@@ -242,4 +263,5 @@ span_in made (StructureValue vs) (k ∷ path) (RecordShape shapes) inner j h p =
     let deep = span_in made (nth vs k) path shape inner i (field_fits made vs shapes k shape h e) p.2.1 in
     span_deeper made (StructureValue vs) (nth vs k) k path (RecordShape shapes) shape inner (words_before shapes k) i j refl deep is (field_within shapes k shape e)
     (λ m l. fields_read shapes k m shape vs e l)
-    (λ u f. (fields_write made shapes k shape vs u h e, field_set made vs shapes k shape u h e f))
+    (keeps_part (nth vs k) path shape inner i p.2.1)
+    (λ u f kept. (fields_write made shapes k shape vs u h e, field_set made vs shapes k shape u h e f))

@@ -9,7 +9,7 @@ use Rattle.tac_steps.specs.Splices.{spliced}
 use Rattle.tac_steps.proofs.Pieces.{same_some}
 use Rattle.ps_layout.specs.Shapes.{Shape, NumberShape, PointerShape, SetShape, ByteShape, ArrayShape, RecordShape, Shapes, no_shape, shape_before, shape_of, word_count, Whole}
 use Rattle.ps_layout.specs.Words.{filled, bytes_of, each, value_words, field_words}
-use Rattle.ps_layout.specs.Paths.{HasShape}
+use Rattle.ps_layout.specs.Paths.{HasShape, GoesTo}
 use Rattle.ps_layout.specs.Frames.{entries}
 use Rattle.ps_layout.proofs.Counted.{counted}
 use Rattle.ps_relation.specs.Ghosts.{OwnSlot, Ghost, slot_kinds, slot_words, layout_at, pieces, block_words, frames_of, objects_of, SlotsFit, DeclaredAt, ObjectAt, RootAt, PlaceAt, Holds}
@@ -36,7 +36,7 @@ each_written (suc n) words vs h = written_both (words (nth vs 0)) (each n words 
 
 mutual
   pub value_written : (shape : Shape) (v : Value) → AreWritten (value_words shape v)
-  value_written (NumberShape first) v = tt
+  value_written (NumberShape first narrow) v = tt
   value_written (PointerShape pointer) v = tt
   value_written SetShape v = tt
   value_written (ByteShape count first) v = filled_written (bytes_of count (components_of v))
@@ -59,7 +59,7 @@ module _ (program : Program) (w : World) (gs : List Ghost) (count : ℕ) (holds 
     pub is : o ≡ 4 * start
     pub within : start + word_count inner ≤ length words
     pub reads : (i : ℕ) → i < word_count inner → slice_get words (start + i) ≡ slice_get (value_words inner (contents_in w s)) i
-    pub writes : (v : Value) → HasShape w.made v inner → with_block (memory_of program w gs scratch) b (spliced start (value_words inner v) words) ≡ memory_of program (with_contents w s v) gs scratch
+    pub writes : (v : Value) → GoesTo w.made s.path v inner → with_block (memory_of program w gs scratch) b (spliced start (value_words inner v) words) ≡ memory_of program (with_contents w s v) gs scratch
 
   declared_stretch : (constants : Constants) (scratch : List Living) (name : ℕ) (path : List ℕ) (b : Block) (o : ℕ) (inner : Shape) → DeclaredAt program gs w.made name path b o (Whole inner) → StretchAt constants scratch (record { root = Declared name; path = path }) b o inner
   declared_stretch constants scratch name path b o inner at =
@@ -105,7 +105,7 @@ module _ (program : Program) (w : World) (gs : List Ghost) (count : ℕ) (holds 
       entry_within : at.place + length (slot_words w.store (OwnSlot at.shape name)) ≤ (layout_at program g.routine).size
       entry_within = placed_piece program (layout_at program g.routine).size (pieces program w g) (suc at.index) (record { place = at.place; words = slot_words w.store (OwnSlot at.shape name) }) (pieces_placed program w g fits.0) (piece_at w.store (layout_at program g.routine).places g.slots at.index at.place (OwnSlot at.shape name) at.stands at.slot)
 
-      written : (v : Value) → HasShape w.made v inner → with_living (frames_of program w gs) g.number (spliced (at.place + s.place) (value_words inner v) words) ≡ frames_of program (renewed program w name (with_part old path v)) gs
+      written : (v : Value) → GoesTo w.made path v inner → with_living (frames_of program w gs) g.number (spliced (at.place + s.place) (value_words inner v) words) ≡ frames_of program (renewed program w name (with_part old path v)) gs
       written v h =
           let new = with_part old path v in
           let from = named_in program gs w.next g.number g holds.names at.there in

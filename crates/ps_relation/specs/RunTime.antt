@@ -7,7 +7,7 @@ use Rattle.tac_code.specs.declared.code.Value.TheVariants.{Number, Address}
 use Rattle.tac_code.specs.declared.code.BitOperator.{BitOperator}
 use Rattle.tac_code.specs.declared.code.BitOperator.TheVariants.{Or, ShiftLeft}
 use Rattle.tac_code.specs.Numbers.{is_integer, bits, truth}
-use Rattle.tac_code.specs.Memory.{Memory, load, load_byte, store}
+use Rattle.tac_code.specs.Memory.{Memory, load, load_byte, store, store_byte}
 use Rattle.tac_code.specs.Meaning.{Tape, text_at}
 use Rattle.ps_tree.specs.declared.tree.SetOperator.{SetOperator}
 use Rattle.ps_meaning.specs.Operators.{is_included, is_member}
@@ -28,6 +28,18 @@ abbrev pub CopiedUp : Setting → (before : Memory) → (to : Block) (place : �
 CopiedUp p before to place from start zero memory = before ≡ memory
 CopiedUp p before to place from start (suc n) memory =
     (v : Word) × (middle : Memory) × (load (text_at (code_in p)) before from start ≡ Some v) × (store before to place v ≡ Some middle) × CopiedUp p middle to (place + 4) from (start + 4) n memory
+
+-- words that hold bytes go to bytes, one after the other: each is read where those before it may have been written already
+abbrev pub PackedUp : Setting → (before : Memory) → (to : Block) (place : ℕ) → (from : Block) (start : ℕ) → List ℕ → (after : Memory) → Type 0
+PackedUp p before to place from start [] after = before ≡ after
+PackedUp p before to place from start (b ∷ bytes) after =
+    (middle : Memory) × (load (text_at (code_in p)) before from start ≡ Some (Number (pos b))) × (b < 256) × (store_byte before to place b ≡ Some middle) × PackedUp p middle to (place + 1) from (start + 4) bytes after
+
+-- bytes go to words, one after the other: each is read where those before it may have been written already
+abbrev pub UnpackedUp : Setting → (before : Memory) → (to : Block) (place : ℕ) → (from : Block) (start : ℕ) → List ℕ → (after : Memory) → Type 0
+UnpackedUp p before to place from start [] after = before ≡ after
+UnpackedUp p before to place from start (b ∷ bytes) after =
+    (middle : Memory) × (load_byte (text_at (code_in p)) before from start ≡ Some b) × (store before to place (Number (pos b)) ≡ Some middle) × UnpackedUp p middle to (place + 4) from (start + 1) bytes after
 
 -- so many words of one stretch are joined with those of another, one after the other
 abbrev pub JoinedUp : Setting → BitOperator → (before : Memory) → (to : Block) (place : ℕ) → (from : Block) (start : ℕ) → (count : ℕ) → (after : Memory) → Type 0
@@ -60,7 +72,7 @@ first_difference [] right = pos 0
 first_difference (a ∷ left) [] = pos 0
 first_difference (a ∷ left) (b ∷ right) = if a == b then first_difference left right else pos a -ℤ pos b
 
--- writes: an integer, a character by any integer that stands for it, a string; words, which are copied; two strings of one length, which are compared;
+-- writes: an integer, a character by any integer that stands for it, a string; words, which are copied; words that are packed to bytes, and bytes that are unpacked to words; two strings of one length, which are compared;
 -- sets; and reads
 pub record WritesDo (p : Setting) : Type 0 where
   pub sets : SetsDo p
@@ -68,5 +80,7 @@ pub record WritesDo (p : Setting) : Type 0 where
   pub character : (x : ℤ) (width : ℕ) (memory : Memory) (tape : Tape) → IsTrue (is_integer x) → width < 2147483648 → Does (machine_of p) 11 (Number x ∷ Number (pos width) ∷ []) memory tape (Number (pos 0)) memory (wrote tape (right_aligned width (unsigned_abs x % 256 ∷ [])))
   pub string : (b : Block) (o : ℕ) (text : List ℕ) (width : ℕ) (memory : Memory) (tape : Tape) → BytesAt p memory b o text → All (λ byte. byte < 256) text → o + length text < 2147483648 → width < 2147483648 → Does (machine_of p) 12 (Address b o ∷ Number (pos (length text)) ∷ Number (pos width) ∷ []) memory tape (Number (pos 0)) memory (wrote tape (fitted width text))
   pub words : (to : Block) (place : ℕ) (from : Block) (start n : ℕ) (before after : Memory) (tape : Tape) → CopiedUp p before to place from start n after → place + 4 * n < 2147483648 → start + 4 * n < 2147483648 → Does (machine_of p) 0 (Address to place ∷ Address from start ∷ Number (pos (4 * n)) ∷ []) before tape (Number (pos 0)) after tape
+  pub packed : (to : Block) (place : ℕ) (from : Block) (start : ℕ) (bytes : List ℕ) (before after : Memory) (tape : Tape) → PackedUp p before to place from start bytes after → place + length bytes < 2147483648 → start + 4 * length bytes < 2147483648 → Does (machine_of p) 8 (Address to place ∷ Address from start ∷ Number (pos (length bytes)) ∷ []) before tape (Number (pos 0)) after tape
+  pub unpacked : (to : Block) (place : ℕ) (from : Block) (start : ℕ) (bytes : List ℕ) (before after : Memory) (tape : Tape) → UnpackedUp p before to place from start bytes after → place + 4 * length bytes < 2147483648 → start + length bytes < 2147483648 → Does (machine_of p) 9 (Address to place ∷ Address from start ∷ Number (pos (length bytes)) ∷ []) before tape (Number (pos 0)) after tape
   pub difference : (x : Block) (place : ℕ) (y : Block) (start : ℕ) (left right : List ℕ) (memory : Memory) (tape : Tape) → BytesAt p memory x place left → BytesAt p memory y start right → All (λ byte. byte < 256) left → All (λ byte. byte < 256) right → length left ≡ length right → place + length left < 2147483648 → start + length right < 2147483648 → Does (machine_of p) 7 (Address x place ∷ Address y start ∷ Number (pos (length left)) ∷ []) memory tape (Number (first_difference left right)) memory tape
   pub reads : ReadsDo p

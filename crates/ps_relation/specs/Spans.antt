@@ -4,7 +4,7 @@ use Rattle.ps_meaning.specs.Values.{Value, part, with_part}
 use Rattle.tac_steps.specs.Splices.{spliced}
 use Rattle.ps_layout.specs.Shapes.{Shape, word_count}
 use Rattle.ps_layout.specs.Words.{value_words}
-use Rattle.ps_layout.specs.Paths.{HasShape}
+use Rattle.ps_layout.specs.Paths.{HasShape, GoesTo}
 
 -- The part at the end of a path is a stretch of whole words, in what is read and in what is written.
 pub record SpanIn (made : List ℕ) (v : Value) (path : List ℕ) (outer inner : Shape) (j : ℕ) : Type 0 where
@@ -13,4 +13,4 @@ pub record SpanIn (made : List ℕ) (v : Value) (path : List ℕ) (outer inner :
   pub within : place + word_count inner ≤ word_count outer
   pub fits : HasShape made (part v path) inner
   pub reads : (i : ℕ) → i < word_count inner → slice_get (value_words outer v) (place + i) ≡ slice_get (value_words inner (part v path)) i
-  pub writes : (u : Value) → HasShape made u inner → (value_words outer (with_part v path u) ≡ spliced place (value_words inner u) (value_words outer v)) × HasShape made (with_part v path u) outer
+  pub writes : (u : Value) → GoesTo made path u inner → (value_words outer (with_part v path u) ≡ spliced place (value_words inner u) (value_words outer v)) × HasShape made (with_part v path u) outer

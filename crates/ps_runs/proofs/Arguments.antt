@@ -156,13 +156,13 @@ module _ (p : Setting) (n : ℕ) (call : Caller) (c : Activated) (active : IsAct
   value_passed e Any (PointerShape u) sort v t x line o w k pc pc' literal kind same sorted ranged alive r known st =
       here p (suc n) c t x w k pc pc' (λ w' k'. ArgumentIn p c (ByValue e Any line) kind t (x + 0) (ValueActual v) w' k') st alive
       (record { passing = PassValue (PointerShape u) v (word_of sort v); actual = refl; kind_is = sym same; at = subst (HasSort w.made v) sorted r.fits; is = ap (λ q. word_of q v) sorted; values = ap (λ q. and_more q (Some [])) r.word })
-  value_passed e (WithinBounds low high) (NumberShape first) sort v t x line o w k pc pc' literal kind same sorted ranged alive r known st =
+  value_passed e (WithinBounds low high) (NumberShape first narrow) sort v t x line o w k pc pc' literal kind same sorted ranged alive r known st =
       runs_bind p (suc n) c t x t x t x w k pc pc' pc' (fitting (WithinBounds low high) v line (context_in c o) w) (λ u w1. Gives (ValueActual u) w1) (λ u w' k'. (u ≡ v) × WordIn k'.temporaries w'.made t NumberSort v × (is_between low (number_of v) high ≡ true)) (λ y w' k'. ArgumentIn p c (ByValue e (WithinBounds low high) line) kind t (x + 0) y w' k') (omega arith) (omega arith) (omega arith) (omega arith)
       (check_runs p (suc n) c active t x o w k pc pc' t low high 4 line literal v (omega arith) alive (λ z q. known z sorted q) (subst (λ q. WordIn k.temporaries w.made t q v) sorted r) st)
       (λ u w1 k1 alive1 kept1 y.
       here p (suc n) c t x w1 k1 pc' pc' (λ w' k'. ArgumentIn p c (ByValue e (WithinBounds low high) line) kind t (x + 0) (ValueActual u) w' k') refl alive1
-      (record { passing = PassValue (NumberShape first) v (word_of NumberSort v); actual = ap ValueActual (sym y.0); kind_is = sym same; at = y.1.fits; is = refl; values = ap (λ q. and_more q (Some [])) y.1.word }))
-  value_passed e Any (NumberShape first) sort v t x line o w k pc pc' literal kind same sorted ranged alive r known st = absurd ranged
+      (record { passing = PassValue (NumberShape first narrow) v (word_of NumberSort v); actual = ap ValueActual (sym y.0); kind_is = sym same; at = y.1.fits; is = refl; values = ap (λ q. and_more q (Some [])) y.1.word }))
+  value_passed e Any (NumberShape first narrow) sort v t x line o w k pc pc' literal kind same sorted ranged alive r known st = absurd ranged
   value_passed e Any SetShape sort v t x line o w k pc pc' literal kind same sorted ranged alive r known st = absurd ranged
   value_passed e Any (ByteShape a b) sort v t x line o w k pc pc' literal kind same sorted ranged alive r known st = absurd ranged
   value_passed e Any (ArrayShape a b) sort v t x line o w k pc pc' literal kind same sorted ranged alive r known st = absurd ranged

@@ -55,4 +55,4 @@ module _ (p : Setting) (n : ℕ) (call : Caller) (next : Next) (c : Activated) (
       let below = below_more p c (suc tp) t site.base lt r1.1 in
       let at = site_kept p c t 0 w1 w2 k1 k2 site s (Whole shape) below kept2 r1.0 in
       subst (λ a. Runs p (suc n) c d 0 w2 k2 cut2.0 pc' (and_then a (λ v. put_into s v)) Nothing) (sym (contents_are h w2))
-      (assigned p c active does d (beside t) t w2 k2 cut2.0 pc' bytes site s shape h (omega (arith, l0, lp, lt)) (omega arith) below alive2 at r2 (structure_size p n call c active e o shape fits.2) (cut2.2.0, subst (λ y. Stands (code_in p) c.routine y copy pc') (sym cut2.2.1) cut3.2))))
+      (assigned p c active does d (beside t) t w2 k2 cut2.0 pc' bytes site s shape h (omega (arith, l0, lp, lt)) (omega arith) below alive2 at r2 fits.3 (structure_size p n call c active e o shape fits.2) (cut2.2.0, subst (λ y. Stands (code_in p) c.routine y copy pc') (sym cut2.2.1) cut3.2))))

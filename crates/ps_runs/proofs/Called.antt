@@ -100,7 +100,7 @@ numbered_less (g ∷ gs) m n l h = let low = h.0 in (omega (arith, l, low), h.1)
 
 -- a value of one word
 one_word : (shape : Shape) (sort : Sort) (v : Value) → SortOf (Whole shape) sort → (x : Word) × (value_words shape v ≡ Some x ∷ [])
-one_word (NumberShape first) sort v e = (_, refl)
+one_word (NumberShape first narrow) sort v e = (_, refl)
 one_word (PointerShape t) sort v e = (_, refl)
 one_word SetShape sort v e = absurd e
 one_word (ByteShape count first) sort v e = absurd e

@@ -14,7 +14,7 @@ use Rattle.ps_layout.specs.Shapes.{Shape, NumberShape, PointerShape, SetShape, B
 use Rattle.ps_layout.specs.Words.{byte_of, value_words}
 use Rattle.ps_relation.proofs.ByteParts.{byte_small, byte_number}
 use Rattle.ps_relation.proofs.ByteWrites.{spot_byte_written, spot_byte_holds}
-use Rattle.ps_layout.specs.Paths.{Sort, NumberSort, HasSort, HasShape}
+use Rattle.ps_layout.specs.Paths.{Sort, NumberSort, HasSort, HasShape, KeepsAt, GoesTo}
 use Rattle.ps_code.specs.Scopes.{least, greatest, is_any, check_code, Site}
 use Rattle.ps_code.specs.Fits.{SortOf}
 use Rattle.ps_relation.specs.Ghosts.{EnvAt}
@@ -91,17 +91,18 @@ module _ (p : Setting) (n : ℕ) (c : Activated) (active : IsActive p c) where
   written_made w (Made object) path v = refl
 
   -- a word in t goes to the variable at a site
-  pub store_runs : (d x : ℕ) (w : World) (k : Work) (pc pc' t : ℕ) (site : Site) (s : Spot) (inner : Shape) (v : Value) (sort : Sort) → Alive p c w k → SiteAt p c w.made k.temporaries site s (Whole inner) → SortOf (Whole inner) sort → WordIn k.temporaries w.made t sort v → Stands (code_in p) c.routine pc (i.Store site.base site.offset t ∷ []) pc' → Reached p c d x w k (state p c w k pc) pc' (λ w' k'. Unit {0}) (with_contents w s v)
-  store_runs d x w k pc pc' t site s inner v sort alive at sorted r st =
+  pub store_runs : (d x : ℕ) (w : World) (k : Work) (pc pc' t : ℕ) (site : Site) (s : Spot) (inner : Shape) (v : Value) (sort : Sort) → Alive p c w k → SiteAt p c w.made k.temporaries site s (Whole inner) → SortOf (Whole inner) sort → WordIn k.temporaries w.made t sort v → KeepsAt s.path v inner → Stands (code_in p) c.routine pc (i.Store site.base site.offset t ∷ []) pc' → Reached p c d x w k (state p c w k pc) pc' (λ w' k'. Unit {0}) (with_contents w s v)
+  store_runs d x w k pc pc' t site s inner v sort alive at sorted r kept st =
       let word = word_of sort v in
       let scratch = record { number = c.number; words = k.scratch } ∷ c.waiting in
       let facts = stored_word inner sort sorted r.fits in
+      let goes : GoesTo w.made s.path v inner = (facts.0, kept) in
       let w' = with_contents w s v in
       let same = written_made w s.root s.path v in
-      let stepped = store_step (machine_of p) (state p c w k pc) site.base site.offset t at.block at.offset word (memory_of p.program w' c.ghosts scratch) st.0 (base_is c pc k.temporaries site.base ∙ at.base) r.word (spot_written p.program w c.ghosts k.count alive.holds scratch s at.block (at.offset + site.offset) inner v word at.place facts.0 facts.1 facts.2) ∙ written_state w k pc s.root s.path v in
+      let stepped = store_step (machine_of p) (state p c w k pc) site.base site.offset t at.block at.offset word (memory_of p.program w' c.ghosts scratch) st.0 (base_is c pc k.temporaries site.base ∙ at.base) r.word (spot_written p.program w c.ghosts k.count alive.holds scratch s at.block (at.offset + site.offset) inner v word at.place goes facts.1 facts.2) ∙ written_state w k pc s.root s.path v in
       record {
         work = k;
-        alive = record { holds = spot_holds p.program w c.ghosts k.count alive.holds s at.block (at.offset + site.offset) inner v at.place facts.0; stands = subst (λ m. EnvHere m) (sym same) alive.stands; room = alive.room };
+        alive = record { holds = spot_holds p.program w c.ghosts k.count alive.holds s at.block (at.offset + site.offset) inner v at.place goes; stands = subst (λ m. EnvHere m) (sym same) alive.stands; room = alive.room };
         keeps = record { temporaries = λ j l. refl; scratch = λ j l. refl; grown = ([], same ∙ sym (append-nil w.made)) };
         comes = subst (λ q. Comes (machine_of p) (state p c w k pc) (state p c w' k q)) st.1 (a_step (state p c w k pc) (state p c w' k (suc pc)) stepped);
         result = tt;
@@ -111,7 +112,7 @@ module _ (p : Setting) (n : ℕ) (c : Activated) (active : IsActive p c) where
       EnvHere m = EnvAt p.program c.ghosts m c.env (Address (FrameBlock c.number) 0) (chain_of c)
 
       stored_word : (shape : Shape) (q : Sort) → SortOf (Whole shape) q → HasSort w.made v q → HasShape w.made v shape × (word_count shape ≡ 1) × (value_words shape v ≡ Some (word_of q v) ∷ [])
-      stored_word (NumberShape first) q e h = (subst (HasSort w.made v) e h, refl, ap (λ y. Some (word_of y v) ∷ []) (sym e))
+      stored_word (NumberShape first narrow) q e h = (subst (HasSort w.made v) e h, refl, ap (λ y. Some (word_of y v) ∷ []) (sym e))
       stored_word (PointerShape u) q e h = (subst (HasSort w.made v) e h, refl, ap (λ y. Some (word_of y v) ∷ []) (sym e))
       stored_word SetShape q e h = absurd e
       stored_word (ByteShape count first) q e h = absurd e

@@ -13,7 +13,10 @@ use Rattle.tac_steps.specs.Runs.{Stands, Comes}
 use Rattle.tac_steps.proofs.Runs.{a_step, ◌>>◌}
 use Rattle.tac_steps.proofs.Temporaries.{put_same, put_other}
 use Rattle.tac_steps.proofs.Instructions.{literal_step, offset_step}
-use Rattle.ps_layout.specs.Shapes.{Shape, word_count, byte_count, Whole}
+use Rattle.ps_layout.specs.Shapes.{Shape, NumberShape, PointerShape, SetShape, ByteShape, ArrayShape, RecordShape, word_count, byte_count, Whole}
+use Rattle.ps_layout.specs.Paths.{KeepsByte}
+use Rattle.ps_code.specs.Fits.{IsStructure}
+use Rattle.ps_relation.proofs.Spans.{goes_to}
 use Rattle.ps_code.specs.Scopes.{beside, Site}
 use Rattle.ps_code.specs.Programs.{tac_of}
 use Rattle.ps_relation.specs.Ghosts.{PlaceAt, EnvAt, Holds, tape_of}
@@ -29,6 +32,15 @@ use Rattle.ps_runs.proofs.Calls.{length_map}
 use Rattle.ps_runs.proofs.Checks.{written_made}
 use Rattle.ps_runs.proofs.Writes.{numbered_more, is_fresh}
 use Rattle.ps_runs.proofs.Structures.{held_value, HeldAt, StructureIn, held_shape, held_reads}
+
+-- what has many words is no number
+structure_keeps : (shape : Shape) (v : Value) → IsStructure shape → KeepsByte v shape
+structure_keeps (NumberShape first narrow) v is = absurd is
+structure_keeps (PointerShape pointer) v is = absurd is
+structure_keeps SetShape v is = tt
+structure_keeps (ByteShape count first) v is = tt
+structure_keeps (ArrayShape count shape) v is = tt
+structure_keeps (RecordShape shapes) v is = tt
 
 module _ (p : Setting) (c : Activated) (active : IsActive p c) (does : WritesDo p) where
   -- what a call of the run-time routine leaves of the activation's work
@@ -65,20 +77,20 @@ module _ (p : Setting) (c : Activated) (active : IsActive p c) (does : WritesDo 
   written_state w k pc (Made object) path v = refl
 
   -- the words of an operand go to a variable
-  operand_copied : (w : World) (k : Work) (s : Spot) (b : Block) (o : ℕ) (shape : Shape) (h : Held) (source : Block) (start : ℕ) → Alive p c w k → PlaceAt p.program c.ghosts w.made s b o (Whole shape) → HeldAt p c w.made shape h source start
+  operand_copied : (w : World) (k : Work) (s : Spot) (b : Block) (o : ℕ) (shape : Shape) (h : Held) (source : Block) (start : ℕ) → Alive p c w k → PlaceAt p.program c.ghosts w.made s b o (Whole shape) → HeldAt p c w.made shape h source start → KeepsByte (held_value h w) shape
       → CopiedUp p (memory_of p.program w c.ghosts (record { number = c.number; words = k.scratch } ∷ c.waiting)) b o source start (word_count shape) (memory_of p.program (with_contents w s (held_value h w)) c.ghosts (record { number = c.number; words = k.scratch } ∷ c.waiting))
-  operand_copied w k s b o shape (HeldSpot u) source start alive at there = copied_spot p w c.ghosts k.count alive.holds (record { number = c.number; words = k.scratch } ∷ c.waiting) s b o shape at source u start there
-  operand_copied w k s b o shape (HeldText text) source start alive at there =
+  operand_copied w k s b o shape (HeldSpot u) source start alive at there kept = copied_spot p w c.ghosts k.count alive.holds (record { number = c.number; words = k.scratch } ∷ c.waiting) s b o shape at source u start there kept
+  operand_copied w k s b o shape (HeldText text) source start alive at there kept =
       copied_to p w c.ghosts k.count alive.holds (record { number = c.number; words = k.scratch } ∷ c.waiting) s b o shape at source start (held_value (HeldText text) w)
       (λ e. spot_open p w c.ghosts k.count alive.holds (record { number = c.number; words = k.scratch } ∷ c.waiting) s b o shape at c.routine there.0 (sym e ∙ there.1.1))
-      (held_shape p c w k.count alive.holds shape (HeldText text) source start there)
+      (goes_to w.made s.path (held_value (HeldText text) w) shape (held_shape p c w k.count alive.holds shape (HeldText text) source start there) kept)
       (λ j l. held_reads p c w k.count alive.holds (record { number = c.number; words = k.scratch } ∷ c.waiting) shape (HeldText text) source start there j l)
 
   -- the copy, from an operand's address in `from` to a variable's in `to`
-  pub assigned : (d t from : ℕ) (w : World) (k : Work) (pc pc' bytes : ℕ) (site : Site) (s : Spot) (shape : Shape) (h : Held) → d ≤ from → from < t → IsBelow from site.base → Alive p c w k → SiteAt p c w.made k.temporaries site s (Whole shape) → StructureIn p c from shape h w k → bytes ≡ byte_count shape
+  pub assigned : (d t from : ℕ) (w : World) (k : Work) (pc pc' bytes : ℕ) (site : Site) (s : Spot) (shape : Shape) (h : Held) → d ≤ from → from < t → IsBelow from site.base → Alive p c w k → SiteAt p c w.made k.temporaries site s (Whole shape) → StructureIn p c from shape h w k → IsStructure shape → bytes ≡ byte_count shape
       → Stands (code_in p) c.routine pc (i.Offset t site.base site.offset bytes ∷ i.Literal (beside t) (pos bytes) ∷ i.Call (beside t) (length p.program.routines + 0) (t ∷ from ∷ beside t ∷ []) 1 ∷ []) pc'
       → Reached p c d 0 w k (state p c w k pc) pc' (λ w' k'. Unit {0}) (with_contents w s (held_value h w))
-  assigned d t from w k pc pc' bytes site s shape h ld lf below alive at operand_ size st =
+  assigned d t from w k pc pc' bytes site s shape h ld lf below alive at operand_ is size st =
       let place = at.offset + site.offset in
       let ends = place_end p.program c.ghosts active.small w k.count alive.holds s at.block place (Whole shape) at.place in
       let word = Address at.block place in
@@ -97,11 +109,11 @@ module _ (p : Setting) (c : Activated) (active : IsActive p c) (does : WritesDo 
       let same = written_made p (suc d) c active w s.root s.path v in
       let step : Comes (machine_of p) s0 s1 = a_step s0 s1 (offset_step (machine_of p) s0 t site.base site.offset bytes at.block at.offset st.0 (base_is c pc k.temporaries site.base ∙ at.base) (lt-ltb place 2147483648 (omega (arith, ends)))) in
       let copy = copies_so w k1 (suc pc) pc' t from (beside t) n at.block place operand_.block operand_.offset memory (omega arith) (omega (arith, lf)) alive1 (put_same k.temporaries t word) (put_other k.temporaries t word from apart ∙ operand_.word)
-      (operand_copied w k s at.block place shape h operand_.block operand_.offset alive at.place operand_.at) (omega (arith, ends)) (held_end w k shape h operand_.block operand_.offset alive (omega (arith, ends)) operand_.at) code in
+      (operand_copied w k s at.block place shape h operand_.block operand_.offset alive at.place operand_.at (structure_keeps shape v is)) (omega (arith, ends)) (held_end w k shape h operand_.block operand_.offset alive (omega (arith, ends)) operand_.at) code in
       record {
         work = k2;
         alive = record {
-          holds = holds_more w' k.count (spot_holds p.program w c.ghosts k.count alive.holds s at.block place shape v at.place (held_shape p c w k.count alive.holds shape h operand_.block operand_.offset operand_.at));
+          holds = holds_more w' k.count (spot_holds p.program w c.ghosts k.count alive.holds s at.block place shape v at.place (goes_to w.made s.path v shape (held_shape p c w k.count alive.holds shape h operand_.block operand_.offset operand_.at) (structure_keeps shape v is)));
           stands = subst (λ m. EnvAt p.program c.ghosts m c.env (Address (FrameBlock c.number) 0) (chain_of c)) (sym same) alive.stands;
           room = alive.room;
         };

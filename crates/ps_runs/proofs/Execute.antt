@@ -20,6 +20,7 @@ use Rattle.ps_runs.proofs.SetStatements.{assign_set_run}
 use Rattle.ps_runs.proofs.Withs.{with_run}
 use Rattle.ps_runs.proofs.Assigned.{assign_structure_run}
 use Rattle.ps_runs.proofs.NewObjects.{new_run}
+use Rattle.ps_runs.proofs.Packing.{pack_run, unpack_run}
 use Rattle.ps_runs.proofs.Reading.{read_statement_run, readln_run}
 use Rattle.ps_runs.proofs.Cases.{ElementsRun, case_run, no_elements, elements_then}
 
@@ -41,8 +42,8 @@ module _ (p : Setting) (n : ℕ) (call : Caller) (next : Next) (c : Activated) (
     statement_runs (For v low high a fl dir b tl s) = for_run p n call next c active nexts does calls v low high a fl dir b tl s (statement_runs s)
     statement_runs (With places s) = with_run p n call next c active nexts does calls places s (statement_runs s)
     statement_runs (New q pointer line) = new_run p n call next c active nexts does calls q pointer line
-    statement_runs (Pack q ft e line r tt') = λ d o w k pc pc' alive opened fits st. absurd fits
-    statement_runs (Unpack q ft r tt' e line) = λ d o w k pc pc' alive opened fits st. absurd fits
+    statement_runs (Pack q ft e line r tt') = pack_run p n call next c active nexts does calls q ft e line r tt'
+    statement_runs (Unpack q ft r tt' e line) = unpack_run p n call next c active nexts does calls q ft r tt' e line
     statement_runs (Read vs) = read_statement_run p n call next c active nexts does calls vs
     statement_runs (Readln vs line) = readln_run p n call next c active nexts does calls vs line
     statement_runs (Write ps) = λ d o w k pc pc' alive opened fits st. writes_run p n call next c active nexts does calls ps d o w k pc pc' alive opened fits st

@@ -1,7 +1,7 @@
 -- What the run-time routines that read leave of the input, and of its words in the frame of the program block.
-use Rattle.std.proofs.Common.{◌≡◌, ℕ, zero, suc, ◌+◌, ◌*◌, ◌<◌, ◌≤◌, ℤ, pos, negsuc, Bool, true, false, ◌==◌, if◌then◌else◌, is_none, List, [], ◌∷◌, ◌++◌, length, Option, Some, None, refl, sym, ap, ◌∙◌, subst, arith, append-nil, lt-ltb}
+use Rattle.std.proofs.Common.{◌≡◌, ℕ, suc, ◌+◌, ◌*◌, ◌<◌, ◌≤◌, pos, Bool, true, false, ◌==◌, if◌then◌else◌, is_none, List, [], ◌∷◌, length, Option, Some, None, refl, sym, ap, ◌∙◌, subst, arith, append-nil, lt-ltb}
 use Rattle.std.specs.List.{All}
-use Rattle.ps_tree.specs.Tree.{Expr, Eof, Eoln, routine_at}
+use Rattle.ps_tree.specs.Tree.{Eof, Eoln, routine_at}
 use Rattle.tac_code.specs.declared.code.Block.TheVariants.{Frame as FrameBlock}
 use Rattle.tac_code.specs.declared.code.Value.{Value as Word}
 use Rattle.tac_code.specs.declared.code.Value.TheVariants.{Number as Numeral, Address}
@@ -9,31 +9,31 @@ use Rattle.tac_code.specs.declared.code.Base.TheVariants as base
 use Rattle.tac_code.specs.declared.code.Relation.TheVariants.{Equal}
 use Rattle.tac_code.specs.declared.code.Instruction.TheVariants as i
 use Rattle.tac_code.specs.Memory.{Living, Memory, load, store}
-use Rattle.tac_code.specs.Meaning.{values_of, and_more, put, text_at, related, checks}
+use Rattle.tac_code.specs.Meaning.{and_more, put, text_at, related, checks}
 use Rattle.ps_meaning.specs.Values.{OrdinalValue}
 use Rattle.ps_meaning.specs.Operators.{truth, is_true}
 use Rattle.ps_meaning.specs.Text.{Input, next_character, looked_at, look_marks}
 use Rattle.ps_meaning.specs.Worlds.{World, with_input}
 use Rattle.ps_meaning.specs.Expressions.{Caller, line_end, value}
-use Rattle.tac_steps.specs.Runs.{step_of, Stands, Comes}
+use Rattle.tac_steps.specs.Runs.{Stands, Comes}
 use Rattle.tac_steps.specs.Routines.{Does}
 use Rattle.tac_steps.specs.Splices.{spliced}
 use Rattle.tac_steps.proofs.Runs.{a_step}
 use Rattle.tac_steps.proofs.Temporaries.{put_same, put_other}
 use Rattle.tac_steps.proofs.Instructions.{offset_step, range_step}
-use Rattle.ps_layout.specs.Frames.{layout_of, input_offset}
-use Rattle.ps_layout.specs.Paths.{NumberSort, HasSort}
+use Rattle.ps_layout.specs.Frames.{input_offset}
+use Rattle.ps_layout.specs.Paths.{HasSort}
 use Rattle.ps_code.specs.Scopes.{even_from}
 use Rattle.ps_code.specs.Fits.{outermost_of}
 use Rattle.ps_code.proofs.Depths.{even_above}
-use Rattle.ps_relation.specs.Ghosts.{GhostsFit, Numbered, ahead, begun, tape_of, input_words, layout_at}
+use Rattle.ps_relation.specs.Ghosts.{GhostsFit, Numbered, ahead, begun, input_words, layout_at}
 use Rattle.ps_relation.specs.Here.{Setting, machine_of, code_in, Work, Activated, chain_of, IsActive, Alive, state}
 use Rattle.ps_relation.specs.Outcomes.{Reached, Runs}
 use Rattle.ps_relation.specs.Reading.{InputAt, Renewed, LookedIn, kind_of}
-use Rattle.ps_relation.proofs.Numbers.{truth_is, truth_integer}
+use Rattle.ps_relation.proofs.Numbers.{truth_integer}
 use Rattle.ps_relation.proofs.Spots.{memory_of}
 use Rattle.ps_relation.proofs.Inputs.{reread, input_read, input_written, FirstHere, first_here}
-use Rattle.ps_runs.specs.Openings.{Opening, context_in}
+use Rattle.ps_runs.specs.Openings.{context_in}
 use Rattle.ps_runs.proofs.Runs.{with_temporary, keeps_put, runs_from, reached_from, passes}
 use Rattle.ps_runs.proofs.Leaves.{fails_so}
 use Rattle.ps_runs.proofs.Values.{FrontIn, FrontRuns, true_false}
@@ -49,7 +49,7 @@ module _ (p : Setting) where
   input_place = 0 + input_offset (routine_at p.program 0)
 
 module _ (p : Setting) (c : Activated) (active : IsActive p c) where
-  place_small : input_place p < 2147483648
+  pub place_small : input_place p < 2147483648
   place_small = let small = active.small.frames 0 in omega (arith, small)
 
   module _ (w : World) (fits : GhostsFit p.program w.made w.store c.ghosts) (count : ℕ) (numbered : Numbered c.ghosts count) (first : FirstHere p.program c.ghosts w.made (chain_of c)) (last : outermost_of (chain_of c) ≡ 0) (scratch : List Living) where

@@ -33,5 +33,7 @@ pub mod Assigned
 pub mod Withs
 pub mod SetStatements
 pub mod NewObjects
+pub mod ReadNumbers
 pub mod Reading
+pub mod Packing
 pub mod Execute

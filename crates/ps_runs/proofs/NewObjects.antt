@@ -1,40 +1,40 @@
 -- `new` (6.6.5.3): an object is made, filled with first values, and its pointer stored.
 use Rattle.ps_runs.proofs.Calling.{Callable}
-use Rattle.std.proofs.Common.{◌≡◌, ℕ, zero, suc, ◌+◌, ◌%◌, ◌*◌, ◌/◌, ◌<◌, ◌≤◌, Bool, true, false, nat_lt, if◌then◌else◌, List, [], ◌∷◌, ◌++◌, length, map, get_or, slice_get, replicate, Option, Some, None, sum_by, refl, sym, ap, ◌∙◌, subst, arith}
+use Rattle.std.proofs.Common.{◌≡◌, ℕ, zero, suc, ◌+◌, ◌*◌, ◌/◌, ◌<◌, ◌≤◌, Bool, true, false, nat_lt, if◌then◌else◌, List, [], ◌∷◌, ◌++◌, length, map, get_or, slice_get, replicate, Option, Some, None, sum_by, refl, sym, ap, ◌∙◌, subst, arith}
 use Rattle.behavior.specs.Endings.{Heap}
 use Rattle.ps_tree.specs.Types.{DataType, PointerType}
 use Rattle.ps_tree.specs.Tree.{Place, Variable, New, domain_at}
 use Rattle.tac_code.specs.declared.code.Block.TheVariants.{Frame as FrameBlock, Object}
 use Rattle.tac_code.specs.declared.code.Value.{Value as Word}
 use Rattle.tac_code.specs.declared.code.Value.TheVariants.{Address}
-use Rattle.tac_code.specs.declared.code.Base.{Base}
 use Rattle.tac_code.specs.declared.code.Base.TheVariants as base
 use Rattle.tac_code.specs.declared.code.Instruction.TheVariants as i
 use Rattle.tac_code.specs.Memory.{Words, Living}
-use Rattle.tac_code.specs.Meaning.{State, Over, Goes, makes, made, put}
+use Rattle.tac_code.specs.Meaning.{State, Over, Goes, makes, made}
 use Rattle.ps_meaning.specs.Values.{Value, ObjectValue, first, Spot}
 use Rattle.ps_meaning.specs.Worlds.{World, Gives, done, and_then, stop, put as put_value, with_contents}
 use Rattle.ps_meaning.specs.Expressions.{Caller, access}
-use Rattle.ps_meaning.specs.Statements.{Next, passes_heap, made_object, new_object, act}
+use Rattle.ps_meaning.specs.Statements.{Next, passes_heap, made_object, new_object}
 use Rattle.tac_steps.specs.Runs.{step_of, Stands, Comes}
-use Rattle.tac_steps.specs.Splices.{spliced, overlaid}
+use Rattle.tac_steps.specs.Splices.{spliced}
 use Rattle.tac_steps.proofs.Runs.{split, stops_now, a_step, ◌>>◌}
 use Rattle.tac_steps.proofs.Temporaries.{put_same, put_other}
 use Rattle.tac_steps.proofs.Instructions.{new_step}
 use Rattle.ps_layout.specs.Shapes.{Shape, PointerShape, shape_of, word_count, Whole}
 use Rattle.ps_layout.specs.Words.{value_words, pointer_word}
 use Rattle.ps_layout.specs.Paths.{PointerSort}
+use Rattle.ps_relation.proofs.Spans.{keeps_at}
 use Rattle.ps_layout.proofs.Counted.{counted}
 use Rattle.ps_code.specs.Scopes.{even_from, odd_from, held, kept, Site}
 use Rattle.ps_code.specs.Calling.{selectors_call}
 use Rattle.ps_code.specs.Values.{is_byte, place_temporary, place_site, place_code, store_code}
-use Rattle.ps_code.specs.Statements.{first_code, statement_code}
+use Rattle.ps_code.specs.Statements.{first_code}
 use Rattle.ps_code.specs.Programs.{object_bytes, tac_of}
 use Rattle.ps_code.specs.First.{FirstFits}
 use Rattle.ps_code.proofs.Depths.{held_above, even_above}
-use Rattle.ps_relation.specs.Ghosts.{Ghost, Numbered, objects_of, frames_of, tape_of, EnvAt}
+use Rattle.ps_relation.specs.Ghosts.{objects_of, frames_of, tape_of}
 use Rattle.ps_relation.specs.Here.{Setting, machine_of, code_in, costs_in, Work, Activated, chain_of, IsActive, Alive, activation, state, IsBelow, SiteAt, Keeps}
-use Rattle.ps_relation.specs.Outcomes.{Reached, Runs}
+use Rattle.ps_relation.specs.Outcomes.{Runs}
 use Rattle.ps_relation.specs.RunTime.{WritesDo}
 use Rattle.ps_calls.specs.Filling.{filling, Filling}
 use Rattle.ps_calls.proofs.Filling.{CanFill}
@@ -53,7 +53,7 @@ use Rattle.ps_runs.proofs.Writes.{numbered_more, is_fresh}
 use Rattle.ps_runs.proofs.Checks.{store_runs}
 use Rattle.ps_runs.proofs.Selectors.{PlaceIn, place_byte}
 use Rattle.ps_runs.proofs.Expressions.{place_run}
-use Rattle.ps_runs.proofs.Statements.{StatementRuns, place_above}
+use Rattle.ps_runs.proofs.Statements.{StatementRuns}
 
 -- an odd temporary is the first of its kind
 odd_again : (b : Bool) (d : ℕ) → kept b (odd_from d) ≡ odd_from d
@@ -187,7 +187,7 @@ module _ (p : Setting) (n : ℕ) (call : Caller) (next : Next) (c : Activated) (
       let there : slice_get w2.made (length w1.objects) ≡ Some pointer = ap (slice_get w2.made) (sym counts.1) ∙ last_there w1.made pointer in
       runs_from p (suc n) c d 0 w1 w2 k1 k2 pc1 mid pc' (Gives done (with_contents w2 s v)) Nothing m.3 (keeps_less d 0 t 0 (omega (arith, l0, lt)) (omega arith) m.2)
       (store_runs p (suc n) c active d 0 w2 k2 mid pc' t site s (PointerShape pointer) v (PointerSort pointer) m.1 (site_kept p c t 0 w1 w2 k1 k2 site s (Whole (PointerShape pointer)) (below_more p c (suc h) t site.base lt low) m.2 at_site) refl
-      (record { word = m.4; fits = there })
+      (record { word = m.4; fits = there }) (keeps_at s.path v (PointerShape pointer) tt)
       (subst (λ b. Stands (code_in p) c.routine mid (store_code b site t) pc') (place_byte p n call c active o q (Whole (PointerShape pointer)) fits.0) stored))
 
   pub new_run : (q : Place) (pointer line : ℕ) → StatementRuns p n call next c active nexts does calls (New q pointer line)

@@ -45,7 +45,7 @@ use Rattle.ps_runs.proofs.Arguments.{ArgumentIn, ArgumentRuns}
 
 -- a value of many words is passed as the address of its copy
 copied_passed : (caller : ℕ) (scratch : Words) (last : ℕ) (shape : Shape) (v : Value) (place : ℕ) → IsStructure shape → CopiedIn caller scratch last shape v (Address (ScratchBlock caller) (4 * place)) → IsPassed caller scratch last (PassValue shape v (Address (ScratchBlock caller) (4 * place)))
-copied_passed caller scratch last (NumberShape first) v place is h = absurd is
+copied_passed caller scratch last (NumberShape first narrow) v place is h = absurd is
 copied_passed caller scratch last (PointerShape pointer) v place is h = absurd is
 copied_passed caller scratch last SetShape v place is h = h
 copied_passed caller scratch last (ByteShape count first) v place is h = h

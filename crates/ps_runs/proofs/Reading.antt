@@ -1,46 +1,42 @@
--- `read` of characters and `readln` (6.9.1, 6.9.2).
+-- `read` and `readln` (6.9.1, 6.9.2).
 use Rattle.ps_runs.proofs.Calling.{Callable}
-use Rattle.std.proofs.Common.{◌≡◌, ℕ, zero, suc, ◌+◌, ◌-◌, ◌<◌, ◌≤◌, ℤ, pos, negsuc, Bool, true, false, not, ◌&&◌, ◌==◌, nat_lt, if◌then◌else◌, List, [], ◌∷◌, ◌++◌, length, replicate, Option, Some, None, refl, sym, ap, ◌∙◌, subst, arith, lt-ltb, ltb-true, append_assoc}
+use Rattle.std.proofs.Common.{◌≡◌, ℕ, suc, ◌+◌, ◌-◌, ◌<◌, ◌≤◌, ℤ, pos, negsuc, Bool, true, false, not, ◌&&◌, ◌==◌, nat_lt, if◌then◌else◌, List, [], ◌∷◌, ◌++◌, length, replicate, Option, Some, None, refl, sym, ap, ◌∙◌, subst, arith, lt-ltb, ltb-true, append_assoc}
 use Rattle.std.specs.List.{All}
 use Rattle.behavior.specs.Transcripts.{mark}
 use Rattle.behavior.specs.Endings.{failed}
 use Rattle.tac_code.specs.Numbers.{is_in_range}
 use Rattle.ps_tree.specs.declared.tree.Range.TheVariants.{Within}
-use Rattle.ps_tree.specs.Tree.{Place, ReadVariable, ReadChar, ReadInteger, Read, Readln, routine_at}
+use Rattle.ps_tree.specs.Tree.{ReadVariable, ReadChar, ReadInteger, Read, Readln}
 use Rattle.tac_code.specs.declared.code.Block.TheVariants.{Frame as FrameBlock}
 use Rattle.tac_code.specs.declared.code.Value.TheVariants.{Number as Numeral}
-use Rattle.tac_code.specs.declared.code.Base.TheVariants as base
 use Rattle.tac_code.specs.declared.code.Instruction.TheVariants as i
 use Rattle.tac_code.specs.Meaning.{checks}
-use Rattle.ps_meaning.specs.Values.{Value, OrdinalValue, Spot}
-use Rattle.ps_meaning.specs.Operators.{is_between}
-use Rattle.ps_meaning.specs.Text.{Input, next_of, next_character, looked_at, look_marks, taken, taken_from, as_character, has_line_end, after_line_end, after_line, marks_to, line_marks}
-use Rattle.ps_meaning.specs.Worlds.{World, Answer, and_then, done, put as put_value, with_input, look}
+use Rattle.ps_meaning.specs.Values.{OrdinalValue, Spot}
+use Rattle.ps_meaning.specs.Text.{Input, next_of, next_character, looked_at, look_marks, taken, taken_from, as_character, has_line_end, after_line_end, after_line, line_marks}
+use Rattle.ps_meaning.specs.Worlds.{World, and_then, done, put as put_value, with_input, look}
 use Rattle.ps_meaning.specs.Expressions.{Caller, access, fitting}
-use Rattle.ps_meaning.specs.Statements.{Next, read, reads, character_read, line_read, act}
+use Rattle.ps_meaning.specs.Statements.{Next, read, reads, character_read, line_read}
 use Rattle.tac_steps.specs.Runs.{Stands, Stops}
 use Rattle.tac_steps.proofs.Runs.{split, a_step}
 use Rattle.tac_steps.proofs.Pieces.{same_some, some_none}
 use Rattle.tac_steps.proofs.Instructions.{range_step}
 use Rattle.ps_layout.specs.Shapes.{Part}
-use Rattle.ps_layout.specs.Frames.{input_offset}
 use Rattle.ps_layout.specs.Paths.{NumberSort}
 use Rattle.ps_code.specs.Scopes.{even_from, held, greatest, range_code, Site, site_code, input_site, ReadCharacter, ReadLine, helper}
 use Rattle.ps_code.specs.Values.{is_byte, place_temporary, place_site, place_code, store_code}
 use Rattle.ps_code.specs.Statements.{read_code, reads_code}
 use Rattle.ps_code.specs.Programs.{tac_of}
-use Rattle.ps_code.specs.Fits.{outermost_of, SortOf, RangeFits, PlaceFits, ReadFits, ReadsFit}
+use Rattle.ps_code.specs.Fits.{outermost_of, SortOf, RangeFits, ReadFits, ReadsFit}
 use Rattle.ps_code.proofs.Depths.{held_above, even_above}
-use Rattle.ps_relation.specs.Here.{Setting, machine_of, code_in, costs_in, Work, Activated, chain_of, IsActive, Alive, state, IsBelow, SiteAt, Keeps}
+use Rattle.ps_relation.specs.Here.{Setting, machine_of, code_in, costs_in, Work, Activated, chain_of, IsActive, Alive, state, IsBelow, SiteAt}
 use Rattle.ps_relation.specs.Outcomes.{Reached, Runs}
 use Rattle.ps_relation.specs.Reading.{character_or_end, nothing_left}
 use Rattle.ps_relation.specs.RunTime.{WritesDo}
-use Rattle.ps_relation.proofs.Numbers.{in_range}
 use Rattle.ps_relation.proofs.Spots.{memory_of}
 use Rattle.ps_relation.proofs.Inputs.{reread}
 use Rattle.ps_runs.specs.Openings.{Opening, scope_in, plain_scope, context_in, IsOpened}
 use Rattle.ps_runs.specs.Tasks.{Nothing, NextRuns}
-use Rattle.ps_runs.proofs.Runs.{runs_bind, runs_from, reached_from, here, passes, keeps_refl, keeps_less}
+use Rattle.ps_runs.proofs.Runs.{runs_bind, runs_from, here, passes, keeps_refl, keeps_less}
 use Rattle.ps_runs.proofs.Kept.{opened_kept, site_kept}
 use Rattle.ps_runs.proofs.Calls.{length_map}
 use Rattle.ps_runs.proofs.Leaves.{fails_so}
@@ -49,6 +45,7 @@ use Rattle.ps_runs.proofs.Selectors.{PlaceIn, is_byte_part, place_byte}
 use Rattle.ps_runs.proofs.Expressions.{place_run}
 use Rattle.ps_runs.proofs.Statements.{StatementRuns, fitted_part, base_below}
 use Rattle.ps_runs.proofs.NewObjects.{place_held}
+use Rattle.ps_runs.proofs.ReadNumbers.{read_integer_run}
 
 -- ---- what is left is bytes
 
@@ -184,7 +181,7 @@ module _ (p : Setting) (n : ℕ) (call : Caller) (next : Next) (c : Activated) (
       (record { word = word; fits = lt-ltb a 2147483648 (omega (arith, small)) }) (λ z qs ql. none_known ql) st.1 su)
 
   read_run : (v : ReadVariable) (d : ℕ) (o : Opening) (w : World) (k : Work) (pc pc' : ℕ) → Alive p c w k → IsOpened p c w k d o → outermost_of (chain_of c) ≡ 0 → ReadFits (plain_scope p c) o.shapes v → Stands (code_in p) c.routine pc (read_code (scope_in p c o) v d) pc' → Runs p (suc n) c d 0 w k pc pc' (read p.program (costs_in p) call next v (context_in c o) w) Nothing
-  read_run (ReadInteger q low high line) d o w k pc pc' alive opened last fits st = absurd fits
+  read_run (ReadInteger q low high line) d o w k pc pc' alive opened last fits st = read_integer_run p n call next c active nexts does calls q low high line d o w k pc pc' alive opened last fits st
   read_run (ReadChar q low high line) d o w k pc pc' alive opened last fits st =
       let code = scope_in p c o in
       let ctx = context_in c o in

@@ -48,12 +48,12 @@ small_integer : (n : ℕ) → n < 256 → IsTrue (is_integer (pos n))
 small_integer n l = lt-ltb n 2147483648 (omega (arith, l))
 
 -- the part that an index leads to
-element_path : (type : DataType) (z : ℤ) → IsArray type → is_between (index_of type).low z (index_of type).high ≡ true → PathIn (unsigned_abs (z -ℤ (index_of type).low) ∷ []) (shape_of type) (component_part (shape_of type)) (unsigned_abs (z -ℤ (index_of type).low) * component_bytes (shape_of type))
+pub element_path : (type : DataType) (z : ℤ) → IsArray type → is_between (index_of type).low z (index_of type).high ≡ true → PathIn (unsigned_abs (z -ℤ (index_of type).low) ∷ []) (shape_of type) (component_part (shape_of type)) (unsigned_abs (z -ℤ (index_of type).low) * component_bytes (shape_of type))
 element_path type z fits e =
     let r = index_number (index_of type) z e in
     subst (λ m. PathIn (m ∷ []) (shape_of type) (component_part (shape_of type)) (m * component_bytes (shape_of type))) (sym (ap unsigned_abs r.0)) (component_path (shape_of type) (gap (index_of type).low z) (value_count (index_of type)) fits.0 r.1)
 
-steps_are : (type : DataType) (z : ℤ) → is_between (index_of type).low z (index_of type).high ≡ true → steps_above (index_of type).low z ≡ unsigned_abs (z -ℤ (index_of type).low)
+pub steps_are : (type : DataType) (z : ℤ) → is_between (index_of type).low z (index_of type).high ≡ true → steps_above (index_of type).low z ≡ unsigned_abs (z -ℤ (index_of type).low)
 steps_are type z e = let r = index_number (index_of type) z e in ap natural r.0 ∙ sym (ap unsigned_abs r.0)
 
 -- a known index in its range
@@ -220,7 +220,7 @@ module _ (p : Setting) (n : ℕ) (call : Caller) (c : Activated) (active : IsAct
   is_byte_part Byte = true
 
   component_byte : (shape : Shape) → is_byte_array shape ≡ is_byte_part (component_part shape)
-  component_byte (NumberShape first) = refl
+  component_byte (NumberShape first narrow) = refl
   component_byte (PointerShape t) = refl
   component_byte SetShape = refl
   component_byte (ByteShape count first) = refl

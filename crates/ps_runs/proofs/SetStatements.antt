@@ -18,6 +18,7 @@ use Rattle.tac_steps.proofs.Runs.{split, ◌>>◌}
 use Rattle.tac_steps.proofs.Temporaries.{put_same, put_other}
 use Rattle.tac_steps.proofs.Instructions.{offset_step}
 use Rattle.ps_layout.specs.Shapes.{SetShape, Whole}
+use Rattle.ps_relation.proofs.Spans.{goes_to}
 use Rattle.ps_code.specs.Scopes.{Site, even_from, odd_from, kept, held, beside, copy_code}
 use Rattle.ps_code.specs.Calling.{selectors_call}
 use Rattle.ps_code.specs.Values.{place_temporary, place_site, place_code, set_code, set_check}
@@ -81,13 +82,13 @@ module _ (p : Setting) (c : Activated) (active : IsActive p c) (does : WritesDo 
       let memory = memory_of p.program w' c.ghosts scratch in
       let m = in_.0 in
       let e = in_.1 in
-      let copied = copied_to p w c.ghosts k.count alive.holds scratch s at.block to SetShape at.place (ScratchBlock c.number) 0 new (elsewhere w s.root s.path at.block to at.place) tt
+      let copied = copied_to p w c.ghosts k.count alive.holds scratch s at.block to SetShape at.place (ScratchBlock c.number) 0 new (elsewhere w s.root s.path at.block to at.place) (goes_to w.made s.path new SetShape tt tt)
       (λ j low. let z : 0 + 4 * j ≡ 4 * (m + j) = omega (arith, e) in
       ap (load (text_at (code_in p)) (memory_with p c active w k.scratch) (ScratchBlock c.number)) z ∙ (scratch_held p c active w).reads k.scratch (m + j) (Numeral (set_number set j)) (in_.2 j low) ∙ sym (ap known (set_word set j low))) in
       let k3 = copied_work p c active does k2 v 32 in
       let copy = copies_so p c active does w k2 (suc (suc pc)) pc' t u v 8 at.block to (ScratchBlock c.number) 0 memory (omega (arith, above, higher)) higher b.alive (put_other k1.temporaries u two t ne ∙ put_same k.temporaries t one) (put_same k1.temporaries u two) copied ends (omega arith) st.1.1 in
       let same = written_made p (suc d) c active w s.root s.path new in
-      let hold = spot_holds p.program w c.ghosts k.count alive.holds s at.block to SetShape new at.place tt in
+      let hold = spot_holds p.program w c.ghosts k.count alive.holds s at.block to SetShape new at.place (goes_to w.made s.path new SetShape tt tt) in
       record {
         work = k3;
         alive = record {

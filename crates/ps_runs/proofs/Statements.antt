@@ -1,6 +1,6 @@
 -- The code of statements does what they mean.
 use Rattle.ps_runs.proofs.Calling.{Callable}
-use Rattle.std.proofs.Common.{◌≡◌, ℕ, suc, ◌+◌, ◌-◌, ◌*◌, ◌≤◌, ℤ, pos, Bool, true, false, not, if◌then◌else◌, IsTrue, List, [], ◌∷◌, ◌++◌, length, Option, Some, None, refl, sym, ap, ◌∙◌, subst, arith, append-nil, ◌&&◌, int_le}
+use Rattle.std.proofs.Common.{◌≡◌, ℕ, suc, ◌+◌, ◌-◌, ◌*◌, ◌≤◌, ℤ, pos, Bool, true, false, not, if◌then◌else◌, IsTrue, List, [], ◌∷◌, ◌++◌, length, Option, Some, None, refl, sym, ap, ◌∙◌, subst, arith, append-nil, ◌&&◌, ◌||◌, int_le}
 use Rattle.ps_tree.specs.declared.tree.Range.{Range}
 use Rattle.ps_tree.specs.declared.tree.Range.TheVariants.{Any, Within}
 use Rattle.ps_tree.specs.declared.tree.Direction.{Direction}
@@ -28,7 +28,8 @@ use Rattle.tac_steps.proofs.Runs.{split, join, stands_length, a_step, one_step, 
 use Rattle.tac_steps.proofs.Pieces.{some_none}
 use Rattle.tac_steps.proofs.Instructions.{trap_step, bits_step, load_step, jump_step, branch_step, branch_back_step}
 use Rattle.ps_layout.specs.Shapes.{Shape, NumberShape, PointerShape, SetShape, ByteShape, ArrayShape, RecordShape, Part, Whole, Byte}
-use Rattle.ps_layout.specs.Paths.{Sort, NumberSort}
+use Rattle.ps_layout.specs.Paths.{Sort, NumberSort, KeepsAt}
+use Rattle.ps_relation.proofs.Spans.{keeps_at}
 use Rattle.ps_layout.specs.Frames.{Own}
 use Rattle.tac_code.specs.Memory.{load}
 use Rattle.tac_steps.proofs.Temporaries.{put_same}
@@ -118,18 +119,23 @@ module _ (p : Setting) (n : ℕ) (call : Caller) (next : Next) (c : Activated) (
 
   -- ---- the constructs
 
+  -- what was tested is a byte where only bytes go
+  keeps_range : (narrow : Bool) (low z high : ℤ) → IsTrue (not narrow || (int_le (pos 0) low && int_le high (pos 255))) → is_between low z high ≡ true → IsTrue (not narrow || is_between (pos 0) z (pos 255))
+  keeps_range true low z high ranged e = byte_range low z high ranged e
+  keeps_range false low z high ranged e = refl
+
   -- what was evaluated is tested and stored
   fitted : (range : Range) (shape : Shape) (sort : Sort) (v : Value) (d : ℕ) (w : World) (k : Work) (o : Opening) (pc mid pc' t line : ℕ) (literal : Option ℤ) (site : Site) (s : Spot) → d ≤ suc t → IsBelow (suc t) site.base → SortOf (Whole shape) sort → RangeFits range (Whole shape) → Alive p c w k → SiteAt p c w.made k.temporaries site s (Whole shape) → WordIn k.temporaries w.made t sort v → ((z : ℤ) → sort ≡ NumberSort → literal ≡ Some z → number_of v ≡ z) → Stands (code_in p) c.routine pc (fitting_code literal t range line) mid → Stands (code_in p) c.routine mid (i.Store site.base site.offset t ∷ []) pc'
       → Runs p (suc n) c d 0 w k pc pc' (and_then (fitting range v line (context_in c o) w) (λ u. put s u)) Nothing
   fitted Any (PointerShape u) sort v d w k o pc mid pc' t line literal site s l below sorted ranged alive at r known fit st =
-      store_runs p (suc n) c active d 0 w k pc pc' t site s (PointerShape u) v sort alive at sorted r (subst (λ q. Stands (code_in p) c.routine q (i.Store site.base site.offset t ∷ []) pc') (sym fit) st)
-  fitted (Within low high) (NumberShape first) sort v d w k o pc mid pc' t line literal site s l below sorted ranged alive at r known fit st =
+      store_runs p (suc n) c active d 0 w k pc pc' t site s (PointerShape u) v sort alive at sorted r (keeps_at s.path v (PointerShape u) tt) (subst (λ q. Stands (code_in p) c.routine q (i.Store site.base site.offset t ∷ []) pc') (sym fit) st)
+  fitted (Within low high) (NumberShape first narrow) sort v d w k o pc mid pc' t line literal site s l below sorted ranged alive at r known fit st =
       runs_bind p (suc n) c d 0 (suc t) 0 d 0 w k pc mid pc' (fitting (Within low high) v line (context_in c o) w) (λ u. put s u) (λ u w' k'. (u ≡ v) × WordIn k'.temporaries w'.made t NumberSort v × (is_between low (number_of v) high ≡ true)) Nothing l (omega arith) (omega arith) (omega arith)
       (check_runs p (suc n) c active (suc t) 0 o w k pc mid t low high 4 line literal v (omega arith) alive (λ z q. known z sorted q) (subst (λ q. WordIn k.temporaries w.made t q v) sorted r) fit)
       (λ u w1 k1 alive1 kept1 y.
       subst (λ q. Reached p c d 0 w1 k1 (state p c w1 k1 mid) pc' (λ w' k'. Unit {0}) (with_contents w1 s q)) (sym y.0)
-      (store_runs p (suc n) c active d 0 w1 k1 mid pc' t site s (NumberShape first) v NumberSort alive1 (site_kept p c (suc t) 0 w w1 k k1 site s (Whole (NumberShape first)) below kept1 at) refl y.1 st))
-  fitted Any (NumberShape first) sort v d w k o pc mid pc' t line literal site s l below sorted ranged alive at r known fit st = absurd ranged
+      (store_runs p (suc n) c active d 0 w1 k1 mid pc' t site s (NumberShape first narrow) v NumberSort alive1 (site_kept p c (suc t) 0 w w1 k k1 site s (Whole (NumberShape first narrow)) below kept1 at) refl y.1 (keeps_at s.path v (NumberShape first narrow) (keeps_range narrow low (number_of v) high ranged.2 y.2)) st))
+  fitted Any (NumberShape first narrow) sort v d w k o pc mid pc' t line literal site s l below sorted ranged alive at r known fit st = absurd ranged
   fitted Any SetShape sort v d w k o pc mid pc' t line literal site s l below sorted ranged alive at r known fit st = absurd ranged
   fitted Any (ByteShape a b) sort v d w k o pc mid pc' t line literal site s l below sorted ranged alive at r known fit st = absurd ranged
   fitted Any (ArrayShape a b) sort v d w k o pc mid pc' t line literal site s l below sorted ranged alive at r known fit st = absurd ranged
@@ -310,20 +316,20 @@ module _ (p : Setting) (n : ℕ) (call : Caller) (next : Next) (c : Activated) (
   -- ---- `for`
 
   abbrev Control : Opening → ℕ → Type 0
-  Control o variable = (first : ℤ) × (kind_at (plain_scope p c) 0 variable ≡ Some (Own (NumberShape first)))
+  Control o variable = (first : ℤ) × ((narrow : Bool) × (kind_at (plain_scope p c) 0 variable ≡ Some (Own (NumberShape first narrow))))
 
   -- the control variable's place
-  control_at : (o : Opening) (w : World) (k : Work) (variable : ℕ) → Alive p c w k → (v : Control o variable) → SiteAt p c w.made k.temporaries (own_site p c o variable) (spot_in (frame_of c.env) variable) (Whole (NumberShape v.0))
+  control_at : (o : Opening) (w : World) (k : Work) (variable : ℕ) → Alive p c w k → (v : Control o variable) → SiteAt p c w.made k.temporaries (own_site p c o variable) (spot_in (frame_of c.env) variable) (Whole (NumberShape v.0 v.1.0))
   control_at o w k variable alive v =
-      let e = entry_there p n c o w k 0 variable base.Frame (Own (NumberShape v.0)) alive (omega arith) (Address (FrameBlock c.number) 0, refl, alive.stands) v.1 in
+      let e = entry_there p n c o w k 0 variable base.Frame (Own (NumberShape v.0 v.1.0)) alive (omega arith) (Address (FrameBlock c.number) 0, refl, alive.stands) v.1.1 in
       record {
         block = FrameBlock e.ghost.number;
         offset = 0;
         base = e.is;
-        place = subst (λ z. PlaceAt p.program c.ghosts w.made z (FrameBlock e.ghost.number) (0 + (own_site p c o variable).offset) (Whole (NumberShape v.0))) (sym e.entry_is.2) (record {
+        place = subst (λ z. PlaceAt p.program c.ghosts w.made z (FrameBlock e.ghost.number) (0 + (own_site p c o variable).offset) (Whole (NumberShape v.0 v.1.0))) (sym e.entry_is.2) (record {
           ghost = e.ghost;
           index = variable;
-          shape = NumberShape v.0;
+          shape = NumberShape v.0 v.1.0;
           place = e.place;
           inner = 0;
           block = refl;
@@ -334,6 +340,12 @@ module _ (p : Setting) (n : ℕ) (call : Caller) (next : Next) (c : Activated) (
           offset = let f = e.offset in omega (arith, f);
         });
       }
+
+  -- it is no component
+  control_keeps : (o : Opening) (w : World) (k : Work) (variable : ℕ) → Alive p c w k → (v : Control o variable) (x : Value) → KeepsAt (spot_in (frame_of c.env) variable).path x (NumberShape v.0 v.1.0)
+  control_keeps o w k variable alive v x =
+      let e = entry_there p n c o w k 0 variable base.Frame (Own (NumberShape v.0 v.1.0)) alive (omega arith) (Address (FrameBlock c.number) 0, refl, alive.stands) v.1.1 in
+      subst (λ z. KeepsAt z.path x (NumberShape v.0 v.1.0)) (sym e.entry_is.2) tt
 
   -- the body and the next turn, from where the body stands
   further_run : (variable : ℕ) (direction : Direction) (last : ℤ) (s : Statement) → StatementRuns s → (d : ℕ) (o : Opening) (w : World) (k : Work) (pc pc' : ℕ) → Alive p c w k → IsOpened p c w k d o → TaskFits p c o (Further variable direction last s) → (t : TurnStands p c o variable direction last s d k pc pc')
@@ -355,7 +367,7 @@ module _ (p : Setting) (n : ℕ) (call : Caller) (next : Next) (c : Activated) (
       let v = contents_in w spot in
       let x = number_of v in
       let at = control_at o w k variable alive fits.0 in
-      let shape = NumberShape fits.0.0 in
+      let shape = NumberShape fits.0.0 fits.0.1.0 in
       let site = own_site p c o variable in
       let whole = spot_value p.program w c.ghosts k.count alive.holds spot at.block (at.offset + site.offset) shape at.place in
       let z : at.offset + site.offset ≡ at.offset + site.offset + 4 * 0 = omega arith in
@@ -394,7 +406,7 @@ module _ (p : Setting) (n : ℕ) (call : Caller) (next : Next) (c : Activated) (
           runs_word p n c d 0 w k1 t.start (suc t.start) pc' t.t (Numeral z) rest Nothing (bits_step (machine_of p) (state p c w k1 t.start) bit.Plus t.t t.t (operand.Number (step_number direction)) x (step_number direction) t.step.0 there refl) refl (omega (arith, free, above)) alive1
           (λ alive2.
           let word = put_same k1.temporaries t.t (Numeral z) ∙ ap (λ y. Some (Numeral y)) (steps_on direction x well) in
-          let r = store_runs p n c active t.depth 0 w k2 (suc t.start) (suc (suc t.start)) t.t site spot (NumberShape fits.0.0) (OrdinalValue next_value) NumberSort alive2 (control_at o w k2 variable alive2 fits.0) refl (record { word = word; fits = succeeding_integer direction x well }) t.step.1 in
+          let r = store_runs p n c active t.depth 0 w k2 (suc t.start) (suc (suc t.start)) t.t site spot (NumberShape fits.0.0 fits.0.1.0) (OrdinalValue next_value) NumberSort alive2 (control_at o w k2 variable alive2 fits.0) refl (record { word = word; fits = succeeding_integer direction x well }) (control_keeps o w k2 variable alive2 fits.0 (OrdinalValue next_value)) t.step.1 in
           let kept3 = keeps_trans kept2 r.keeps in
           runs_from p n c d 0 w w' k2 r.work (suc t.start) (suc (suc t.start)) pc' rest Nothing r.comes (keeps_less d 0 t.depth 0 above (omega arith) r.keeps)
           (further_run variable direction last s rs d o w' r.work pc pc' r.alive (opened_kept p c d 0 d w w' k1 r.work o (omega arith) (keeps_less d 0 t.depth 0 above (omega arith) kept3) opened1) fits
@@ -495,7 +507,7 @@ module _ (p : Setting) (n : ℕ) (call : Caller) (next : Next) (c : Activated) (
       let open4 = opened_kept p c d 0 d w2 w4 k2 k4 o (omega arith) (keeps_less d 0 (suc tb) 0 (omega (arith, la, lb)) (omega arith) kept34) open2 in
       let limit4 = operand_kept (suc tb) 0 w3 w4 k3 k4 limit (held_limit lit tb) kept4 ∙ limit3 in
       let word4 : WordIn k4.temporaries w4.made ta NumberSort x = record { word = kept4.temporaries ta (omega (arith, lb)) ∙ r3.1.word; fits = r3.1.fits } in
-      let r = store_runs p (suc n) c active (suc tb) 0 w4 k4 q (suc q) ta site (own_spot variable ctx) (NumberShape fits.0.0) x NumberSort alive4 (control_at o w4 k4 variable alive4 fits.0) refl word4 (cutC.2.0, refl) in
+      let r = store_runs p (suc n) c active (suc tb) 0 w4 k4 q (suc q) ta site (own_spot variable ctx) (NumberShape fits.0.0 fits.0.1.0) x NumberSort alive4 (control_at o w4 k4 variable alive4 fits.0) refl word4 (control_keeps o w4 k4 variable alive4 fits.0 x) (cutC.2.0, refl) in
       let w5 = with_contents w4 (own_spot variable ctx) x in
       let again = (act p.program (costs_in p) call next s ctx >> next (Further variable direction (number_of y) s) ctx) w5 in
       let there : suc (suc q) + 2 ≡ suc (suc (suc (suc q))) = omega arith in

@@ -189,7 +189,7 @@ module _ (p : Setting) (n : ℕ) (call : Caller) (c : Activated) (active : IsAct
 
   -- what a variable of one word holds
   pub load_word : (shape : Shape) (sort : Sort) (v : Value) (made : List ℕ) → SortOf (Whole shape) sort → HasShape made v shape → (1 ≡ word_count shape) × (value_words shape v ≡ Some (word_of sort v) ∷ []) × HasSort made v sort
-  load_word (NumberShape first) sort v made e h = (refl, ap (λ s. Some (word_of s v) ∷ []) (sym e), subst (HasSort made v) (sym e) h)
+  load_word (NumberShape first narrow) sort v made e h = (refl, ap (λ s. Some (word_of s v) ∷ []) (sym e), subst (HasSort made v) (sym e) h)
   load_word (PointerShape t) sort v made e h = (refl, ap (λ s. Some (word_of s v) ∷ []) (sym e), subst (HasSort made v) (sym e) h)
   load_word SetShape sort v made e h = absurd e
   load_word (ByteShape count first) sort v made e h = absurd e

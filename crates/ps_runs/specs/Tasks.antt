@@ -1,5 +1,5 @@
 -- Where the code of a task stands, and what the tasks of one fuel do.
-use Rattle.std.specs.Prelude.{◌≡◌, ℕ, suc, ◌+◌, ◌<◌, ◌≤◌, ℤ, [], ◌∷◌, ◌++◌, length, Some}
+use Rattle.std.specs.Prelude.{◌≡◌, ℕ, suc, ◌+◌, ◌<◌, ◌≤◌, ℤ, Bool, [], ◌∷◌, ◌++◌, length, Some}
 use Rattle.ps_tree.specs.declared.tree.Direction.{Direction}
 use Rattle.ps_tree.specs.Tree.{Statement, While, Repeat}
 use Rattle.tac_code.specs.declared.code.Value.TheVariants.{Number as Numeral}
@@ -64,7 +64,7 @@ module _ (p : Setting) where
   abbrev pub TaskFits : Activated → Opening → Task → Type 0
   TaskFits c o (Block body) = StatementsFit (plain_scope p c) o.shapes body
   TaskFits c o (Again s) = StatementFits (plain_scope p c) o.shapes s
-  TaskFits c o (Further variable direction last s) = ((first : ℤ) × (kind_at (plain_scope p c) 0 variable ≡ Some (Own (NumberShape first)))) × StatementFits (plain_scope p c) o.shapes s
+  TaskFits c o (Further variable direction last s) = ((first : ℤ) × ((narrow : Bool) × (kind_at (plain_scope p c) 0 variable ≡ Some (Own (NumberShape first narrow))))) × StatementFits (plain_scope p c) o.shapes s
 
   -- what is known of the tasks with one fuel less, in every activation
   abbrev pub NextRuns : (n : ℕ) → Next → Type 0
