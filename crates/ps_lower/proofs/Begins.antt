@@ -18,32 +18,11 @@ use Rattle.ps_code.specs.Scopes.{Scope}
 use Rattle.ps_code.specs.Statements.{first_code, statements_code}
 use Rattle.ps_code.specs.Routines.{result_code, parameter_code, parameter_words, parameters_code, variables_code, result_entries, count_kinds, parameter_total, begin_code, result_end, end_code}
 use Rattle.ps_lower.specs.Firsts.{firsts_code, result_at, parameters_at, head_code, words_in}
-use Rattle.ps_lower.specs.Walks.{is_reference, passed, walked, beginning}
-use Rattle.ps_lower.specs.declared.frame.Walk.{Walk}
 use Rattle.ps_lower.proofs.Appends.{and_then}
 use Rattle.ps_lower.proofs.Arms.{behind}
 
--- ---- the words of a frame
-
-either_place : (b : Bool) (v w : Walk) (n : ℕ) → v.place ≡ n → w.place ≡ n → (if b then v else w).place ≡ n
-either_place true v w n e f = e
-either_place false v w n e f = f
-
-place_passed : (w : Walk) (n : ℕ) (r : Bool) → (passed w n r).place ≡ w.place + n
-place_passed w n r = either_place (nat_eq w.left 1) _ _ (w.place + n) refl refl
-
 plus_assoc : (a b c : ℕ) → (a + b) + c ≡ a + (b + c)
 plus_assoc a b c = omega arith
-
-place_walked : (kinds : List Kind) (w : Walk) → (walked w kinds).place ≡ w.place + words_of_all kinds
-place_walked [] w = omega arith
-place_walked (kind ∷ rest) w =
-    place_walked rest (passed w (kind_words kind) (is_reference kind))
-    ∙ ap (λ n. n + words_of_all rest) (place_passed w (kind_words kind) (is_reference kind))
-    ∙ plus_assoc w.place (kind_words kind) (words_of_all rest)
-
-pub words_walked : (w : Walk) (r : Routine) → w ≡ walked (beginning 0) (entries r) → w.place ≡ words_in r
-words_walked w r e = ap (λ (x : Walk). x.place) e ∙ place_walked (entries r) (beginning 0)
 
 -- ---- first values
 

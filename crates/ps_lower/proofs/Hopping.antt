@@ -2,16 +2,10 @@
 use Rattle.std.proofs.Common.{◌≡◌, ℕ, zero, suc, ◌-◌, ◌<◌, ◌≤◌, true, false, if◌then◌else◌, List, [], ◌∷◌, ◌++◌, length, get_or, map, Result, OnOk, IfOk, refl, sym, ap, subst, ◌∙◌, append_assoc, arith}
 use Rattle.std.specs.Prelude.{Ok, Err}
 use Rattle.std.proofs.lemmas.List.{append-nil}
-use Rattle.ps_tree.specs.Tree as t
-use Rattle.ps_tree.specs.declared.tree.Routine.{Routine}
-use Rattle.ps_tree.specs.View.{routine_of}
 use Rattle.tac_code.specs.declared.code.Base.TheVariants as base
 use Rattle.tac_code.specs.declared.code.Instruction.{Instruction}
 use Rattle.tac_code.specs.declared.code.Instruction.TheVariants as i
-use Rattle.ps_layout.specs.Frames.{Kind, kind_words}
 use Rattle.ps_code.specs.Scopes.{Scope, is_outermost, hops, frame_code, frame_base, link_code}
-use Rattle.ps_lower.specs.Walks.{is_reference, passed, walked}
-use Rattle.ps_lower.specs.declared.frame.Walk.{Walk}
 use Rattle.ps_lower.proofs.Appends.{and_then, unchanged}
 use Rattle.ps_lower.proofs.Arms.{behind}
 
@@ -88,23 +82,3 @@ between_link k a (suc up) less r old middle new h e l p q =
     (let j : less ≡ up = omega (arith, l) in
     subst (λ n. OnOk r (new ≡ old ++ i.Load a base.Frame 0 ∷ hops k a 1 n)) j
     (behind r new middle old (i.Load a base.Frame 0 ∷ []) (hops k a 1 less) p q))
-
--- ---- the routine so many levels up
-
-pub mapped : (rs : List Routine) (n : ℕ) (r : Routine) → n < length rs → get_or (map routine_of rs) n t.no_routine ≡ routine_of (get_or rs n r)
-mapped [] n r h = absurd (omega arith)
-mapped (x ∷ xs) zero r h = refl
-mapped (x ∷ xs) (suc n) r h = mapped xs n r (omega arith)
-
-pub outer_found : (chain : List ℕ) (rs : List Routine) (up n : ℕ) (r : Routine) → n ≡ get_or chain up 0 → n < length rs → r ≡ get_or rs n r → get_or (map routine_of rs) (get_or chain up 0) t.no_routine ≡ routine_of r
-outer_found chain rs up n r e h g = ap (λ m. get_or (map routine_of rs) m t.no_routine) (sym e) ∙ mapped rs n r h ∙ ap routine_of (sym g)
-
--- ---- walks over entries of several sorts
-
-pub walked_on : (a b : List Kind) (w : Walk) → walked w (a ++ b) ≡ walked (walked w a) b
-walked_on [] b w = refl
-walked_on (kind ∷ rest) b w = walked_on rest b (passed w (kind_words kind) (is_reference kind))
-
-pub all_walked : {E : Type 0} (w0 w1 w2 : Walk) (a b d : List Kind) (r : Result Walk E) → w1 ≡ walked w0 a → w2 ≡ walked w1 b → IfOk r (λ w. w ≡ walked w2 d) → IfOk r (λ w. w ≡ walked w0 ((a ++ b) ++ d))
-all_walked w0 w1 w2 a b d (Ok v) p q h = h ∙ ap (λ w. walked w d) (q ∙ ap (λ w. walked w b) p ∙ sym (walked_on a b w0)) ∙ sym (walked_on (a ++ b) d w0)
-all_walked w0 w1 w2 a b d (Err e) p q h = h

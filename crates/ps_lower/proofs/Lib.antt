@@ -1,7 +1,6 @@
 pub mod Searches
 pub mod Rooms
 pub mod Sizes
-pub mod Passing
 pub mod Appends
 pub mod Largest
 pub mod Arms
@@ -22,7 +21,7 @@ pub mod Pushing
 pub mod Selecting
 pub mod Shaped
 pub mod Placing
-pub mod FormalEntries
+pub mod Laying
 pub mod Hopping
 pub mod Opening
 pub mod Actuals

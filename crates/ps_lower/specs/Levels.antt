@@ -8,7 +8,7 @@ use Rattle.ps_layout.specs.Frames.{Kind}
 use Rattle.ps_code.specs.Scopes.{Scope, Site as CodeSite}
 use Rattle.ps_code.specs.Values.{front_code, opposite, relation_in, left_in, right_in}
 use Rattle.ps_code.specs.Statements.{statement_code}
-use Rattle.ps_lower.specs.Walks.{is_reference}
+use Rattle.ps_lower.specs.Tables.{is_reference}
 use Rattle.ps_lower.specs.declared.level.Level.{Level}
 use Rattle.ps_lower.specs.declared.site.Site.{Site}
 

@@ -4,5 +4,5 @@ pub mod Loops
 pub mod Reads
 pub mod Cases
 pub mod Sites
-pub mod Walks
+pub mod Tables
 pub mod Sets

@@ -11,7 +11,6 @@ ghost use Rattle.tac_code.specs.declared.code.Instruction.TheVariants as i;
 use crate::depth::{DEEPEST, even_from};
 use crate::helpers::help;
 use crate::level::Level;
-use crate::levels::over_all;
 use crate::out::Code;
 use crate::places::address;
 use crate::refusal::LowerRefusal;
@@ -23,10 +22,7 @@ const LOOK_AHEAD: u32 = 13;
 fn input_words(k: &Level) -> Result<u32, LowerRefusal>
     ensures { IfOk result (λ n. n ≡ (layout_of (routine_at (program_in k.now.checked.now) 0)).input) }
 {
-    let Some(routine) = k.checked.routines().get(0) else {
-        return Err(LowerRefusal::NotYet);
-    };
-    Ok(over_all(0, routine)?.place)
+    k.checked.words(0)
 }
 
 /// Where the words stand that tell what of the input was taken ahead.

@@ -1,13 +1,13 @@
 // Where code is made: in a routine of a program, within those round it, and within records that `with` opened.
 
+use crate::frames::Frames;
 use crate::site::Site;
-use ps_tree::program::Checked;
 
-/// A program, the numbers of a routine and of those round it, the innermost first, and the records that are open, the
-/// innermost last.
+/// A program with its frames, the numbers of a routine and of those round it, the innermost first, and the records that are
+/// open, the innermost last.
 #[derive(Clone, Copy)]
 pub struct Level<'a> {
-    pub checked: &'a Checked,
+    pub checked: &'a Frames<'a>,
     pub chain: &'a [u32],
     pub opened: &'a [Site],
 }

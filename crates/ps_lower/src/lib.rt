@@ -11,6 +11,7 @@ mod entries;
 mod filling;
 mod firsts;
 mod frame;
+mod frames;
 mod helpers;
 mod input;
 mod known;

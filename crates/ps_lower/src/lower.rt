@@ -7,6 +7,7 @@ ghost use Rattle.ps_tree.specs.Checked.{program_in};
 ghost use Rattle.ps_tree.specs.View.{type_of};
 
 use crate::frame::words;
+use crate::frames::Frames;
 use crate::refusal::LowerRefusal;
 use crate::routines::tac_routine;
 use ps_tree::program::Checked;
@@ -16,7 +17,7 @@ use tac_code::code::{TacRaw, TacRoutine};
 use tac_code::tac::Tac;
 use tac_rt::routines;
 
-fn routines_of(alloc: Global, checked: &Checked) -> Result<Vec<TacRoutine>, LowerRefusal>
+fn routines_of(alloc: Global, checked: &Frames) -> Result<Vec<TacRoutine>, LowerRefusal>
     ensures { IfOk result (λ list. list.items ≡ map (tac_of (program_in checked.now)) (program_in checked.now).routines) }
 {
     let mut list = Vec::new(alloc);
@@ -55,7 +56,8 @@ fn object_sizes(alloc: Global, domains: &[Ty]) -> Result<Vec<u32>, LowerRefusal>
 pub fn lower(alloc: Global, checked: &Checked) -> Result<Tac, LowerRefusal>
     ensures { IfOk result (λ tac. tac ≡ code_of run_time_routines (program_in checked.now)) }
 {
-    let program = routines_of(alloc, checked)?;
+    let frames = Frames::new(alloc, checked)?;
+    let program = routines_of(alloc, &frames)?;
     let objects = object_sizes(alloc, checked.domains())?;
     let run_time = routines(alloc)?;
     let raw = TacRaw {

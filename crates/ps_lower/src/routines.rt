@@ -15,14 +15,13 @@ ghost use Rattle.tac_code.specs.declared.code.Instruction.TheVariants as i;
 use crate::count::{scratch_in, temporaries_in};
 use crate::depth::DEEPEST;
 use crate::firsts::{first_at, firsts};
+use crate::frames::{Frames, table};
 use crate::level::Level;
-use crate::levels::over_all;
 use crate::numbers::{larger, narrow};
 use crate::out::Code;
 use crate::parameters::{count_parameters, parameters};
 use crate::refusal::LowerRefusal;
 use crate::statements::statements;
-use ps_tree::program::Checked;
 use ps_tree::tree::Routine;
 use ps_tree::types::Ty;
 use std::alloc::Global;
@@ -32,7 +31,7 @@ use tac_code::code::{Base, Body, TacRoutine};
 const MOST_WORDS: u32 = 1_000_000_000;
 
 /// Where the body of a routine is made.
-fn level<'a>(checked: &'a Checked, routine: &'a Routine) -> Level<'a>
+fn level<'a>(checked: &'a Frames<'a>, routine: &'a Routine) -> Level<'a>
     ensures { scope_of result ≡ scope_in (program_in checked.now) (routine_of routine.now) }
 {
     Level {
@@ -51,11 +50,11 @@ fn is_program_block(routine: &Routine) -> bool
 }
 
 /// The words of a routine's static link and entries.
-fn words_in(routine: &Routine) -> Result<u32, LowerRefusal>
+fn words_in(alloc: Global, routine: &Routine) -> Result<u32, LowerRefusal>
     ensures exact { IfOk result (λ n. n ≡ words_in (routine_of routine.now)) }
     ensures small { IfOk result (λ n. n ≤ MOST_WORDS) }
 {
-    let words = over_all(0, routine)?.place;
+    let words = table(alloc, routine)?.words;
     if MOST_WORDS < words {
         return Err(LowerRefusal::TooLarge);
     }
@@ -206,7 +205,7 @@ fn block(
 /// The instructions of a routine.
 fn body(
     alloc: Global,
-    checked: &Checked,
+    checked: &Frames,
     routine: &Routine,
     words: u32,
     t: u32,
@@ -226,12 +225,12 @@ fn body(
 /// A routine of the program.
 pub fn tac_routine(
     alloc: Global,
-    checked: &Checked,
+    checked: &Frames,
     routine: &Routine,
 ) -> Result<TacRoutine, LowerRefusal>
     ensures { IfOk result (λ made. made ≡ tac_of (program_in checked.now) (routine_of routine.now)) }
 {
-    let words = words_in(routine)?;
+    let words = words_in(alloc, routine)?;
     let parameters = parameter_total(routine)?;
     let body = body(alloc, checked, routine, words, parameters)?;
     let temporaries = larger(parameters, temporaries_in(body.as_slice()))?;
