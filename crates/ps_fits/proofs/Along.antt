@@ -8,7 +8,7 @@ use Rattle.ps_tree.specs.declared.tree.Selector.{Selector}
 use Rattle.ps_tree.specs.View.{selector_of, selectors_of}
 use Rattle.ps_code.specs.Values.{is_byte_selector, is_byte_after}
 use Rattle.ps_fits.specs.Contexts.{Context}
-use Rattle.ps_fits.specs.Tests.{part_type, after, selected_type}
+use Rattle.ps_fits.specs.Tests.{part_type, selected_type}
 
 -- ---- types
 

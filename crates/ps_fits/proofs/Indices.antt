@@ -63,16 +63,6 @@ variable_behind [] types i l = let k : i ≡ i - 0 = omega arith in ap (slice_ge
 variable_behind (f ∷ fs) types zero l = absurd (omega arith)
 variable_behind (f ∷ fs) types (suc i) l = variable_behind fs types i (omega (arith, l)) ∙ (let k : i - length fs ≡ suc i - suc (length fs) = omega arith in ap (slice_get types) k)
 
--- ---- records that are open
-
-pub first_record : (type : DataType) (types : List DataType) (i : ℕ) → i ≡ 0 → slice_get (type ∷ types) i ≡ Some type
-first_record type types zero e = refl
-first_record type types (suc i) e = absurd (omega arith)
-
-pub further_record : (type : DataType) (types : List DataType) (i : ℕ) → (i ≡ 0 → ⊥) → slice_get (type ∷ types) i ≡ slice_get types (i - 1)
-further_record type types zero e = absurd (e refl)
-further_record type types (suc i) e = let k : i ≡ suc i - 1 = omega arith in ap (slice_get types) k
-
 -- ---- chains
 
 abbrev pub same_number : ℕ → ℕ → Bool

@@ -41,7 +41,8 @@ ordinals_alike o q e =
     let low = same_integer o.low q.low (left a b (left (a && b) c e)) in
     let high = same_integer o.high q.high (right a b (left (a && b) c e)) in
     let number = same_integer (first_ordinal o) (first_ordinal q) (right (a && b) c e) in
-    record { byte = ap (λ x. int_le (pos 0) x && int_le o.high (pos 255)) low ∙ ap (λ x. int_le (pos 0) q.low && int_le x (pos 255)) high; number = number; shape = ap NumberShape number }
+    let byte = ap (λ x. int_le (pos 0) x && int_le o.high (pos 255)) low ∙ ap (λ x. int_le (pos 0) q.low && int_le x (pos 255)) high in
+    record { byte = byte; number = number; shape = ap (λ x. NumberShape x (fits_byte (OrdinalType o))) number ∙ ap (NumberShape (first_ordinal q)) byte }
 
 arrays_alike : (at at' : ℕ) (p p' : Bool) (i i' : Ordinal) (c c' : DataType) → are_both p p' ≡ true → are_bounds_alike i i' ≡ true → Alike c c' → Alike (ArrayType at p i c) (ArrayType at' p' i' c')
 arrays_alike at at' p p' i i' c c' e f alike =

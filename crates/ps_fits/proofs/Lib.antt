@@ -19,3 +19,4 @@ pub mod Programs
 pub mod Selected
 pub mod Tell
 pub mod Texts
+pub mod Withs

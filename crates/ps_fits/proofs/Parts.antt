@@ -1,5 +1,6 @@
 -- Parts of variables, and what goes to them, where the tests answer true.
-use Rattle.std.proofs.Common.{◌≡◌, ℕ, ◌==◌, Bool, true, false, ◌&&◌, not, Option, Some, None, slice_get, if◌then◌else◌, ℤ, pos, int_le, refl, sym, ap, subst, eqb-true}
+use Rattle.std.proofs.Common.{◌≡◌, ℕ, ◌==◌, Bool, true, false, ◌&&◌, ◌||◌, not, Option, Some, None, slice_get, if◌then◌else◌, ℤ, pos, int_le, refl, sym, ap, ◌∙◌, subst, eqb-true}
+use Rattle.std.proofs.lemmas.Bool.{not-true}
 use Rattle.ps_tree.specs.declared.types.Ordinal.{Ordinal}
 use Rattle.ps_tree.specs.declared.tree.Range.{Range}
 use Rattle.ps_tree.specs.declared.tree.Range.TheVariants.{Any, Within}
@@ -9,17 +10,18 @@ use Rattle.ps_tree.specs.Types.{DataType, OrdinalType, PointerType, NilType, Set
 use Rattle.ps_tree.specs.Sizes.{fits_byte, value_count}
 use Rattle.ps_tree.specs.Tree.{Selector, Element, Field, Target}
 use Rattle.ps_meaning.specs.Values.{first_ordinal}
+use Rattle.ps_meaning.specs.Expressions.{index_of}
 use Rattle.tac_code.specs.Numbers.{is_integer}
 use Rattle.ps_layout.specs.Shapes.{Shape, NumberShape, PointerShape, SetShape, ByteShape, ArrayShape, shape_of, first_of, Part, Whole, Byte, component_part}
 use Rattle.ps_layout.specs.Paths.{Sort, NumberSort, PointerSort}
 use Rattle.ps_code.specs.Values.{is_byte_array, is_byte_selector}
-use Rattle.ps_code.specs.Fits.{SortOf, CountIs, RangeFits, FunctionFits, IsArray, SelectorFits, ExprFits}
+use Rattle.ps_code.specs.Fits.{SortOf, CountIs, RangeFits, FunctionFits, IsArray, PacksTo, SelectorFits, ExprFits}
 use Rattle.ps_fits.proofs.Both.{left, right, never}
-use Rattle.ps_fits.proofs.Kinship.{alike}
+use Rattle.ps_fits.proofs.Kinship.{Alike, alike}
 use Rattle.ps_fits.proofs.Names.{nothing, inside, scope, shapes, passed, field_told, get_there}
 use Rattle.ps_fits.specs.Alike.{deepest, are_alike, component_type, field_type, is_ordinal, pointer_of, is_wanted}
 use Rattle.ps_fits.specs.Contexts.{Context}
-use Rattle.ps_fits.specs.Tests.{part_type, range_fits, function_fits, is_set}
+use Rattle.ps_fits.specs.Tests.{part_type, range_fits, function_fits, is_set, packs}
 
 -- a variable of a type, or one byte
 abbrev pub part_of : (byte : Bool) → DataType → Part
@@ -85,6 +87,60 @@ component_told (SetType d p b) part e = nothing part e
 component_told EmptySetType part e = nothing part e
 component_told (TextType n) part e = nothing part e
 component_told (RecordType at p f) part e = nothing part e
+
+-- arrays of pack and unpack
+pub record Packing (unpacked packed : DataType) : Type 0 where
+  pub shape : Shape
+  pub is : shape_of unpacked ≡ ArrayShape (value_count (index_of unpacked)) shape
+  pub goes : PacksTo (shape_of packed) (value_count (index_of packed)) shape
+  pub array : IsArray unpacked
+
+packed_bytes : (c : DataType) (n : ℕ) (first : ℤ) → fits_byte c ≡ true → PacksTo (ByteShape n first) n (shape_of c)
+packed_bytes (OrdinalType o) n first e = (refl, e)
+packed_bytes (PointerType m) n first e = never e
+packed_bytes NilType n first e = never e
+packed_bytes (SetType d p b) n first e = never e
+packed_bytes EmptySetType n first e = never e
+packed_bytes (TextType m) n first e = never e
+packed_bytes (ArrayType at p i c) n first e = never e
+packed_bytes (RecordType at p f) n first e = never e
+
+packed_row : (p : Bool) (n : ℕ) (c d : DataType) → Alike c d → PacksTo (row (p && fits_byte d) n (first_of d) (shape_of d)) n (shape_of c)
+packed_row p n c d same = go (p && fits_byte d) refl
+  where
+    go : (b : Bool) → (p && fits_byte d) ≡ b → PacksTo (row b n (first_of d) (shape_of d)) n (shape_of c)
+    go true e = packed_bytes c n (first_of d) (same.byte ∙ right p (fits_byte d) e)
+    go false e = (refl, sym same.shape)
+
+pub packing_told : (unpacked packed : DataType) → packs unpacked packed ≡ true → Packing unpacked packed
+packing_told (ArrayType at p i c) (ArrayType at' p' i' d) e =
+    let a = not (p && fits_byte c) in
+    let low = is_integer i.low in
+    let high = is_integer i.high in
+    let same = are_alike deepest c d in
+    let e1 = left (a && low && high) same e in
+    let e2 = left (a && low) high e1 in
+    let n = value_count i in
+    record {
+      shape = shape_of c;
+      is = ap (λ b. row b n (first_of c) (shape_of c)) (not-true (p && fits_byte c) (left a low e2));
+      goes = packed_row p' (value_count i') c d (alike deepest c d (right (a && low && high) same e));
+      array = (row_count (p && fits_byte c) n (first_of c) (shape_of c), right a low e2, right (a && low) high e1);
+    }
+packing_told (OrdinalType o) packed e = never e
+packing_told (PointerType m) packed e = never e
+packing_told NilType packed e = never e
+packing_told (SetType d p b) packed e = never e
+packing_told EmptySetType packed e = never e
+packing_told (TextType m) packed e = never e
+packing_told (RecordType at p f) packed e = never e
+packing_told (ArrayType at p i c) (OrdinalType o) e = never e
+packing_told (ArrayType at p i c) (PointerType m) e = never e
+packing_told (ArrayType at p i c) NilType e = never e
+packing_told (ArrayType at p i c) (SetType d q b) e = never e
+packing_told (ArrayType at p i c) EmptySetType e = never e
+packing_told (ArrayType at p i c) (TextType m) e = never e
+packing_told (ArrayType at p i c) (RecordType at' q f) e = never e
 
 -- a selector: its index is told apart
 abbrev pub IndexFits : Context → Selector → Type 0
@@ -195,8 +251,9 @@ pub record Goes (range : Range) (byte : Bool) (type : DataType) : Type 0 where
 number_goes : (low high : ℤ) (byte : Bool) (o : Ordinal) → range_fits (Within low high) (OrdinalType o) byte ≡ true → Goes (Within low high) byte (OrdinalType o)
 number_goes low high true o e = record { fits = right (is_integer low && is_integer high) (int_le (pos 0) low && int_le high (pos 255)) e; sort = refl }
 number_goes low high false o e =
-    let integers = left (is_integer low && is_integer high) true e in
-    record { fits = (left (is_integer low) (is_integer high) integers, right (is_integer low) (is_integer high) integers); sort = refl }
+    let bytes = not (fits_byte (OrdinalType o)) || int_le (pos 0) low && int_le high (pos 255) in
+    let integers = left (is_integer low && is_integer high) bytes e in
+    record { fits = (left (is_integer low) (is_integer high) integers, right (is_integer low) (is_integer high) integers, right (is_integer low && is_integer high) bytes e); sort = refl }
 
 pointer_goes : (byte : Bool) (n : ℕ) → not byte ≡ true → Goes Any byte (PointerType n)
 pointer_goes true n e = never e
@@ -266,8 +323,8 @@ function_tells Chr e = tt
 function_tells (Succ high) e = e
 function_tells (Pred low) e = e
 
-pub number_kind : (type : DataType) → is_ordinal type ≡ true → (first : ℤ) × (shape_of type ≡ NumberShape first)
-number_kind (OrdinalType o) e = (first_ordinal o, refl)
+pub number_kind : (type : DataType) → is_ordinal type ≡ true → (first : ℤ) × ((narrow : Bool) × (shape_of type ≡ NumberShape first narrow))
+number_kind (OrdinalType o) e = (first_ordinal o, (fits_byte (OrdinalType o), refl))
 number_kind (PointerType n) e = never e
 number_kind NilType e = never e
 number_kind (SetType d p b) e = never e

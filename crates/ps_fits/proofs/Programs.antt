@@ -1,17 +1,10 @@
 -- Where the tests answer true, a program has what the lowering needs.
-use Rattle.std.proofs.Common.{◌≡◌, ℕ, zero, suc, ◌-◌, ◌<◌, Bool, true, false, ◌&&◌, ◌||◌, List, [], ◌∷◌, length, Option, Some, None, is_none, get_or, if◌then◌else◌, IsTrue, pos, int_le, nat_lt, refl, ap, arith, eqb-true}
-use Rattle.ps_tree.specs.declared.types.Ordinal.{Ordinal}
-use Rattle.ps_tree.specs.declared.types.Host.TheVariants.{Integer}
+use Rattle.std.proofs.Common.{◌≡◌, ℕ, zero, suc, ◌<◌, Bool, true, false, ◌&&◌, ◌||◌, List, [], ◌∷◌, length, Option, Some, None, is_none, get_or, refl, ap, arith, eqb-true}
 use Rattle.ps_tree.specs.Counts.{is_within_limits}
-use Rattle.ps_tree.specs.Types.{DataType, OrdinalType, PointerType, NilType, SetType, EmptySetType, TextType, ArrayType, RecordType, FieldList, field_list, DataTypes, no_type, type_before, is_same_host}
-use Rattle.ps_tree.specs.Sizes.{fits_byte, value_count}
+use Rattle.ps_tree.specs.Types.{DataType, OrdinalType, PointerType, NilType, SetType, EmptySetType, TextType, ArrayType, RecordType}
 use Rattle.ps_tree.specs.Tree.{Formals, no_formal, formal_before, Routine, Program, no_routine}
-use Rattle.tac_code.specs.Numbers.{is_integer}
-use Rattle.ps_meaning.specs.Values.{first_ordinal}
-use Rattle.ps_layout.specs.Shapes.{ByteShape, ArrayShape, shape_of, first_of, shapes_of, field_shapes}
 use Rattle.ps_layout.specs.Paths.{NumberSort, PointerSort}
 use Rattle.ps_layout.specs.Frames.{is_program_block}
-use Rattle.ps_code.specs.First.{FirstFits, FieldsFit}
 use Rattle.ps_calls.specs.Binding.{FirstsFit}
 use Rattle.ps_calls.specs.Routines.{ResultFits, RoutineFits}
 use Rattle.ps_lowers.specs.Fits.{ProgramFits}
@@ -19,7 +12,7 @@ use Rattle.ps_fits.proofs.Both.{left, right, never}
 use Rattle.ps_fits.proofs.Firsts.{first_tells}
 use Rattle.ps_fits.proofs.Limits.{limits_small}
 use Rattle.ps_fits.proofs.Tell.{statements_tell}
-use Rattle.ps_fits.specs.Alike.{deepest, begins_low, has_first, have_fields_firsts, have_all_firsts, have_firsts}
+use Rattle.ps_fits.specs.Alike.{deepest, has_first, have_firsts}
 use Rattle.ps_fits.specs.Tests.{is_outermost, has_no_formals, is_program_block as block_test, result_fits, context_in, routine_fits, routines_fit, begins_well, program_fits, statements_fit}
 
 -- ---- first values

@@ -1,26 +1,25 @@
 -- Where the tests answer true, expressions and statements have what the lowering needs.
-use Rattle.std.proofs.Common.{◌≡◌, ℕ, zero, suc, ◌<◌, Bool, true, false, ◌&&◌, not, List, [], ◌∷◌, length, Option, Some, None, is_some, if◌then◌else◌, ℤ, slice_get, refl, sym, ap, ◌∙◌, subst, eqb-true}
+use Rattle.std.proofs.Common.{◌≡◌, ℕ, Bool, true, false, ◌&&◌, not, List, [], ◌∷◌, length, Option, Some, None, is_some, if◌then◌else◌, ℤ, slice_get, nat_lt, option_and_then, refl, sym, ap, ◌∙◌, subst, eqb-true}
 use Rattle.ps_tree.specs.declared.tree.Range.{Range}
 use Rattle.ps_tree.specs.declared.tree.Range.TheVariants.{Within}
-use Rattle.ps_tree.specs.Types.{DataType, OrdinalType, PointerType, NilType, SetType, EmptySetType, TextType, ArrayType, RecordType, string_length}
-use Rattle.ps_tree.specs.Sizes.{fits_byte, value_count}
+use Rattle.ps_tree.specs.Types.{DataType, PointerType}
 use Rattle.ps_tree.specs.Tree.{Place, Variable, PlaceBase, Selector, Element, Field, Target, Selectors, no_selector, selector_before, ArithmeticSteps, no_arithmetic_step, arithmetic_step_before, Operands, no_operand, operand_before, Expr, Number, Nil, Load, Plus, Minus, Not, Arithmetic, Logic, Compare, ComparePointers, CompareSets, CompareStrings, In, Apply, Eof, Eoln, Call, CallFormal, SetExpr, LoadSet, Constructor, Combine, SetSteps, no_set_step, set_step_before, Member, One, Several, Members, no_member, member_before, Argument, ByValue, BySet, ByCopy, ByVariable, ByRoutine, ByFormal, Arguments, no_argument, argument_before, Width, DefaultWidth, GivenWidth, WriteParameter, WriteInteger, WriteChar, WriteBoolean, WriteText, Statement, Empty, Assign, AssignSet, AssignStructure, CallProcedure, CallFormalProcedure, Compound, If, IfElse, Case, While, Repeat, For, With, New, Pack, Unpack, Read, Readln, Write, Writeln, ReadVariable, ReadChar, ReadInteger, Statements, no_statement, statement_before, Formal, ValueFormal, VariableFormal, RoutineFormal, Formals, no_formal, formal_before, Routine, Structure, Literal, Contents, Elements, no_element, element_before}
-use Rattle.ps_layout.specs.Shapes.{NumberShape, SetShape, ByteShape, ArrayShape, shape_of, first_of, Whole, Byte}
+use Rattle.ps_layout.specs.Shapes.{Part, NumberShape, SetShape, shape_of, Whole, Byte}
 use Rattle.ps_layout.specs.Paths.{NumberSort, PointerSort}
 use Rattle.ps_layout.specs.Frames.{Own, Closure, kind_of, kinds_of, result_shape}
 use Rattle.ps_code.specs.Scopes.{kind_at}
 use Rattle.ps_code.specs.Values.{is_byte, is_byte_after, is_byte_selector}
 use Rattle.ps_code.specs.First.{FirstFits}
-use Rattle.ps_code.specs.Fits.{PlaceFits, SelectorsFit, ExprFits, SetFits, SetStepsFit, MembersFit, MemberFits, outermost_of, ContentsFit, ReadFits, ReadsFit, StepsFit, OperandsFit, ArgumentsFit, ArgumentFits, WidthFits, WriteFits, WritesFit, StatementFits, StatementsFit, StructureFits, ElementsFit, SortOf}
+use Rattle.ps_code.specs.Fits.{PlaceFits, SelectorsFit, ExprFits, SetFits, SetStepsFit, MembersFit, MemberFits, outermost_of, ContentsFit, ReadFits, ReadsFit, StepsFit, OperandsFit, ArgumentsFit, ArgumentFits, WidthFits, WriteFits, WritesFit, OpenedFit, StatementFits, StatementsFit, StructureFits, ElementsFit, SortOf, RangeFits}
 use Rattle.ps_fits.proofs.Both.{left, right, never}
 use Rattle.ps_fits.proofs.Firsts.{first_tells}
 use Rattle.ps_fits.proofs.Kinship.{alike, formals_alike, results_alike}
-use Rattle.ps_fits.proofs.Names.{nothing, inside, below_length, get_there, scope, shapes, name_tells, callee_told, formal_told, variable_told}
-use Rattle.ps_fits.proofs.Parts.{part_of, Sound, sort_of, IndexFits, part_tells, ordinal_whole, wanted_sort, range_tells, within_number, pointer_whole, set_shape, set_whole, function_tells, number_kind}
+use Rattle.ps_fits.proofs.Names.{passed, nothing, inside, below_length, get_there, scope, shapes, name_tells, callee_told, formal_told, variable_told}
+use Rattle.ps_fits.proofs.Parts.{part_of, Sound, sort_of, IndexFits, part_tells, ordinal_whole, wanted_sort, range_tells, within_number, pointer_whole, set_shape, set_whole, function_tells, number_kind, Packing, packing_told}
 use Rattle.ps_fits.proofs.Texts.{characters_told, string_told, same_length, text_told, structure_told}
 use Rattle.ps_fits.specs.Alike.{deepest, are_alike, has_first, is_ordinal, pointer_of, is_wanted}
-use Rattle.ps_fits.specs.Contexts.{Context, name_type, callee, formal_out, result_in, formals_in, formal_result, formal_formals, is_routine_formal, is_routine_alike, is_passed_alike, are_formals_alike, are_results_alike, variable_in, routine_out}
-use Rattle.ps_fits.specs.Tests.{part_type, selected_type, place_type, is_wanted_in, is_alike_in, is_like, range_fits, range_fits_in, pointer_in, function_fits, is_string, is_string_type, is_as_long, is_structure, is_text_of, has_input, is_set, is_set_in, set_fits, set_steps_fit, members_fit, member_fits, string_fits, contents_fit, contents_fit_in, has_first_in, read_fits, reads_fit, common_pointer, indices_fit, index_fits, place_fits, number_fits, pointer_fits, value_fits, steps_fit, operands_fit, arguments_fit, argument_fits, width_fits, parameter_fits, parameters_fit, is_ordinal_in, statement_fits, statements_fit, elements_fit}
+use Rattle.ps_fits.specs.Contexts.{Context, most_open, within, name_type, callee, formal_out, result_in, formals_in, formal_result, formal_formals, is_routine_formal, is_routine_alike, is_passed_alike, are_formals_alike, are_results_alike, variable_in, routine_out}
+use Rattle.ps_fits.specs.Tests.{part_type, selected_type, place_type, is_wanted_in, is_alike_in, is_like, range_fits, range_fits_in, pointer_in, function_fits, is_string, is_string_type, is_as_long, is_structure, is_text_of, has_input, is_set, is_set_in, set_fits, set_steps_fit, members_fit, member_fits, string_fits, contents_fit, contents_fit_in, has_first_in, packs, packing_fits, read_fits, reads_fit, common_pointer, indices_fit, index_fits, place_fits, number_fits, pointer_fits, value_fits, steps_fit, operands_fit, arguments_fit, argument_fits, width_fits, parameter_fits, parameters_fit, is_ordinal_in, opened_type, within_if, opened_by, context_or, statement_fits, statements_fit, elements_fit}
 
 -- what is there where a test of it is true
 abbrev pub There : {A : Type 0} → (A → Bool) → Option A → Type 0
@@ -424,7 +423,7 @@ assign_tells k p range e line hp hr he =
     let goes = range_tells range (is_byte p) type there.2 in
     (part_of (is_byte p) type, told.fits, goes.fits, (sort_of (pointer_of type), goes.sort, subst (λ o. ExprFits (scope k) (shapes k) e (sort_of (pointer_in o))) there.1 (wanted_tells k (pointer_in (place_type k p)) e (number_tells k e) (λ t. pointer_tells k t e) he)))
 
-contents_there : (k : Context) (e : Structure) (o : Option DataType) → contents_fit_in k e o ≡ true → There (contents_fit k e) o
+contents_there : (k : Context) (e : Structure) (o : Option DataType) → contents_fit_in k e o ≡ true → There (λ t. is_structure t && contents_fit k e t) o
 contents_there k e None h = never h
 contents_there k e (Some t) h = (t, refl, h)
 
@@ -433,7 +432,7 @@ assign_structure_tells k p e hp hn he =
     let there = contents_there k e (place_type k p) he in
     let type = there.0 in
     let told = place_there k p type there.1 hp in
-    (shape_of type, subst (λ part. PlaceFits (scope k) (shapes k) p part) (ap (λ x. if x then Byte else Whole (shape_of type)) (false_of (is_byte p) hn)) told.fits, contents_tell k e type there.2)
+    (shape_of type, subst (λ part. PlaceFits (scope k) (shapes k) p part) (ap (λ x. if x then Byte else Whole (shape_of type)) (false_of (is_byte p) hn)) told.fits, contents_tell k e type (right (is_structure type) (contents_fit k e type) there.2), structure_told type (left (is_structure type) (contents_fit k e type) there.2))
 
 first_there : (o : Option DataType) → has_first_in o ≡ true → There (has_first deepest) o
 first_there None h = never h
@@ -450,9 +449,40 @@ new_tells k p t line hw hp hn hf =
       subst (λ x. FirstFits (shape_of x)) (sym (get_there k.program.domains t domain.0 (PointerType 0) domain.1)) (first_tells deepest domain.0 domain.2),
     )
 
-read_tells : (k : Context) (v : ReadVariable) → read_fits k v ≡ true → ReadFits (scope k) (shapes k) v
-unfolding read_fits
-read_tells k (ReadChar p low high line) h =
+-- two arrays and an index
+entire_tells : (k : Context) (p : Place) (like : DataType) → is_like k p like ≡ true → place_fits k p ≡ true → PlaceFits (scope k) (shapes k) p (Whole (shape_of like))
+entire_tells k p like e f =
+    let l = like_told k p like e in
+    whole_told k p l.type like (place_there k p l.type l.is f) l.entire l.alike
+
+record PackingTold (k : Context) (p : Place) (type : DataType) (q : Place) (other : DataType) (e : Expr) : Type 0 where
+  arrays : Packing type other
+  unpacked : PlaceFits (scope k) (shapes k) p (Whole (shape_of type))
+  packed : PlaceFits (scope k) (shapes k) q (Whole (shape_of other))
+  index : ExprFits (scope k) (shapes k) e NumberSort
+
+packing_tells : (k : Context) (p : Place) (type : DataType) (q : Place) (other : DataType) (e : Expr) → packing_fits k p type q other e ≡ true → PackingTold k p type q other e
+packing_tells k p type q other e h =
+    let a = packs type other in
+    let b = is_like k p type in
+    let c = place_fits k p in
+    let d = is_like k q other in
+    let f = place_fits k q in
+    let h1 = left (a && b && c && d && f) (number_fits k e) h in
+    let h2 = left (a && b && c && d) f h1 in
+    let h3 = left (a && b && c) d h2 in
+    let h4 = left (a && b) c h3 in
+    record {
+      arrays = packing_told type other (left a b h4);
+      unpacked = entire_tells k p type (right a b h4) (right (a && b) c h3);
+      packed = entire_tells k q other (right (a && b && c) d h2) (right (a && b && c && d) f h1);
+      index = number_tells k e (right (a && b && c && d && f) (number_fits k e) h);
+    }
+
+-- what is read goes into a variable whose range is tested
+into_tells : (k : Context) (p : Place) (low high : ℤ) → place_fits k p && range_fits_in (Within low high) (place_type k p) (is_byte p) ≡ true
+    → (part : Part) × PlaceFits (scope k) (shapes k) p part × SortOf part NumberSort × RangeFits (Within low high) part
+into_tells k p low high h =
     let a = place_fits k p in
     let b = range_fits_in (Within low high) (place_type k p) (is_byte p) in
     let there = range_there (Within low high) (place_type k p) (is_byte p) (right a b h) in
@@ -460,18 +490,52 @@ read_tells k (ReadChar p low high line) h =
     let told = place_there k p type there.1 (left a b h) in
     let goes = range_tells (Within low high) (is_byte p) type there.2 in
     (part_of (is_byte p) type, told.fits, subst (λ o. SortOf (part_of (is_byte p) type) (sort_of o)) (within_number low high type (is_byte p) there.2) goes.sort, goes.fits)
-read_tells k (ReadInteger p low high line) h = never h
+
+read_tells : (k : Context) (v : ReadVariable) → read_fits k v ≡ true → ReadFits (scope k) (shapes k) v
+unfolding read_fits
+read_tells k (ReadChar p low high line) h = into_tells k p low high h
+read_tells k (ReadInteger p low high line) h = into_tells k p low high h
 
 reads_tell : (k : Context) (vs : List ReadVariable) → reads_fit k vs ≡ true → ReadsFit (scope k) (shapes k) vs
 unfolding reads_fit
 reads_tell k [] h = tt
 reads_tell k (v ∷ rest) h = (read_tells k v (left (read_fits k v) (reads_fit k rest) h), reads_tell k rest (right (read_fits k v) (reads_fit k rest) h))
 
-control_tells : (k : Context) (v : ℕ) → is_ordinal_in (variable_in v (routine_out k 0)) ≡ true → (first : ℤ) × (kind_at (scope k) 0 v ≡ Some (Own (NumberShape first)))
+control_tells : (k : Context) (v : ℕ) → is_ordinal_in (variable_in v (routine_out k 0)) ≡ true → (first : ℤ) × ((narrow : Bool) × (kind_at (scope k) 0 v ≡ Some (Own (NumberShape first narrow))))
 control_tells k v e =
     let there = ordinal_there (variable_in v (routine_out k 0)) e in
     let number = number_kind there.0 there.2 in
-    (number.0, variable_told k 0 v there.0 there.1 ∙ ap (λ s. Some (Own s)) number.1)
+    (number.0, (number.1.0, variable_told k 0 v there.0 there.1 ∙ ap (λ s. Some (Own s)) number.1.1))
+
+-- within records that are opened
+record OpenedTold (k : Context) (places : List Place) (inner : Context) : Type 0 where
+  same : scope inner ≡ scope k
+  fits : OpenedFit (scope k) (shapes k) places (shapes inner)
+
+opened_more : (k : Context) (p : Place) (rest : List Place) (inner : Context) → ((type : DataType) → opened_by (within k type) rest ≡ Some inner → OpenedTold (within k type) rest inner) → (o : Option DataType) → opened_type k p ≡ o → option_and_then (λ c. opened_by c rest) (within_if k o) ≡ Some inner → OpenedTold k (p ∷ rest) inner
+opened_more k p rest inner further None h g = nothing inner g
+opened_more k p rest inner further (Some type) h g =
+    let b = passed (not (is_byte p) && place_fits k p) (place_type k p) type h in
+    let whole = left (not (is_byte p)) (place_fits k p) b.0 in
+    let told = place_there k p type b.1 (right (not (is_byte p)) (place_fits k p) b.0) in
+    let others = further type (room (nat_lt (length k.opened) most_open) g) in
+    record { same = others.same; fits = (shape_of type, subst (λ x. PlaceFits (scope k) (shapes k) p (if x then Byte else Whole (shape_of type))) (false_of (is_byte p) whole) told.fits, others.fits) }
+  where
+    room : (b : Bool) → option_and_then (λ c. opened_by c rest) (if b then Some (within k type) else None) ≡ Some inner → opened_by (within k type) rest ≡ Some inner
+    room true e = e
+    room false e = nothing inner e
+
+opened_tells : (k : Context) (places : List Place) (inner : Context) → opened_by k places ≡ Some inner → OpenedTold k places inner
+unfolding opened_by
+opened_tells k [] inner e = let same = inside k inner e in record { same = ap scope (sym same); fits = ap shapes (sym same) }
+opened_tells k (p ∷ rest) inner e = opened_more k p rest inner (λ type. opened_tells (within k type) rest inner) (opened_type k p) refl e
+
+with_tells : (k : Context) (places : List Place) (s : Statement) → is_some (opened_by k places) ≡ true → StatementFits (scope (context_or k (opened_by k places))) (shapes (context_or k (opened_by k places))) s → StatementFits (scope k) (shapes k) (With places s)
+with_tells k places s e f =
+    let there = some_there (opened_by k places) e in
+    let told = opened_tells k places there.0 there.1 in
+    let f1 = subst (λ o. StatementFits (scope (context_or k o)) (shapes (context_or k o)) s) there.1 f in
+    (shapes there.0, told.fits, subst (λ c. StatementFits c (shapes there.0) s) told.same f1)
 
 mutual
   unfolding statement_fits statements_fit elements_fit
@@ -524,7 +588,11 @@ mutual
       let h1 = left (a && b && c) d h in
       let h2 = left (a && b) c h1 in
       (control_tells k v (left a b h2), number_tells k from (right a b h2), number_tells k to (right (a && b) c h1), statement_tells k s (right (a && b && c) d h))
-  statement_tells k (With places s) h = never h
+  statement_tells k (With places s) h =
+      let inner = context_or k (opened_by k places) in
+      let a = is_some (opened_by k places) in
+      let b = statement_fits inner s in
+      with_tells k places s (left a b h) (statement_tells inner s (right a b h))
   statement_tells k (New p t line) h =
       let a = is_wanted_in (Some t) (place_type k p) in
       let b = place_fits k p in
@@ -533,8 +601,12 @@ mutual
       let h1 = left (a && b && c) d h in
       let h2 = left (a && b) c h1 in
       new_tells k p t line (left a b h2) (right a b h2) (right (a && b) c h1) (right (a && b && c) d h)
-  statement_tells k (Pack p from_type e line q to_type) h = never h
-  statement_tells k (Unpack p from_type q to_type e line) h = never h
+  statement_tells k (Pack p from_type e line q to_type) h =
+      let told = packing_tells k p from_type q to_type e h in
+      (told.arrays.shape, told.arrays.is, told.arrays.goes, told.arrays.array, told.unpacked, told.index, told.packed)
+  statement_tells k (Unpack p from_type q to_type e line) h =
+      let told = packing_tells k q to_type p from_type e h in
+      (told.arrays.shape, told.arrays.is, told.arrays.goes, told.arrays.array, told.packed, told.unpacked, told.index)
   statement_tells k (Read vs) h =
       let a = has_input k.chain in
       let b = reads_fit k vs in

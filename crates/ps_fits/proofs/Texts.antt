@@ -8,7 +8,7 @@ use Rattle.ps_layout.specs.Shapes.{ByteShape, ArrayShape, shape_of, first_of}
 use Rattle.ps_code.specs.Values.{text_length}
 use Rattle.ps_code.specs.Fits.{IsStructure}
 use Rattle.ps_fits.proofs.Both.{left, right, both, never}
-use Rattle.ps_fits.proofs.Names.{nothing, inside}
+use Rattle.ps_fits.proofs.Names.{inside}
 use Rattle.ps_fits.specs.Tests.{are_bytes, is_string, has_length, is_string_type, text_size, is_same_size, is_as_long, is_structure, is_text_of}
 
 bytes_tell : (characters : List ℕ) → are_bytes characters ≡ true → All (λ b. b < 256) characters

@@ -1,5 +1,5 @@
 -- Types whose variables lie in memory alike, and types whose variables have first values.
-use Rattle.std.specs.Prelude.{ℕ, ◌-◌, pos, Bool, true, false, not, ◌&&◌, ◌==◌, nat_lt, int_le, if◌then◌else◌, List, [], ◌∷◌, Option, Some, None}
+use Rattle.std.specs.Prelude.{ℕ, ◌-◌, Bool, true, false, not, ◌&&◌, ◌==◌, nat_lt, int_le, if◌then◌else◌, List, [], ◌∷◌, Option, Some, None}
 use Rattle.std.specs.Ordering.{int_eq}
 use Rattle.ps_tree.specs.declared.types.Ordinal.{Ordinal}
 use Rattle.ps_tree.specs.Types.{DataType, OrdinalType, PointerType, SetType, ArrayType, RecordType, FieldList, field_list, field_types, DataTypes, no_type, type_before, type_at}
@@ -38,16 +38,11 @@ unfoldable mutual
   are_all_alike deep (type_before s ss) (type_before t ts) = are_alike deep s t && are_all_alike deep ss ts
   are_all_alike deep ss ts = false
 
--- the first value of a component that is a byte is one too
-abbrev pub begins_low : DataType → Bool
-begins_low (OrdinalType o) = int_le o.low (pos 255)
-begins_low type = true
-
--- variables of the type have first values
+-- variables of the type have first values: each ordinal type has values
 unfoldable mutual
   pub has_first : (deep : ℕ) → DataType → Bool
-  has_first deep (OrdinalType o) = is_integer o.low
-  has_first deep (ArrayType at packed index component) = nat_lt 0 deep && begins_low component && has_first (deep - 1) component
+  has_first deep (OrdinalType o) = is_integer o.low && int_le o.low o.high
+  has_first deep (ArrayType at packed index component) = nat_lt 0 deep && has_first (deep - 1) component
   has_first deep (RecordType at packed fields) = nat_lt 0 deep && have_fields_firsts (deep - 1) fields
   has_first deep type = true
 

@@ -16,6 +16,10 @@ pub record Context : Type 0 where
 abbrev pub within : Context → DataType → Context
 within k type = record { program = k.program; chain = k.chain; opened = type ∷ k.opened }
 
+-- so many records are open at most (this project's limit)
+abbrev pub most_open : ℕ
+most_open = 8
+
 -- ---- entries
 
 abbrev pub formal_type : Formal → Option DataType

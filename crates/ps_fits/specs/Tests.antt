@@ -1,5 +1,5 @@
 -- Which checked programs are lowered so far.
-use Rattle.std.specs.Prelude.{ℕ, pos, Bool, true, false, not, ◌&&◌, ◌||◌, int_le, if◌then◌else◌, ◌==◌, List, [], ◌∷◌, length, nat_lt, Option, Some, None, is_none, is_some, slice_get}
+use Rattle.std.specs.Prelude.{ℕ, pos, Bool, true, false, not, ◌&&◌, ◌||◌, int_le, if◌then◌else◌, ◌==◌, List, [], ◌∷◌, length, nat_lt, Option, Some, None, is_none, is_some, slice_get, option_and_then}
 use Rattle.ps_tree.specs.declared.tree.Range.{Range}
 use Rattle.ps_tree.specs.declared.tree.Range.TheVariants.{Any, Within}
 use Rattle.ps_tree.specs.declared.tree.RequiredFunction.{RequiredFunction}
@@ -7,12 +7,12 @@ use Rattle.ps_tree.specs.declared.tree.RequiredFunction.TheVariants.{Succ, Pred}
 use Rattle.ps_tree.specs.Counts.{is_within_limits}
 use Rattle.ps_tree.specs.Types.{DataType, OrdinalType, PointerType, SetType, ArrayType, RecordType, string_length}
 use Rattle.ps_tree.specs.Sizes.{fits_byte, value_count}
-use Rattle.ps_tree.specs.Tree.{Place, Variable, Selector, Element, Field, Target, Selectors, no_selector, selector_before, ArithmeticSteps, no_arithmetic_step, arithmetic_step_before, Operands, no_operand, operand_before, Expr, Number, Nil, Load, Plus, Minus, Not, Arithmetic, Logic, Compare, ComparePointers, Apply, Call, CallFormal, CompareSets, CompareStrings, In, Eof, Eoln, SetExpr, LoadSet, Constructor, Combine, SetSteps, no_set_step, set_step_before, Member, One, Several, Members, no_member, member_before, Structure, Literal, Contents, Argument, ByValue, BySet, ByCopy, ByVariable, ByRoutine, ByFormal, Arguments, no_argument, argument_before, Width, DefaultWidth, GivenWidth, WriteParameter, WriteInteger, WriteChar, WriteBoolean, WriteText, ReadVariable, ReadChar, ReadInteger, Statement, Empty, Assign, AssignSet, AssignStructure, CallProcedure, CallFormalProcedure, Compound, If, IfElse, Case, While, Repeat, For, New, Read, Readln, Write, Writeln, Statements, no_statement, statement_before, Elements, no_element, element_before, Formal, ValueFormal, VariableFormal, RoutineFormal, Formals, no_formal, formal_before, Routine, Program}
+use Rattle.ps_tree.specs.Tree.{Place, Variable, Selector, Element, Field, Target, Selectors, no_selector, selector_before, ArithmeticSteps, no_arithmetic_step, arithmetic_step_before, Operands, no_operand, operand_before, Expr, Number, Nil, Load, Plus, Minus, Not, Arithmetic, Logic, Compare, ComparePointers, Apply, Call, CallFormal, CompareSets, CompareStrings, In, Eof, Eoln, SetExpr, LoadSet, Constructor, Combine, SetSteps, no_set_step, set_step_before, Member, One, Several, Members, no_member, member_before, Structure, Literal, Contents, Argument, ByValue, BySet, ByCopy, ByVariable, ByRoutine, ByFormal, Arguments, no_argument, argument_before, Width, DefaultWidth, GivenWidth, WriteParameter, WriteInteger, WriteChar, WriteBoolean, WriteText, ReadVariable, ReadChar, ReadInteger, Statement, Empty, Assign, AssignSet, AssignStructure, CallProcedure, CallFormalProcedure, Compound, If, IfElse, Case, While, Repeat, For, With, New, Pack, Unpack, Read, Readln, Write, Writeln, Statements, no_statement, statement_before, Elements, no_element, element_before, Formal, ValueFormal, VariableFormal, RoutineFormal, Formals, no_formal, formal_before, Routine, Program}
 use Rattle.tac_code.specs.Numbers.{is_integer}
 use Rattle.ps_code.specs.Fits.{outermost_of}
 use Rattle.ps_code.specs.Values.{is_byte}
 use Rattle.ps_fits.specs.Alike.{deepest, are_alike, has_first, have_firsts, component_type, field_type, is_pointer_to, is_ordinal, pointer_of, is_wanted}
-use Rattle.ps_fits.specs.Contexts.{Context, within, callee, formal_out, result_in, formals_in, formal_result, formal_formals, is_routine_formal, is_routine_alike, is_passed_alike, name_type, variable_in, routine_out}
+use Rattle.ps_fits.specs.Contexts.{Context, most_open, within, callee, formal_out, result_in, formals_in, formal_result, formal_formals, is_routine_formal, is_routine_alike, is_passed_alike, name_type, variable_in, routine_out}
 
 -- ---- variables
 
@@ -49,7 +49,7 @@ is_like k p type = not (is_byte p) && is_alike_in (place_type k p) type
 
 -- ---- numbers
 
--- a range of numbers, and of bytes where a variable is one
+-- a range of numbers, and of bytes where a variable takes them alone
 abbrev pub number_range_fits : Range → (byte : Bool) → Bool
 number_range_fits Any byte = false
 number_range_fits (Within low high) byte = is_integer low && is_integer high && (not byte || int_le (pos 0) low && int_le high (pos 255))
@@ -58,9 +58,9 @@ abbrev pub is_any : Range → Bool
 is_any Any = true
 is_any (Within low high) = false
 
--- what goes to a variable of the type: a number, or a pointer
+-- what goes to a variable of the type: a number, a byte where all values of the type are bytes, or a pointer
 abbrev pub range_fits : Range → DataType → (byte : Bool) → Bool
-range_fits range (OrdinalType o) byte = number_range_fits range byte
+range_fits range (OrdinalType o) byte = number_range_fits range (byte || fits_byte (OrdinalType o))
 range_fits range (PointerType pointer) byte = is_any range && not byte
 range_fits range type byte = false
 
@@ -131,6 +131,11 @@ is_text_of count type = false
 -- a string of the text for a variable of the type
 abbrev pub literal_fits : List ℕ → DataType → Bool
 literal_fits characters type = is_string characters && is_text_of (length characters) type
+
+-- arrays of `pack` and `unpack`: the components of the first take words, and those of the second have the same values
+abbrev pub packs : (unpacked packed : DataType) → Bool
+packs (ArrayType at packing index component) (ArrayType place tight range other) = not (packing && fits_byte component) && is_integer index.low && is_integer index.high && are_alike deepest component other
+packs unpacked packed = false
 
 -- ---- the text that is read
 
@@ -278,12 +283,29 @@ abbrev pub is_ordinal_in : Option DataType → Bool
 is_ordinal_in None = false
 is_ordinal_in (Some type) = is_ordinal type
 
+-- a variable that `with` opens
+abbrev pub opened_type : Context → Place → Option DataType
+opened_type k p = if not (is_byte p) && place_fits k p then place_type k p else None
+
+abbrev pub within_if : Context → Option DataType → Option Context
+within_if k None = None
+within_if k (Some type) = if nat_lt (length k.opened) most_open then Some (within k type) else None
+
+-- within records that are opened one after another
+unfoldable pub opened_by : Context → List Place → Option Context
+opened_by k [] = Some k
+opened_by k (p ∷ rest) = option_and_then (λ inner. opened_by inner rest) (within_if k (opened_type k p))
+
+abbrev pub context_or : Context → Option Context → Context
+context_or k None = k
+context_or k (Some inner) = inner
+
 abbrev pub assign_fits : Context → Place → Range → Expr → Bool
 assign_fits k p range e = place_fits k p && range_fits_in range (place_type k p) (is_byte p) && value_fits k (pointer_in (place_type k p)) e
 
 abbrev pub contents_fit_in : Context → Structure → Option DataType → Bool
 contents_fit_in k e None = false
-contents_fit_in k e (Some type) = contents_fit k e type
+contents_fit_in k e (Some type) = is_structure type && contents_fit k e type
 
 abbrev pub assign_structure_fits : Context → Place → Structure → Bool
 assign_structure_fits k p e = place_fits k p && not (is_byte p) && contents_fit_in k e (place_type k p)
@@ -296,10 +318,14 @@ has_first_in (Some type) = has_first deepest type
 abbrev pub new_fits : Context → Place → (pointer : ℕ) → Bool
 new_fits k p pointer = is_wanted_in (Some pointer) (place_type k p) && place_fits k p && not (is_byte p) && has_first_in (slice_get k.program.domains pointer)
 
--- a variable for a character that is read
+-- two arrays and an index
+abbrev pub packing_fits : Context → (unpacked : Place) → DataType → (packed : Place) → DataType → Expr → Bool
+packing_fits k p type q other e = packs type other && is_like k p type && place_fits k p && is_like k q other && place_fits k q && number_fits k e
+
+-- a variable for what is read
 unfoldable pub read_fits : Context → ReadVariable → Bool
 read_fits k (ReadChar p low high line) = place_fits k p && range_fits_in (Within low high) (place_type k p) (is_byte p)
-read_fits k (ReadInteger p low high line) = false
+read_fits k (ReadInteger p low high line) = place_fits k p && range_fits_in (Within low high) (place_type k p) (is_byte p)
 
 unfoldable pub reads_fit : Context → List ReadVariable → Bool
 reads_fit k [] = true
@@ -330,12 +356,14 @@ unfoldable mutual
   statement_fits k (While e s) = number_fits k e && statement_fits k s
   statement_fits k (Repeat body e) = statements_fit k body && number_fits k e
   statement_fits k (For variable low high a from_line direction b to_line s) = is_ordinal_in (variable_in variable (routine_out k 0)) && number_fits k a && number_fits k b && statement_fits k s
+  statement_fits k (With places s) = is_some (opened_by k places) && statement_fits (context_or k (opened_by k places)) s
   statement_fits k (New p pointer line) = new_fits k p pointer
+  statement_fits k (Pack p from_type e line q to_type) = packing_fits k p from_type q to_type e
+  statement_fits k (Unpack p from_type q to_type e line) = packing_fits k q to_type p from_type e
   statement_fits k (Read variables) = input_fits k variables
   statement_fits k (Readln variables line) = input_fits k variables
   statement_fits k (Write parameters) = parameters_fit k parameters
   statement_fits k (Writeln parameters) = parameters_fit k parameters
-  statement_fits k s = false
 
   pub statements_fit : Context → Statements → Bool
   statements_fit k no_statement = true
@@ -344,6 +372,10 @@ unfoldable mutual
   pub elements_fit : Context → Elements → Bool
   elements_fit k no_element = true
   elements_fit k (element_before constants s rest) = statement_fits k s && elements_fit k rest
+
+-- a statement where records were opened
+abbrev pub body_fits : Context → Option Context → Statement → Bool
+body_fits k opened s = is_some opened && statement_fits (context_or k opened) s
 
 -- ---- programs
 

@@ -107,17 +107,6 @@ fn are_all_alike(types: &[Ty], others: &[Ty], deep: u32) -> bool
     true
 }
 
-// whether the first value of a component that is a byte is one too
-#[tactic(auto, unfolding(ps_tree::specs::TypeView::type_of))]
-fn begins_low(ty: &Ty) -> bool
-    ensures { result ≡ tests.begins_low (type_of ty.now) }
-{
-    match ty {
-        Ty::Simple(ordinal) => ordinal.low <= 255,
-        _ => true,
-    }
-}
-
 /// Whether variables of the type have first values.
 #[cycle(firsts)]
 #[tactic(auto, unfolding(ps_tree::specs::TypeView::type_of, crate::specs::Alike::has_first))]
@@ -125,10 +114,8 @@ pub(crate) fn has_first(ty: &Ty, deep: u32) -> bool
     ensures { result ≡ tests.has_first deep (type_of ty.now) }
 {
     match ty {
-        Ty::Simple(ordinal) => is_integer(ordinal.low),
-        Ty::Array { component, .. } => {
-            0 < deep && begins_low(component.ty()) && has_first(component.ty(), deep - 1)
-        }
+        Ty::Simple(ordinal) => is_integer(ordinal.low) && ordinal.low <= ordinal.high,
+        Ty::Array { component, .. } => 0 < deep && has_first(component.ty(), deep - 1),
         Ty::Record { fields, .. } => 0 < deep && have_fields_firsts(fields, deep - 1),
         _ => true,
     }

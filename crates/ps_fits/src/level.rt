@@ -3,17 +3,14 @@
 use ps_tree::program::Checked;
 use ps_tree::types::Ty;
 
-/// The types of the records that are open, the innermost first.
-#[derive(Clone, Copy)]
-pub(crate) enum Opened<'a> {
-    Nothing,
-    Record { ty: &'a Ty, outer: &'a Opened<'a> },
-}
+/// So many records are open at most.
+pub(crate) const MOST_OPEN: usize = 8;
 
-/// A program, the numbers of a routine and of those round it, the innermost first, and the records that are open.
+/// A program, the numbers of a routine and of those round it, the innermost first, and the types of the records that are open,
+/// the innermost first.
 #[derive(Clone, Copy)]
 pub(crate) struct Level<'a> {
     pub checked: &'a Checked,
     pub chain: &'a [u32],
-    pub opened: &'a Opened<'a>,
+    pub opened: [Option<&'a Ty>; MOST_OPEN],
 }

@@ -8,6 +8,7 @@ mod entry;
 mod heading;
 mod level;
 mod name;
+mod opening;
 mod place;
 pub mod program;
 mod statement;

@@ -7,7 +7,7 @@ ghost use Rattle.ps_fits.specs.Levels.{types_opened, context_of};
 
 use crate::alike::{DEEPEST, are_alike, field_type};
 use crate::entry::{entry_type, formal_entry, variable_entry};
-use crate::level::{Level, Opened};
+use crate::level::Level;
 use ps_tree::tree::{Formal, PlaceBase, Routine};
 use ps_tree::types::Ty;
 
@@ -60,27 +60,31 @@ fn entry_out<'a>(k: &Level<'a>, up: u32, index: u32) -> Option<&'a Ty>
     }
 }
 
-// the type of a record that is open
-#[tactic(auto, using(crate::proofs::Indices::first_record, crate::proofs::Indices::further_record))]
-fn record_at<'a>(opened: &'a Opened<'a>, which: u32) -> Option<&'a Ty>
-    ensures { option_map (λ t. type_of t.now) result ≡ slice_get (types_opened opened.now) which }
+/// The type of a record that is open.
+#[cycle(records)]
+#[tactic(auto, using(crate::proofs::Withs::none_open, crate::proofs::Withs::gap_open, crate::proofs::Withs::first_open, crate::proofs::Withs::further_open))]
+pub(crate) fn record_at<'a>(opened: &[Option<&'a Ty>], which: u32) -> Option<&'a Ty>
+    ensures { option_map (λ t. type_of t.now) result ≡ slice_get (types_opened (λ t. type_of t.now) opened.now) which }
 {
     match opened {
-        Opened::Nothing => None,
-        Opened::Record { ty, outer } => {
-            if which == 0 {
-                Some(*ty)
-            } else {
-                record_at(*outer, which - 1)
+        [] => None,
+        [first, rest @ ..] => match first {
+            None => None,
+            Some(ty) => {
+                if which == 0 {
+                    Some(*ty)
+                } else {
+                    record_at(rest, which - 1)
+                }
             }
-        }
+        },
     }
 }
 
 fn opened_field<'a>(k: &Level<'a>, which: u32, ty: &'a Ty, number: u32) -> Option<&'a Ty>
     ensures { option_map (λ t. type_of t.now) result ≡ names.field_in (slice_get (context_of k.now).opened which) (type_of ty.now) number }
 {
-    match record_at(k.opened, which) {
+    match record_at(&k.opened, which) {
         None => None,
         Some(record) => {
             if are_alike(record, ty, DEEPEST) {

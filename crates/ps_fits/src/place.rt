@@ -8,7 +8,7 @@ ghost use Rattle.ps_code.specs.Values.{is_byte_array, is_byte_selector, is_byte_
 ghost use Rattle.ps_fits.specs.Tests as tests;
 ghost use Rattle.ps_fits.specs.Levels.{context_of};
 
-use crate::alike::{DEEPEST, are_alike, component_type, field_type, is_pointer_to};
+use crate::alike::{DEEPEST, are_alike, component_type, field_type, is_integer, is_pointer_to};
 use crate::level::Level;
 use crate::name::name_type;
 use ps_tree::tree::{Place, Selector};
@@ -37,6 +37,33 @@ pub(crate) fn is_byte_array(ty: &Ty) -> bool
             component,
             ..
         } => *packed && fits_byte(component.ty()),
+        _ => false,
+    }
+}
+
+/// Whether the arrays may be packed into one another: the components of the first take words, and those of the second have the same values.
+#[tactic(auto, unfolding(ps_tree::specs::TypeView::type_of))]
+pub(crate) fn packs(unpacked: &Ty, packed: &Ty) -> bool
+    ensures { result ≡ tests.packs (type_of unpacked.now) (type_of packed.now) }
+{
+    match (unpacked, packed) {
+        (
+            Ty::Array {
+                packed: packing,
+                index,
+                component,
+                ..
+            },
+            Ty::Array {
+                component: other,
+                ..
+            },
+        ) => {
+            !(*packing && fits_byte(component.ty()))
+                && is_integer(index.low)
+                && is_integer(index.high)
+                && are_alike(component.ty(), other.ty(), DEEPEST)
+        }
         _ => false,
     }
 }

@@ -6,7 +6,7 @@ ghost use Rattle.ps_tree.specs.View.{type_of, routine_of};
 ghost use Rattle.ps_fits.specs.Tests as tests;
 
 use crate::alike::{DEEPEST, has_first, have_firsts, is_ordinal, pointer_of};
-use crate::level::{Level, Opened};
+use crate::level::{Level, MOST_OPEN};
 use crate::statement::statements_fit;
 use ps_tree::program::Checked;
 use ps_tree::tree::Routine;
@@ -38,14 +38,13 @@ fn result_fits(result_type: &Option<Ty>) -> bool
     }
 }
 
-fn body_fits(checked: &Checked, routine: &Routine) -> bool
+fn body_fits<'a>(checked: &'a Checked, routine: &'a Routine) -> bool
     ensures { result ≡ tests.statements_fit (tests.context_in (program_in checked.now) (routine_of routine.now)) (routine_of routine.now).body }
 {
-    let nothing = Opened::Nothing;
     let level = Level {
         checked,
         chain: &routine.chain,
-        opened: &nothing,
+        opened: [None; MOST_OPEN],
     };
     statements_fit(&level, &routine.body)
 }
@@ -74,9 +73,8 @@ fn begins_well(routines: &[Routine]) -> bool
     !routines.is_empty() && is_program_block(&routines[0])
 }
 
-/// Whether a checked program is lowered so far: each routine has a result that is a number or a pointer, if any, and its
-/// statements are assignments, calls, control without `with`, new, reading of characters, and writing. Types stand at most
-/// 500 deep in one another.
+/// Whether a checked program is lowered so far: types stand at most 500 deep in one another, and `with` has at most 8 records
+/// open at once.
 #[tactic(auto, using(crate::proofs::Blocks::within))]
 pub fn fits(checked: &Checked) -> bool
     ensures { result ≡ tests.program_fits (program_in checked.now) }

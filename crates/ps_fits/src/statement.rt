@@ -10,10 +10,12 @@ ghost use Rattle.ps_fits.specs.Levels.{context_of};
 use crate::alike::{DEEPEST, has_first, is_ordinal};
 use crate::level::Level;
 use crate::name::{callee, formal_out, own_variable};
-use crate::place::{domain, is_byte, place_type};
+use crate::opening::opened_by;
+use crate::place::{domain, is_byte, packs, place_type};
+use crate::text::is_structure;
 use crate::value::{
-    arguments_fit, contents_fit, has_input, load_fits, load_set_fits, number_fits, place_fits,
-    place_pointer, range_fits, set_fits, string_fits, wanted_fits,
+    arguments_fit, contents_fit, has_input, is_like, load_fits, load_set_fits, number_fits,
+    place_fits, place_pointer, range_fits, set_fits, string_fits, wanted_fits,
 };
 use ps_tree::tree::{
     Argument, CaseElement, Expr, Formal, Place, Range, ReadVariable, Statement, Structure, Width,
@@ -72,13 +74,13 @@ fn assign_fits(k: &Level, target: &Place, range: Range, value: &Expr) -> bool
         && wanted_fits(k, value, place_pointer(k, target))
 }
 
-// whether the value may go to the variable
+// whether the value may go to the variable, of a type of many words
 fn place_contents_fit(k: &Level, value: &Structure, target: &Place) -> bool
     ensures { result ≡ tests.contents_fit_in (context_of k.now) (structure_of value.now) (tests.place_type (context_of k.now) (place_of target.now)) }
 {
     match place_type(k, target) {
         None => false,
-        Some(ty) => contents_fit(k, value, ty),
+        Some(ty) => is_structure(ty) && contents_fit(k, value, ty),
     }
 }
 
@@ -104,12 +106,37 @@ fn new_fits(k: &Level, place: &Place, pointer: u32) -> bool
     load_fits(k, place, Some(pointer)) && !is_byte(place) && domain_has_first(k, pointer)
 }
 
+// whether there are two arrays, and an index of the first
+fn packing_fits(
+    k: &Level,
+    unpacked: &Place,
+    ty: &Ty,
+    packed: &Place,
+    other: &Ty,
+    index: &Expr,
+) -> bool
+    ensures { result ≡ tests.packing_fits (context_of k.now) (place_of unpacked.now) (type_of ty.now) (place_of packed.now) (type_of other.now) (expr_of index.now) }
+{
+    packs(ty, other)
+        && is_like(k, unpacked, ty)
+        && place_fits(k, unpacked)
+        && is_like(k, packed, other)
+        && place_fits(k, packed)
+        && number_fits(k, index)
+}
+
 #[tactic(auto, unfolding(ps_tree::specs::View::read_of, crate::specs::Tests::read_fits))]
 fn read_fits(k: &Level, variable: &ReadVariable) -> bool
     ensures { result ≡ tests.read_fits (context_of k.now) (read_of variable.now) }
 {
     match variable {
         ReadVariable::Char {
+            place,
+            low,
+            high,
+            ..
+        }
+        | ReadVariable::Integer {
             place,
             low,
             high,
@@ -121,7 +148,6 @@ fn read_fits(k: &Level, variable: &ReadVariable) -> bool
             };
             place_fits(k, place) && place_range_fits(k, place, range)
         }
-        ReadVariable::Integer { .. } => false,
     }
 }
 
@@ -184,7 +210,7 @@ fn control_fits(k: &Level, variable: u32) -> bool
 
 #[cycle(statements)]
 #[tactic(auto, using(ps_tree::proofs::StatementLemmas::statement_of_Compound, ps_tree::proofs::StatementLemmas::statement_of_Repeat, ps_tree::proofs::StatementLemmas::statement_of_Case), unfolding(ps_tree::specs::View::statement_of, crate::specs::Tests::statement_fits))]
-fn statement_fits(k: &Level, statement: &Statement) -> bool
+fn statement_fits<'a>(k: &Level<'a>, statement: &'a Statement) -> bool
     ensures { result ≡ tests.statement_fits (context_of k.now) (statement_of statement.now) }
 {
     match statement {
@@ -242,19 +268,35 @@ fn statement_fits(k: &Level, statement: &Statement) -> bool
             load_set_fits(k, target) && set_fits(k, value)
         }
         Statement::AssignStructure { target, value } => assign_structure_fits(k, target, value),
+        Statement::With { places, body } => with_fits(k, body, places),
         Statement::New { place, pointer, .. } => new_fits(k, place, *pointer),
+        Statement::Pack {
+            from,
+            from_ty,
+            index,
+            to,
+            to_ty,
+            ..
+        } => packing_fits(k, from, from_ty, to, to_ty, index),
+        Statement::Unpack {
+            from,
+            from_ty,
+            to,
+            to_ty,
+            index,
+            ..
+        } => packing_fits(k, to, to_ty, from, from_ty, index),
         Statement::Read { variables } | Statement::Readln { variables, .. } => {
             input_fits(k, variables)
         }
         Statement::Write { parameters } | Statement::Writeln { parameters } => {
             parameters_fit(k, parameters)
         }
-        Statement::With { .. } | Statement::Pack { .. } | Statement::Unpack { .. } => false,
     }
 }
 
 #[cycle(statements)]
-pub(crate) fn statements_fit(k: &Level, statements: &[Statement]) -> bool
+pub(crate) fn statements_fit<'a>(k: &Level<'a>, statements: &'a [Statement]) -> bool
     ensures { result ≡ tests.statements_fit (context_of k.now) (statements_of statements.now) }
 {
     for statement in statements {
@@ -266,7 +308,7 @@ pub(crate) fn statements_fit(k: &Level, statements: &[Statement]) -> bool
 }
 
 #[cycle(statements)]
-fn elements_fit(k: &Level, elements: &[CaseElement]) -> bool
+fn elements_fit<'a>(k: &Level<'a>, elements: &'a [CaseElement]) -> bool
     ensures { result ≡ tests.elements_fit (context_of k.now) (elements_of elements.now) }
 {
     for element in elements {
@@ -275,4 +317,15 @@ fn elements_fit(k: &Level, elements: &[CaseElement]) -> bool
         }
     }
     true
+}
+
+// a statement within records that are opened one after another
+#[cycle(statements)]
+fn with_fits<'a>(k: &Level<'a>, body: &'a Statement, places: &'a [Place]) -> bool
+    ensures { result ≡ tests.body_fits (context_of k.now) (tests.opened_by (context_of k.now) (map place_of places.now)) (statement_of body.now) }
+{
+    match opened_by(k, places) {
+        None => false,
+        Some(inner) => statement_fits(&inner, body),
+    }
 }

@@ -11,7 +11,7 @@ use crate::alike::{DEEPEST, are_alike, is_integer, is_wanted, pointer_of};
 use crate::heading::{is_passed_alike, is_routine_alike};
 use crate::level::Level;
 use crate::name::{callee, formal_out};
-use crate::place::{is_byte, place_type};
+use crate::place::{fits_byte, is_byte, place_type};
 use crate::text::{is_as_long, is_set, is_string, is_string_type, is_structure, literal_fits};
 use ps_tree::tree::{
     Argument, ArithmeticStep, Expr, Formal, Member, Place, Range, RequiredFunction, Routine,
@@ -30,7 +30,7 @@ fn function_fits(function: RequiredFunction) -> bool
     }
 }
 
-// whether the range is one of numbers, of bytes where the variable is one
+// whether the range is one of numbers, of bytes where the variable takes them alone
 fn number_range_fits(range: Range, byte: bool) -> bool
     ensures { result ≡ tests.number_range_fits range byte }
 {
@@ -57,7 +57,7 @@ pub(crate) fn range_fits(range: Range, ty: &Ty, byte: bool) -> bool
     ensures { result ≡ tests.range_fits range (type_of ty.now) byte }
 {
     match ty {
-        Ty::Simple(_) => number_range_fits(range, byte),
+        Ty::Simple(_) => number_range_fits(range, byte || fits_byte(ty)),
         Ty::Pointer { .. } => is_any(range) && !byte,
         _ => false,
     }
