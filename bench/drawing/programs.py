@@ -279,7 +279,8 @@ class Input:
         """A statement that reads a few numbers and characters."""
         variables = []
         for _ in range(self.draw.randint(1, 3)):
-            host, give = self.draw.choice((("integer", self.number), ("char", self.character)))
+            ways = ("integer", self.number), ("char", self.character)
+            host, give = self.draw.choice(ways if self.drawing.whole else ways[1:])
             found = self.drawing.readable(host)
             if found:
                 give(found.type)
@@ -303,9 +304,10 @@ def copying(drawing):
     return ["while not eof do", *indented(compound([inner, ["readln"], ["writeln('/')"]]))]
 
 
-def drawn(draw):
-    """A program and its input, as texts."""
+def drawn(draw, whole=True):
+    """A program and its input, as texts; of the whole language, or of what compiles today."""
     drawing = Programs(draw)
+    drawing.whole = whole
     drawing.draw_types()
     drawing.constants = [(f"c{count}", draw.randint(-50, 50)) for count in range(1, draw.randint(2, 4))]
     drawing.signatures = []

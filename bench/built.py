@@ -1,0 +1,19 @@
+"""The program that the launcher runs, for what calls it often: the launcher makes a sum of the sources at each call."""
+
+import os
+import subprocess
+import sys
+
+top = os.path.dirname(os.path.dirname(os.path.abspath(__file__)))
+
+
+def current_program():
+    """The launcher builds it where it has to. As with the launcher, PASCAL_BUILT=FOLDER takes FOLDER/pascal/out/pascal as it is."""
+    if os.environ.get("PASCAL_BUILT"):
+        return f"{os.environ['PASCAL_BUILT']}/pascal/out/pascal"
+    subprocess.run([f"{top}/pascal", "--help"], stdout=subprocess.DEVNULL, check=True)
+    wanted = subprocess.run([f"{top}/tools/sources_sum", "pascal"], stdout=subprocess.PIPE, check=True).stdout
+    for path in (f"{top}/released/pascal", f"{top}/crates/pascal/out/pascal"):
+        if os.path.exists(f"{path}.sum") and open(f"{path}.sum", "rb").read() == wanted:
+            return path
+    sys.exit("the launcher runs no program of these sources")
