@@ -1,5 +1,5 @@
 -- Assignments (6.8.2.2): a variable, or the result of a function in its own block, and what goes into it.
-use Rattle.std.proofs.Common.{◌≡◌, ℕ, zero, suc, ◌-◌, ◌==◌, Bool, true, false, ◌||◌, if◌then◌else◌, List, [], ◌∷◌, ◌++◌, drop, get_or, Option, Some, None, slice_get, refl, sym, ap, ◌∙◌, subst, arith, eqb-true}
+use Rattle.std.proofs.Common.{◌≡◌, ℕ, zero, suc, ◌-◌, ◌==◌, Bool, true, false, if◌then◌else◌, List, [], ◌∷◌, ◌++◌, drop, get_or, Option, Some, None, slice_get, refl, sym, ap, ◌∙◌, subst, arith, eqb-true}
 use Rattle.ps_text.specs.declared.Span.{Span}
 use Rattle.ps_tree.specs.declared.types.Ordinal.{Ordinal}
 use Rattle.ps_tree.specs.declared.tree.Range.TheVariants.{Within}
@@ -10,12 +10,12 @@ use Rattle.ps_layout.specs.Shapes.{Shape, shape_of, Whole}
 use Rattle.ps_layout.specs.Paths.{NumberSort, PointerSort}
 use Rattle.ps_layout.specs.Frames.{Own, entries, result_kinds, listed_kinds, kinds_of, variable_kinds}
 use Rattle.ps_code.specs.Scopes.{Scope}
-use Rattle.ps_code.specs.Fits.{PlaceFits, ExprFits, RangeFits, StatementFits, IsStructure, shape_in}
+use Rattle.ps_code.specs.Fits.{PlaceFits, RangeFits, StatementFits, IsStructure, shape_in}
 use Rattle.ps_regions.specs.Regions.{Context, Region, BlockRegion, RecordRegion, FieldNames, Point, BlockPoint, FieldPoint, Heading, ConstantMeaning, TextMeaning, TypeMeaning, VariableMeaning, ParameterMeaning, RoutineMeaning, RoutineParameterMeaning, RequiredMeaning, FileMeaning, LeftOutMeaning}
 use Rattle.ps_typing.specs.Names.{denoted}
 use Rattle.ps_typing.specs.Values.{Value, SimpleValue, SetValue, StructureValue, Variable, Operand, range_of}
 use Rattle.ps_statements.specs.Assignments.{result_of, result_in, target_at, name_or_component, set_assigned, assigned}
-use Rattle.ps_accepts.proofs.Calls.{not_or}
+use Rattle.ps_accepts.proofs.Calls.{not_or, pointer_of_same}
 use Rattle.ps_accepts.proofs.Lists.{right, never, inside, none_some, then_some, provided_some}
 use Rattle.ps_accepts.proofs.Names.{denoted_stands, drop_none}
 use Rattle.ps_accepts.proofs.Operators.{set_fits}
@@ -138,18 +138,10 @@ module _ (D : Table) (k : Scope) (os : List Shape) where
   range_there o true known small = small refl
   range_there o false known small = (known.low, known.high, not_or (fits_byte (OrdinalType o)))
 
-  same_pointer : (m n : ℕ) (e : Expr) → is_compatible (PointerType m) (PointerType n) ≡ true → ExprFits k os e (PointerSort m) → ExprFits k os e (PointerSort n)
-  unfolding is_compatible is_same_type string_length
-  same_pointer m n e q h = go (m == n) refl q
-    where
-      go : (b : Bool) → (m == n) ≡ b → (b || false) ≡ true → ExprFits k os e (PointerSort n)
-      go true p g = subst (λ i. ExprFits k os e (PointerSort i)) (eqb-true m n p) h
-      go false p g = never g
-
   simple_assigned : (p : Place) (b : Bool) (type from : DataType) (e : Expr) (line : ℕ) → TypeKnown D (bound_of k) type → (b ≡ true → fits_byte type ≡ true) → PlaceFits k os p (part_of b type) → SimpleTold D k os e from → is_compatible from type ≡ true → StatementFits k os (Assign p (range_of type) e line)
   unfolding is_compatible is_same_type string_length
   simple_assigned p b (OrdinalType o) (OrdinalType q) e line known small fits h g = (part_of b (OrdinalType o), fits, range_there o b known small, (NumberSort, number_part D k os o b, h.1))
-  simple_assigned p b (PointerType n) (PointerType m) e line known small fits h g = (Whole (shape_of (PointerType n)), whole_fits D k os p (PointerType n) b fits (no_byte b small), tt, (PointerSort n, refl, same_pointer m n e g h.1))
+  simple_assigned p b (PointerType n) (PointerType m) e line known small fits h g = (Whole (shape_of (PointerType n)), whole_fits D k os p (PointerType n) b fits (no_byte b small), tt, (PointerSort n, refl, pointer_of_same D k os m n e g h.1))
   simple_assigned p b (PointerType n) NilType e line known small fits h g = (Whole (shape_of (PointerType n)), whole_fits D k os p (PointerType n) b fits (no_byte b small), tt, (PointerSort n, refl, h n))
   simple_assigned p b (OrdinalType o) (PointerType m) e line known small fits h g = never g
   simple_assigned p b (OrdinalType o) NilType e line known small fits h g = never g

@@ -134,7 +134,7 @@ not_true false e = refl
 module _ (D : Table) (k : Scope) (os : List Shape) where
   -- ---- actual parameters
 
-  pointer_of_same : (m n : ℕ) (e : Expr) → is_compatible (PointerType m) (PointerType n) ≡ true → ExprFits k os e (PointerSort m) → ExprFits k os e (PointerSort n)
+  pub pointer_of_same : (m n : ℕ) (e : Expr) → is_compatible (PointerType m) (PointerType n) ≡ true → ExprFits k os e (PointerSort m) → ExprFits k os e (PointerSort n)
   unfolding is_compatible is_same_type string_length
   pointer_of_same m n e q h = go (m == n) refl q
     where

@@ -1,7 +1,7 @@
 -- Constants (6.3): ordinals of known types that are integers, and strings of bytes.
 use Rattle.std.proofs.Common.{◌≡◌, ℕ, zero, suc, ◌+◌, ◌-◌, ◌<◌, ◌≤◌, true, if◌then◌else◌, nat_lt, List, [], ◌∷◌, length, ℤ, pos, negsuc, ◌-ℤ◌, int_le, Option, Some, None, IsTrue, refl, sym, ap, ◌∙◌, subst, arith, lt-ltb, ltb-true, leb-true}
 use Rattle.ps_text.specs.declared.Span.{Span}
-use Rattle.ps_scan.specs.Values.{number_of_digits, characters}
+use Rattle.ps_scan.specs.Values.{characters}
 use Rattle.ps_syntax.specs.declared.expression.Sign.{Sign}
 use Rattle.ps_syntax.specs.declared.expression.Sign.TheVariants as sign
 use Rattle.ps_syntax.specs.declared.statement.Constant.{Constant}
@@ -15,7 +15,7 @@ use Rattle.ps_regions.specs.Option.{◌>>=◌}
 use Rattle.ps_regions.specs.Regions.{Region, Point, BlockPoint, FieldPoint, ConstantMeaning, TextMeaning}
 use Rattle.ps_regions.specs.Spelling.{bytes_at, spelled}
 use Rattle.ps_accepts.proofs.Calls.{char_known}
-use Rattle.ps_accepts.proofs.Expressions.{within_text}
+use Rattle.ps_accepts.proofs.Expressions.{integer_there, within_text}
 use Rattle.ps_accepts.proofs.Lists.{Each, inside, none_some, then_some, provided_some, if_some}
 use Rattle.ps_accepts.proofs.Names.{PointKnown, find_known}
 use Rattle.ps_accepts.proofs.Operators.{integer_known}
@@ -25,9 +25,6 @@ use Rattle.ps_accepts.proofs.Tables.{Table, OrdinalKnown}
 abbrev pub ConstantKnown : Table → ConstantValue → Type 0
 ConstantKnown D (OrdinalConstant o n) = OrdinalKnown D o × IsTrue (is_integer n)
 ConstantKnown D (TextConstant w) = IsText w
-
-integer_there : (w : List ℕ) → IsTrue (is_integer (pos (number_of_digits w)))
-integer_there w = lt-ltb (number_of_digits w) 2147483648 (omega arith)
 
 negated : (k : ℕ) → pos 0 -ℤ pos (suc k) ≡ negsuc k
 negated k =

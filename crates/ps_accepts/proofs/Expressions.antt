@@ -102,6 +102,9 @@ within_text text at h l =
       short = let c = characters_short false (slice_range w 1 (length w - 1)) in let d = a.short in let e = b.short in omega (arith, c, d, e, l);
     }
 
+pub integer_there : (w : List ℕ) → IsTrue (is_integer (pos (number_of_digits w)))
+integer_there w = lt-ltb (number_of_digits w) 2147483648 (omega arith)
+
 module _ (D : Table) (k : Scope) (os : List Shape) where
   -- ---- operands that are no variables
 
@@ -168,9 +171,6 @@ module _ (D : Table) (k : Scope) (os : List Shape) where
       subst MemberTold (provided_some _ _ t b.2).1 ((ordinal_told D k os v a.0 h a.1).1, (ordinal_told D k os w b.0 g b.1).1)
 
   -- ---- constants
-
-  integer_there : (w : List ℕ) → IsTrue (is_integer (pos (number_of_digits w)))
-  integer_there w = lt-ltb (number_of_digits w) 2147483648 (omega arith)
 
   constant_number : (n : ℤ) (v : Value) → IsTrue (is_integer n) → constant_value (OrdinalConstant integer n) ≡ Some v → ValueTold D k os v
   unfolding constant_value
