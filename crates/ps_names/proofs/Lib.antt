@@ -1,0 +1,13 @@
+pub mod Lists
+pub mod TypePoints
+pub mod Declared
+pub mod Domains
+pub mod Formals
+pub mod Routines
+pub mod Steps
+pub mod Forwards
+pub mod Blocks
+pub mod Paths
+pub mod Found
+pub mod Denoted
+pub mod Examples

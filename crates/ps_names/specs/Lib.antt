@@ -1,0 +1,7 @@
+pub mod Definitions
+pub mod Denoting
+pub mod Within
+pub mod Domains
+pub mod Meanings
+pub mod Uses
+pub mod Forward
