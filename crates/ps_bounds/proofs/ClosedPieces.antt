@@ -1,5 +1,5 @@
 -- The pieces that all constructs share are closed.
-use Rattle.std.proofs.Common.{◌≡◌, ℕ, zero, suc, ◌%◌, Bool, true, false, not, ◌&&◌, nat_eq, nat_le, if◌then◌else◌, List, [], ◌∷◌, length, ℤ, pos, negsuc, ◌-ℤ◌, int_lt, Option, Some, None, refl, arith, leb-true}
+use Rattle.std.proofs.Common.{◌≡◌, ℕ, zero, suc, ◌+◌, ◌-◌, ◌*◌, ◌<◌, ◌%◌, Bool, true, false, not, ◌&&◌, nat_eq, nat_le, nat_lt, if◌then◌else◌, List, [], ◌∷◌, length, ℤ, pos, negsuc, ◌-ℤ◌, Option, Some, None, refl, arith, leb-true, ltb-true, ltb-false}
 use Rattle.ps_tree.specs.declared.tree.Range.{Range}
 use Rattle.ps_tree.specs.declared.tree.Range.TheVariants.{Any, Within}
 use Rattle.ps_tree.specs.declared.tree.SetRelation.{SetRelation}
@@ -14,12 +14,14 @@ use Rattle.tac_code.specs.declared.code.Base.TheVariants as base
 use Rattle.tac_code.specs.declared.code.Instruction.{Instruction}
 use Rattle.tac_code.specs.declared.code.Instruction.TheVariants as i
 use Rattle.tac_code.specs.Sound.{IsErrorNumber, IsLine}
+use Rattle.tac_code.specs.Numbers.{number_of}
 use Rattle.ps_layout.specs.Words.{filled}
 use Rattle.ps_layout.specs.Frames.{Kind, Own, Reference, Closure}
 use Rattle.ps_code.specs.Fits.{FunctionFits}
-use Rattle.ps_code.specs.Scopes.{moved, least, greatest, range_code, is_any, check_code, fitting_code, operand_check, operand_of, Site, Scope, kind_at, is_outermost, hops, frame_code, link_code, formal_code}
-use Rattle.ps_code.specs.Values.{negated, literal_of, is_relation, is_truth, right_in, relation_code, finish, truth_finish, load_code, store_code, index_code, function_code, minus_code, reference_code, name_code, clear_code, set_check, same_sets_code, sets_code, range_members}
-use Rattle.ps_bounds.specs.Forms.{AreIntegers, IsRange, HasBounds, ExprFormed}
+use Rattle.ps_code.specs.Scopes.{beside, moved, least, greatest, range_code, is_any, check_code, fitting_code, operand_check, operand_of, Site, Scope, kind_at, is_outermost, hops, frame_code, link_code, formal_code}
+use Rattle.ps_code.specs.Values.{negated, literal_of, is_relation, is_truth, right_in, relation_code, finish, truth_finish, load_code, store_code, index_code, function_code, minus_code, reference_code, name_code, holds_all, outside_bits, masked, joined_word, outside_code, set_check, clear_code, same_sets_code, sets_code, range_members}
+use Rattle.ps_code.proofs.Masks.{outside_small}
+use Rattle.ps_bounds.specs.Forms.{IsRange, HasBounds, ExprFormed}
 use Rattle.ps_bounds.proofs.Closed.{IsInt, to_int, IsNumber, Closed, anywhere, both, either}
 
 -- ---- numbers
@@ -36,9 +38,12 @@ abbrev pub IsKnown : Option ℤ → Type 0
 IsKnown None = Unit {0}
 IsKnown (Some z) = IsInt z
 
-pub chosen : (b : Bool) (x y : ℤ) → IsInt x → IsInt y → IsInt (if b then x else y)
-chosen true x y l m = l
-chosen false x y l m = m
+number_int : (n : ℕ) → n < 4294967296 → IsInt (number_of n)
+number_int n l = go (nat_lt n 2147483648) refl
+  where
+    go : (b : Bool) → nat_lt n 2147483648 ≡ b → IsInt (if b then pos n else negsuc (4294967296 - suc n))
+    go true e = ltb-true n 2147483648 e
+    go false e = let m = ltb-false n 2147483648 e in omega (arith, l, m)
 
 pub negated_known : (e : Expr) → IsKnown (negated e)
 negated_known (Number n) = go (is_between least (pos 0 -ℤ n) greatest) refl
@@ -154,62 +159,29 @@ module _ (R T : ℕ) (k : Scope) where
   name_closed (Entry up index) t = both R T (frame_code k t up) _ (frame_closed t up) (reference_closed (kind_at k up index) t up index)
   name_closed (Opened which type number) t = tt
 
+-- ---- a set against the bounds of a base
+
+module _ (R T : ℕ) where
+  joined_closed : (t x mask : ℕ) → mask < 4294967296 → Closed R T 0 0 (joined_word t x mask)
+  joined_closed t x mask l =
+      either R T (nat_eq mask 0) [] _ tt
+      (both R T (i.Load (beside t) base.Scratch x ∷ masked (beside t) mask) _ (both R T (i.Load (beside t) base.Scratch x ∷ []) _ (tt, tt, tt) (either R T (nat_eq mask 4294967295) [] _ tt (number_int mask l, tt, tt))) (tt, tt, tt))
+
+  outside_closed : (low high : ℤ) (t x words : ℕ) → Closed R T 0 0 (outside_code low high t x words)
+  unfolding outside_code
+  outside_closed low high t x zero = tt
+  outside_closed low high t x (suc q) = both R T (outside_code low high t x q) _ (outside_closed low high t x q) (joined_closed t (x + 4 * q) (outside_bits low high q) (outside_small low high q))
+
+  pub set_check_closed : (t x : ℕ) (low high : ℤ) (line : ℕ) → IsLine line → Closed R T 0 0 (set_check t x low high line)
+  set_check_closed t x low high line w =
+      either R T (holds_all low high) [] _ tt
+      (both R T (i.Literal t (pos 0) ∷ outside_code low high t x 8) _ (both R T (i.Literal t (pos 0) ∷ []) _ (omega arith, tt, tt) (outside_closed low high t x 8)) (omega arith, omega arith, (omega (arith, w), tt, tt)))
+
 -- ---- sets
 
 module _ (R T : ℕ) (k : Scope) (h : length k.program.routines ≡ R) where
   pub clear_closed : (t x : ℕ) → Closed R T 0 0 (clear_code k t x)
   clear_closed t x = omega arith
-
-  pub set_check_closed : (d x : ℕ) (low high : ℤ) (line : ℕ) → AreIntegers low high → IsLine line → Closed R T 0 0 (set_check k d x low high line)
-  set_check_closed d x l m line f w = (
-    omega arith,
-    tt,
-    (
-      tt,
-      tt,
-      (
-        tt,
-        tt,
-        (
-          tt,
-          tt,
-          (
-            tt,
-            tt,
-            (
-              tt,
-              tt,
-              (
-                tt,
-                tt,
-                (
-                  tt,
-                  tt,
-                  (
-                    tt,
-                    tt,
-                    (
-                      tt,
-                      tt,
-                      (
-                        chosen (int_lt l (pos 0)) (pos 0) l (omega arith) (to_int l f.0),
-                        tt,
-                        (
-                          chosen (int_lt (pos 255) m) (pos 255) m (omega arith) (to_int m f.1),
-                          tt,
-                          (omega (arith, h), tt, (tt, tt, (omega (arith, h), tt, (omega arith, omega arith, (omega (arith, w), tt, tt))))),
-                        ),
-                      ),
-                    ),
-                  ),
-                ),
-              ),
-            ),
-          ),
-        ),
-      ),
-    ),
-  )
 
   same_closed : (t x : ℕ) → Closed R T 0 0 (same_sets_code k t x)
   same_closed t x = omega (arith, h)

@@ -91,7 +91,7 @@ module _ (R T : ℕ) where
         four R T (place_code k p c 0) _ _ _ (place_closed R T k h.0 p c 0 f.0) (expr_closed R T k h.0 e t f.1) (fitting_closed R T (literal_of e) t range line f.2 f.3) (store_closed R T (is_byte p) (place_site k p c) t)
     statement_closed k h (AssignSet p low high e line) d f =
         let c = odd_from d in let t = even_from (suc c) in let r = h.0 in
-        five R T (place_code k p c 0) _ _ _ _ (place_closed R T k h.0 p c 0 f.0) (set_closed R T k h.0 e (suc c) 0 f.1) (set_check_closed R T k h.0 t 0 low high line f.2 f.3) (tt, tt, tt) (omega (arith, r))
+        five R T (place_code k p c 0) _ _ _ _ (place_closed R T k h.0 p c 0 f.0) (set_closed R T k h.0 e (suc c) 0 f.1) (set_check_closed R T t 0 low high line f.3) (tt, tt, tt) (omega (arith, r))
     statement_closed k h (AssignStructure p e) d f =
         let c = held (structure_calls e) d in let t = even_from (suc (place_temporary p c)) in let r = h.0 in let s = f.2 in
         four R T (place_code k p c 0) _ _ _ (place_closed R T k h.0 p c 0 f.0) (structure_closed R T k h.0 e t 0 f.1) (tt, tt, tt) (omega (arith, r, s))

@@ -142,7 +142,7 @@ module _ (R T : ℕ) (k : Scope) (h : length k.program.routines ≡ R) where
     argument_closed : (a : Argument) (t x : ℕ) → ArgumentFormed R T a → Closed R T 0 0 (argument_code k a t x)
     argument_closed (ByValue e range line) t x f = both R T (front_code k e t x ++ finish e t) _ (finished e t x f.0 (front_closed e t x f.0)) (fitting_closed R T (literal_of e) t range line f.1 f.2)
     argument_closed (BySet e low high line) t x f =
-        three R T (set_code k e t x) _ _ (set_closed e t x f.0) (set_check_closed R T k h (even_from t) x low high line f.1 f.2) (tt, tt, tt)
+        three R T (set_code k e t x) _ _ (set_closed e t x f.0) (set_check_closed R T (even_from t) x low high line f.2) (tt, tt, tt)
     argument_closed (ByCopy e type) t x f =
         let n = f.1 in
         three R T (structure_code k e t x) _ _ (structure_closed e t x f.0) (omega (arith, h, n)) (tt, tt, tt)

@@ -82,7 +82,7 @@ mutual
       four (place_code k p c 0) _ _ _ (place_narrow k b os o p c 0 f.0 f.1) (expr_narrow k b os o e t f.2) (fitting_narrow (literal_of e) t range line) (store_narrow (is_byte p) (place_site k p c) t (place_most k b os o p c f.0 f.1))
   statement_narrow k b os o (AssignSet p low high e line) d f =
       let c = odd_from d in let t = even_from (suc c) in
-      five (place_code k p c 0) _ _ _ _ (place_narrow k b os o p c 0 f.0 f.1) (set_narrow k b os o e (suc c) 0 f.2) (set_check_narrow k t 0 low high line)
+      five (place_code k p c 0) _ _ _ _ (place_narrow k b os o p c 0 f.0 f.1) (set_narrow k b os o e (suc c) 0 f.2) (set_check_narrow t 0 low high line)
       (site_narrow t (place_site k p c) 32 (place_most k b os o p c f.0 f.1) (omega arith)) ((tt, tt), (tt, (tt, tt)))
   statement_narrow k b os o (AssignStructure p e) d f =
       let c = held (structure_calls e) d in let t = even_from (suc (place_temporary p c)) in

@@ -1,5 +1,5 @@
 -- The code of variables, expressions and actual parameters has small offsets, and their variables lie within their blocks.
-use Rattle.std.proofs.Common.{◌≡◌, ℕ, zero, suc, ◌+◌, ◌<◌, ◌≤◌, ℤ, Bool, not, ◌&&◌, nat_eq, List, [], ◌∷◌, ◌++◌, Option, Some, None, sym, subst, arith}
+use Rattle.std.proofs.Common.{◌≡◌, ℕ, zero, suc, ◌+◌, ◌*◌, ◌<◌, ◌≤◌, ℤ, Bool, not, ◌&&◌, nat_eq, List, [], ◌∷◌, ◌++◌, Option, Some, None, sym, subst, arith}
 use Rattle.ps_tree.specs.declared.tree.BooleanOperator.{BooleanOperator}
 use Rattle.ps_tree.specs.declared.tree.RequiredFunction.{RequiredFunction}
 use Rattle.ps_tree.specs.declared.tree.RequiredFunction.TheVariants.{Abs, Sqr, Odd, Ord, Chr, Succ, Pred}
@@ -15,7 +15,7 @@ use Rattle.tac_code.specs.declared.code.Instruction.TheVariants as i
 use Rattle.ps_layout.specs.Shapes.{Shape, shape_of, byte_count, field_offset, Part, Whole, component_part}
 use Rattle.ps_code.specs.Scopes.{even_from, odd_from, held, kept, beside, moved, least, greatest, is_any, range_code, check_code, fitting_code, operand_check, unless_known, Site, Scope, site_code, input_site}
 use Rattle.ps_code.specs.Calling.{selectors_call, expr_calls, steps_call, operands_call, structure_calls, arguments_call}
-use Rattle.ps_code.specs.Values.{literal_of, negated, is_relation, is_truth, relation_code, finish, truth_finish, known_steps, element_site, selectors_site, is_byte, index_code, function_code, minus_code, argument_end, argument_scratch, arguments_words, arguments_end, name_code, name_site, place_site, clear_code, set_check, same_sets_code, sets_code, range_members, place_code, selectors_code, front_code, steps_code, operands_code, set_code, set_steps_code, members_code, member_code, structure_code, argument_code, arguments_code}
+use Rattle.ps_code.specs.Values.{literal_of, negated, is_relation, is_truth, relation_code, finish, truth_finish, known_steps, element_site, selectors_site, is_byte, index_code, function_code, minus_code, argument_end, argument_scratch, arguments_words, arguments_end, name_code, name_site, place_site, holds_all, outside_bits, masked, joined_word, outside_code, set_check, clear_code, same_sets_code, sets_code, range_members, place_code, selectors_code, front_code, steps_code, operands_code, set_code, set_steps_code, members_code, member_code, structure_code, argument_code, arguments_code}
 use Rattle.ps_bounds.specs.Places.{PlaceLies, SelectorsLie, ExprLies, StepsLie, OperandsLie, SetLies, SetStepsLie, MemberLies, MembersLie, StructureLies, ArgumentLies, ArgumentsLie}
 use Rattle.ps_bounds.proofs.Narrow.{Narrow, at_narrow, both, three, four, either, unknown, part_bytes, component_most, field_part_in, known_in, Reach, SitesReach, element_reach, load_narrow, site_narrow, index_narrow, Framed, link_narrow, formal_narrow, name_narrow, name_reach}
 
@@ -58,12 +58,20 @@ minus_narrow : (z : Option ℤ) (d t line : ℕ) (code : List Instruction) → N
 minus_narrow (Some z) d t line code c = (tt, tt)
 minus_narrow None d t line code c = both code _ c (tt, (tt, tt))
 
+joined_narrow : (t x mask : ℕ) → Narrow (joined_word t x mask)
+joined_narrow t x mask = either (nat_eq mask 0) [] _ tt (tt, both (masked (beside t) mask) _ (either (nat_eq mask 4294967295) [] _ tt (tt, tt)) (tt, tt))
+
+outside_narrow : (low high : ℤ) (t x words : ℕ) → Narrow (outside_code low high t x words)
+unfolding outside_code
+outside_narrow low high t x zero = tt
+outside_narrow low high t x (suc q) = both (outside_code low high t x q) _ (outside_narrow low high t x q) (joined_narrow t (x + 4 * q) (outside_bits low high q))
+
+pub set_check_narrow : (t x : ℕ) (low high : ℤ) (line : ℕ) → Narrow (set_check t x low high line)
+set_check_narrow t x low high line = either (holds_all low high) [] _ tt (tt, both (outside_code low high t x 8) _ (outside_narrow low high t x 8) (tt, (tt, tt)))
+
 module _ (k : Scope) where
   clear_narrow : (t x : ℕ) → Narrow (clear_code k t x)
   clear_narrow t x = omega arith
-
-  pub set_check_narrow : (d x : ℕ) (low high : ℤ) (line : ℕ) → Narrow (set_check k d x low high line)
-  set_check_narrow d x l h line = omega arith
 
   sets_narrow : (relation : SetRelation) (t x : ℕ) → Narrow (sets_code k relation t x)
   sets_narrow sets.Included t x = omega arith
@@ -206,7 +214,7 @@ module _ (k : Scope) (b : Framed k.program) (os : List Shape) (o : SitesReach k.
 
     argument_narrow : (a : Argument) (t x : ℕ) → ArgumentLies k os a → Narrow (argument_code k a t x)
     argument_narrow (ByValue e range line) t x f = both (front_code k e t x ++ finish e t) _ (finished e t x (front_narrow e t x f)) (fitting_narrow (literal_of e) t range line)
-    argument_narrow (BySet e low high line) t x f = three (set_code k e t x) _ _ (set_narrow e t x f) (set_check_narrow k (even_from t) x low high line) ((tt, tt), tt)
+    argument_narrow (BySet e low high line) t x f = three (set_code k e t x) _ _ (set_narrow e t x f) (set_check_narrow (even_from t) x low high line) ((tt, tt), tt)
     argument_narrow (ByCopy e type) t x f = three (structure_code k e t x) _ _ (structure_narrow e t x f) ((tt, tt), (tt, (tt, tt))) ((tt, tt), tt)
     argument_narrow (ByVariable p) t x f = both (place_code k p t x) _ (place_narrow p t x f.0 f.1) (site_narrow t (place_site k p t) 0 (place_most p t f.0 f.1) (omega arith))
     argument_narrow (ByRoutine routine up) t x f = (tt, link_narrow k (beside t) up)

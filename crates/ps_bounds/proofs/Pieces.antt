@@ -1,5 +1,5 @@
 -- What the pieces that all constructs share use.
-use Rattle.std.proofs.Common.{◌≡◌, ℕ, zero, suc, ◌+◌, ◌%◌, ◌<◌, ◌≤◌, Bool, true, false, not, ◌&&◌, nat_eq, if◌then◌else◌, List, [], ◌∷◌, ℤ, Option, Some, None, slice_get, arith}
+use Rattle.std.proofs.Common.{◌≡◌, ℕ, zero, suc, ◌+◌, ◌*◌, ◌%◌, ◌<◌, ◌≤◌, Bool, true, false, not, ◌&&◌, nat_eq, if◌then◌else◌, List, [], ◌∷◌, ℤ, Option, Some, None, slice_get, arith}
 use Rattle.ps_tree.specs.declared.tree.Range.{Range}
 use Rattle.ps_tree.specs.declared.tree.Range.TheVariants.{Any, Within}
 use Rattle.ps_tree.specs.declared.tree.SetRelation.{SetRelation}
@@ -16,7 +16,7 @@ use Rattle.ps_layout.specs.Shapes.{shape_of, field_offset}
 use Rattle.ps_layout.specs.Frames.{Kind, Own, Reference, Closure}
 use Rattle.ps_code.specs.Scopes.{held, kept, beside, moved, least, greatest, range_code, is_any, check_code, fitting_code, operand_check, operand_of, Site, Scope, kind_at, is_outermost, hops, frame_code, frame_base, link_code, formal_code, site_code}
 use Rattle.ps_code.specs.Calling.{expr_calls, selectors_call}
-use Rattle.ps_code.specs.Values.{literal_of, is_relation, is_truth, left_in, right_in, relation_code, finish, truth_finish, known_steps, element_site, selectors_site, load_code, store_code, index_code, function_code, minus_code, field_site, reference_code, entry_site, name_code, name_site, place_site, clear_code, set_check, same_sets_code, sets_code, range_members}
+use Rattle.ps_code.specs.Values.{literal_of, is_relation, is_truth, left_in, right_in, relation_code, finish, truth_finish, known_steps, element_site, selectors_site, load_code, store_code, index_code, function_code, minus_code, field_site, reference_code, entry_site, name_code, name_site, place_site, holds_all, outside_bits, masked, joined_word, outside_code, set_check, clear_code, same_sets_code, sets_code, range_members}
 use Rattle.ps_bounds.proofs.Uses.{OperandUnder, BaseUnder, Under, both, either, at_base}
 
 -- ---- depths
@@ -183,14 +183,29 @@ module _ (k : Scope) (D X : ℕ) where
       let l : kept (selectors_call selectors) d < D = omega (arith, h, m) in
       selectors_under k D selectors (name_site k name (kept (selectors_call selectors) d)) (kept (selectors_call selectors) d) l (name_site_under name (kept (selectors_call selectors) d) o l)
 
+-- ---- a set against the bounds of a base
+
+module _ (D X : ℕ) where
+  joined_under : (t x mask : ℕ) → t + 3 ≤ D → x + 4 ≤ X → x % 4 ≡ 0 → Under D X (joined_word t x mask)
+  joined_under t x mask h l q =
+      either D X (nat_eq mask 0) [] _ tt
+      (omega (arith, h, l, q), both D X (masked (beside t) mask) _ (either D X (nat_eq mask 4294967295) [] _ tt (omega (arith, h))) (omega (arith, h)))
+
+  outside_under : (low high : ℤ) (t x words : ℕ) → t + 3 ≤ D → x + 4 * words ≤ X → x % 4 ≡ 0 → Under D X (outside_code low high t x words)
+  unfolding outside_code
+  outside_under low high t x zero h l q = tt
+  outside_under low high t x (suc n) h l q =
+      both D X (outside_code low high t x n) _ (outside_under low high t x n h (omega (arith, l)) q) (joined_under t (x + 4 * n) (outside_bits low high n) h (omega (arith, l)) (omega (arith, q)))
+
+  pub set_check_under : (t x : ℕ) (low high : ℤ) (line : ℕ) → t + 3 ≤ D → x + 32 ≤ X → x % 4 ≡ 0 → Under D X (set_check t x low high line)
+  set_check_under t x low high line h l q =
+      either D X (holds_all low high) [] _ tt (omega (arith, h), both D X (outside_code low high t x 8) _ (outside_under low high t x 8 h (omega (arith, l)) q) (omega (arith, h)))
+
 -- ---- sets: they stand in the scratch block
 
 module _ (k : Scope) (D X : ℕ) where
   pub clear_under : (t x : ℕ) → t < D → x + 32 ≤ X → x % 4 ≡ 0 → Under D X (clear_code k t x)
   clear_under t x h l q = omega (arith, h, l, q)
-
-  pub set_check_under : (d x : ℕ) (low high : ℤ) (line : ℕ) → d + 5 ≤ D → x + 64 ≤ X → x % 4 ≡ 0 → Under D X (set_check k d x low high line)
-  set_check_under d x low high line h l q = omega (arith, h, l, q)
 
   same_under : (t x : ℕ) → t + 3 ≤ D → x + 64 ≤ X → x % 4 ≡ 0 → Under D X (same_sets_code k t x)
   same_under t x h l q = omega (arith, h, l, q)

@@ -100,7 +100,7 @@ module _ (D X : ℕ) where
         (fitting_under D X (literal_of e) t range line (omega (arith, r, m, l, n, q))) (store_under D X (is_byte p) (place_site k p c) t (omega (arith, r, m, l, n, q)) (at_place k D X o p c (omega (arith, r, m))))
     statement_under k o (AssignSet p low high e line) d r =
         let c = odd_from d in let t = even_from (suc c) in let n = place_node p in let q = set_node e in
-        five D X (place_code k p c 0) _ _ _ _ (place_under k D X o p c 0 (omega (arith, r))) (set_under k D X o e (suc c) 0 (omega (arith, r))) (set_check_under k D X t 0 low high line (omega (arith, r, n, q)) (omega (arith, r, n, q)) (omega arith))
+        five D X (place_code k p c 0) _ _ _ _ (place_under k D X o p c 0 (omega (arith, r))) (set_under k D X o e (suc c) 0 (omega (arith, r))) (set_check_under D X t 0 low high line (omega (arith, r, n, q)) (omega (arith, r, n, q)) (omega arith))
         (site_under D X t (place_site k p c) 32 (omega (arith, r)) (at_place k D X o p c (omega (arith, r)))) (omega (arith, r, n, q))
     statement_under k o (AssignStructure p e) d r =
         let c = held (structure_calls e) d in let m = held_most (structure_calls e) d in let l = temporary_most p c in let n = place_node p in let q = structure_node e in

@@ -220,7 +220,7 @@ module _ (k : Scope) (D X : ℕ) (o : OpenedUnder D k.opened) where
     argument_under (BySet e low high line) t x r =
         let n = set_node e in
         three D X (set_code k e t x) _ _ (set_under e t x (omega (arith, r)))
-        (set_check_under k D X (even_from t) x low high line (omega (arith, r, n)) (omega (arith, r, n)) (omega (arith, r))) (omega (arith, r))
+        (set_check_under D X (even_from t) x low high line (omega (arith, r, n)) (omega (arith, r, n)) (omega (arith, r))) (omega (arith, r))
     argument_under (ByCopy e type) t x r =
         let n = structure_node e in let c = words_cells type in
         three D X (structure_code k e t x) _ _ (structure_under e t x (omega (arith, r))) (omega (arith, r, n, c)) (omega (arith, r, n, c))

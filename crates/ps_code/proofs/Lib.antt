@@ -1,3 +1,4 @@
 pub mod Depths
 mod Examples
+pub mod Masks
 mod Orders

@@ -195,7 +195,7 @@ abbrev mutual
       ++ fitting_code (literal_of e) (even_from (suc (place_temporary p (kept (expr_calls e) d)))) range line
       ++ store_code (is_byte p) (place_site k p (kept (expr_calls e) d)) (even_from (suc (place_temporary p (kept (expr_calls e) d))))
   statement_code k (AssignSet p low high e line) d =
-      place_code k p (held true d) 0 ++ set_code k e (suc (held true d)) 0 ++ set_check k (even_from (suc (held true d))) 0 low high line
+      place_code k p (held true d) 0 ++ set_code k e (suc (held true d)) 0 ++ set_check (even_from (suc (held true d))) 0 low high line
       ++ site_code (even_from (suc (held true d))) (place_site k p (held true d)) 32 ++ i.Offset (beside (even_from (suc (held true d)))) base.Scratch 0 32
       ∷ copy_code k (even_from (suc (held true d))) (beside (even_from (suc (held true d)))) (beside (beside (even_from (suc (held true d))))) 32
   statement_code k (AssignStructure p e) d =

@@ -1,6 +1,6 @@
 -- The code of variables, expressions and actual parameters. Code at depths d and x leaves its word in temporary d, writes no
 -- temporary below d, and no byte of the scratch block below x. A set stands in the scratch block from x on.
-use Rattle.std.specs.Prelude.{ℕ, suc, ◌+◌, ◌*◌, ℤ, pos, ◌-ℤ◌, unsigned_abs, Bool, true, false, not, ◌&&◌, if◌then◌else◌, List, [], ◌∷◌, ◌++◌, length, Option, Some, None, int_lt, slice_get}
+use Rattle.std.specs.Prelude.{ℕ, zero, suc, ◌+◌, ◌*◌, ℤ, pos, ◌-ℤ◌, unsigned_abs, Bool, true, false, not, ◌&&◌, nat_eq, if◌then◌else◌, List, [], ◌∷◌, ◌++◌, length, Option, Some, None, int_le, slice_get}
 use Rattle.ps_tree.specs.declared.tree.ArithmeticOperator.{ArithmeticOperator}
 use Rattle.ps_tree.specs.declared.tree.ArithmeticOperator.TheVariants.{Add, Subtract, Multiply, Div, Mod}
 use Rattle.ps_tree.specs.declared.tree.BooleanOperator.{BooleanOperator}
@@ -30,8 +30,9 @@ use Rattle.tac_code.specs.declared.code.Relation.{Relation}
 use Rattle.tac_code.specs.declared.code.Relation.TheVariants.{Equal, NotEqual, Less, LessEqual, Greater, GreaterEqual}
 use Rattle.tac_code.specs.declared.code.Instruction.{Instruction}
 use Rattle.tac_code.specs.declared.code.Instruction.TheVariants as i
+use Rattle.tac_code.specs.Numbers.{number_of}
 use Rattle.ps_layout.specs.Shapes.{Shape, ByteShape, shape_of, byte_count, component_bytes, field_offset}
-use Rattle.ps_layout.specs.Words.{filled}
+use Rattle.ps_layout.specs.Words.{filled, bits_from}
 use Rattle.ps_layout.specs.Frames.{Kind, Reference, entry_offset}
 use Rattle.ps_code.specs.Scopes.{even_from, held, kept, beside, moved, least, greatest, range_code, fitting_code, operand_of, unless_known, Site, Scope, routine_up, kind_at, frame_code, frame_base, link_code, formal_code, site_code, input_site, AddRange, UniteSets, SubtractSet, IntersectSets, IsIncluded, IsMember, CompareBytes, LookAhead, RunTime, helper, copy_code}
 use Rattle.ps_code.specs.Calling.{selectors_call, expr_calls, steps_call, operands_call, structure_calls, arguments_call}
@@ -214,6 +215,34 @@ abbrev pub minus_code : Option ℤ → (d t line : ℕ) → List Instruction →
 minus_code (Some z) d t line code = i.Literal d z ∷ []
 minus_code None d t line code = code ++ i.Literal d (pos 0) ∷ i.Arithmetic operator.Subtract d d (operand.Temporary t) 1 line ∷ []
 
+-- ---- sets within the bounds of a base
+
+-- every member that a set can have lies within them
+abbrev pub holds_all : (low high : ℤ) → Bool
+holds_all low high = int_le low (pos 0) && int_le (pos 255) high
+
+-- what word q of a set can hold outside of them, as bits
+unfoldable pub outside_bits : (low high : ℤ) (q : ℕ) → ℕ
+outside_bits low high q = bits_from 32 (32 * q) (λ k. not (is_between low (pos k) high))
+
+-- some bits of a word
+abbrev pub masked : (t mask : ℕ) → List Instruction
+masked t mask = if nat_eq mask 4294967295 then [] else i.Bits bits.And t t (operand.Number (number_of mask)) ∷ []
+
+-- those bits of the word at x of the scratch block join what t holds; the temporary beside t is used
+abbrev pub joined_word : (t x mask : ℕ) → List Instruction
+joined_word t x mask = if nat_eq mask 0 then [] else (i.Load (beside t) base.Scratch x ∷ masked (beside t) mask ++ i.Bits bits.Or t t (operand.Temporary (beside t)) ∷ [])
+
+-- what the first words of the set from x on hold outside
+unfoldable pub outside_code : (low high : ℤ) (t x words : ℕ) → List Instruction
+outside_code low high t x zero = []
+outside_code low high t x (suc q) = outside_code low high t x q ++ joined_word t (x + 4 * q) (outside_bits low high q)
+
+-- the set from x on lies within the bounds, or error 8
+abbrev pub set_check : (t x : ℕ) (low high : ℤ) (line : ℕ) → List Instruction
+set_check t x low high line =
+    if holds_all low high then [] else (i.Literal t (pos 0) ∷ outside_code low high t x 8 ++ i.Branch Equal t (operand.Number (pos 0)) 1 ∷ i.Trap 8 line ∷ [])
+
 -- ---- actual parameters: where their words stand, and what scratch they hold
 
 abbrev pub argument_words : Argument → (t : ℕ) → List ℕ
@@ -274,16 +303,6 @@ module _ (k : Scope) where
   clear_code t x =
       i.Literal t (pos 0) ∷ i.Store base.Scratch x t ∷ i.Store base.Scratch (x + 4) t ∷ i.Store base.Scratch (x + 8) t ∷ i.Store base.Scratch (x + 12) t
       ∷ i.Store base.Scratch (x + 16) t ∷ i.Store base.Scratch (x + 20) t ∷ i.Store base.Scratch (x + 24) t ∷ i.Store base.Scratch (x + 28) t ∷ []
-
-  -- the set from x on lies within the bounds of a base, or error 8; the 32 bytes behind it are used
-  abbrev pub set_check : (d x : ℕ) (low high : ℤ) (line : ℕ) → List Instruction
-  set_check d x low high line =
-      clear_code d (x + 32)
-      ++ i.Offset d base.Scratch (x + 32) 32 ∷ i.Literal (beside d) (if int_lt low (pos 0) then pos 0 else low)
-      ∷ i.Literal (beside (beside d)) (if int_lt (pos 255) high then pos 255 else high)
-      ∷ helper k AddRange (d ∷ beside d ∷ beside (beside d) ∷ []) (beside d)
-      ∷ i.Offset (beside d) base.Scratch x 32 ∷ helper k IsIncluded (beside d ∷ d ∷ []) d
-      ∷ i.Branch NotEqual d (operand.Number (pos 0)) 1 ∷ i.Trap 8 line ∷ []
 
   -- two sets, from x and from x + 32 on, compared: the truth goes to t
   abbrev pub included_code : (first second to x : ℕ) → List Instruction

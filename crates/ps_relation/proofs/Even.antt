@@ -18,7 +18,7 @@ use Rattle.ps_layout.specs.Shapes.{shape_of, word_count, byte_count, field_offse
 use Rattle.ps_layout.specs.Frames.{Kind, Own, Reference, Closure}
 use Rattle.ps_code.specs.Scopes.{even_from, kept, held, beside, moved, least, greatest, is_any, range_code, check_code, fitting_code, operand_check, unless_known, Site, Scope, kind_at, is_outermost, hops, frame_code, frame_base, link_code, formal_code, site_code, copy_code}
 use Rattle.ps_code.specs.Calling.{selectors_call, expr_calls, arguments_call}
-use Rattle.ps_code.specs.Values.{literal_of, negated, is_relation, is_truth, finish, truth_finish, known_steps, element_site, selectors_site, is_byte, load_code, store_code, index_code, function_code, minus_code, argument_end, argument_scratch, field_site, reference_code, entry_site, name_code, name_site, place_site, clear_code, set_check, included_code, same_sets_code, sets_code, range_members, place_code, selectors_code, front_code, steps_code, operands_code, set_code, set_steps_code, members_code, member_code, structure_code, argument_code, arguments_code}
+use Rattle.ps_code.specs.Values.{literal_of, negated, is_relation, is_truth, finish, truth_finish, known_steps, element_site, selectors_site, is_byte, load_code, store_code, index_code, function_code, minus_code, argument_end, argument_scratch, field_site, reference_code, entry_site, name_code, name_site, place_site, holds_all, outside_bits, joined_word, outside_code, set_check, clear_code, included_code, same_sets_code, sets_code, range_members, place_code, selectors_code, front_code, steps_code, operands_code, set_code, set_steps_code, members_code, member_code, structure_code, argument_code, arguments_code}
 
 -- a multiple of 4
 abbrev pub IsEvenly : ℕ → Type 0
@@ -185,6 +185,19 @@ selectors_plain (selector_before (Element type e line) rest) s t h = selectors_p
 selectors_plain (selector_before (Field type number) rest) s t h = selectors_plain rest (record { base = s.base; offset = s.offset + field_offset (shape_of type) number }) t h
 selectors_plain (selector_before (Target pointer line) rest) s t h = selectors_plain rest (record { base = base.Temporary t; offset = 0 }) t tt
 
+-- ---- a set against the bounds of a base: nothing is stored
+
+even_joined : (t x mask : ℕ) → Even (joined_word t x mask)
+even_joined t x mask = either (nat_eq mask 0) none (more tt (both (either (nat_eq mask 4294967295) none (more tt none)) (more tt none)))
+
+even_outside : (low high : ℤ) (t x words : ℕ) → Even (outside_code low high t x words)
+unfolding outside_code
+even_outside low high t x zero = none
+even_outside low high t x (suc q) = both (even_outside low high t x q) (even_joined t (x + 4 * q) (outside_bits low high q))
+
+pub even_set_check : (t x : ℕ) (low high : ℤ) (line : ℕ) → Even (set_check t x low high line)
+even_set_check t x low high line = either (holds_all low high) none (more tt (both (even_outside low high t x 8) (more tt (more tt none))))
+
 module _ (k : Scope) (opened : ArePlain k.opened) where
   name_plain : (name : PlaceBase) (t : ℕ) → NotScratch (name_site k name t).base
   name_plain (Entry up index) t = go (kind_at k up index)
@@ -220,11 +233,6 @@ module _ (k : Scope) (opened : ArePlain k.opened) where
   even_clear t x h =
       more tt (more h (more (evenly_more x 4 h (1, omega arith)) (more (evenly_more x 8 h (2, omega arith)) (more (evenly_more x 12 h (3, omega arith))
       (more (evenly_more x 16 h (4, omega arith)) (more (evenly_more x 20 h (5, omega arith)) (more (evenly_more x 24 h (6, omega arith)) (more (evenly_more x 28 h (7, omega arith)) none))))))))
-
-  pub even_set_check : (d x : ℕ) (low high : ℤ) (line : ℕ) → IsEvenly x → Even (set_check k d x low high line)
-  even_set_check d x low high line h =
-      let behind = evenly_more x 32 h thirty_two in
-      both (even_clear d (x + 32) behind) (more behind (more tt (more tt (more tt (more h (more tt (more tt (more tt none))))))))
 
   even_included : (a b t x : ℕ) → IsEvenly x → Even (included_code k a b t x)
   even_included a b t x h = more h (more (evenly_more x 32 h thirty_two) (more tt none))
@@ -317,7 +325,7 @@ module _ (k : Scope) (opened : ArePlain k.opened) where
 
     even_argument : (a : Argument) (t x : ℕ) → IsEvenly x → Even (argument_code k a t x)
     even_argument (ByValue e range line) t x h = both (both (even_front e t x h) (even_finish e t)) (even_fitting (literal_of e) t range line)
-    even_argument (BySet e low high line) t x h = both (both (even_set e t x h) (even_set_check (even_from t) x low high line h)) (more h none)
+    even_argument (BySet e low high line) t x h = both (both (even_set e t x h) (even_set_check (even_from t) x low high line)) (more h none)
     even_argument (ByCopy e type) t x h = both (both (even_structure e t x h) (more h (even_copy k _ _ _ (byte_count (shape_of type))))) (more h none)
     even_argument (ByVariable p) t x h = both (even_place p t x h) (even_site t (place_site k p t) 0 (place_plain p t))
     even_argument (ByRoutine r up) t x h = more tt (even_link k _ up)

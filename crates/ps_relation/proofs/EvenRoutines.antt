@@ -108,7 +108,7 @@ mutual
       let t = kept (expr_calls e) d in
       both (both (both (even_place k o p t 0 zero_evenly) (even_expr k o e _ 0 zero_evenly)) (even_fitting (literal_of e) _ range line)) (even_store (is_byte p) (place_site k p t) _ (place_plain k o p t))
   even_statement k o (AssignSet p low high e line) d =
-      both (both (both (both (even_place k o p _ 0 zero_evenly) (even_set k o e _ 0 zero_evenly)) (even_set_check k o _ 0 low high line zero_evenly)) (even_site _ (place_site k p (held true d)) 32 (place_plain k o p (held true d)))) (more zero_evenly (even_copy k _ _ _ 32))
+      both (both (both (both (even_place k o p _ 0 zero_evenly) (even_set k o e _ 0 zero_evenly)) (even_set_check _ 0 low high line)) (even_site _ (place_site k p (held true d)) 32 (place_plain k o p (held true d)))) (more zero_evenly (even_copy k _ _ _ 32))
   even_statement k o (AssignStructure p e) d =
       let t = held (structure_calls e) d in both (both (both (even_place k o p t 0 zero_evenly) (even_structure k o e _ 0 zero_evenly)) (even_site _ (place_site k p t) (structure_bytes e) (place_plain k o p t))) (even_copy k _ _ _ (structure_bytes e))
   even_statement k o (CallProcedure r up arguments line) d = both (both (even_arguments k o arguments d 0 zero_evenly) (even_link k _ up)) (more tt none)

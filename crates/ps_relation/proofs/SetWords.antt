@@ -14,6 +14,7 @@ use Rattle.tac_code.specs.Numbers.{number_of, word_of, bits, same_number}
 use Rattle.ps_meaning.specs.Operators.{combine_sets}
 use Rattle.ps_layout.specs.Words.{bits_from, set_words_from, set_words}
 use Rattle.tac_steps.proofs.Temporaries.{eq_no, eq_same}
+use Rattle.ps_code.proofs.Masks.{bits_below}
 use Rattle.ps_relation.specs.Sets.{set_number, bit_operator_of}
 use Rattle.ps_relation.proofs.Bytes.{word_back}
 
@@ -21,14 +22,6 @@ use Rattle.ps_relation.proofs.Bytes.{word_back}
 
 abbrev pub bit_of : Bool → ℕ
 bit_of b = if b then 1 else 0
-
-pub bits_below : (n k : ℕ) (s : ℕ → Bool) → bits_from n k s < 2 ^ n
-bits_below zero k s = omega arith
-bits_below (suc n) k s = go (s k) (bits_below n (suc k) s)
-  where
-    go : (b : Bool) → bits_from n (suc k) s < 2 ^ n → (if b then 1 else 0) + 2 * bits_from n (suc k) s < 2 ^ suc n
-    go true r = let e = pow-suc 2 n in omega (arith, r, e)
-    go false r = let e = pow-suc 2 n in omega (arith, r, e)
 
 pub bits_bit : (n k i : ℕ) (s : ℕ → Bool) → i < n → bit_at (bits_from n k s) i ≡ bit_of (s (k + i))
 bits_bit zero k i s l = absurd (omega (arith, l))
@@ -81,7 +74,7 @@ bits_and k s t =
     (λ i l. bit_at_and a b i ∙ ap (λ x. min x (bit_at b i)) (bits_bit 32 k i s l) ∙ ap (λ x. min (bit_of (s (k + i))) x) (bits_bit 32 k i t l) ∙ min_bits (s (k + i)) (t (k + i)) ∙ sym (bits_bit 32 k i (λ j. s j && t j) l))
 
 -- a set and all others
-bits_both : (n k : ℕ) (s : ℕ → Bool) → bits_from n k s + bits_from n k (λ i. not (s i)) + 1 ≡ 2 ^ n
+pub bits_both : (n k : ℕ) (s : ℕ → Bool) → bits_from n k s + bits_from n k (λ i. not (s i)) + 1 ≡ 2 ^ n
 bits_both zero k s = omega arith
 bits_both (suc n) k s = go (s k) (bits_both n (suc k) s)
   where

@@ -60,13 +60,13 @@ module _ (p : Setting) (n : ℕ) (call : Caller) (c : Activated) (active : IsAct
       let ctx = context_in c o in
       let u = even_from t in
       let l : t ≤ u = even_above t in
-      let cut2 = split (code_in p) c.routine pc (set_code code e t x ++ set_check code u x low high line) (i.Offset t base.Scratch x 32 ∷ []) pc' st in
-      let cut = split (code_in p) c.routine pc (set_code code e t x) (set_check code u x low high line) cut2.0 cut2.1 in
+      let cut2 = split (code_in p) c.routine pc (set_code code e t x ++ set_check u x low high line) (i.Offset t base.Scratch x 32 ∷ []) pc' st in
+      let cut = split (code_in p) c.routine pc (set_code code e t x) (set_check u x low high line) cut2.0 cut2.1 in
       runs_bind p (suc n) c t x t x t x w k pc cut.0 pc' (set_value call e ctx w) (λ s w1. and_then (fitting_set low high s line ctx w1) (λ v w2. Gives (ValueActual v) w2)) (λ s w' k'. SetIn x s k') (λ y w' k'. ArgumentIn p c (BySet e low high line) kind t (x + 32) y w' k') (omega arith) (omega arith) (omega arith) (omega arith)
       (run t x o w k pc cut.0 alive opened fits.1 cut.1)
       (λ s w1 k1 alive1 kept1 r1.
       runs_bind p (suc n) c t x t x t x w1 k1 cut.0 cut2.0 pc' (fitting_set low high s line ctx w1) (λ v w2. Gives (ValueActual v) w2) (λ v w' k'. (v ≡ SetValue s) × SetIn x s k') (λ y w' k'. ArgumentIn p c (BySet e low high line) kind t (x + 32) y w' k') (omega arith) (omega arith) (omega arith) (omega arith)
-      (set_checked p (suc n) c active does t x u line low high o s w1 k1 cut.0 cut2.0 l alive1 r1 cut.2)
+      (set_checked p (suc n) c active t x u line low high o s w1 k1 cut.0 cut2.0 l alive1 r1 cut.2)
       (λ v w2 k2 alive2 kept2 r2.
       subst (λ y. Runs p (suc n) c t x w2 k2 cut2.0 pc' (Gives (ValueActual y) w2) (λ y w' k'. ArgumentIn p c (BySet e low high line) kind t (x + 32) y w' k')) (sym r2.0)
       (set_passed e low high line t x kind s w2 k2 cut2.0 pc' fits.0 alive2 r2.1 cut2.2)))

@@ -122,7 +122,7 @@ module _ (p : Setting) (n : ℕ) (call : Caller) (next : Next) (c : Activated) (
       let site = place_site code q a in
       let P = place_code code q a 0 in
       let S = set_code code e (suc a) 0 in
-      let C = set_check code t 0 low high line in
+      let C = set_check t 0 low high line in
       let F = i.Offset t site.base site.offset 32 ∷ [] in
       let R = i.Offset u base.Scratch 0 32 ∷ copy_code code t u v 32 in
       let cut4 = split (code_in p) c.routine pc (P ++ S ++ C ++ F) R pc' st in
@@ -139,7 +139,7 @@ module _ (p : Setting) (n : ℕ) (call : Caller) (next : Next) (c : Activated) (
       (λ x w2 k2 alive2 kept2 r2.
       let at2 = site_kept p c (suc a) 0 w1 w2 k1 k2 site s (Whole SetShape) below kept2 r1.0 in
       runs_bind p (suc n) c d 0 (suc a) 0 d 0 w2 k2 cut2.0 cut3.0 pc' (fitting_set low high x line ctx w2) (λ y w3. put_into s y w3) (λ y w' k'. (y ≡ SetValue x) × SetIn 0 x k') Nothing (omega (arith, la)) (omega arith) (omega arith) (omega arith)
-      (set_checked p (suc n) c active does (suc a) 0 t line low high o x w2 k2 cut2.0 cut3.0 lt alive2 r2 cut2.2)
+      (set_checked p (suc n) c active (suc a) 0 t line low high o x w2 k2 cut2.0 cut3.0 lt alive2 r2 cut2.2)
       (λ y w3 k3 alive3 kept3 r3.
       let at3 = site_kept p c (suc a) 0 w2 w3 k2 k3 site s (Whole SetShape) below kept3 at2 in
       subst (λ z. Runs p (suc n) c d 0 w3 k3 cut3.0 pc' (put_into s z w3) Nothing) (sym r3.0)
