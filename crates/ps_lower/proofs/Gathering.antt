@@ -150,23 +150,23 @@ in_made k a b d x m n r new o2 o1 old is next p q h =
 -- ---- assignments
 
 abbrev pub assign_set_code : Scope → t.Place → (low high : ℤ) → t.SetExpr → (line n a : ℕ) → List Instruction
-assign_set_code k p low high e line n a = (((place_code k p n 0 ++ set_code k e (suc n) 0) ++ set_check k a 0 low high line) ++ site_code a (place_site k p n) 32) ++ kept_behind k a
+assign_set_code k p low high e line n a = (((place_code k p n 0 ++ set_code k e (suc n) 0) ++ set_check a 0 low high line) ++ site_code a (place_site k p n) 32) ++ kept_behind k a
 
-pub assign_set_told : {X E : Type 0} (k : Scope) (p : t.Place) (low high : ℤ) (e : t.SetExpr) (line d n a b : ℕ) (s : Site) (r : Result X E) (new o3 o2 o1 old : List Instruction) → n ≡ held true d → a ≡ even_from (suc n) → b ≡ suc n → o1 ≡ old ++ place_code k p n 0 → s ≡ place_site k p n → o2 ≡ o1 ++ set_code k e b 0 → o3 ≡ o2 ++ set_check k a 0 low high line → OnOk r (new ≡ o3 ++ kept_code k s a) → OnOk r (new ≡ old ++ statement_code k (t.AssignSet p low high e line) d)
+pub assign_set_told : {X E : Type 0} (k : Scope) (p : t.Place) (low high : ℤ) (e : t.SetExpr) (line d n a b : ℕ) (s : Site) (r : Result X E) (new o3 o2 o1 old : List Instruction) → n ≡ held true d → a ≡ even_from (suc n) → b ≡ suc n → o1 ≡ old ++ place_code k p n 0 → s ≡ place_site k p n → o2 ≡ o1 ++ set_code k e b 0 → o3 ≡ o2 ++ set_check a 0 low high line → OnOk r (new ≡ o3 ++ kept_code k s a) → OnOk r (new ≡ old ++ statement_code k (t.AssignSet p low high e line) d)
 assign_set_told k p low high e line d n a b s r new o3 o2 o1 old is next up f g q u h =
     subst (λ y. OnOk r (new ≡ old ++ assign_set_code k p low high e line y (even_from (suc y)))) is
     (subst (λ y. OnOk r (new ≡ old ++ assign_set_code k p low high e line n y)) next
-    (behind_two r new o3 old ((place_code k p n 0 ++ set_code k e (suc n) 0) ++ set_check k a 0 low high line) (site_code a (place_site k p n) 32) (kept_behind k a)
-    (and_then old o2 o3 (place_code k p n 0 ++ set_code k e (suc n) 0) (set_check k a 0 low high line) (and_then old o1 o2 (place_code k p n 0) (set_code k e (suc n) 0) f (q ∙ ap (λ y. o1 ++ set_code k e y 0) up)) u)
+    (behind_two r new o3 old ((place_code k p n 0 ++ set_code k e (suc n) 0) ++ set_check a 0 low high line) (site_code a (place_site k p n) 32) (kept_behind k a)
+    (and_then old o2 o3 (place_code k p n 0 ++ set_code k e (suc n) 0) (set_check a 0 low high line) (and_then old o1 o2 (place_code k p n 0) (set_code k e (suc n) 0) f (q ∙ ap (λ y. o1 ++ set_code k e y 0) up)) u)
     (subst (λ (y : Site). OnOk r (new ≡ o3 ++ kept_code k y a)) g h)))
 
 -- ---- actual parameters
 
-pub set_handed : {X E : Type 0} (k : Scope) (x : Argument) (e : SetExpr) (low high : ℤ) (line : Line) (n s : ℕ) (r : Result X E) (new middle old : List Instruction) → x ≡ Set e low high line → middle ≡ old ++ set_code k (set_of e) n s → OnOk r (new ≡ middle ++ (set_check k (even_from n) s low high line.number ++ i.Offset n base.Scratch s 32 ∷ [])) → OnOk r (new ≡ old ++ argument_code k (argument_of x) n s)
+pub set_handed : {X E : Type 0} (k : Scope) (x : Argument) (e : SetExpr) (low high : ℤ) (line : Line) (n s : ℕ) (r : Result X E) (new middle old : List Instruction) → x ≡ Set e low high line → middle ≡ old ++ set_code k (set_of e) n s → OnOk r (new ≡ middle ++ (set_check (even_from n) s low high line.number ++ i.Offset n base.Scratch s 32 ∷ [])) → OnOk r (new ≡ old ++ argument_code k (argument_of x) n s)
 unfolding argument_of
 set_handed k x e low high line n s r new middle old is p h =
     subst (λ (y : Argument). OnOk r (new ≡ old ++ argument_code k (argument_of y) n s)) (sym is)
-    (behind_two r new middle old (set_code k (set_of e) n s) (set_check k (even_from n) s low high line.number) (i.Offset n base.Scratch s 32 ∷ []) p h)
+    (behind_two r new middle old (set_code k (set_of e) n s) (set_check (even_from n) s low high line.number) (i.Offset n base.Scratch s 32 ∷ []) p h)
 
 pub variable_handed : {X E : Type 0} (k : Scope) (x : Argument) (p : Place) (n s : ℕ) (site : Site) (r : Result X E) (new middle old : List Instruction) → x ≡ Variable p → middle ≡ old ++ place_code k (place_of p) n s → site ≡ place_site k (place_of p) n → OnOk r (new ≡ middle ++ site_code n site 0) → OnOk r (new ≡ old ++ argument_code k (argument_of x) n s)
 variable_handed k x p n s site r new middle old is c g h =

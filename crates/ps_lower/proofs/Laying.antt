@@ -1,7 +1,8 @@
 -- Tables of entries, made one by one and looked up.
-use Rattle.std.proofs.Common.{◌≡◌, ℕ, zero, suc, ◌+◌, ◌*◌, ◌<◌, ◌≤◌, List, [], ◌∷◌, ◌++◌, length, drop, map, get_or, slice_get, refl, sym, ap, subst, ◌∙◌, append_assoc, arith}
+use Rattle.std.proofs.Common.{◌≡◌, ℕ, zero, suc, ◌+◌, ◌*◌, ◌<◌, ◌≤◌, false, List, [], ◌∷◌, ◌++◌, length, drop, map, get_or, slice_get, refl, sym, ap, subst, ◌∙◌, append_assoc, arith}
 use Rattle.std.proofs.Math.Seq.{drop-cons}
-use Rattle.std.proofs.lemmas.List.{append-nil, drop_all}
+use Rattle.std.proofs.lemmas.List.{append-nil, drop_all, get_or_past}
+use Rattle.std.proofs.lemmas.Option.{slice_get_past}
 use Rattle.ps_tree.specs.Tree as t
 use Rattle.ps_tree.specs.declared.types.Ty.{Ty}
 use Rattle.ps_tree.specs.declared.tree.Formal.{Formal}
@@ -198,3 +199,41 @@ reference_found tables rs n i rows row table spot s =
 
 pub words_found : (tables : List Table) (rs : List t.Routine) (n : ℕ) (rows : List Table) (table : Table) → AreTables tables rs → rows ≡ tables → n < length rows → table ≡ get_or rows n table → table.words ≡ (layout_of (get_or rs n t.no_routine)).input
 words_found tables rs n rows table are same h is = ap (λ (y : Contents). y.words) (table_found tables rs n table are (subst (λ l. n < length l) same h) (is ∙ ap (λ l. get_or l n table) same))
+
+-- ---- what is not there
+
+places_long : (kinds : List Kind) (p : ℕ) → length (places_from p kinds) ≡ length kinds
+places_long [] p = refl
+places_long (kind ∷ rest) p = ap suc (places_long rest (p + kind_words kind))
+
+spots_long : (kinds : List Kind) (p : ℕ) → length (spots_from p kinds) ≡ length kinds
+spots_long [] p = refl
+spots_long (kind ∷ rest) p = ap suc (spots_long rest (p + kind_words kind))
+
+offset_past : (kinds : List Kind) (p i : ℕ) → length kinds ≤ i → 0 ≡ 4 * get_or (places_from p kinds) i 0
+offset_past kinds p i h = sym (ap (λ n. 4 * n) (get_or_past (places_from p kinds) i 0 (let e = places_long kinds p in omega (arith, e, h))))
+
+reference_past : (kinds : List Kind) (i : ℕ) → length kinds ≤ i → false ≡ is_reference_at (slice_get kinds i)
+reference_past kinds i h = sym (ap is_reference_at (slice_get_past kinds i h))
+
+-- a slice of a table's entries that is too short
+pub record MissedEntry (tables : List Table) (rs : List t.Routine) (n i : ℕ) (rows : List Table) (row : List Spot) (table : Table) : Type 0 where
+  pub are : AreTables tables rs
+  pub rows_are : rows ≡ tables
+  pub within : n < length rows
+  pub at : table ≡ get_or rows n table
+  pub row_is : row ≡ table.spots.items
+  pub short : length row ≤ i
+
+few_entries : (tables : List Table) (rs : List t.Routine) (n i : ℕ) (rows : List Table) (row : List Spot) (table : Table) → MissedEntry tables rs n i rows row table → length (entries (get_or rs n t.no_routine)) ≤ i
+few_entries tables rs n i rows row table s =
+    let same = ap length (s.row_is ∙ ap (λ (y : Contents). y.spots) (table_found tables rs n table s.are (subst (λ l. n < length l) s.rows_are s.within) (s.at ∙ ap (λ l. get_or l n table) s.rows_are))) in
+    let long = spots_long (entries (get_or rs n t.no_routine)) 1 in
+    let h = s.short in
+    omega (arith, same, long, h)
+
+pub no_entry_offset : (tables : List Table) (rs : List t.Routine) (n i : ℕ) (rows : List Table) (row : List Spot) (table : Table) → MissedEntry tables rs n i rows row table → 0 ≡ entry_offset (get_or rs n t.no_routine) i
+no_entry_offset tables rs n i rows row table s = offset_past (entries (get_or rs n t.no_routine)) 1 i (few_entries tables rs n i rows row table s)
+
+pub no_entry_reference : (tables : List Table) (rs : List t.Routine) (n i : ℕ) (rows : List Table) (row : List Spot) (table : Table) → MissedEntry tables rs n i rows row table → false ≡ is_reference_at (slice_get (entries (get_or rs n t.no_routine)) i)
+no_entry_reference tables rs n i rows row table s = reference_past (entries (get_or rs n t.no_routine)) i (few_entries tables rs n i rows row table s)

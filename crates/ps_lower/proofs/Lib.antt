@@ -14,6 +14,7 @@ pub mod Elements
 pub mod Begins
 pub mod Entering
 pub mod Spreading
+pub mod Tasks
 pub mod Packed
 pub mod Reading
 pub mod Doings

@@ -1,9 +1,9 @@
 -- `with`: records that are opened one after another.
-use Rattle.std.proofs.Common.{◌≡◌, ℕ, suc, ◌+◌, ◌-◌, ◌<◌, ◌≤◌, Bool, List, [], ◌∷◌, ◌++◌, length, map, drop, get_or, slice_get, Some, refl, sym, ap, ◌∙◌, append_assoc, arith}
+use Rattle.std.proofs.Common.{◌≡◌, ℕ, suc, ◌+◌, ◌-◌, ◌<◌, ◌≤◌, Bool, List, [], ◌∷◌, ◌++◌, length, map, drop, get_or, slice_get, Some, None, refl, sym, ap, ◌∙◌, append_assoc, arith}
 use Rattle.std.specs.Prelude.{reverse}
 use Rattle.std.proofs.Math.Seq.{drop-cons}
 use Rattle.std.proofs.lemmas.List.{append-nil, drop_all, map-append, reverse-append, length-map, length-reverse, get_or-map, get_or-reverse}
-use Rattle.std.proofs.lemmas.Option.{slice_get-get_or}
+use Rattle.std.proofs.lemmas.Option.{slice_get-get_or, slice_get_past}
 use Rattle.ps_tree.specs.Tree as t
 use Rattle.ps_tree.specs.declared.tree.Place.{Place}
 use Rattle.ps_tree.specs.View.{place_of}
@@ -15,7 +15,7 @@ use Rattle.ps_lower.specs.declared.site.Site.{Site}
 use Rattle.ps_lower.specs.Levels.{site_of, within}
 
 -- the innermost is the last
-pub turned : (l : List Site) (w n : ℕ) (s d : Site) → w < length l → n ≡ length l - 1 - w → s ≡ get_or l n d → slice_get (reverse (map site_of l)) w ≡ Some (site_of s)
+pub turned : (l : List Site) (w n : ℕ) (s d : Site) → w < length l → n ≡ length l - 1 - w → s ≡ get_or l n d → Some (site_of s) ≡ slice_get (reverse (map site_of l)) w
 turned l w n s d h e is =
     let m : length (map site_of l) ≡ length l = length-map l site_of in
     let inside : w < length (map site_of l) = omega (arith, m, h) in
@@ -23,8 +23,14 @@ turned l w n s d h e is =
     let turned_inside : w < length (reverse (map site_of l)) = omega (arith, r, inside) in
     let place : length (map site_of l) - 1 - w ≡ n = omega (arith, m, e) in
     let small : n < length l = omega (arith, h, e) in
-    slice_get-get_or (reverse (map site_of l)) w (site_of d) turned_inside
-    ∙ ap Some (get_or-reverse (map site_of l) w (site_of d) inside ∙ ap (λ j. get_or (map site_of l) j (site_of d)) place ∙ get_or-map site_of l n d (site_of d) small ∙ ap site_of (sym is))
+    sym (slice_get-get_or (reverse (map site_of l)) w (site_of d) turned_inside
+    ∙ ap Some (get_or-reverse (map site_of l) w (site_of d) inside ∙ ap (λ j. get_or (map site_of l) j (site_of d)) place ∙ get_or-map site_of l n d (site_of d) small ∙ ap site_of (sym is)))
+
+pub not_opened : (l : List Site) (w : ℕ) → length l ≤ w → None ≡ slice_get (reverse (map site_of l)) w
+not_opened l w h =
+    let m : length (map site_of l) ≡ length l = length-map l site_of in
+    let r : length (reverse (map site_of l)) ≡ length (map site_of l) = length-reverse (map site_of l) in
+    sym (slice_get_past (reverse (map site_of l)) w (omega (arith, m, r, h)))
 
 abbrev pub with_open : Scope → List CodeSite → Scope
 with_open k l = record { program = k.program; chain = k.chain; opened = l }

@@ -1,10 +1,11 @@
 -- `pack`, `unpack` and `new`, piece by piece.
-use Rattle.std.proofs.Common.{◌≡◌, ℕ, ℤ, zero, suc, pos, ◌+◌, ◌-◌, ◌+ℤ◌, ◌<◌, ◌≤◌, nat_le, if◌then◌else◌, Bool, true, false, List, [], ◌∷◌, ◌++◌, length, map, get_or, Result, OnOk, refl, ap, sym, subst, ◌∙◌, arith}
+use Rattle.std.proofs.Common.{◌≡◌, ℕ, zero, suc, pos, ◌+◌, ◌-◌, ◌+ℤ◌, ◌<◌, ◌≤◌, nat_le, if◌then◌else◌, Bool, true, false, List, [], ◌∷◌, ◌++◌, length, map, get_or, Result, OnOk, refl, ap, sym, subst, ◌∙◌, arith}
 use Rattle.std.proofs.lemmas.Bool.Decides.{nat_tests}
 use Rattle.ps_tree.specs.Types.{DataType, PointerType}
 use Rattle.ps_tree.specs.declared.types.Ordinal.{Ordinal}
 use Rattle.ps_tree.specs.declared.types.Ty.{Ty}
-use Rattle.ps_tree.specs.View.{type_of}
+use Rattle.ps_tree.specs.declared.types.Ty.TheVariants.{Pointer}
+use Rattle.ps_tree.specs.TypeView.{type_of}
 use Rattle.ps_tree.specs.Sizes.{value_count}
 use Rattle.ps_tree.specs.Tree as t
 use Rattle.ps_meaning.specs.Expressions.{index_of}
@@ -143,3 +144,12 @@ pub typed : (types : List Ty) (n : ℕ) (type : Ty) → n < length types → get
 typed [] n type h = absurd (omega arith)
 typed (x ∷ xs) zero type h = refl
 typed (x ∷ xs) (suc n) type h = typed xs n type (omega arith)
+
+pub untyped : (types : List Ty) (n : ℕ) → length types ≤ n → PointerType 0 ≡ get_or (map type_of types) n (PointerType 0)
+untyped [] n h = refl
+untyped (x ∷ xs) zero h = absurd (omega (arith, h))
+untyped (x ∷ xs) (suc n) h = untyped xs n (omega (arith, h))
+
+pub pointer_type : (n : ℕ) → type_of (Pointer n) ≡ PointerType n
+unfolding type_of
+pointer_type n = refl

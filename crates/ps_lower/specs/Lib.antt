@@ -1,4 +1,5 @@
 pub mod Firsts
+pub mod FirstTasks
 pub mod Levels
 pub mod Loops
 pub mod Reads

@@ -1,13 +1,12 @@
 -- The parts of the code of sets.
-use Rattle.std.specs.Prelude.{ℕ, ◌+◌, ℤ, pos, if◌then◌else◌, int_lt, List, [], ◌∷◌, ◌++◌}
+use Rattle.std.specs.Prelude.{ℕ, suc, ◌+◌, ◌-◌, ◌^◌, ℤ, pos, negsuc, nat_lt, if◌then◌else◌, List, [], ◌∷◌, ◌++◌}
 use Rattle.ps_tree.specs.declared.tree.SetOperator.{SetOperator}
-use Rattle.tac_code.specs.declared.code.Operand.TheVariants as operand
 use Rattle.tac_code.specs.declared.code.Base.TheVariants as base
-use Rattle.tac_code.specs.declared.code.Relation.TheVariants.{NotEqual}
 use Rattle.tac_code.specs.declared.code.Instruction.{Instruction}
 use Rattle.tac_code.specs.declared.code.Instruction.TheVariants as i
+use Rattle.tac_code.specs.Numbers.{natural}
 use Rattle.ps_code.specs.Scopes.{Scope, Site, beside, site_code, copy_code, helper, AddRange, IsIncluded}
-use Rattle.ps_code.specs.Values.{set_routine, clear_code}
+use Rattle.ps_code.specs.Values.{set_routine}
 
 -- no members in the set from x on
 abbrev pub cleared_code : (t x : ℕ) → List Instruction
@@ -31,25 +30,17 @@ includes_code k t x = i.Offset t base.Scratch x 32 ∷ i.Offset (beside t) base.
 abbrev pub one_member : Scope → (t x line : ℕ) → List Instruction
 one_member k t x line = i.CheckRange t (pos 0) (pos 255) 8 line ∷ i.Offset (beside t) base.Scratch x 32 ∷ helper k AddRange (beside t ∷ t ∷ t ∷ []) t ∷ []
 
--- what of the bounds of a base can be a member
-abbrev pub least_member : ℤ → ℤ
-least_member low = if int_lt low (pos 0) then pos 0 else low
+-- how many numbers from 0 on lie below the bounds of a base, and how many do not lie above them
+abbrev pub numbers_below : ℤ → ℕ
+numbers_below low = natural low
 
-abbrev pub greatest_member : ℤ → ℤ
-greatest_member high = if int_lt (pos 255) high then pos 255 else high
+abbrev pub numbers_to : ℤ → ℕ
+numbers_to (pos n) = suc n
+numbers_to (negsuc n) = 0
 
--- the set of all members within the bounds of a base, from x on
-abbrev pub bounds_code : Scope → (t x : ℕ) (low high : ℤ) → List Instruction
-bounds_code k t x low high =
-    clear_code k t x
-    ++ i.Offset t base.Scratch x 32 ∷ i.Literal (beside t) (least_member low) ∷ i.Literal (beside (beside t)) (greatest_member high)
-    ∷ helper k AddRange (t ∷ beside t ∷ beside (beside t) ∷ []) (beside t) ∷ []
-
--- the set from x on lies in the one at the address in t, or error 8
-abbrev pub within_code : Scope → (t x line : ℕ) → List Instruction
-within_code k t x line =
-    i.Offset (beside t) base.Scratch x 32 ∷ helper k IsIncluded (beside t ∷ t ∷ []) t
-    ∷ i.Branch NotEqual t (operand.Number (pos 0)) 1 ∷ i.Trap 8 line ∷ []
+-- a word with its lowest bits set, so many
+abbrev pub lowest_bits : ℕ → ℕ
+lowest_bits count = if nat_lt count 32 then 2 ^ count - 1 else 4294967295
 
 -- a set at a site as the set from x on, and the set at the beginning of the scratch block as one at a site
 abbrev pub copied_code : Scope → Site → (t x : ℕ) → List Instruction

@@ -81,6 +81,6 @@ pub fn assign_set(
     let t = even_above(at);
     let site = place(out, k, target, at, 0)?;
     set(out, k, e, next(at), 0)?;
-    check_set(out, k, t, 0, low, high, line)?;
+    check_set(out, t, 0, low, high, line)?;
     keep_set(out, k, site, t)
 }

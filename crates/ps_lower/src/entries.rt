@@ -12,9 +12,9 @@ use crate::levels::entry;
 use crate::refusal::LowerRefusal;
 
 /// An entry of the routine itself.
-pub fn own_entry(k: &Level, index: u32) -> Result<Spot, LowerRefusal>
-    ensures offset { IfOk result (λ s. s.offset ≡ entry_offset (routine_up (scope_of k.now) 0) index) }
-    ensures reference { IfOk result (λ s. s.reference ≡ is_reference_at (kind_at (scope_of k.now) 0 index)) }
+pub fn own_entry(k: &Level, index: u32) -> Spot
+    ensures offset { result.offset ≡ entry_offset (routine_up (scope_of k.now) 0) index }
+    ensures reference { result.reference ≡ is_reference_at (kind_at (scope_of k.now) 0 index) }
 {
     entry(k, 0, index)
 }

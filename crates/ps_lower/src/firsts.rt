@@ -2,9 +2,10 @@
 
 ghost use Rattle.std.specs.Prelude.{◌≡◌, ◌++◌, ◌+◌, ◌*◌, ◌≤◌, ◌&&◌, [], ◌∷◌, if◌then◌else◌, map, OnOk, IfOk};
 ghost use Rattle.ps_code.specs.Scopes.{beside, copy_code};
-ghost use Rattle.ps_code.specs.Statements.{bytes_below, byte_word, spread_code, zero_code, bytes_code, first_code, fields_code};
-ghost use Rattle.ps_layout.specs.Shapes.{ByteShape, ArrayShape, shape_of, shapes_of, first_of, word_count, byte_count};
+ghost use Rattle.ps_code.specs.Statements.{bytes_below, byte_word, spread_code, zero_code, bytes_code, first_code};
+ghost use Rattle.ps_layout.specs.Shapes.{ByteShape, ArrayShape, RecordShape, shape_of, shapes_of, first_of, word_count, byte_count};
 ghost use Rattle.ps_lower.specs.Firsts.{firsts_code, whole_bytes, last_bytes, array_shape};
+ghost use Rattle.ps_lower.specs.FirstTasks.{weight, task_code, task_weight, IsDone, IsLeft, AreLeft};
 ghost use Rattle.ps_lower.specs.Levels.{scope_of};
 ghost use Rattle.ps_meaning.specs.Values.{first_ordinal};
 ghost use Rattle.ps_tree.specs.Sizes.{value_count, fits_byte};
@@ -21,11 +22,9 @@ use crate::numbers::narrow;
 use crate::out::Code;
 use crate::refusal::LowerRefusal;
 use crate::shapes::{byte_count, fits_byte};
+use crate::task::Task;
 use ps_tree::types::{Host, Ordinal, Ty, same_host};
 use tac_code::code::Base;
-
-/// How deep arrays and records may stand in one another where their first values are made.
-const DEEPEST_TYPE: u32 = 1000;
 
 fn first_ordinal(ordinal: Ordinal) -> i32
     ensures { result ≡ first_ordinal ordinal }
@@ -240,24 +239,76 @@ fn array_bytes(index: Ordinal, each: u32) -> Result<u32, LowerRefusal>
     narrow(whole)
 }
 
-/// The first value of a variable of a type at an offset from a base.
-#[cycle(firsts)]
-#[tactic(auto, using(crate::proofs::Spreading::record_first), unfolding(ps_tree::specs::TypeView::type_of))]
-fn first(
+/// The first component of an array, and copies of it.
+fn components<'a>(
+    tasks: &mut Vec<Task<'a>>,
+    component: &'a Ty,
+    index: Ordinal,
+    offset: u32,
+) -> Result<(), LowerRefusal>
+    ensures { OnOk result (IsLeft offset (ArrayShape (value_count index) (shape_of (type_of component.now))) tasks.old.items tasks.new.items) }
+{
+    let each = byte_count(component)?;
+    let whole = array_bytes(index, each)?;
+    if whole == 0 {
+        return Ok(());
+    }
+    tasks.push(Task::Copies {
+        offset,
+        each,
+        whole,
+    })?;
+    tasks.push(Task::FirstValue {
+        ty: component,
+        offset,
+    })?;
+    Ok(())
+}
+
+/// The first value of an array.
+fn array<'a>(
     out: &mut Code,
     k: &Level,
-    ty: &Ty,
+    tasks: &mut Vec<Task<'a>>,
+    component: &'a Ty,
+    packed: bool,
+    index: Ordinal,
     base: Base,
     t: u32,
     offset: u32,
-    deep: u32,
 ) -> Result<(), LowerRefusal>
     requires { t ≤ 4294960000 }
-    ensures { OnOk result (out.new ≡ out.old ++ first_code (scope_of k.now) base t offset (shape_of (type_of ty.now))) }
+    ensures { OnOk result (IsDone (scope_of k.now) base t (first_code (scope_of k.now) base t offset (array_shape packed index (type_of component.now))) (weight (array_shape packed index (type_of component.now))) out.old out.new tasks.old.items tasks.new.items) }
 {
-    if deep == 0 {
-        return Err(LowerRefusal::NotYet);
+    if packed && fits_byte(component) {
+        byte_array(out, k, component, index, base, t, offset)
+    } else {
+        components(tasks, component, index, offset)
     }
+}
+
+/// The fields of a record.
+fn record<'a>(tasks: &mut Vec<Task<'a>>, types: &'a [Ty], offset: u32) -> Result<(), LowerRefusal>
+    ensures { OnOk result (IsLeft offset (RecordShape (shapes_of (types_of types.now))) tasks.old.items tasks.new.items) }
+{
+    tasks.push(Task::FieldsLeft { types, offset })?;
+    Ok(())
+}
+
+/// The first value of a variable of a type at an offset from a base, but for the components and the fields, which are left.
+#[tactic(auto, unfolding(ps_tree::specs::TypeView::type_of))]
+fn begin<'a>(
+    out: &mut Code,
+    k: &Level,
+    tasks: &mut Vec<Task<'a>>,
+    ty: &'a Ty,
+    base: Base,
+    t: u32,
+    offset: u32,
+) -> Result<(), LowerRefusal>
+    requires { t ≤ 4294960000 }
+    ensures { OnOk result (IsDone (scope_of k.now) base t (first_code (scope_of k.now) base t offset (shape_of (type_of ty.now))) (weight (shape_of (type_of ty.now))) out.old out.new tasks.old.items tasks.new.items) }
+{
     match ty {
         Ty::Simple(ordinal) => number(out, base, t, offset, first_ordinal(*ordinal)),
         Ty::Pointer { .. } | Ty::Nil => number(out, base, t, offset, 0),
@@ -271,104 +322,76 @@ fn first(
         } => array(
             out,
             k,
+            tasks,
             component.ty(),
             *packed,
             *index,
             base,
             t,
             offset,
-            deep - 1,
         ),
-        Ty::Record { fields, .. } => fields_of(out, k, fields.types(), base, t, offset, deep - 1),
+        Ty::Record { fields, .. } => record(tasks, fields.types(), offset),
     }
 }
 
-/// The first value of an array.
-#[cycle(firsts)]
-fn array(
-    out: &mut Code,
-    k: &Level,
-    component: &Ty,
-    packed: bool,
-    index: Ordinal,
-    base: Base,
-    t: u32,
-    offset: u32,
-    deep: u32,
-) -> Result<(), LowerRefusal>
-    requires { t ≤ 4294960000 }
-    ensures { OnOk result (out.new ≡ out.old ++ first_code (scope_of k.now) base t offset (array_shape packed index (type_of component.now))) }
+/// The next of the fields that are left, and those behind it.
+fn field<'a>(tasks: &mut Vec<Task<'a>>, types: &'a [Ty], offset: u32) -> Result<(), LowerRefusal>
+    ensures { OnOk result (AreLeft offset (shapes_of (types_of types.now)) tasks.old.items tasks.new.items) }
 {
-    if packed && fits_byte(component) {
-        byte_array(out, k, component, index, base, t, offset)
-    } else {
-        components(out, k, component, index, base, t, offset, deep)
-    }
-}
-
-/// The first component of an array, and copies of it.
-#[cycle(firsts)]
-fn components(
-    out: &mut Code,
-    k: &Level,
-    component: &Ty,
-    index: Ordinal,
-    base: Base,
-    t: u32,
-    offset: u32,
-    deep: u32,
-) -> Result<(), LowerRefusal>
-    requires { t ≤ 4294960000 }
-    ensures { OnOk result (out.new ≡ out.old ++ first_code (scope_of k.now) base t offset (ArrayShape (value_count index) (shape_of (type_of component.now)))) }
-{
-    let each = byte_count(component)?;
-    let whole = array_bytes(index, each)?;
-    if whole == 0 {
+    let Some((ty, rest)) = types.split_first() else {
         return Ok(());
-    }
-    first(out, k, component, base, t, offset, deep)?;
-    spread(out, k, base, t, offset, each, whole)
+    };
+    let Some(next) = offset.checked_add(byte_count(ty)?) else {
+        return Err(LowerRefusal::TooLarge);
+    };
+    tasks.push(Task::FieldsLeft {
+        types: rest,
+        offset: next,
+    })?;
+    tasks.push(Task::FirstValue { ty, offset })?;
+    Ok(())
 }
 
-/// The first value of a field, and the offset behind it.
-#[cycle(firsts)]
-fn field(
+/// One task; what it leaves stands behind the others.
+fn step<'a>(
+    out: &mut Code,
+    k: &Level,
+    tasks: &mut Vec<Task<'a>>,
+    task: Task<'a>,
+    base: Base,
+    t: u32,
+) -> Result<(), LowerRefusal>
+    requires { t ≤ 4294960000 }
+    ensures { OnOk result (IsDone (scope_of k.now) base t (task_code (scope_of k.now) base t task.entry) (task_weight task.entry) out.old out.new tasks.old.items tasks.new.items) }
+{
+    match task {
+        Task::FirstValue { ty, offset } => begin(out, k, tasks, ty, base, t, offset),
+        Task::Copies {
+            offset,
+            each,
+            whole,
+        } => spread(out, k, base, t, offset, each, whole),
+        Task::FieldsLeft { types, offset } => field(tasks, types, offset),
+    }
+}
+
+/// The first value of a variable of a type at an offset from a base. Types may stand deep in one another, so what is left to
+/// do is kept in a list, and not in calls.
+fn first(
     out: &mut Code,
     k: &Level,
     ty: &Ty,
     base: Base,
     t: u32,
     offset: u32,
-    deep: u32,
-) -> Result<u32, LowerRefusal>
-    requires { t ≤ 4294960000 }
-    ensures code { OnOk result (out.new ≡ out.old ++ first_code (scope_of k.now) base t offset (shape_of (type_of ty.now))) }
-    ensures next { IfOk result (λ next. next ≡ offset + byte_count (shape_of (type_of ty.now))) }
-{
-    let Some(next) = offset.checked_add(byte_count(ty)?) else {
-        return Err(LowerRefusal::TooLarge);
-    };
-    first(out, k, ty, base, t, offset, deep)?;
-    Ok(next)
-}
-
-/// The fields of a record, one behind another.
-#[cycle(firsts)]
-fn fields_of(
-    out: &mut Code,
-    k: &Level,
-    types: &[Ty],
-    base: Base,
-    t: u32,
-    begin: u32,
-    deep: u32,
 ) -> Result<(), LowerRefusal>
     requires { t ≤ 4294960000 }
-    ensures { OnOk result (out.new ≡ out.old ++ fields_code (scope_of k.now) base t begin (shapes_of (types_of types.now))) }
+    ensures { OnOk result (out.new ≡ out.old ++ first_code (scope_of k.now) base t offset (shape_of (type_of ty.now))) }
 {
-    let mut offset = begin;
-    for ty in types {
-        offset = field(out, k, ty, base, t, offset, deep)?;
+    let mut tasks = Vec::new(out.alloc());
+    tasks.push(Task::FirstValue { ty, offset })?;
+    while let Some(task) = tasks.pop() {
+        step(out, k, &mut tasks, task, base, t)?;
     }
     Ok(())
 }
@@ -384,7 +407,7 @@ pub fn first_object(
     requires { t ≤ 4294960000 }
     ensures { OnOk result (out.new ≡ out.old ++ first_code (scope_of k.now) (base.Temporary object) t 0 (shape_of (type_of ty.now))) }
 {
-    first(out, k, ty, Base::Temporary(object), t, 0, DEEPEST_TYPE)
+    first(out, k, ty, Base::Temporary(object), t, 0)
 }
 
 /// The first value of a variable at a word of the frame, and the word behind it.
@@ -399,7 +422,7 @@ pub fn first_at(out: &mut Code, k: &Level, ty: &Ty, t: u32, place: u32) -> Resul
     let Some(next) = place.checked_add(words(ty)?) else {
         return Err(LowerRefusal::TooLarge);
     };
-    first(out, k, ty, Base::Frame, t, offset, DEEPEST_TYPE)?;
+    first(out, k, ty, Base::Frame, t, offset)?;
     Ok(next)
 }
 

@@ -16,6 +16,12 @@ use ps_tree::types::Ty;
 use std::alloc::Global;
 use std::marker::Model;
 
+/// What no routine has.
+const NOWHERE: Spot = Spot {
+    offset: 0,
+    reference: false,
+};
+
 /// Adds an entry of so many words. The result is the place behind it.
 fn add(spots: &mut Vec<Spot>, place: u32, words: u32, reference: bool) -> Result<u32, LowerRefusal>
     ensures spots { OnOk result (spots.new.items ≡ spots.old.items ++ spot place reference ∷ []) }
@@ -148,27 +154,27 @@ impl<'a> Frames<'a> {
         self.checked.domains()
     }
 
-    /// An entry of a routine.
-    pub fn entry(&self, number: u32, index: u32) -> Result<Spot, LowerRefusal>
-        ensures offset { IfOk result (λ s. s.offset ≡ entry_offset (routine_at (program_in self.now) number) index) }
-        ensures reference { IfOk result (λ s. s.reference ≡ is_reference_at (slice_get (entries (routine_at (program_in self.now) number)) index)) }
+    /// An entry of a routine; what has no entry is told to stand at 0.
+    pub fn entry(&self, number: u32, index: u32) -> Spot
+        ensures offset { result.offset ≡ entry_offset (routine_at (program_in self.now) number) index }
+        ensures reference { result.reference ≡ is_reference_at (slice_get (entries (routine_at (program_in self.now) number)) index) }
     {
         let Some(table) = self.tables.as_slice().get(number as usize) else {
-            return Err(LowerRefusal::NotYet);
+            return NOWHERE;
         };
         let Some(spot) = table.spots.as_slice().get(index as usize) else {
-            return Err(LowerRefusal::NotYet);
+            return NOWHERE;
         };
-        Ok(*spot)
+        *spot
     }
 
-    /// The words up to the end of a routine's last entry.
-    pub fn words(&self, number: u32) -> Result<u32, LowerRefusal>
-        ensures { IfOk result (λ n. n ≡ (layout_of (routine_at (program_in self.now) number)).input) }
+    /// The words up to the end of a routine's last entry; no routine has but its static link.
+    pub fn words(&self, number: u32) -> u32
+        ensures { result ≡ (layout_of (routine_at (program_in self.now) number)).input }
     {
         let Some(table) = self.tables.as_slice().get(number as usize) else {
-            return Err(LowerRefusal::NotYet);
+            return 1;
         };
-        Ok(table.words)
+        table.words
     }
 }

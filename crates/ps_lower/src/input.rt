@@ -19,8 +19,8 @@ use tac_code::code::Base;
 
 const LOOK_AHEAD: u32 = 13;
 
-fn input_words(k: &Level) -> Result<u32, LowerRefusal>
-    ensures { IfOk result (λ n. n ≡ (layout_of (routine_at (program_in k.now.checked.now) 0)).input) }
+fn input_words(k: &Level) -> u32
+    ensures { result ≡ (layout_of (routine_at (program_in k.now.checked.now) 0)).input }
 {
     k.checked.words(0)
 }
@@ -29,7 +29,7 @@ fn input_words(k: &Level) -> Result<u32, LowerRefusal>
 pub fn input(k: &Level) -> Result<Site, LowerRefusal>
     ensures { IfOk result (λ s. site_of s ≡ input_site (scope_of k.now)) }
 {
-    let Some(offset) = input_words(k)?.checked_mul(4) else {
+    let Some(offset) = input_words(k).checked_mul(4) else {
         return Err(LowerRefusal::TooLarge);
     };
     Ok(Site {

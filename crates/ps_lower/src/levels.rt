@@ -1,6 +1,6 @@
 // The frames of the routines round a routine, and the entries in them.
 
-ghost use Rattle.std.specs.Prelude.{◌≡◌, ◌≤◌, ◌++◌, OnOk, IfOk};
+ghost use Rattle.std.specs.Prelude.{◌≡◌, ◌≤◌, ◌++◌, get_or, OnOk, IfOk};
 ghost use Rattle.ps_code.specs.Scopes.{kind_at, routine_up, is_outermost, hops, frame_code, frame_base, link_code, formal_code};
 ghost use Rattle.ps_layout.specs.Frames.{entry_offset};
 ghost use Rattle.ps_lower.specs.Levels.{scope_of, is_reference_at};
@@ -61,15 +61,19 @@ pub fn link(out: &mut Code, k: &Level, t: u32, up: u32) -> Result<(), LowerRefus
     hops(out, k, t, up - 1)
 }
 
-/// An entry of the routine so many levels up.
-pub fn entry(k: &Level, up: u32, index: u32) -> Result<Spot, LowerRefusal>
-    ensures offset { IfOk result (λ s. s.offset ≡ entry_offset (routine_up (scope_of k.now) up) index) }
-    ensures reference { IfOk result (λ s. s.reference ≡ is_reference_at (kind_at (scope_of k.now) up index)) }
+/// The number of the routine so many levels up; 0 where none is.
+fn number_up(k: &Level, up: u32) -> u32
+    ensures { result ≡ get_or k.now.chain.now up 0 }
 {
-    let Some(number) = k.chain.get(up as usize) else {
-        return Err(LowerRefusal::NotYet);
-    };
-    k.checked.entry(*number, index)
+    k.chain.get(up as usize).copied().unwrap_or(0)
+}
+
+/// An entry of the routine so many levels up.
+pub fn entry(k: &Level, up: u32, index: u32) -> Spot
+    ensures offset { result.offset ≡ entry_offset (routine_up (scope_of k.now) up) index }
+    ensures reference { result.reference ≡ is_reference_at (kind_at (scope_of k.now) up index) }
+{
+    k.checked.entry(number_up(k, up), index)
 }
 
 /// The routine of a procedural or functional parameter, and its static link beside.
@@ -78,7 +82,7 @@ pub fn formal(out: &mut Code, k: &Level, t: u32, up: u32, index: u32) -> Result<
     ensures { OnOk result (out.new ≡ out.old ++ formal_code (scope_of k.now) t up index) }
 {
     let base = frame(out, k, t, up)?;
-    let place = entry(k, up, index)?.offset;
+    let place = entry(k, up, index).offset;
     let Some(behind) = place.checked_add(4) else {
         return Err(LowerRefusal::TooLarge);
     };

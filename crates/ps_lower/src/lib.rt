@@ -34,6 +34,7 @@ mod sets;
 mod shapes;
 mod site;
 mod statements;
+mod task;
 mod texts;
 mod turns;
 mod values;

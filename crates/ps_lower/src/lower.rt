@@ -51,8 +51,8 @@ fn object_sizes(alloc: Global, domains: &[Ty]) -> Result<Vec<u32>, LowerRefusal>
 ///
 /// # Errors
 ///
-/// `OutOfMemory` where a growth was refused, `NotYet` where the program has a construct that isn't lowered yet, and
-/// `TooLarge` where a number of the code is larger than its field, or the code doesn't keep its invariant.
+/// `OutOfMemory` where a growth was refused, and `TooLarge` where a number of the code is larger than its field, or the
+/// code doesn't keep its invariant, which is so of no checked program that is known.
 pub fn lower(alloc: Global, checked: &Checked) -> Result<Tac, LowerRefusal>
     ensures { IfOk result (λ tac. tac ≡ code_of run_time_routines (program_in checked.now)) }
 {

@@ -18,6 +18,24 @@ use crate::places::{is_byte, keep};
 use crate::refusal::LowerRefusal;
 use crate::values::place;
 use ps_tree::tree::Place;
+use ps_tree::types::Ty;
+
+/// The first value of the object of a pointer type; a number that no pointer type has leads to a pointer.
+fn first_of_domain(
+    out: &mut Code,
+    k: &Level,
+    pointer: u32,
+    to: u32,
+    t: u32,
+) -> Result<(), LowerRefusal>
+    requires { t ≤ 4294960000 }
+    ensures { OnOk result (out.new ≡ out.old ++ first_code (scope_of k.now) (base.Temporary to) t 0 (shape_of (domain_at (scope_of k.now).program pointer))) }
+{
+    match k.checked.domains().get(pointer as usize) {
+        Some(ty) => first_object(out, k, ty, to, t),
+        None => first_object(out, k, &Ty::Pointer { number: 0 }, to, t),
+    }
+}
 
 /// An object of the type that a pointer type points to, with its first values; its address in a temporary.
 fn object(
@@ -31,11 +49,8 @@ fn object(
     requires { t ≤ 4294960000 }
     ensures { OnOk result (out.new ≡ out.old ++ i.New to pointer line ∷ first_code (scope_of k.now) (base.Temporary to) t 0 (shape_of (domain_at (scope_of k.now).program pointer))) }
 {
-    let Some(ty) = k.checked.domains().get(pointer as usize) else {
-        return Err(LowerRefusal::NotYet);
-    };
     out.new_object(to, pointer, line)?;
-    first_object(out, k, ty, to, t)
+    first_of_domain(out, k, pointer, to, t)
 }
 
 /// An object that a pointer variable points to from now on.

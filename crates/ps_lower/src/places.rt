@@ -1,6 +1,6 @@
 // Variables: what reaches them, and where they stand then.
 
-ghost use Rattle.std.specs.Prelude.{◌≡◌, ◌++◌, ◌≤◌, ◌∷◌, [], ◌+◌, None, Some, slice_get, false, OnOk, IfOk};
+ghost use Rattle.std.specs.Prelude.{◌≡◌, ◌++◌, ◌≤◌, ◌∷◌, [], ◌+◌, None, option_map, slice_get, false, OnOk, IfOk};
 ghost use Rattle.ps_code.specs.Scopes.{kind_at, frame_base, site_code};
 ghost use Rattle.ps_code.specs.Values.{field_site, reference_code, entry_site, name_code, name_site, place_temporary, element_site, index_code, is_byte_selector, is_byte_after, is_byte, load_code, store_code};
 ghost use Rattle.ps_layout.specs.Shapes.{shape_of, field_offset};
@@ -69,7 +69,7 @@ fn reference(
     ensures code { OnOk result (base ≡ frame_base (scope_of k.now) t up → out.new ≡ out.old ++ reference_code (scope_of k.now) (kind_at (scope_of k.now) up index) t up index) }
     ensures site { IfOk result (λ s. base ≡ frame_base (scope_of k.now) t up → site_of s ≡ entry_site (scope_of k.now) (kind_at (scope_of k.now) up index) t up index) }
 {
-    let spot = entry(k, up, index)?;
+    let spot = entry(k, up, index);
     if spot.reference {
         out.load(t, base, spot.offset)?;
         Ok(Site {
@@ -84,24 +84,29 @@ fn reference(
     }
 }
 
-/// Where a record stands that `with` opened; the innermost is 0.
-#[tactic(auto, using(crate::proofs::Opening::turned))]
-fn opened(k: &Level, which: u32) -> Result<Site, LowerRefusal>
-    ensures { IfOk result (λ s. slice_get (scope_of k.now).opened which ≡ Some (site_of s)) }
+/// Where a record stands that `with` opened, if so many are open; the innermost is 0.
+#[tactic(auto, using(crate::proofs::Opening::turned, crate::proofs::Opening::not_opened))]
+fn opened(k: &Level, which: u32) -> Option<Site>
+    ensures { option_map site_of result ≡ slice_get (scope_of k.now).opened which }
 {
     let count = k.opened.len();
     let further = which as usize;
     if count <= further {
-        return Err(LowerRefusal::NotYet);
+        return None;
     }
-    Ok(k.opened[count - 1 - further])
+    Some(k.opened[count - 1 - further])
 }
 
 /// A field of a record that `with` opened.
 fn field(k: &Level, which: u32, ty: &Ty, number: u32) -> Result<Site, LowerRefusal>
     ensures { IfOk result (λ s. site_of s ≡ field_site (scope_of k.now) (slice_get (scope_of k.now).opened which) (field_offset (shape_of (type_of ty.now)) number)) }
 {
-    let record = opened(k, which)?;
+    let Some(record) = opened(k, which) else {
+        return Ok(Site {
+            base: Base::Frame,
+            offset: 0,
+        });
+    };
     behind(record, field_offset(ty, number)?)
 }
 

@@ -7,10 +7,9 @@ use std::alloc::{AllocError, AllocFailed};
 pub enum LowerRefusal {
     /// A growth was refused.
     OutOfMemory,
-    /// A number of the code is larger than its field.
+    /// A number of the code is larger than its field, or the code doesn't keep its invariant. No checked program is known
+    /// for which this is so.
     TooLarge,
-    /// The program has a construct that isn't lowered yet.
-    NotYet,
 }
 
 impl From<AllocError> for LowerRefusal {

@@ -2,9 +2,9 @@
 
 ghost use Rattle.std.specs.Prelude.{◌≡◌, ◌++◌, ◌+◌, ◌≤◌, ◌∷◌, [], pos, suc, OnOk, IfOk};
 ghost use Rattle.ps_code.specs.Scopes.{even_from, moved, helper, AddRange, IsIncluded, IsMember, run_time_number};
-ghost use Rattle.ps_code.specs.Values.{set_routine, set_check, included_code, same_sets_code, sets_code, range_members};
+ghost use Rattle.ps_code.specs.Values.{set_routine, holds_all, outside_bits, masked, joined_word, outside_code, set_check, included_code, same_sets_code, sets_code, range_members};
 ghost use Rattle.ps_lower.specs.Levels.{scope_of, site_of};
-ghost use Rattle.ps_lower.specs.Sets.{cleared_code, offsets_code, combined_code, includes_code, least_member, greatest_member, bounds_code, within_code, one_member, copied_code, kept_code};
+ghost use Rattle.ps_lower.specs.Sets.{cleared_code, offsets_code, combined_code, includes_code, numbers_below, numbers_to, lowest_bits, one_member, copied_code, kept_code};
 ghost use Rattle.tac_code.specs.declared.code.Base.TheVariants as base;
 ghost use Rattle.tac_code.specs.declared.code.Instruction.TheVariants as i;
 ghost use Rattle.tac_code.specs.declared.code.Operand.TheVariants as operand;
@@ -267,69 +267,88 @@ pub fn add_members(
     add_range(out, k, set, first, last, set)
 }
 
-fn least_member(low: &i32) -> i32
-    ensures { result ≡ least_member low.now }
+/// Every member that a set can have lies within the bounds of a base.
+fn holds_all(low: &i32, high: &i32) -> bool
+    ensures { result ≡ holds_all low.now high.now }
 {
-    if *low < 0 { 0 } else { *low }
+    *low <= 0 && 255 <= *high
 }
 
-fn greatest_member(high: &i32) -> i32
-    ensures { result ≡ greatest_member high.now }
+/// How many numbers from 0 on lie below the bounds of a base.
+fn numbers_below(low: &i32) -> u32
+    ensures { result ≡ numbers_below low.now }
 {
-    if 255 < *high { 255 } else { *high }
+    if *low < 0 { 0 } else { *low as u32 }
 }
 
-/// The least member that a base can have.
-fn least(out: &mut Code, t: u32, low: &i32) -> Result<(), LowerRefusal>
-    ensures { OnOk result (out.new ≡ out.old ++ i.Literal t (least_member low.now) ∷ []) }
+/// How many numbers from 0 on do not lie above them.
+fn numbers_to(high: &i32) -> u32
+    ensures { result ≡ numbers_to high.now }
 {
-    out.literal(t, least_member(low))
+    if *high < 0 { 0 } else { *high as u32 + 1 }
 }
 
-/// The greatest.
-fn greatest(out: &mut Code, t: u32, high: &i32) -> Result<(), LowerRefusal>
-    ensures { OnOk result (out.new ≡ out.old ++ i.Literal t (greatest_member high.now) ∷ []) }
+/// A word with its lowest bits set, so many.
+fn lowest_bits(count: u32) -> u32
+    ensures { result ≡ lowest_bits count }
 {
-    out.literal(t, greatest_member(high))
+    if count < 32 {
+        (1 << count) - 1
+    } else {
+        u32::MAX
+    }
 }
 
-/// The set of all members within the bounds of a base, from x on.
-fn bounds(
-    out: &mut Code,
-    k: &Level,
-    t: u32,
-    x: u32,
-    low: &i32,
-    high: &i32,
-) -> Result<(), LowerRefusal>
+/// What a word of a set can hold outside of the bounds of a base, as bits.
+fn outside_bits(low: &i32, high: &i32, word: u32) -> u32
+    requires { word ≤ 7 }
+    ensures { result ≡ outside_bits low.now high.now word }
+{
+    let first = 32 * word;
+    let to = lowest_bits(numbers_to(high).saturating_sub(first));
+    let below = lowest_bits(numbers_below(low).saturating_sub(first));
+    u32::MAX - to.saturating_sub(below)
+}
+
+/// Some bits of a word.
+fn masked(out: &mut Code, t: u32, mask: u32) -> Result<(), LowerRefusal>
+    ensures { OnOk result (out.new ≡ out.old ++ masked t mask) }
+{
+    if mask == u32::MAX {
+        return Ok(());
+    }
+    out.bits(BitOperator::And, t, t, Operand::Number(mask.cast_signed()))
+}
+
+/// Those bits of the word at x of the scratch block join what t holds.
+fn joined_word(out: &mut Code, t: u32, x: u32, mask: u32) -> Result<(), LowerRefusal>
     requires { t ≤ 4294960000 }
-    ensures { OnOk result (out.new ≡ out.old ++ bounds_code (scope_of k.now) t x low.now high.now) }
+    ensures { OnOk result (out.new ≡ out.old ++ joined_word t x mask) }
 {
-    let first = beside(t);
-    let last = beside(first);
-    clear(out, t, x)?;
-    out.offset(t, Base::Scratch, x, 32)?;
-    least(out, first, low)?;
-    greatest(out, last, high)?;
-    add_range(out, k, t, first, last, first)
+    if mask == 0 {
+        return Ok(());
+    }
+    let word = beside(t);
+    out.load(word, Base::Scratch, x)?;
+    masked(out, word, mask)?;
+    out.bits(BitOperator::Or, t, t, Operand::Temporary(word))
 }
 
-/// The set from x on lies in another, or error 8.
-fn within(out: &mut Code, k: &Level, t: u32, x: u32, line: u16) -> Result<(), LowerRefusal>
-    requires { t ≤ 4294960000 }
-    ensures { OnOk result (out.new ≡ out.old ++ within_code (scope_of k.now) t x line) }
+/// What the set from x on holds outside of the bounds of a base.
+fn outside(out: &mut Code, low: &i32, high: &i32, t: u32, x: u32) -> Result<(), LowerRefusal>
+    requires depth { t ≤ 4294960000 }
+    requires place { x ≤ DEEPEST }
+    ensures { OnOk result (out.new ≡ out.old ++ outside_code low.now high.now t x 8) }
 {
-    let set = beside(t);
-    out.offset(set, Base::Scratch, x, 32)?;
-    is_included(out, k, set, t, t)?;
-    out.branch(Relation::NotEqual, t, Operand::Number(0), 1)?;
-    out.trap(8, line)
+    for word in 0..8 {
+        joined_word(out, t, x + 4 * word, outside_bits(low, high, word))?;
+    }
+    Ok(())
 }
 
 /// The set from x on lies within the bounds of a base, or error 8.
 pub fn check_set(
     out: &mut Code,
-    k: &Level,
     t: u32,
     x: u32,
     low: &i32,
@@ -337,16 +356,23 @@ pub fn check_set(
     line: u16,
 ) -> Result<(), LowerRefusal>
     requires { t ≤ 4294960000 }
-    ensures { OnOk result (out.new ≡ out.old ++ set_check (scope_of k.now) t x low.now high.now line) }
+    ensures { OnOk result (out.new ≡ out.old ++ set_check t x low.now high.now line) }
 {
-    bounds(out, k, t, above(x)?, low, high)?;
-    within(out, k, t, x, line)
+    if holds_all(low, high) {
+        return Ok(());
+    }
+    if DEEPEST < x {
+        return Err(LowerRefusal::TooLarge);
+    }
+    out.literal(t, 0)?;
+    outside(out, low, high, t, x)?;
+    out.branch(Relation::Equal, t, Operand::Number(0), 1)?;
+    out.trap(8, line)
 }
 
 /// The set from x on as an actual parameter of a formal's base.
 pub fn hand_set(
     out: &mut Code,
-    k: &Level,
     t: u32,
     x: u32,
     low: &i32,
@@ -354,9 +380,9 @@ pub fn hand_set(
     line: u16,
 ) -> Result<(), LowerRefusal>
     requires { t ≤ 4294950000 }
-    ensures { OnOk result (out.new ≡ out.old ++ (set_check (scope_of k.now) (even_from t) x low.now high.now line ++ i.Offset t base.Scratch x 32 ∷ [])) }
+    ensures { OnOk result (out.new ≡ out.old ++ (set_check (even_from t) x low.now high.now line ++ i.Offset t base.Scratch x 32 ∷ [])) }
 {
-    check_set(out, k, even_from(t), x, low, high, line)?;
+    check_set(out, even_from(t), x, low, high, line)?;
     out.offset(t, Base::Scratch, x, 32)
 }
 

@@ -255,7 +255,7 @@ fn act_for(
     requires { d ≤ DEEPEST }
     ensures { OnOk result (out.new ≡ out.old ++ statement_code (scope_of k.now) (tree.For control.variable control.low control.high (expr_of from.now) control.from_line control.direction (expr_of to.now) control.to_line (statement_of body.now)) d) }
 {
-    let turns = turns_of(k, control.variable, to, statement_calls(body), d)?;
+    let turns = turns_of(k, control.variable, to, statement_calls(body), d);
     let places = open_turns(out, k, control, from, to, turns)?;
     statement(out, k, body, turns.depth)?;
     end_turn(out, turns, places.begin)?;

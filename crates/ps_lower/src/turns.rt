@@ -93,29 +93,23 @@ pub fn control_of(
 }
 
 /// Where a loop keeps what it needs, whose body calls or not.
-pub fn turns_of(
-    k: &Level,
-    variable: u32,
-    to: &Expr,
-    calls: bool,
-    d: u32,
-) -> Result<Turns, LowerRefusal>
+pub fn turns_of(k: &Level, variable: u32, to: &Expr, calls: bool, d: u32) -> Turns
     requires { d ≤ DEEPEST }
-    ensures { IfOk result (λ turns. turns ≡ turns_of (scope_of k.now) variable (expr_of to.now) calls d) }
+    ensures { result ≡ turns_of (scope_of k.now) variable (expr_of to.now) calls d }
 {
-    let offset = own_entry(k, variable)?.offset;
+    let offset = own_entry(k, variable).offset;
     let known = literal(to);
     let first = held(expr_calls(to), d);
     let last = held(calls, first + 1);
     let depth = if known.is_some() { d } else { last + 1 };
-    Ok(Turns {
+    Turns {
         first,
         last,
         limit: operand(known, last),
         offset,
         step: even_from(depth),
         depth,
-    })
+    }
 }
 
 /// The values of both bounds.

@@ -436,7 +436,7 @@ fn argument(
             line,
         } => {
             set(out, k, e, t, x)?;
-            hand_set(out, k, t, x, low, high, line.number)
+            hand_set(out, t, x, low, high, line.number)
         }
         Argument::Copy { value: e, ty } => {
             structure(out, k, e, t, x)?;

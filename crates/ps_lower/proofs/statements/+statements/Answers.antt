@@ -69,10 +69,10 @@ statement-returns-in-Case t c = act (scope_of c.args.k.now) c.args.action.now _ 
 
 pub act_for-returns : goal.act_for-returns
 act_for-returns t c =
-    loop_made (scope_of c.args.k.now) c.args.control (expr_of c.args.from.now) (expr_of c.args.to.now) c.in_ok-turns.turns (statement_of c.args.body.now) c.args.out.now c.open_turns.new.out c.statement.new.out c.end_turn.new.out c.set_branch.new.self c.in_ok-places.places.past c.in_ok-places.places.begin c.past_relation-relation.result
+    loop_made (scope_of c.args.k.now) c.args.control (expr_of c.args.from.now) (expr_of c.args.to.now) c.turns_of-turns.result (statement_of c.args.body.now) c.args.out.now c.open_turns.new.out c.statement.new.out c.end_turn.new.out c.set_branch.new.self c.in_ok-places.places.past c.in_ok-places.places.begin c.past_relation-relation.result
     c.in_ok-places.ensures.code c.in_ok-places.ensures.past c.in_ok-places.ensures.begin c.in_ok-statement.ensures c.in_ok-end_turn.ensures c.past_relation-relation.ensures c.set_branch.ensures
     ∙ ap (λ (y : Turns). c.args.out.now ++ loop_code (scope_of c.args.k.now) c.args.control (expr_of c.args.from.now) (expr_of c.args.to.now) y (statement_of c.args.body.now))
-    (c.in_ok-turns.ensures ∙ ap (λ calls. turns_of (scope_of c.args.k.now) c.args.control.variable (expr_of c.args.to.now) calls c.args.d) c.statement_calls.ensures)
+    (c.turns_of-turns.ensures ∙ ap (λ calls. turns_of (scope_of c.args.k.now) c.args.control.variable (expr_of c.args.to.now) calls c.args.d) c.statement_calls.ensures)
 
 pub act_element-returns-clause-code : goal.act_element-returns-clause-code
 act_element-returns-clause-code t c = element_made (scope_of c.args.k.now) _ _ _ (statement_of (out-CaseElement c.args.element.now).body) c.args.d _ c.args.out.now _ _ _ _ c.deref.ensures.value c.deref-2.ensures.value c.in_ok-last.ensures.code c.in_ok-last.ensures.place c.in_ok-statement.ensures c.in_ok-end.ensures.room c.close_tests.ensures
