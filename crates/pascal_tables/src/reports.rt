@@ -1,7 +1,7 @@
 //! Statuses and messages.
 
 use pascal_cli::{message, status};
-use ps_build::{FaultKind, Outcome, Refusal, Trail};
+use ps_build::{FaultKind, Outcome, Refusal, Rule, Trail};
 use std::alloc::{AllocError, Global};
 
 fn number(word: Option<&str>) -> u32 {
@@ -10,9 +10,12 @@ fn number(word: Option<&str>) -> u32 {
 
 fn refusal(name: &str, line: u32) -> Refusal {
     match name {
-        "WrongType" => Refusal::WrongType { line },
+        "WrongType" => Refusal::Broken {
+            rule: Rule::WrongType,
+            line,
+        },
         "Truncated" => Refusal::Truncated,
-        _ => Refusal::NotYet,
+        _ => Refusal::OutOfMemory,
     }
 }
 

@@ -1,14 +1,9 @@
-pub mod Simulation
-pub mod Emission
 pub mod Rows
 pub mod Asked
 pub mod Told
 pub mod Compiled
 pub mod Results
-pub mod Appending
-pub mod Bytes
-pub mod Meant
 pub mod Unbudgeted
-pub mod Pairs
+pub mod Charged
 pub mod Lowered
 pub mod Made

@@ -17,9 +17,8 @@ use Rattle.risc_runs.specs.Outcome.{image_outcome}
 use Rattle.risc_runs.proofs.Same.{emission_keeps}
 use Rattle.ps_build.specs.Accepts.{IsProgramOf}
 use Rattle.ps_build.specs.Headline.{DoesAsMeant, Compiles}
-use Rattle.ps_build.specs.Bounds.{KeepsBounds}
 use Rattle.ps_build.specs.Made.{IsCodeOf, IsMadeOf, IsEmitted, AreMadeOf}
-use Rattle.ps_build.proofs.Pairs.{length_mapped}
+use Rattle.ps_build.proofs.Charged.{IsCharged}
 
 -- ---- the words of an image's code
 
@@ -60,8 +59,8 @@ module _ (checked : Tree.Program) (bytes : List ℕ) (image : Image) (is : IsIma
 
 -- ---- what an image is made of
 
-pub made_of : (checked : Tree.Program) (code : Code) (image : Image) (bytes : List ℕ) → IsCodeOf checked code → IsSound code → IsEmitted code image → KeepsBounds checked image → IsImage bytes image → AreMadeOf checked bytes
-made_of checked code image bytes lowered sound emitted bounds is =
+pub made_of : (checked : Tree.Program) (code : Code) (image : Image) (bytes : List ℕ) → IsCodeOf checked code → IsSound code → IsEmitted code image → IsCharged checked image → IsImage bytes image → AreMadeOf checked bytes
+made_of checked code image bytes lowered sound emitted charged is =
     record {
       image = image;
       is_image = is;
@@ -72,8 +71,8 @@ made_of checked code image bytes lowered sound emitted bounds is =
         homes = emitted.homes;
         placed = emitted.placed;
         emitted = emitted.emitted;
-        routines = sym (length_mapped (λ row. row.bytes) image.frames) ∙ bounds.frames.count;
-        types = sym (length_mapped (λ row. row.bytes) image.objects) ∙ bounds.objects.count;
-        bounded = record { frames = bounds.frames.each; objects = bounds.objects.each };
+        routines = charged.routines;
+        types = charged.types;
+        bounded = charged.bounded;
       };
     }

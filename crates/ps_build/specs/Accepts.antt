@@ -1,5 +1,5 @@
 -- Which texts are accepted, each as which checked program, and why the others are refused.
-use Rattle.std.specs.Prelude.{◌≡◌, ◌⊎◌, ℕ, ◌<◌, ◌≤◌, true, List, length, Some, None}
+use Rattle.std.specs.Prelude.{◌≡◌, ℕ, ◌<◌, ◌≤◌, List, length, Some, None}
 use Rattle.ps_text.specs.declared.TheConstants.{MAX_LENGTH, MAX_LINES}
 use Rattle.ps_text.specs.Lines.{IsSource, line_count}
 use Rattle.ps_scan.specs.declared.token.Token.{Token}
@@ -7,18 +7,15 @@ use Rattle.ps_scan.specs.Lexis.{IsTokens}
 use Rattle.ps_syntax.specs.declared.program.Program.{Program}
 use Rattle.ps_grammar.specs.Trees.{IsTreeOf}
 use Rattle.ps_build.specs.declared.refusal.Refusal.{Refusal}
-use Rattle.ps_build.specs.declared.refusal.Refusal.TheVariants.{TooLong, TooManyLines, NotYet, OutOfMemory, BadByte, OpenComment, OpenString, EmptyString, SeparatorMissing, NumberTooLarge, RealNumber, NotAProgram, TooDeep, NotInProfile, Unknown, Twice, UsedBefore, WrongKind, WrongType, NotAssignable, BadSubrange, SetBase, CaseTwice, ControlVariable, PackedVariable, NotCongruous, ForwardOpen, NoResultAssigned, NoInputOutput, Limit, CodeTooLarge}
+use Rattle.ps_build.specs.declared.refusal.Refusal.TheVariants.{TooLong, TooManyLines, OutOfMemory, BadByte, OpenComment, OpenString, EmptyString, SeparatorMissing, NumberTooLarge, RealNumber, NotAProgram, TooDeep, NotInProfile, Broken, CodeTooLarge}
 use Rattle.ps_tree.specs.Tree as Tree
 use Rattle.ps_check.specs.Programs.{program}
 use Rattle.ps_code.specs.Programs.{code_of}
-use Rattle.ps_fits.specs.Tests.{program_fits}
 use Rattle.tac_rt.specs.Bodies.{run_time_routines}
 use Rattle.tac_code.specs.Meaning.{Code}
 use Rattle.risc_alloc.specs.declared.homes.Home.{Home}
 use Rattle.risc_alloc.specs.Valid.{Valid}
-use Rattle.risc_emit.specs.Emitted.{code_words as placed_words}
-use Rattle.ps_build.specs.Strings.{compiled_of}
-use Rattle.ps_build.specs.Code.{code_words}
+use Rattle.risc_emit.specs.Emitted.{code_words}
 
 -- the text is within the limits, has tokens, and these have a tree that is not too high
 pub record IsParsed (text : List ℕ) (tokens : List Token) (tree : Program) : Type 0 where
@@ -57,12 +54,6 @@ pub record HasNoProgram (text : List ℕ) : Type 0 where
   pub parsed : IsParsed text tokens tree
   pub none : (others : List Token) (other : Program) → IsParsed text others other → program text other ≡ None
 
--- the text is accepted, as a program that is not compiled so far
-pub record IsNotYet (text : List ℕ) : Type 0 where
-  pub checked : Tree.Program
-  pub accepts : Accepts text checked
-  pub none : compiled_of checked ≡ None
-
 -- the most words of code
 abbrev pub most_words : ℕ
 most_words = 1048576
@@ -71,37 +62,18 @@ most_words = 1048576
 pub record HasNoRoom (code : Code) : Type 0 where
   pub homes : List Home
   pub placed : Valid code homes
-  pub words : most_words < placed_words code homes
+  pub words : most_words < code_words code homes
 
--- The three-address code of a program that is lowered so far has too many words.
-pub record HasTooManyWords (checked : Tree.Program) : Type 0 where
-  pub fits : program_fits checked ≡ true
-  pub no_room : HasNoRoom (code_of run_time_routines checked)
-
--- the text is accepted as a program that writes strings, but its code would be too large
-pub record AreStringsTooLarge (text : List ℕ) : Type 0 where
-  pub checked : Tree.Program
-  pub accepts : Accepts text checked
-  pub line : ℕ
-  pub bytes : List ℕ
-  pub compiled : compiled_of checked ≡ Some (line, bytes)
-  pub words : most_words < code_words (length bytes)
-
--- the text is accepted as another program, but the words of its three-address code would be too many
+-- the text is accepted, as a program whose three-address code has too many words
 pub record IsCodeTooLarge (text : List ℕ) : Type 0 where
   pub checked : Tree.Program
   pub accepts : Accepts text checked
-  pub none : compiled_of checked ≡ None
-  pub words : HasTooManyWords checked
-
-abbrev pub IsTooLarge : List ℕ → Type 0
-IsTooLarge text = AreStringsTooLarge text ⊎ IsCodeTooLarge text
+  pub no_room : HasNoRoom (code_of run_time_routines checked)
 
 -- What each refusal of a text says of it; the others are never told. Memory is wanted only for a text within the limits.
 abbrev pub IsRefused : List ℕ → Refusal → Type 0
 IsRefused text TooLong = MAX_LENGTH < length text
 IsRefused text TooManyLines = (length text ≤ MAX_LENGTH) × (MAX_LINES < line_count text)
-IsRefused text NotYet = IsNotYet text
 IsRefused text OutOfMemory = IsSource text
 IsRefused text (BadByte line) = HasNoTokens text
 IsRefused text (OpenComment line) = HasNoTokens text
@@ -112,25 +84,9 @@ IsRefused text (NumberTooLarge line) = HasNoTokens text
 IsRefused text (RealNumber line) = HasNoTokens text
 IsRefused text (NotAProgram line token) = HasNoTree text
 IsRefused text (TooDeep line) = HasNoTree text
--- a construction that is left out, or a required name
-IsRefused text (NotInProfile line) = HasNoTree text ⊎ HasNoProgram text
-IsRefused text (Unknown line) = HasNoProgram text
-IsRefused text (Twice line) = HasNoProgram text
-IsRefused text (UsedBefore line) = HasNoProgram text
-IsRefused text (WrongKind line) = HasNoProgram text
-IsRefused text (WrongType line) = HasNoProgram text
-IsRefused text (NotAssignable line) = HasNoProgram text
-IsRefused text (BadSubrange line) = HasNoProgram text
-IsRefused text (SetBase line) = HasNoProgram text
-IsRefused text (CaseTwice line) = HasNoProgram text
-IsRefused text (ControlVariable line) = HasNoProgram text
-IsRefused text (PackedVariable line) = HasNoProgram text
-IsRefused text (NotCongruous line) = HasNoProgram text
-IsRefused text (ForwardOpen line) = HasNoProgram text
-IsRefused text (NoResultAssigned line) = HasNoProgram text
-IsRefused text (NoInputOutput line) = HasNoProgram text
-IsRefused text (Limit line) = HasNoProgram text
-IsRefused text CodeTooLarge = IsTooLarge text
+IsRefused text (NotInProfile line) = HasNoTree text
+IsRefused text (Broken rule line) = HasNoProgram text
+IsRefused text CodeTooLarge = IsCodeTooLarge text
 IsRefused text _ = ⊥
 
 -- a refusal that tells a fault of the text: 1, 2, and 10 to 45
@@ -147,22 +103,7 @@ IsFaulty (RealNumber line) = Unit {0}
 IsFaulty (NotAProgram line token) = Unit {0}
 IsFaulty (TooDeep line) = Unit {0}
 IsFaulty (NotInProfile line) = Unit {0}
-IsFaulty (Unknown line) = Unit {0}
-IsFaulty (Twice line) = Unit {0}
-IsFaulty (UsedBefore line) = Unit {0}
-IsFaulty (WrongKind line) = Unit {0}
-IsFaulty (WrongType line) = Unit {0}
-IsFaulty (NotAssignable line) = Unit {0}
-IsFaulty (BadSubrange line) = Unit {0}
-IsFaulty (SetBase line) = Unit {0}
-IsFaulty (CaseTwice line) = Unit {0}
-IsFaulty (ControlVariable line) = Unit {0}
-IsFaulty (PackedVariable line) = Unit {0}
-IsFaulty (NotCongruous line) = Unit {0}
-IsFaulty (ForwardOpen line) = Unit {0}
-IsFaulty (NoResultAssigned line) = Unit {0}
-IsFaulty (NoInputOutput line) = Unit {0}
-IsFaulty (Limit line) = Unit {0}
+IsFaulty (Broken rule line) = Unit {0}
 IsFaulty _ = ⊥
 
 -- the text is accepted as no program

@@ -1,5 +1,5 @@
 -- The headline over the meaning without budgets.
-use Rattle.std.specs.Prelude.{◌≡◌, ℕ, true, List}
+use Rattle.std.specs.Prelude.{ℕ, List}
 use Rattle.behavior.specs.Transcripts.{AreBytes}
 use Rattle.behavior.specs.Laws.{Stopped}
 use Rattle.risc_image.specs.Image.{Image}
@@ -9,7 +9,7 @@ use Rattle.ps_tree.specs.Tree.{Program}
 use Rattle.ps_meaning.specs.Run.{run}
 use Rattle.risc_image.specs.Format.{IsImage}
 use Rattle.ps_code.specs.Programs.{code_of}
-use Rattle.ps_fits.specs.Tests.{program_fits}
+use Rattle.ps_lowers.specs.Fits.{ProgramFits}
 use Rattle.tac_rt.specs.Bodies.{run_time_routines}
 use Rattle.ps_build.specs.Accepts.{IsProgramOf}
 use Rattle.ps_build.specs.Headline.{DoesAsMeant, Compiles}
@@ -21,9 +21,10 @@ use Rattle.ps_build.specs.Made.{IsCodeOf, IsMadeOf}
 abbrev pub ComesToTheMeaning : Type 0
 ComesToTheMeaning = (checked : Program) (image : Image) → DoesAsMeant checked image → (heap stack : ℕ) → IsBudget image heap stack → (input : List ℕ) → AreBytes input → Stopped (run checked input) (image_outcome image heap stack input)
 
--- The three-address code of a program that is lowered so far, with the run-time routines behind it, does what the program means.
+-- The three-address code of a program that has all that the lowering needs, with the run-time routines behind it, does what the program
+-- means.
 abbrev pub CodeDoes : Type 0
-CodeDoes = (checked : Program) → program_fits checked ≡ true → IsCodeOf checked (code_of run_time_routines checked)
+CodeDoes = (checked : Program) → ProgramFits checked → IsCodeOf checked (code_of run_time_routines checked)
 
 -- An image that was made through three-address code does what its program means: the runs of the program, of its code and of its image are
 -- the same.

@@ -1,11 +1,8 @@
-pub mod Strings
-pub mod Code
 pub mod Refusals
 pub mod Accepts
 pub mod Faults
 pub mod Headline
 pub mod Listed
-pub mod Bounds
 pub mod Made
 pub mod Devices
 pub mod Runs

@@ -8,6 +8,7 @@ use Rattle.ps_parse.specs.declared.error.ParseRefusal.{ParseRefusal}
 use Rattle.ps_parse.specs.declared.error.ParseRefusal.TheVariants as p
 use Rattle.ps_regions.specs.declared.refusal.Rule.{Rule}
 use Rattle.ps_regions.specs.declared.refusal.Rule.TheVariants as r
+use Rattle.ps_regions.specs.Refusal.{number_of_rule}
 use Rattle.ps_regions.specs.declared.refusal.CheckRefusal.{CheckRefusal}
 use Rattle.ps_regions.specs.declared.refusal.CheckRefusal.TheVariants as c
 use Rattle.ps_lower.specs.declared.refusal.LowerRefusal.{LowerRefusal}
@@ -19,12 +20,11 @@ use Rattle.risc_image.specs.declared.refusal.ImageRefusal.TheVariants as i
 use Rattle.risc_load.specs.declared.budget.LoadRefusal.{LoadRefusal}
 use Rattle.risc_load.specs.declared.budget.LoadRefusal.TheVariants as l
 use Rattle.ps_build.specs.declared.refusal.Refusal.{Refusal}
-use Rattle.ps_build.specs.declared.refusal.Refusal.TheVariants.{TooLong, TooManyLines, NotYet, OutOfMemory, BadByte, OpenComment, OpenString, EmptyString, SeparatorMissing, NumberTooLarge, RealNumber, NotAProgram, TooDeep, NotInProfile, Unknown, Twice, UsedBefore, WrongKind, WrongType, NotAssignable, BadSubrange, SetBase, CaseTwice, ControlVariable, PackedVariable, NotCongruous, ForwardOpen, NoResultAssigned, NoInputOutput, Limit, CodeTooLarge, BadPlacement, Magic, Truncated, Trailing, TooLarge, BadTable, BudgetTooLarge, BudgetUneven}
+use Rattle.ps_build.specs.declared.refusal.Refusal.TheVariants.{TooLong, TooManyLines, OutOfMemory, BadByte, OpenComment, OpenString, EmptyString, SeparatorMissing, NumberTooLarge, RealNumber, NotAProgram, TooDeep, NotInProfile, Broken, CodeTooLarge, BadPlacement, Magic, Truncated, Trailing, TooLarge, BadTable, BudgetTooLarge, BudgetUneven}
 
 abbrev pub number_of : Refusal → ℕ
 number_of TooLong = 1
 number_of TooManyLines = 2
-number_of NotYet = 3
 number_of OutOfMemory = 9
 number_of (BadByte line) = 10
 number_of (OpenComment line) = 11
@@ -36,22 +36,7 @@ number_of (RealNumber line) = 16
 number_of (NotAProgram line token) = 20
 number_of (TooDeep line) = 21
 number_of (NotInProfile line) = 22
-number_of (Unknown line) = 30
-number_of (Twice line) = 31
-number_of (UsedBefore line) = 32
-number_of (WrongKind line) = 33
-number_of (WrongType line) = 34
-number_of (NotAssignable line) = 35
-number_of (BadSubrange line) = 36
-number_of (SetBase line) = 37
-number_of (CaseTwice line) = 38
-number_of (ControlVariable line) = 39
-number_of (PackedVariable line) = 40
-number_of (NotCongruous line) = 41
-number_of (ForwardOpen line) = 42
-number_of (NoResultAssigned line) = 43
-number_of (NoInputOutput line) = 44
-number_of (Limit line) = 45
+number_of (Broken rule line) = number_of_rule rule
 number_of CodeTooLarge = 50
 number_of BadPlacement = 51
 number_of Magic = 60
@@ -62,10 +47,28 @@ number_of BadTable = 64
 number_of BudgetTooLarge = 70
 number_of BudgetUneven = 71
 
+abbrev pub name_of_rule : Rule → List ℕ
+name_of_rule r.NotInProfile = codes "NotInProfile"
+name_of_rule r.Unknown = codes "Unknown"
+name_of_rule r.Twice = codes "Twice"
+name_of_rule r.UsedBefore = codes "UsedBefore"
+name_of_rule r.WrongKind = codes "WrongKind"
+name_of_rule r.WrongType = codes "WrongType"
+name_of_rule r.NotAssignable = codes "NotAssignable"
+name_of_rule r.BadSubrange = codes "BadSubrange"
+name_of_rule r.SetBase = codes "SetBase"
+name_of_rule r.CaseTwice = codes "CaseTwice"
+name_of_rule r.ControlVariable = codes "ControlVariable"
+name_of_rule r.PackedVariable = codes "PackedVariable"
+name_of_rule r.NotCongruous = codes "NotCongruous"
+name_of_rule r.ForwardOpen = codes "ForwardOpen"
+name_of_rule r.NoResultAssigned = codes "NoResultAssigned"
+name_of_rule r.NoInputOutput = codes "NoInputOutput"
+name_of_rule r.Limit = codes "Limit"
+
 abbrev pub name_of : Refusal → List ℕ
 name_of TooLong = codes "TooLong"
 name_of TooManyLines = codes "TooManyLines"
-name_of NotYet = codes "NotYet"
 name_of OutOfMemory = codes "OutOfMemory"
 name_of (BadByte line) = codes "BadByte"
 name_of (OpenComment line) = codes "OpenComment"
@@ -77,22 +80,7 @@ name_of (RealNumber line) = codes "RealNumber"
 name_of (NotAProgram line token) = codes "NotAProgram"
 name_of (TooDeep line) = codes "TooDeep"
 name_of (NotInProfile line) = codes "NotInProfile"
-name_of (Unknown line) = codes "Unknown"
-name_of (Twice line) = codes "Twice"
-name_of (UsedBefore line) = codes "UsedBefore"
-name_of (WrongKind line) = codes "WrongKind"
-name_of (WrongType line) = codes "WrongType"
-name_of (NotAssignable line) = codes "NotAssignable"
-name_of (BadSubrange line) = codes "BadSubrange"
-name_of (SetBase line) = codes "SetBase"
-name_of (CaseTwice line) = codes "CaseTwice"
-name_of (ControlVariable line) = codes "ControlVariable"
-name_of (PackedVariable line) = codes "PackedVariable"
-name_of (NotCongruous line) = codes "NotCongruous"
-name_of (ForwardOpen line) = codes "ForwardOpen"
-name_of (NoResultAssigned line) = codes "NoResultAssigned"
-name_of (NoInputOutput line) = codes "NoInputOutput"
-name_of (Limit line) = codes "Limit"
+name_of (Broken rule line) = name_of_rule rule
 name_of CodeTooLarge = codes "CodeTooLarge"
 name_of BadPlacement = codes "BadPlacement"
 name_of Magic = codes "Magic"
@@ -114,42 +102,14 @@ line_of (RealNumber line) = Some line
 line_of (NotAProgram line token) = Some line
 line_of (TooDeep line) = Some line
 line_of (NotInProfile line) = Some line
-line_of (Unknown line) = Some line
-line_of (Twice line) = Some line
-line_of (UsedBefore line) = Some line
-line_of (WrongKind line) = Some line
-line_of (WrongType line) = Some line
-line_of (NotAssignable line) = Some line
-line_of (BadSubrange line) = Some line
-line_of (SetBase line) = Some line
-line_of (CaseTwice line) = Some line
-line_of (ControlVariable line) = Some line
-line_of (PackedVariable line) = Some line
-line_of (NotCongruous line) = Some line
-line_of (ForwardOpen line) = Some line
-line_of (NoResultAssigned line) = Some line
-line_of (NoInputOutput line) = Some line
-line_of (Limit line) = Some line
+line_of (Broken rule line) = Some line
 line_of _ = None
 
--- NotYet is told only where a fact holds; no other refusal is told but the want of memory
-abbrev pub OnlyNotYet : Refusal → Type 0 → Type 0
-OnlyNotYet OutOfMemory fact = Unit {0}
-OnlyNotYet NotYet fact = fact
-OnlyNotYet _ fact = ⊥
-
--- the same of CodeTooLarge
+-- CodeTooLarge is told only where a fact holds; no other refusal is told but the want of memory
 abbrev pub OnlyTooLarge : Refusal → Type 0 → Type 0
 OnlyTooLarge OutOfMemory fact = Unit {0}
 OnlyTooLarge CodeTooLarge fact = fact
 OnlyTooLarge _ fact = ⊥
-
--- NotYet may be told too, CodeTooLarge only where a fact holds
-abbrev pub OnlyLeft : Refusal → Type 0 → Type 0
-OnlyLeft OutOfMemory fact = Unit {0}
-OnlyLeft NotYet fact = Unit {0}
-OnlyLeft CodeTooLarge fact = fact
-OnlyLeft _ fact = ⊥
 
 -- ---- the refusals of the layers
 
@@ -173,34 +133,14 @@ of_parse (p.TooDeep line) = TooDeep line
 of_parse (p.NotInProfile line) = NotInProfile line
 of_parse p.OutOfMemory = OutOfMemory
 
-abbrev pub of_rule : Rule → ℕ → Refusal
-of_rule r.NotInProfile line = NotInProfile line
-of_rule r.Unknown line = Unknown line
-of_rule r.Twice line = Twice line
-of_rule r.UsedBefore line = UsedBefore line
-of_rule r.WrongKind line = WrongKind line
-of_rule r.WrongType line = WrongType line
-of_rule r.NotAssignable line = NotAssignable line
-of_rule r.BadSubrange line = BadSubrange line
-of_rule r.SetBase line = SetBase line
-of_rule r.CaseTwice line = CaseTwice line
-of_rule r.ControlVariable line = ControlVariable line
-of_rule r.PackedVariable line = PackedVariable line
-of_rule r.NotCongruous line = NotCongruous line
-of_rule r.ForwardOpen line = ForwardOpen line
-of_rule r.NoResultAssigned line = NoResultAssigned line
-of_rule r.NoInputOutput line = NoInputOutput line
-of_rule r.Limit line = Limit line
-
 abbrev pub of_check : CheckRefusal → Refusal
 of_check c.OutOfMemory = OutOfMemory
-of_check (c.Broken rule line) = of_rule rule line
+of_check (c.Broken rule line) = Broken rule line
 
--- what is too large for the code is not compiled yet
+-- a number that is larger than its field of the code wants more memory than there are addresses
 abbrev pub of_lower : LowerRefusal → Refusal
 of_lower w.OutOfMemory = OutOfMemory
-of_lower w.TooLarge = NotYet
-of_lower w.NotYet = NotYet
+of_lower w.TooLarge = OutOfMemory
 
 abbrev pub of_emit : EmitRefusal → Refusal
 of_emit e.CodeTooLarge = CodeTooLarge

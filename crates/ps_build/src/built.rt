@@ -1,17 +1,15 @@
 //! Programs as images.
 
-ghost use Rattle.std.specs.Prelude.{◌≡◌, ℕ, ◌≤◌, ◌<◌, length, slice_index, IfOk, IfErr};
+ghost use Rattle.std.specs.Prelude.{◌≡◌, ℕ, ◌<◌, slice_index, IfOk, IfErr};
 ghost use Rattle.risc_image.specs.Format.{IsImage};
-ghost use Rattle.ps_build.specs.Code.{code_words, program_image};
-ghost use Rattle.ps_build.specs.Refusals.{OnlyTooLarge};
+ghost use Rattle.ps_lowers.specs.Fits.{ProgramFits};
 ghost use Rattle.ps_tree.specs.Checked.{program_in};
-ghost use Rattle.ps_build.specs.Accepts.{IsProgramOf, IsRefused, IsFaulty, IsNotAccepted, most_words};
+ghost use Rattle.ps_build.specs.Accepts.{IsProgramOf, IsRefused, IsFaulty, IsNotAccepted};
 ghost use Rattle.ps_build.specs.Headline.{Compiles};
 
-use crate::emit::{ENTRY_LINK, FRAME_BYTES, MAX_BYTES, OUT_OF_STACK, emit};
 use crate::making::image_made;
 use crate::refusal::Refusal;
-use crate::strings::{StringProgram, strings_of};
+use ps_accepts::accepted_fit;
 use ps_check::check;
 use ps_parse::parse;
 use ps_scan::scan;
@@ -19,7 +17,7 @@ use ps_text::Source;
 use ps_tree::program::Checked;
 use risc_alloc::placer::Placer;
 use risc_alloc::scan::Scan;
-use risc_image::{FrameRow, ImageView, Parts, TrapRow, write};
+use risc_image::ImageView;
 use std::alloc::Global;
 use std::marker::Model;
 
@@ -59,49 +57,6 @@ impl Built {
     }
 }
 
-// The parts of the image of a program.
-fn parts_of(alloc: Global, program: &StringProgram) -> Result<Parts, Refusal>
-    requires first_line { 1 ≤ program.now.line }
-    requires last_line { program.now.line ≤ 65535 }
-    ensures ok { IfOk result (λ parts. parts ≡ program_image program.now.line program.now.output.items) }
-    ensures narrow { IfOk result (λ _. (k : ℕ) → slice_index program.now.output.items k < 256) }
-    ensures err { IfErr result (λ e. OnlyTooLarge e (most_words < code_words (length program.now.output.items))) }
-{
-    if program.output.len() > MAX_BYTES {
-        return Err(Refusal::CodeTooLarge);
-    }
-    let frame = FrameRow {
-        entry: 0,
-        bytes: FRAME_BYTES,
-    };
-    let trap = TrapRow {
-        link: ENTRY_LINK,
-        error: OUT_OF_STACK,
-        line: program.line,
-    };
-    Ok(Parts {
-        global: 0,
-        code: emit(alloc, &program.output)?,
-        frames: Vec::from_slice(alloc, &[frame])?,
-        objects: Vec::new(alloc),
-        traps: Vec::from_slice(alloc, &[trap])?,
-        calls: None,
-    })
-}
-
-// The image of a program.
-fn image_of(alloc: Global, program: &StringProgram) -> Result<Vec<u8>, Refusal>
-    requires first_line { 1 ≤ program.now.line }
-    requires last_line { program.now.line ≤ 65535 }
-    ensures ok { IfOk result (λ bytes. IsImage bytes.items (program_image program.now.line program.now.output.items)) }
-    ensures narrow { IfOk result (λ _. (k : ℕ) → slice_index program.now.output.items k < 256) }
-    ensures err { IfErr result (λ e. OnlyTooLarge e (most_words < code_words (length program.now.output.items))) }
-{
-    let parts = parts_of(alloc, program)?;
-    let bytes = write(alloc, &parts)?;
-    Ok(bytes)
-}
-
 // The checked program of a text.
 fn program_of(alloc: Global, text: &[u8]) -> Result<Checked, Refusal>
     ensures ok { IfOk result (λ checked. IsProgramOf text.now (program_in checked)) }
@@ -119,24 +74,37 @@ fn program_of(alloc: Global, text: &[u8]) -> Result<Checked, Refusal>
     }
 }
 
-// The bytes of the image of a text: that of what it writes, where it only writes strings, and else that of its three-address code.
+// A text is a list of bytes.
+fn is_of_bytes(text: &[u8])
+    ensures { (k : ℕ) → slice_index text.now k < 256 }
+{
+    let _ = text;
+}
+
+// What a text is accepted as has all that the lowering needs.
+fn has_what_is_needed(text: &[u8], checked: &Checked)
+    requires { IsProgramOf text.now (program_in checked.now) }
+    ensures { ProgramFits (program_in checked.now) }
+{
+    let _ = checked;
+    is_of_bytes(text);
+    accepted_fit();
+}
+
+// The bytes of the image of a text.
 fn image_built<P: Placer>(alloc: Global, text: &[u8], placer: &P) -> Result<Vec<u8>, Refusal>
     ensures ok { IfOk result (λ bytes. Compiles text.now bytes.items) }
     ensures err { IfErr result (IsRefused text.now) }
 {
     let checked = program_of(alloc, text)?;
-    match strings_of(alloc, &checked) {
-        Ok(program) => image_of(alloc, &program),
-        Err(Refusal::NotYet) => image_made(alloc, &checked, placer),
-        Err(refusal) => Err(refusal),
-    }
+    has_what_is_needed(text, &checked);
+    image_made(alloc, &checked, placer)
 }
 
 /// Builds the program of a text, with homes for its temporaries that a placer chooses: the image does on every input and under every
 /// budget what the program means.
 ///
-/// Refused are a text that isn't accepted, with a refusal of 1, 2 or 10 to 45, a program that isn't compiled yet, and
-/// one whose code would be too large.
+/// Refused are a text that isn't accepted, with a refusal of 1, 2 or 10 to 45, and one whose code would be too large.
 pub fn build_with<P: Placer>(alloc: Global, text: &[u8], placer: &P) -> Result<Built, Refusal>
     ensures compiles { IfOk result (Compiles text.now) }
     ensures refused { IfErr result (IsRefused text.now) }

@@ -2,7 +2,6 @@
 
 ghost use Rattle.ps_build.specs.Laws.{ComesToTheMeaning, CodeDoes, MadeCompiles};
 
-use ps_fits::tests_tell;
 use ps_lowers::{programs_go_on, programs_lower};
 use ps_run_time::writes_are_done;
 
@@ -12,12 +11,11 @@ pub fn comes_to_the_meaning()
     ensures { ComesToTheMeaning }
 {}
 
-/// The three-address code of a program that is lowered so far does what the program means, and there is a next step wherever it has not
-/// come to its end.
+/// The three-address code of a program that has all that the lowering needs does what the program means, and there is a next step wherever it
+/// has not come to its end.
 pub fn code_does()
     ensures { CodeDoes }
 {
-    tests_tell();
     writes_are_done();
     programs_lower();
     programs_go_on();

@@ -1,20 +1,18 @@
 //! Builds Pascal programs, and runs images.
 #![tactic(auto)]
 
-mod bounds;
 mod built;
-mod emit;
 pub mod laws;
 mod listing;
 mod making;
 mod outcome;
 mod refusal;
 mod run;
-mod strings;
 
 pub use built::{Built, build, build_with};
 pub use listing::list;
 pub use outcome::{FaultKind, Outcome};
+pub use ps_regions::refusal::Rule;
 pub use refusal::Refusal;
 pub use risc_load::Budget;
 pub use risc_trail::Trail;

@@ -1,7 +1,7 @@
 //! Why a text, an image or a budget is refused.
 
 ghost use Rattle.std.specs.Prelude.{◌≡◌};
-ghost use Rattle.ps_build.specs.Refusals.{number_of, name_of, line_of, of_text, of_scan, of_parse, of_rule, of_check, of_lower, of_emit, of_image, of_load};
+ghost use Rattle.ps_build.specs.Refusals.{number_of, name_of, name_of_rule, line_of, of_text, of_scan, of_parse, of_check, of_lower, of_emit, of_image, of_load};
 ghost use Rattle.ps_build.specs.declared.refusal.Refusal.TheVariants.{OutOfMemory};
 
 use ps_lower::refusal::LowerRefusal;
@@ -15,7 +15,7 @@ use risc_load::LoadRefusal;
 use std::alloc::{AllocError, AllocFailed};
 use thiserror::Error;
 
-/// A refusal, by its name. Those of the tokens, the syntax and the rules of a text have its line, counted from 1.
+/// Why a text, an image or a budget is refused. Faults of the tokens, the syntax and the rules of a text have its line, counted from 1.
 #[derive(Clone, Copy, Debug, PartialEq, Eq, Error)]
 pub enum Refusal {
     /// A text of more than 1,048,576 bytes.
@@ -24,9 +24,6 @@ pub enum Refusal {
     /// A text of more than 65,535 lines, which isn't too long.
     #[error("TooManyLines")]
     TooManyLines,
-    /// A program of the language that isn't compiled yet.
-    #[error("NotYet")]
-    NotYet,
     /// A growth of memory was refused.
     #[error("OutOfMemory")]
     OutOfMemory,
@@ -57,57 +54,12 @@ pub enum Refusal {
     /// A program that is more than 500 constructions deep.
     #[error("TooDeep")]
     TooDeep { line: u32 },
-    /// A construction or a required name that the profile leaves out.
+    /// A construction that the profile leaves out.
     #[error("NotInProfile")]
     NotInProfile { line: u32 },
-    /// A name without a defining point.
-    #[error("Unknown")]
-    Unknown { line: u32 },
-    /// Two defining points of a name in a region.
-    #[error("Twice")]
-    Twice { line: u32 },
-    /// A use before the name's defining point, or within the name's own definition.
-    #[error("UsedBefore")]
-    UsedBefore { line: u32 },
-    /// A name of another kind than its place needs.
-    #[error("WrongKind")]
-    WrongKind { line: u32 },
-    /// An operand, index, condition or parameter of a wrong type.
-    #[error("WrongType")]
-    WrongType { line: u32 },
-    /// An expression that isn't assignment-compatible.
-    #[error("NotAssignable")]
-    NotAssignable { line: u32 },
-    /// A subrange with its lowest value above its highest.
-    #[error("BadSubrange")]
-    BadSubrange { line: u32 },
-    /// A set's base with ordinals outside 0 to 255.
-    #[error("SetBase")]
-    SetBase { line: u32 },
-    /// A case constant that stands twice.
-    #[error("CaseTwice")]
-    CaseTwice { line: u32 },
-    /// A control variable that isn't declared in the closest block, or is threatened.
-    #[error("ControlVariable")]
-    ControlVariable { line: u32 },
-    /// A packed variable's component as a variable parameter.
-    #[error("PackedVariable")]
-    PackedVariable { line: u32 },
-    /// Parameter lists that aren't congruous, or a wrong number of parameters.
-    #[error("NotCongruous")]
-    NotCongruous { line: u32 },
-    /// A forward heading without its block.
-    #[error("ForwardOpen")]
-    ForwardOpen { line: u32 },
-    /// A function whose block assigns no result.
-    #[error("NoResultAssigned")]
-    NoResultAssigned { line: u32 },
-    /// `input` or `output`, named or implied, that the heading doesn't list.
-    #[error("NoInputOutput")]
-    NoInputOutput { line: u32 },
-    /// A type, a routine or a heading past its limit.
-    #[error("Limit")]
-    Limit { line: u32 },
+    /// A rule of the language that is broken.
+    #[error("{rule}")]
+    Broken { rule: Rule, line: u32 },
     /// Code of more than 1,048,576 words.
     #[error("CodeTooLarge")]
     CodeTooLarge,
@@ -137,6 +89,31 @@ pub enum Refusal {
     BudgetUneven,
 }
 
+// The name of the refusal that tells that a rule is broken.
+fn name_of_rule(rule: Rule) -> &'static str
+    ensures { result.now ≡ name_of_rule rule }
+{
+    match rule {
+        Rule::NotInProfile => "NotInProfile",
+        Rule::Unknown => "Unknown",
+        Rule::Twice => "Twice",
+        Rule::UsedBefore => "UsedBefore",
+        Rule::WrongKind => "WrongKind",
+        Rule::WrongType => "WrongType",
+        Rule::NotAssignable => "NotAssignable",
+        Rule::BadSubrange => "BadSubrange",
+        Rule::SetBase => "SetBase",
+        Rule::CaseTwice => "CaseTwice",
+        Rule::ControlVariable => "ControlVariable",
+        Rule::PackedVariable => "PackedVariable",
+        Rule::NotCongruous => "NotCongruous",
+        Rule::ForwardOpen => "ForwardOpen",
+        Rule::NoResultAssigned => "NoResultAssigned",
+        Rule::NoInputOutput => "NoInputOutput",
+        Rule::Limit => "Limit",
+    }
+}
+
 impl Refusal {
     /// The refusal's number.
     pub fn number(self) -> u8
@@ -145,7 +122,6 @@ impl Refusal {
         match self {
             Refusal::TooLong => 1,
             Refusal::TooManyLines => 2,
-            Refusal::NotYet => 3,
             Refusal::OutOfMemory => 9,
             Refusal::BadByte { .. } => 10,
             Refusal::OpenComment { .. } => 11,
@@ -157,22 +133,7 @@ impl Refusal {
             Refusal::NotAProgram { .. } => 20,
             Refusal::TooDeep { .. } => 21,
             Refusal::NotInProfile { .. } => 22,
-            Refusal::Unknown { .. } => 30,
-            Refusal::Twice { .. } => 31,
-            Refusal::UsedBefore { .. } => 32,
-            Refusal::WrongKind { .. } => 33,
-            Refusal::WrongType { .. } => 34,
-            Refusal::NotAssignable { .. } => 35,
-            Refusal::BadSubrange { .. } => 36,
-            Refusal::SetBase { .. } => 37,
-            Refusal::CaseTwice { .. } => 38,
-            Refusal::ControlVariable { .. } => 39,
-            Refusal::PackedVariable { .. } => 40,
-            Refusal::NotCongruous { .. } => 41,
-            Refusal::ForwardOpen { .. } => 42,
-            Refusal::NoResultAssigned { .. } => 43,
-            Refusal::NoInputOutput { .. } => 44,
-            Refusal::Limit { .. } => 45,
+            Refusal::Broken { rule, .. } => rule.number() as u8,
             Refusal::CodeTooLarge => 50,
             Refusal::BadPlacement => 51,
             Refusal::Magic => 60,
@@ -192,7 +153,6 @@ impl Refusal {
         match self {
             Refusal::TooLong => "TooLong",
             Refusal::TooManyLines => "TooManyLines",
-            Refusal::NotYet => "NotYet",
             Refusal::OutOfMemory => "OutOfMemory",
             Refusal::BadByte { .. } => "BadByte",
             Refusal::OpenComment { .. } => "OpenComment",
@@ -204,22 +164,7 @@ impl Refusal {
             Refusal::NotAProgram { .. } => "NotAProgram",
             Refusal::TooDeep { .. } => "TooDeep",
             Refusal::NotInProfile { .. } => "NotInProfile",
-            Refusal::Unknown { .. } => "Unknown",
-            Refusal::Twice { .. } => "Twice",
-            Refusal::UsedBefore { .. } => "UsedBefore",
-            Refusal::WrongKind { .. } => "WrongKind",
-            Refusal::WrongType { .. } => "WrongType",
-            Refusal::NotAssignable { .. } => "NotAssignable",
-            Refusal::BadSubrange { .. } => "BadSubrange",
-            Refusal::SetBase { .. } => "SetBase",
-            Refusal::CaseTwice { .. } => "CaseTwice",
-            Refusal::ControlVariable { .. } => "ControlVariable",
-            Refusal::PackedVariable { .. } => "PackedVariable",
-            Refusal::NotCongruous { .. } => "NotCongruous",
-            Refusal::ForwardOpen { .. } => "ForwardOpen",
-            Refusal::NoResultAssigned { .. } => "NoResultAssigned",
-            Refusal::NoInputOutput { .. } => "NoInputOutput",
-            Refusal::Limit { .. } => "Limit",
+            Refusal::Broken { rule, .. } => name_of_rule(rule),
             Refusal::CodeTooLarge => "CodeTooLarge",
             Refusal::BadPlacement => "BadPlacement",
             Refusal::Magic => "Magic",
@@ -247,22 +192,7 @@ impl Refusal {
             Refusal::NotAProgram { line, .. } => Some(line),
             Refusal::TooDeep { line } => Some(line),
             Refusal::NotInProfile { line } => Some(line),
-            Refusal::Unknown { line } => Some(line),
-            Refusal::Twice { line } => Some(line),
-            Refusal::UsedBefore { line } => Some(line),
-            Refusal::WrongKind { line } => Some(line),
-            Refusal::WrongType { line } => Some(line),
-            Refusal::NotAssignable { line } => Some(line),
-            Refusal::BadSubrange { line } => Some(line),
-            Refusal::SetBase { line } => Some(line),
-            Refusal::CaseTwice { line } => Some(line),
-            Refusal::ControlVariable { line } => Some(line),
-            Refusal::PackedVariable { line } => Some(line),
-            Refusal::NotCongruous { line } => Some(line),
-            Refusal::ForwardOpen { line } => Some(line),
-            Refusal::NoResultAssigned { line } => Some(line),
-            Refusal::NoInputOutput { line } => Some(line),
-            Refusal::Limit { line } => Some(line),
+            Refusal::Broken { line, .. } => Some(line),
             _ => None,
         }
     }
@@ -325,38 +255,13 @@ impl From<ParseRefusal> for Refusal {
     }
 }
 
-// The refusal of a rule that is broken at a line.
-fn of_rule(rule: Rule, line: u32) -> Refusal
-    ensures { result ≡ of_rule rule line }
-{
-    match rule {
-        Rule::NotInProfile => Refusal::NotInProfile { line },
-        Rule::Unknown => Refusal::Unknown { line },
-        Rule::Twice => Refusal::Twice { line },
-        Rule::UsedBefore => Refusal::UsedBefore { line },
-        Rule::WrongKind => Refusal::WrongKind { line },
-        Rule::WrongType => Refusal::WrongType { line },
-        Rule::NotAssignable => Refusal::NotAssignable { line },
-        Rule::BadSubrange => Refusal::BadSubrange { line },
-        Rule::SetBase => Refusal::SetBase { line },
-        Rule::CaseTwice => Refusal::CaseTwice { line },
-        Rule::ControlVariable => Refusal::ControlVariable { line },
-        Rule::PackedVariable => Refusal::PackedVariable { line },
-        Rule::NotCongruous => Refusal::NotCongruous { line },
-        Rule::ForwardOpen => Refusal::ForwardOpen { line },
-        Rule::NoResultAssigned => Refusal::NoResultAssigned { line },
-        Rule::NoInputOutput => Refusal::NoInputOutput { line },
-        Rule::Limit => Refusal::Limit { line },
-    }
-}
-
 impl From<CheckRefusal> for Refusal {
     ghost from_gives = { λ e r. r ≡ of_check e };
 
     fn from(refusal: CheckRefusal) -> Refusal {
         match refusal {
             CheckRefusal::OutOfMemory => Refusal::OutOfMemory,
-            CheckRefusal::Broken { rule, line } => of_rule(rule, line),
+            CheckRefusal::Broken { rule, line } => Refusal::Broken { rule, line },
         }
     }
 }
@@ -366,8 +271,7 @@ impl From<LowerRefusal> for Refusal {
 
     fn from(refusal: LowerRefusal) -> Refusal {
         match refusal {
-            LowerRefusal::OutOfMemory => Refusal::OutOfMemory,
-            LowerRefusal::TooLarge | LowerRefusal::NotYet => Refusal::NotYet,
+            LowerRefusal::OutOfMemory | LowerRefusal::TooLarge => Refusal::OutOfMemory,
         }
     }
 }
