@@ -56,8 +56,8 @@ else
         is_current "$own" || make_own
     fi
 fi
-# a long sum is a deep tree, and takes the stack of the host
-ulimit -s unlimited 2>/dev/null || ulimit -s "$(ulimit -Hs)"
+# the calls of the reference interpreter lie on the host's stack
+[ "$name" = pascal ] || ulimit -s unlimited 2>/dev/null || ulimit -s "$(ulimit -Hs)"
 # a deep tree takes so much memory that the host's pages of 4 KB, handed out one by one, would cost more than the work done in them: the C library
 # is told to ask for large pages where there are some
 export GLIBC_TUNABLES=${GLIBC_TUNABLES-glibc.malloc.hugetlb=1}

@@ -9,10 +9,14 @@ import subprocess
 CASES = (
     ("cases", "pascal", "cases"),
     ("compiled", "pascal", "compiled"),
-    ("compiled, by the slow runner", "pascal_reference", "compiled", "--no-calls"),
-    ("programs, those that compile", "pascal", "programs", "--reached"),
-    ("programs, by the slow runner", "pascal_reference", "programs", "--no-calls"),
-    ("stops, of programs that compile", "pascal", "stops", "--reached"),
+    ("compiled, by the reference interpreter", "pascal_reference", "compiled"),
+    ("compiled, as three-address code", "pascal_code", "compiled"),
+    ("compiled, with a slot for each temporary", "pascal_slots", "compiled"),
+    ("programs", "pascal", "programs"),
+    ("programs, by the reference interpreter", "pascal_reference", "programs"),
+    ("programs, as three-address code", "pascal_code", "programs"),
+    ("programs, with a slot for each temporary", "pascal_slots", "programs"),
+    ("stops", "pascal", "stops"),
 )
 PROGRAMS = ("pascal", "pascal_reference", "bench_phases")
 
@@ -36,8 +40,8 @@ def run_plain(tree):
 def run_cases(tree):
     """Runs each folder of cases over a program of the run. One that ends with a bad status, or holds no case, is a failure."""
     passed = failed = 0
-    for what, program, folder, *more in CASES:
-        words = [f"{tree}/tests/run", "--folder", folder, "--program", f"{tree}/{program}", *more]
+    for what, program, folder in CASES:
+        words = [f"{tree}/tests/run", "--folder", folder, "--program", f"{tree}/{program}"]
         ran = subprocess.run(words, env={**os.environ, "PASCAL_BUILT": f"{tree}/crates"}, stdout=subprocess.PIPE, stderr=subprocess.STDOUT, text=True, errors="replace")
         well, bad = count_in(ran.stdout)
         if ran.returncode and not bad or not well + bad:

@@ -1,10 +1,13 @@
-//! The program `pascal_reference` runs a text as the definitions of its meaning say, in place of an image. It takes the words
-//! of `pascal go`, and has its output, its statuses and its lines on standard error. What a run costs is unknown to it: it
-//! looks at no stack and no heap, and `--steps` counts the turns of loops and the calls. The input is read whole before the run,
-//! and the output written whole after it.
+//! The program `pascal_reference` runs a text otherwise than `pascal go` does, to compare with it. It takes the words of `pascal go`, and has
+//! its output, its statuses and its lines on standard error. It runs the language's meaning by the reference interpreter, and `--steps` is the
+//! fuel: how many calls and turns of loops may lie within one another. Behind a first word `code` it runs the three-address code which the
+//! text is lowered to, and `--steps` counts its instructions. What a run costs is unknown to both: they look at no stack and no heap. Behind a
+//! first word `slots` it runs an image in which each temporary has a slot of the frame. The input is read whole before the run, and the output
+//! written whole after it.
 #![tactic(auto)]
 
 mod front;
+mod runs;
 mod session;
 
 use std::process::ExitCode;

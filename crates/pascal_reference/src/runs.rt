@@ -1,0 +1,215 @@
+// Runs of a text: by the two slow runners, that of its meaning and that of its three-address code, and by an image with a slot of the frame for
+// each temporary.
+
+use crate::front::checked;
+use ps_build::{Budget as ImageBudget, Outcome, Refusal, Trail, build_with, run_image};
+use ps_lower::lower::lower;
+use ps_lower::refusal::LowerRefusal;
+use ps_runner::ending::Ending;
+use ps_runner::run::{
+    Budget, Ran, Refusal as MeaningRefusal, TranscriptFault, output, reference_to_depth,
+};
+use risc_alloc::placer::EverySlot;
+use risc_machine::Fused;
+use std::alloc::{AllocError, Global};
+use tac_run as code;
+
+/// How a text is run.
+#[derive(Clone, Copy)]
+pub enum Runner {
+    Meaning,
+    Code,
+    Slots,
+}
+
+/// What a run may take: bytes of stack and heap, which an image alone looks at, and steps.
+#[derive(Clone, Copy)]
+pub struct Limits {
+    pub stack: u32,
+    pub heap: u32,
+    pub steps: u64,
+}
+
+/// What a run showed: the bytes that it wrote, and how it ended.
+#[derive(Drop)]
+pub struct Shown {
+    pub bytes: Vec<u8>,
+    pub outcome: Outcome,
+}
+
+/// Why a run shows nothing.
+#[derive(Clone, Copy)]
+pub enum Fault {
+    Refused(Refusal),
+    /// Calls, statements and expressions lie too deep in one another for the host.
+    TooDeep,
+    /// There is no next step: no code of a checked program comes to this.
+    Stuck,
+    /// The transcript is none of a run.
+    NoTranscript,
+}
+
+impl From<AllocError> for Fault {
+    fn from(_error: AllocError) -> Fault {
+        Fault::Refused(Refusal::OutOfMemory)
+    }
+}
+
+impl From<Refusal> for Fault {
+    fn from(refusal: Refusal) -> Fault {
+        Fault::Refused(refusal)
+    }
+}
+
+impl From<LowerRefusal> for Fault {
+    fn from(refusal: LowerRefusal) -> Fault {
+        Fault::Refused(Refusal::from(refusal))
+    }
+}
+
+impl From<MeaningRefusal> for Fault {
+    fn from(refusal: MeaningRefusal) -> Fault {
+        match refusal {
+            MeaningRefusal::OutOfMemory => Fault::Refused(Refusal::OutOfMemory),
+            MeaningRefusal::TooDeep => Fault::TooDeep,
+        }
+    }
+}
+
+impl From<TranscriptFault> for Fault {
+    fn from(fault: TranscriptFault) -> Fault {
+        match fault {
+            TranscriptFault::OutOfMemory => Fault::Refused(Refusal::OutOfMemory),
+            TranscriptFault::NoByteAndNoMark => Fault::NoTranscript,
+        }
+    }
+}
+
+// Calls, statements and expressions lie at most so deep in one another: some 80 MB of the host's stack, of which the launcher asks for all.
+const DEPTH: u32 = 20_000;
+
+// The most lines of open calls that an outcome tells.
+const MOST_CALLS: usize = 16;
+
+// The most bytes that an image writes here.
+const OUTPUT_LIMIT: usize = 16_777_216;
+
+/// The run of a text on an input. The steps are the fuel of its meaning, the instructions of its code, or those of the processor.
+pub fn run_text(
+    alloc: Global,
+    runner: Runner,
+    text: &[u8],
+    input: &[u8],
+    limits: Limits,
+) -> Result<Shown, Fault> {
+    let ran = match runner {
+        Runner::Meaning => by_meaning(alloc, text, input, limits.steps)?,
+        Runner::Code => by_code(alloc, text, input, limits.steps)?,
+        Runner::Slots => return by_slots(alloc, text, input, limits),
+    };
+    Ok(Shown {
+        bytes: output(alloc, &ran.transcript)?,
+        outcome: outcome_of(ran.ending, &ran.calls),
+    })
+}
+
+fn by_slots(alloc: Global, text: &[u8], input: &[u8], limits: Limits) -> Result<Shown, Fault> {
+    let built = build_with(alloc, text, &EverySlot)?;
+    let mut console = Fused::new(alloc, input, OUTPUT_LIMIT, 0, 0)?;
+    let budget = ImageBudget {
+        stack: limits.stack,
+        heap: limits.heap,
+    };
+    let outcome = run_image(alloc, built.bytes(), budget, &mut console, limits.steps)?;
+    Ok(Shown {
+        bytes: console.output().to_vec(alloc)?,
+        outcome,
+    })
+}
+
+fn by_meaning(alloc: Global, text: &[u8], input: &[u8], steps: u64) -> Result<Ran, Fault> {
+    let program = checked(alloc, text)?;
+    let free = Budget {
+        frames: &[],
+        objects: &[],
+        stack: 0,
+        heap: 0,
+    };
+    let ran = reference_to_depth(alloc, &program, &free, input, steps, DEPTH)?;
+    Ok(ran)
+}
+
+fn by_code(alloc: Global, text: &[u8], input: &[u8], steps: u64) -> Result<Ran, Fault> {
+    let program = checked(alloc, text)?;
+    let tac = lower(alloc, &program)?;
+    let free = code::Budget {
+        frames: &[],
+        objects: &[],
+        stack: 0,
+        heap: 0,
+    };
+    let report = code::run(alloc, &tac, free, input, steps)?;
+    ran_of(alloc, report)
+}
+
+// A run of code, as a run of the meaning.
+fn ran_of(alloc: Global, report: code::Report) -> Result<Ran, Fault> {
+    let ending = ending_of(report.ending)?;
+    let calls = report
+        .calls
+        .iter()
+        .map(|line| u32::from(*line))
+        .collect(alloc)?;
+    Ok(Ran {
+        transcript: report.transcript,
+        ending,
+        calls,
+    })
+}
+
+// The end of a run of code, as that of a run of the meaning.
+fn ending_of(ending: code::Ending) -> Result<Ending, Fault> {
+    match ending {
+        code::Ending::Normal => Ok(Ending::Normal),
+        code::Ending::Error { number, line } => Ok(Ending::Error {
+            number: u16::from(number),
+            line,
+        }),
+        code::Ending::OutOfStack { line } => Ok(Ending::Stack { line }),
+        code::Ending::OutOfHeap { line } => Ok(Ending::Heap { line }),
+        code::Ending::More => Ok(Ending::More),
+        code::Ending::Stuck => Err(Fault::Stuck),
+    }
+}
+
+// The end of a run, as `pascal go` tells it, with the lines of the calls that were open there.
+fn outcome_of(ending: Ending, calls: &[u32]) -> Outcome {
+    match ending {
+        Ending::Normal => Outcome::Normal,
+        Ending::Error { number, line } => Outcome::Error {
+            number: u32::from(number),
+            line: u32::from(line),
+            trail: Some(trail_of(calls)),
+        },
+        Ending::Stack { line } => Outcome::Stack {
+            number: 12,
+            line: u32::from(line),
+        },
+        Ending::Heap { line } => Outcome::Heap {
+            number: 13,
+            line: u32::from(line),
+        },
+        Ending::More => Outcome::Steps,
+    }
+}
+
+// The first of the lines, as many as are told.
+fn trail_of(calls: &[u32]) -> Trail {
+    let mut trail = Trail::new();
+    for line in calls {
+        if trail.len() < MOST_CALLS {
+            trail.push(*line);
+        }
+    }
+    trail
+}
