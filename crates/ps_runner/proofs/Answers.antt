@@ -8,6 +8,7 @@ use Rattle.ps_tree.specs.Tree as t
 use Rattle.ps_tree.specs.declared.line.Line.{Line}
 use Rattle.ps_tree.specs.declared.tree.Expr.{Expr, Call, CallFormal}
 use Rattle.ps_tree.specs.View.{expr_of, member_of, members_of, argument_of, arguments_of}
+use Rattle.behavior.specs.Endings.{Ending, More}
 use Rattle.ps_meaning.specs.Operators.{combine_sets}
 use Rattle.ps_meaning.specs.Worlds as m
 use Rattle.ps_meaning.specs.Expressions as e
@@ -17,7 +18,7 @@ use Rattle.ps_runner.specs.declared.world.Job.{Job}
 use Rattle.ps_runner.specs.declared.world.World.{World}
 use Rattle.ps_runner.specs.declared.value.Value.{Value}
 use Rattle.ps_runner.specs.View.{listed, value_of}
-use Rattle.ps_runner.specs.Worlds.{Stopped, caller}
+use Rattle.ps_runner.specs.Worlds.{Stopped, caller, ends, world_of}
 use Rattle.ps_runner.specs.declared.stop.Halt.{Halt}
 use Rattle.ps_runner.specs.declared.stop.Halt.TheVariants.{Stopped as StoppedBy, TooDeep}
 use Rattle.ps_runner.specs.Heights.{expr_height, member_height, members_height, argument_height, arguments_height}
@@ -28,6 +29,16 @@ use Rattle.ps_runner.proofs.Trees.{call_is, call_formal_is, members_at, members_
 pub stopped_then : {A B : Type 0} (a : m.Answer A) (f : A → m.Act B) (stop : Stop) (w : World) → Stopped a stop w → Stopped (m.and_then a f) stop w
 stopped_then a f (Ended ending calls) w h = ap (λ x. m.and_then x f) h
 stopped_then a f OutOfMemory w h = tt
+
+as_end : {A : Type 0} → m.Answer m.Done → m.Answer A
+as_end (m.Gives d w) = m.Ends [] More
+as_end (m.Ends out ending) = m.Ends out ending
+
+-- an answer that ends the run as a stop tells
+pub stops : {A : Type 0} (answer : m.Answer A) (ending : Ending) (stop : Stop) (w : World) → Stopped (ends ending (world_of w)) stop w → answer ≡ m.Ends w.transcript.items ending → Stopped answer stop w
+unfolding as_end
+stops answer ending (Ended e calls) w h is = is ∙ ap as_end h
+stops answer ending OutOfMemory w h is = tt
 
 -- what goes no further in a part goes no further in the whole, which needs no fewer levels than the part's way down to it
 pub halted_by : {A B : Type 0} (a : m.Answer A) (b : m.Answer B) (halt : Halt) (w : World) (d k e n : ℕ) → ((stop : Stop) → Stopped a stop w → Stopped b stop w) → Halted a d k halt w → e + k ≤ d + n → Halted b e n halt w

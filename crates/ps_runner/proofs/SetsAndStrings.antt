@@ -1,8 +1,8 @@
 -- Loops over lists, and what they have found so far.
-use Rattle.std.proofs.Common.{◌≡◌, ℕ, ℤ, pos, ◌+◌, ◌-◌, ◌<◌, ◌≤◌, max, Bool, true, false, ◌&&◌, List, [], ◌∷◌, ◌++◌, length, get_or, take, drop, nat_lt, nat_le, if◌then◌else◌, ◌⊎◌, inl, inr, refl, sym, ap, ◌∙◌, arith}
-use Rattle.std.proofs.Math.Seq.{get_or-append_seam}
+use Rattle.std.proofs.Common.{◌≡◌, ℕ, ℤ, pos, suc, add-one, ◌+◌, ◌<◌, ◌≤◌, max, Bool, true, false, ◌&&◌, List, [], ◌∷◌, ◌++◌, length, get_or, drop, nat_lt, nat_le, if◌then◌else◌, ◌⊎◌, inl, inr, refl, sym, ap, ◌∙◌, arith}
+use Rattle.std.proofs.Math.Seq.{get_or-append_seam, drop-cons}
 use Rattle.std.proofs.Math.ListN.{get_or-append, length-append}
-use Rattle.std.proofs.lemmas.List.{get_or_past, take_all}
+use Rattle.std.proofs.lemmas.List.{get_or_past, drop_all}
 use Rattle.std.proofs.lemmas.Bool.{ltb-true, ltb-false, le-leb, leb-true}
 use mathlib.Core.Path.{fun_ext}
 use Rattle.ps_tree.specs.declared.tree.SetOperator.{SetOperator}
@@ -106,33 +106,32 @@ interval_all low high tests h = fun_ext (λ k. each k (nat_lt k (high + 1)) refl
         let le : high + 1 ≤ k = ltb-false k (high + 1) e in
         get_or_past tests k false (omega (arith, h.many)) ∙ and_false (nat_le low k) ∙ ap (λ b. nat_le low k && b) (sym (not-leb k high (omega arith)))
 
--- strings
-pub none_left : (a b : List Value) → length a ≡ 0 → o.first_difference (values_of a) (values_of b) ≡ (pos 0, pos 0)
+-- strings, from a place on
+values_here : (xs : List Value) (i : ℕ) (x : Value) → i < length xs → x ≡ get_or xs i x → values_of (drop i xs) ≡ m.value_before (value_of x) (values_of (drop (i + 1) xs))
 unfolding values_of
-none_left [] b e = refl
-none_left (v ∷ vs) b e = absurd (omega arith)
+values_here xs i x lt at = ap values_of (drop-cons xs i x lt) ∙ ap (λ y. m.value_before (value_of y) (values_of (drop (suc i) xs))) (sym at) ∙ ap (λ j. m.value_before (value_of x) (values_of (drop j xs))) (sym (add-one i))
 
-pub none_right : (a b : List Value) → length b ≡ 0 → o.first_difference (values_of a) (values_of b) ≡ (pos 0, pos 0)
+no_difference : (xs : m.Values) → o.first_difference xs m.no_value ≡ (pos 0, pos 0)
+no_difference m.no_value = refl
+no_difference (m.value_before v rest) = refl
+
+-- no difference where one of the strings is over
+pub difference_past : (a b : List Value) (i : ℕ) → (length a ≤ i) ⊎ (length b ≤ i) → o.first_difference (values_of (drop i a)) (values_of (drop i b)) ≡ (pos 0, pos 0)
 unfolding values_of
-none_right [] b e = refl
-none_right (v ∷ vs) [] e = refl
-none_right (v ∷ vs) (w ∷ ws) e = absurd (omega arith)
+difference_past a b i (inl le) = ap (λ l. o.first_difference (values_of l) (values_of (drop i b))) (drop_all i a le)
+difference_past a b i (inr le) = ap (λ l. o.first_difference (values_of (drop i a)) (values_of l)) (drop_all i b le) ∙ no_difference (values_of (drop i a))
 
-difference_here : (a b : List Value) (x y : Value) → 1 ≤ length a → 1 ≤ length b → x ≡ get_or a 0 x → y ≡ get_or b 0 y → o.first_difference (values_of a) (values_of b) ≡ (if o.is_equal (m.number_of (value_of x)) (m.number_of (value_of y)) then o.first_difference (values_of (take (length a - 1) (drop 1 a))) (values_of (take (length b - 1) (drop 1 b))) else (m.number_of (value_of x), m.number_of (value_of y)))
-unfolding values_of
-difference_here [] b x y la lb at au = absurd (omega arith)
-difference_here (v ∷ vs) [] x y la lb at au = absurd (omega arith)
-difference_here (v ∷ vs) (w ∷ ws) x y la lb at au =
-    let p = take_all (length (v ∷ vs) - 1) vs (omega arith) in
-    let q = take_all (length (w ∷ ws) - 1) ws (omega arith) in
-    rw (at, au, p, q) refl
+difference_here : (a b : List Value) (i : ℕ) (x y : Value) → i < length a → i < length b → x ≡ get_or a i x → y ≡ get_or b i y → o.first_difference (values_of (drop i a)) (values_of (drop i b)) ≡ (if o.is_equal (m.number_of (value_of x)) (m.number_of (value_of y)) then o.first_difference (values_of (drop (i + 1) a)) (values_of (drop (i + 1) b)) else (m.number_of (value_of x), m.number_of (value_of y)))
+difference_here a b i x y la lb at au =
+    ap (λ l. o.first_difference l (values_of (drop i b))) (values_here a i x la at) ∙ ap (λ l. o.first_difference (m.value_before (value_of x) (values_of (drop (i + 1) a))) l) (values_here b i y lb au)
 
-pub difference_same : (a b : List Value) (x y : Value) (l r : ℤ) → 1 ≤ length a → 1 ≤ length b → x ≡ get_or a 0 x → y ≡ get_or b 0 y → l ≡ m.number_of (value_of x) → r ≡ m.number_of (value_of y) → o.is_equal l r ≡ true → o.first_difference (values_of (take (length a - 1) (drop 1 a))) (values_of (take (length b - 1) (drop 1 b))) ≡ o.first_difference (values_of a) (values_of b)
-difference_same a b x y l r la lb at au el er same =
-    let e : o.is_equal (m.number_of (value_of x)) (m.number_of (value_of y)) ≡ true = sym (ap (λ z. o.is_equal z r) el ∙ ap (o.is_equal (m.number_of (value_of x))) er) ∙ same in
-    sym (difference_here a b x y la lb at au ∙ ap (λ t. if t then o.first_difference (values_of (take (length a - 1) (drop 1 a))) (values_of (take (length b - 1) (drop 1 b))) else (m.number_of (value_of x), m.number_of (value_of y))) e)
+numbers_equal : (x y : Value) (l r : ℤ) (t : Bool) → l ≡ m.number_of (value_of x) → r ≡ m.number_of (value_of y) → o.is_equal l r ≡ t → o.is_equal (m.number_of (value_of x)) (m.number_of (value_of y)) ≡ t
+numbers_equal x y l r t el er is = sym (ap (λ z. o.is_equal z r) el ∙ ap (o.is_equal (m.number_of (value_of x))) er) ∙ is
 
-pub difference_other : (a b : List Value) (x y : Value) (l r : ℤ) → 1 ≤ length a → 1 ≤ length b → x ≡ get_or a 0 x → y ≡ get_or b 0 y → l ≡ m.number_of (value_of x) → r ≡ m.number_of (value_of y) → o.is_equal l r ≡ false → o.first_difference (values_of a) (values_of b) ≡ (l, r)
-difference_other a b x y l r la lb at au el er other =
-    let e : o.is_equal (m.number_of (value_of x)) (m.number_of (value_of y)) ≡ false = sym (ap (λ z. o.is_equal z r) el ∙ ap (o.is_equal (m.number_of (value_of x))) er) ∙ other in
-    difference_here a b x y la lb at au ∙ ap (λ t. if t then o.first_difference (values_of (take (length a - 1) (drop 1 a))) (values_of (take (length b - 1) (drop 1 b))) else (m.number_of (value_of x), m.number_of (value_of y))) e ∙ sym (ap (λ z. (z, r)) el ∙ ap (λ z. (m.number_of (value_of x), z)) er)
+pub difference_same : (a b : List Value) (i : ℕ) (x y : Value) (l r : ℤ) → i < length a → i < length b → x ≡ get_or a i x → y ≡ get_or b i y → l ≡ m.number_of (value_of x) → r ≡ m.number_of (value_of y) → o.is_equal l r ≡ true → o.first_difference (values_of (drop (i + 1) a)) (values_of (drop (i + 1) b)) ≡ o.first_difference (values_of (drop i a)) (values_of (drop i b))
+difference_same a b i x y l r la lb at au el er same =
+    sym (difference_here a b i x y la lb at au ∙ ap (λ t. if t then o.first_difference (values_of (drop (i + 1) a)) (values_of (drop (i + 1) b)) else (m.number_of (value_of x), m.number_of (value_of y))) (numbers_equal x y l r true el er same))
+
+pub difference_other : (a b : List Value) (i : ℕ) (x y : Value) (l r : ℤ) → i < length a → i < length b → x ≡ get_or a i x → y ≡ get_or b i y → l ≡ m.number_of (value_of x) → r ≡ m.number_of (value_of y) → o.is_equal l r ≡ false → o.first_difference (values_of (drop i a)) (values_of (drop i b)) ≡ (l, r)
+difference_other a b i x y l r la lb at au el er other =
+    difference_here a b i x y la lb at au ∙ ap (λ t. if t then o.first_difference (values_of (drop (i + 1) a)) (values_of (drop (i + 1) b)) else (m.number_of (value_of x), m.number_of (value_of y))) (numbers_equal x y l r false el er other) ∙ sym (ap (λ z. (z, r)) el ∙ ap (λ z. (m.number_of (value_of x), z)) er)

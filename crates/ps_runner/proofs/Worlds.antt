@@ -1,5 +1,5 @@
 -- Environments and worlds.
-use Rattle.std.proofs.Common.{◌+◌, ◌≡◌, ◌≢◌, ℕ, zero, suc, pos, ◌-◌, ◌<◌, ◌≤◌, Bool, true, false, List, [], ◌∷◌, ◌++◌, length, get_or, set, take, map, nat_eq, if◌then◌else◌, Vec, Global, refl, sym, ap, ◌∙◌, arith}
+use Rattle.std.proofs.Common.{◌+◌, ◌≡◌, ◌≢◌, ℕ, zero, suc, pos, ◌-◌, ◌<◌, ◌≤◌, Bool, true, false, List, [], ◌∷◌, ◌++◌, length, get_or, set, take, map, nat_eq, if◌then◌else◌, Vec, Global, append_assoc, refl, sym, ap, ◌∙◌, arith}
 use mathlib.Core.Path.{fun_ext}
 use Rattle.std.proofs.lemmas.List.{take_more}
 use Rattle.std.proofs.lemmas.Bool.{eqb-true, eqb-false}
@@ -221,3 +221,7 @@ spots_append (x ∷ rest) s = ap (λ l. spot_of x ∷ l) (spots_append rest s)
 pub spots_next : (spots copies : List Spot) (i : ℕ) (copy item : Spot) → map spot_of copies ≡ map spot_of (take i spots) → spot_of copy ≡ spot_of item → item ≡ get_or spots i item → i < length spots → map spot_of (copies ++ copy ∷ []) ≡ map spot_of (take (i + 1) spots)
 spots_next spots copies i copy item before same at lt =
     spots_append copies copy ∙ ap (λ l. l ++ spot_of copy ∷ []) before ∙ ap (λ s. map spot_of (take i spots) ++ s ∷ []) (same ∙ ap spot_of at) ∙ sym (spots_append (take i spots) (get_or spots i item)) ∙ ap (map spot_of) (sym (take_more spots i item lt))
+
+-- a byte more is written
+pub says_more : (w u : m.World) (bytes : List ℕ) (i byte : ℕ) → i < length bytes → byte ≡ get_or bytes i 0 → w ≡ m.says u (take i bytes) → m.says w (byte ∷ []) ≡ m.says u (take (i + 1) bytes)
+says_more w u bytes i byte lt at is = ap (λ z. m.says z (byte ∷ [])) is ∙ ap (λ b. m.says (m.says u (take i bytes)) (b ∷ [])) at ∙ ap (λ l. record u { transcript = l }) (append_assoc u.transcript (take i bytes) (get_or bytes i 0 ∷ []) ∙ ap (λ l. u.transcript ++ l) (sym (take_more bytes i 0 lt)))

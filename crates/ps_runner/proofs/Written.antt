@@ -2,6 +2,7 @@
 use Rattle.std.proofs.Common.{◌≡◌, ℕ, zero, suc, ◌+◌, ◌-◌, ◌*◌, ◌^◌, ◌<◌, ◌≤◌, min, List, [], ◌∷◌, ◌++◌, length, get_or, take, take_while, drop, true, false, replicate, refl, sym, ap, ◌∙◌, add-one, arith}
 use Rattle.std.proofs.lemmas.List.{take_more, take_all, length-drop, length-take}
 use Rattle.std.specs.List.{prefix_len}
+use Rattle.std.proofs.lemmas.List.Sums.{prefix_len-drop_yes, prefix_len-drop_no, prefix_len-drop_all, prefix_len-le-length}
 use Rattle.ps_meaning.specs.Text.{number_written, is_digit, is_empty}
 
 written_more : (n : ℕ) (xs : List ℕ) (b : ℕ) → number_written n (xs ++ b ∷ []) ≡ 10 * number_written n xs + (b - 48)
@@ -47,3 +48,16 @@ no_bytes (b ∷ rest) e = absurd (omega arith)
 pub some_bytes : (bytes : List ℕ) → 1 ≤ length bytes → is_empty bytes ≡ false
 some_bytes [] e = absurd (omega arith)
 some_bytes (b ∷ rest) e = refl
+
+-- how many digits bytes begin with, from a place on
+pub digit_more : (bytes : List ℕ) (i : ℕ) → i < length bytes → is_digit (get_or bytes i 0) ≡ true → prefix_len is_digit (drop i bytes) ≡ 1 + prefix_len is_digit (drop (i + 1) bytes)
+digit_more bytes i lt is = prefix_len-drop_yes is_digit bytes i 0 lt is
+
+pub digit_none : (bytes : List ℕ) (i : ℕ) → i < length bytes → is_digit (get_or bytes i 0) ≡ false → prefix_len is_digit (drop i bytes) ≡ 0
+digit_none bytes i lt is = prefix_len-drop_no is_digit bytes i 0 lt is
+
+pub digits_past : (bytes : List ℕ) (i : ℕ) → length bytes ≤ i → prefix_len is_digit (drop i bytes) ≡ 0
+digits_past bytes i le = prefix_len-drop_all is_digit bytes i le
+
+pub digits_counted : (bytes : List ℕ) → length (take_while is_digit bytes) ≡ prefix_len is_digit bytes
+digits_counted bytes = omega (arith, length-take (prefix_len is_digit bytes) bytes, prefix_len-le-length is_digit bytes)

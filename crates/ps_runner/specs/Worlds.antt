@@ -218,9 +218,17 @@ opened_in c = map spot_of c.opened.items
 abbrev pub width_of : Option ℕ → Option ℕ
 width_of n = n
 
+-- the run ends
+abbrev pub ends : endings.Ending → m.Act m.Done
+ends = m.stop
+
+-- the run ends with an error
+abbrev pub faults : (number line : ℕ) → m.Context → m.Act m.Done
+faults = m.fault
+
 -- the fuel is used up
 abbrev pub used_up : m.Act m.Done
-used_up = m.stop endings.More
+used_up = ends endings.More
 
 -- a width that was given
 abbrev pub width_checked : ℤ → (line : ℕ) → m.Context → m.Act (Option ℕ)

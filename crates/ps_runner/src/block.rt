@@ -161,7 +161,7 @@ impl<'a> World<'a> {
     /// Enters the block of a routine that was declared in an environment, at a call with these actual parameters, with the
     /// lines of the calls that are then open: its statements, and the context in which they are to be done. An end for
     /// stack where the frame bytes of the open routines would pass it.
-    #[tactic(auto, using(crate::proofs::Blocks::block_entered, crate::proofs::Blocks::stack_passed))]
+    #[tactic(auto, using(crate::proofs::Blocks::block_entered))]
     pub fn enter_with<'b>(
         &mut self,
         routine: u32,
@@ -179,10 +179,8 @@ impl<'a> World<'a> {
         let called = routine_numbered(job, routine);
         let active = Numbers::before(job.alloc, routine, &c.active)?;
         if passes_stack(job, &active) {
-            return Err(Stop::Ended {
-                ending: Ending::Stack { line: called.line },
-                calls: calls.listed(job.alloc)?,
-            });
+            let ending = Ending::Stack { line: called.line };
+            return Err(self.ended(ending, &calls, job.alloc));
         }
         let frame = self.bind(job.alloc, &called, actuals)?;
         let env = env_within(job.alloc, frame, parent)?;

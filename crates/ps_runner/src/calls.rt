@@ -26,13 +26,7 @@ use std::rc::Rc;
 pub fn used_up(world: &World, c: &Context) -> Stop
     ensures { Stopped (r.used_up (world_of world.now)) result world.now }
 {
-    match c.calls.listed(c.job.alloc) {
-        Ok(calls) => Stop::Ended {
-            ending: Ending::More,
-            calls,
-        },
-        Err(_) => Stop::OutOfMemory,
-    }
+    world.ended(Ending::More, &c.calls, c.job.alloc)
 }
 
 /// Does a block of the program.

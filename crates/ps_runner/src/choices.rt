@@ -10,7 +10,6 @@ ghost use Rattle.ps_runner.specs.Worlds.{context_of, world_of, done_of, acting, 
 ghost use Rattle.ps_runner.specs.Heights.{expr_height, statement_height, elements_height};
 ghost use Rattle.ps_runner.specs.Runs.{Runs, levels};
 
-use crate::ending::Ending;
 use crate::expressions::evaluate;
 use crate::operators::{is_among, is_true};
 use crate::statements::act;
@@ -98,10 +97,7 @@ fn act_selected(
             return act(world, &element.body, c, fuel, depth);
         }
     }
-    Err(Halt::Stopped(Stop::Ended {
-        ending: Ending::Error { number: 7, line },
-        calls: c.calls.listed(c.job.alloc)?,
-    }))
+    Err(Halt::Stopped(world.fault(7, line, c)))
 }
 
 /// A value is one of the constants.

@@ -1,7 +1,7 @@
 // How a run ends.
 
 /// How a run ends, with the line of the token that it is told at; `More` where the fuel was used up.
-#[derive(Clone, Copy, PartialEq, Eq, Debug)]
+#[derive(Clone, Copy)]
 pub enum Ending {
     Normal,
     Error { number: u16, line: u16 },

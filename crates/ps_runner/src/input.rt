@@ -12,7 +12,6 @@ ghost use Rattle.ps_runner.specs.View.{IsReading, value_of, spot_of};
 ghost use Rattle.ps_runner.specs.Worlds as r;
 ghost use Rattle.ps_runner.specs.Worlds.{Answers, context_of, world_of, done_of};
 
-use crate::ending::Ending;
 use crate::operators::truth;
 use crate::stop::Stop;
 use crate::text::{Reading, as_character, scan_integer};
@@ -52,21 +51,18 @@ impl<'a> World<'a> {
     }
 
     /// Whether the next character ends a line; error 9 at the end of input.
-    #[tactic(auto, unfolding(crate::specs::View::value_of))]
+    #[tactic(auto, using(crate::proofs::Answers::stops), unfolding(crate::specs::View::value_of))]
     fn line_end(&self, next: Option<u8>, line: u16, c: &Context) -> Result<Value, Stop>
         ensures { Answers value_of (e.line_end next line (context_of c.now) (world_of self.now)) result self.now }
     {
         match next {
             Some(byte) => Ok(Value::Ordinal(truth(byte == 10))),
-            None => Err(Stop::Ended {
-                ending: Ending::Error { number: 9, line },
-                calls: c.calls.listed(c.job.alloc)?,
-            }),
+            None => Err(self.fault(9, line, c)),
         }
     }
 
     /// The next character for a read; error 9 at the end of input.
-    #[tactic(auto, unfolding(crate::specs::View::value_of))]
+    #[tactic(auto, using(crate::proofs::Answers::stops), unfolding(crate::specs::View::value_of))]
     fn character_read(&mut self, next: Option<u8>, line: u16, c: &Context) -> Result<Value, Stop>
         ensures { Answers value_of (m.character_read next line (context_of c.now) (world_of self.old)) result self.new }
     {
@@ -75,10 +71,7 @@ impl<'a> World<'a> {
                 self.input = self.input.taken();
                 Ok(Value::Ordinal(i32::from(as_character(byte))))
             }
-            None => Err(Stop::Ended {
-                ending: Ending::Error { number: 9, line },
-                calls: c.calls.listed(c.job.alloc)?,
-            }),
+            None => Err(self.fault(9, line, c)),
         }
     }
 }
@@ -96,14 +89,12 @@ fn add_marks(transcript: &mut Vec<u16>, count: usize) -> Result<(), AllocError>
 
 impl<'a> World<'a> {
     /// The rest of the line is looked at and taken; error 9 at the end of input.
+    #[tactic(auto, using(crate::proofs::Answers::stops))]
     fn line_read(&mut self, next: Option<u8>, line: u16, c: &Context) -> Result<(), Stop>
         ensures { Answers done_of (m.line_read next line (context_of c.now) (world_of self.old)) result self.new }
     {
         if next.is_none() {
-            return Err(Stop::Ended {
-                ending: Ending::Error { number: 9, line },
-                calls: c.calls.listed(c.job.alloc)?,
-            });
+            return Err(self.fault(9, line, c));
         }
         self.skip_line()?;
         Ok(())
@@ -145,7 +136,7 @@ impl<'a> World<'a> {
     }
 
     /// The integer that was found, for a variable of this range.
-    #[tactic(auto, using(crate::proofs::Procedures::no_integer_fits), unfolding(crate::specs::View::value_of))]
+    #[tactic(auto, using(crate::proofs::Answers::stops, crate::proofs::Procedures::no_integer_fits), unfolding(crate::specs::View::value_of))]
     fn integer_fitting(
         &self,
         found: Reading,
@@ -165,10 +156,7 @@ impl<'a> World<'a> {
                 return self.fitting(range, Value::Ordinal(x), line, c);
             }
         };
-        Err(Stop::Ended {
-            ending: Ending::Error { number, line },
-            calls: c.calls.listed(c.job.alloc)?,
-        })
+        Err(self.fault(number, line, c))
     }
     /// Reads a character into a variable of this range: error 9 at the end of input, 4 for one outside the range.
     #[tactic(auto, using(crate::proofs::Answers::stopped_then))]

@@ -16,7 +16,6 @@ ghost use Rattle.ps_runner.specs.Heights.{expr_height, statement_height, stateme
 ghost use Rattle.ps_runner.specs.Runs.{Runs, levels, advancing};
 
 use crate::calls::used_up;
-use crate::ending::Ending;
 use crate::expressions::{evaluate, evaluate_truth};
 use crate::operators::fits;
 use crate::statements::{act, act_all};
@@ -153,6 +152,7 @@ fn count_between(
 }
 
 /// A bound of a for statement fits its control variable; error 4 where it does not.
+#[tactic(auto, using(crate::proofs::Answers::stops))]
 fn check_bound(
     world: &World,
     range: Range,
@@ -166,10 +166,7 @@ fn check_bound(
     if fits(range, bound) {
         Ok(())
     } else {
-        Err(Stop::Ended {
-            ending: Ending::Error { number: 4, line },
-            calls: c.calls.listed(c.job.alloc)?,
-        })
+        Err(world.fault(4, line, c))
     }
 }
 

@@ -8,7 +8,6 @@ ghost use Rattle.ps_meaning.specs.Statements.{index_place};
 ghost use Rattle.ps_runner.specs.View.{listed, members_of_set, number_of_place, value_of, spot_of, computed_of};
 ghost use Rattle.ps_runner.specs.Worlds.{Answers, context_of, env_of, world_of, actual_of, held_of, done_of, putting_fitting, putting_fitting_set, putting_contents, strings_compared};
 
-use crate::ending::Ending;
 use crate::operators::{Computed, fits, interval, set_fits, strings_hold, truth};
 use crate::stop::Stop;
 use crate::value::{Root, Spot, Value, text_values};
@@ -66,20 +65,18 @@ pub fn passed_on(c: &Context, up: u32, index: u32) -> Result<Actual, AllocError>
 
 impl<'a> World<'a> {
     /// What was computed, or its error at a line.
-    #[tactic(auto, unfolding(crate::specs::View::value_of))]
+    #[tactic(auto, using(crate::proofs::Answers::stops), unfolding(crate::specs::View::value_of))]
     pub fn settled(&self, computed: Computed, line: u16, c: &Context) -> Result<Value, Stop>
         ensures { Answers value_of (settled (computed_of computed) line (context_of c.now) (world_of self.now)) result self.now }
     {
         match computed {
             Computed::Result(number) => Ok(Value::Ordinal(number)),
-            Computed::Fault(number) => Err(Stop::Ended {
-                ending: Ending::Error { number, line },
-                calls: c.calls.listed(c.job.alloc)?,
-            }),
+            Computed::Fault(number) => Err(self.fault(number, line, c)),
         }
     }
 
     /// The component of an array; error 5 for an index outside its type.
+    #[tactic(auto, using(crate::proofs::Answers::stops))]
     pub fn component_of(
         &self,
         spot: Spot,
@@ -93,39 +90,31 @@ impl<'a> World<'a> {
         if index.low <= x && x <= index.high {
             Ok(spot.step(x.abs_diff(index.low))?)
         } else {
-            Err(Stop::Ended {
-                ending: Ending::Error { number: 5, line },
-                calls: c.calls.listed(c.job.alloc)?,
-            })
+            Err(self.fault(5, line, c))
         }
     }
 
     /// The number of an index's component; error 5 for one outside the index type.
+    #[tactic(auto, using(crate::proofs::Answers::stops))]
     pub fn index_place(&self, index: Ordinal, x: i32, line: u16, c: &Context) -> Result<u32, Stop>
         ensures { Answers number_of_place (index_place index x line (context_of c.now) (world_of self.now)) result self.now }
     {
         if index.low <= x && x <= index.high {
             Ok(x.abs_diff(index.low))
         } else {
-            Err(Stop::Ended {
-                ending: Ending::Error { number: 5, line },
-                calls: c.calls.listed(c.job.alloc)?,
-            })
+            Err(self.fault(5, line, c))
         }
     }
 
     /// The object that a pointer points to; error 6 for nil.
-    #[tactic(auto, unfolding(crate::specs::View::value_of))]
+    #[tactic(auto, using(crate::proofs::Answers::stops), unfolding(crate::specs::View::value_of))]
     pub fn object_of(&self, value: Value, line: u16, c: &Context) -> Result<Spot, Stop>
         ensures { Answers spot_of (m.object_of (value_of value) line (context_of c.now) (world_of self.now)) result self.now }
     {
         match value {
             Value::Object(object) => Ok(Spot::entire(c.job.alloc, Root::Made(object))),
             Value::Ordinal(_) | Value::Nil | Value::Set(_) | Value::Structure(_) => {
-                Err(Stop::Ended {
-                    ending: Ending::Error { number: 6, line },
-                    calls: c.calls.listed(c.job.alloc)?,
-                })
+                Err(self.fault(6, line, c))
             }
         }
     }
@@ -171,21 +160,19 @@ impl<'a> World<'a> {
     }
 
     /// A value that goes into a variable of this range; error 4 for one outside it.
+    #[tactic(auto, using(crate::proofs::Answers::stops))]
     pub fn fitting(&self, range: Range, value: Value, line: u16, c: &Context) -> Result<Value, Stop>
         ensures { Answers value_of (m.fitting range (value_of value) line (context_of c.now) (world_of self.now)) result self.now }
     {
         if fits(range, &value) {
             Ok(value)
         } else {
-            Err(Stop::Ended {
-                ending: Ending::Error { number: 4, line },
-                calls: c.calls.listed(c.job.alloc)?,
-            })
+            Err(self.fault(4, line, c))
         }
     }
 
     /// A set that goes into a variable of a set type; error 8 for a member outside its base.
-    #[tactic(auto, unfolding(crate::specs::View::value_of))]
+    #[tactic(auto, using(crate::proofs::Answers::stops), unfolding(crate::specs::View::value_of))]
     pub fn fitting_set(
         &self,
         low: i32,
@@ -199,15 +186,12 @@ impl<'a> World<'a> {
         if set_fits(low, high, tests.as_slice()) {
             Ok(Value::Set(tests))
         } else {
-            Err(Stop::Ended {
-                ending: Ending::Error { number: 8, line },
-                calls: c.calls.listed(c.job.alloc)?,
-            })
+            Err(self.fault(8, line, c))
         }
     }
 
     /// The members from one number to another; error 8 outside 0..255.
-    #[tactic(auto, using(crate::proofs::Values::listed_none))]
+    #[tactic(auto, using(crate::proofs::Answers::stops, crate::proofs::Values::listed_none))]
     pub fn set_between(&self, x: i32, y: i32, line: u16, c: &Context) -> Result<Vec<bool>, Stop>
         ensures { Answers members_of_set (m.set_between x y line (context_of c.now) (world_of self.now)) result self.now }
     {
@@ -216,10 +200,7 @@ impl<'a> World<'a> {
         } else if 0 <= x && x <= 255 && 0 <= y && y <= 255 {
             Ok(interval(c.job.alloc, x as u8, y as u8)?)
         } else {
-            Err(Stop::Ended {
-                ending: Ending::Error { number: 8, line },
-                calls: c.calls.listed(c.job.alloc)?,
-            })
+            Err(self.fault(8, line, c))
         }
     }
 

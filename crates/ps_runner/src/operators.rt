@@ -325,22 +325,20 @@ fn is_equal(x: i32, y: i32) -> bool
 }
 
 /// The first characters that differ; 0 and 0 where none do.
-#[tactic(auto, using(crate::proofs::SetsAndStrings::none_left, crate::proofs::SetsAndStrings::none_right, crate::proofs::SetsAndStrings::difference_same, crate::proofs::SetsAndStrings::difference_other))]
+#[tactic(auto, using(crate::proofs::SetsAndStrings::difference_past, crate::proofs::SetsAndStrings::difference_same, crate::proofs::SetsAndStrings::difference_other))]
 fn first_difference(a: &[Value], b: &[Value]) -> (i32, i32)
     ensures { result ≡ first_difference (values_of a.now) (values_of b.now) }
 {
-    if a.len() == 0 {
-        return (0, 0);
+    let mut place = 0;
+    while place < a.len() && place < b.len() {
+        let left = a[place].number();
+        let right = b[place].number();
+        if !is_equal(left, right) {
+            return (left, right);
+        }
+        place += 1;
     }
-    if b.len() == 0 {
-        return (0, 0);
-    }
-    let (left, right) = (a[0].number(), b[0].number());
-    if is_equal(left, right) {
-        first_difference(&a[1..], &b[1..])
-    } else {
-        (left, right)
-    }
+    (0, 0)
 }
 
 /// A relation between two strings.

@@ -30,14 +30,12 @@ fn first_object(job: &Job, pointer: u32) -> Result<Value, AllocError>
 
 impl<'a> World<'a> {
     /// A new object with its first value; an end for heap where its bytes would pass it.
+    #[tactic(auto, using(crate::proofs::Answers::stops))]
     pub fn new_object(&mut self, pointer: u32, line: u16, c: &Context) -> Result<Value, Stop>
         ensures { (n : ℕ) → Answers value_of (r.making c.now.job.now n pointer line (world_of self.old)) result self.new }
     {
         if passes_heap(c.job, self.made.as_slice(), pointer) {
-            return Err(Stop::Ended {
-                ending: Ending::Heap { line },
-                calls: c.calls.listed(c.job.alloc)?,
-            });
+            return Err(self.ended(Ending::Heap { line }, &c.calls, c.job.alloc));
         }
         Ok(self.make(pointer, c.job)?)
     }
@@ -136,6 +134,7 @@ impl<'a> World<'a> {
     }
 
     /// Packs the components of an array from a place on into another; error 5 where there are too few of them.
+    #[tactic(auto, using(crate::proofs::Answers::stops))]
     pub fn pack(
         &mut self,
         a: &Spot,
@@ -150,16 +149,14 @@ impl<'a> World<'a> {
     {
         let count = to.value_count();
         if from.value_count() < u64::from(k) + count {
-            return Err(Stop::Ended {
-                ending: Ending::Error { number: 5, line },
-                calls: c.calls.listed(c.job.alloc)?,
-            });
+            return Err(self.fault(5, line, c));
         }
         let value = self.packed(c.job.alloc, a, k, count)?;
         Ok(self.put(z, value)?)
     }
 
     /// Unpacks an array into the components of another from a place on; error 5 where there are too few of them.
+    #[tactic(auto, using(crate::proofs::Answers::stops))]
     pub fn unpack(
         &mut self,
         z: &Spot,
@@ -173,10 +170,7 @@ impl<'a> World<'a> {
         ensures { Answers done_of (r.unpacking (spot_of z.now) from (spot_of a.now) to k line (context_of c.now) (world_of self.old)) result self.new }
     {
         if to.value_count() < u64::from(k) + from.value_count() {
-            return Err(Stop::Ended {
-                ending: Ending::Error { number: 5, line },
-                calls: c.calls.listed(c.job.alloc)?,
-            });
+            return Err(self.fault(5, line, c));
         }
         let value = self.unpacked(c.job.alloc, z, a, k)?;
         Ok(self.put(a, value)?)

@@ -27,7 +27,7 @@ use std::rc::Rc;
 pub const DEPTH: u32 = 2_000;
 
 /// Why there is no answer.
-#[derive(Clone, Copy, PartialEq, Eq, Debug)]
+#[derive(Clone, Copy)]
 pub enum Refusal {
     /// A growth was refused.
     OutOfMemory,
@@ -216,7 +216,7 @@ pub fn trail(alloc: Global, program: &Checked, input: &[u8], fuel: u64) -> Resul
 }
 
 /// Why a transcript shows nothing.
-#[derive(Clone, Copy, PartialEq, Eq, Debug)]
+#[derive(Clone, Copy)]
 pub enum TranscriptFault {
     /// A growth was refused.
     OutOfMemory,

@@ -94,20 +94,23 @@ fn after_sign(bytes: &[u8]) -> &[u8]
     }
 }
 
+/// The byte is a decimal digit.
+fn is_digit(byte: u8) -> bool
+    ensures { result ≡ is_digit byte }
+{
+    48 <= byte && byte <= 57
+}
+
 /// How many digits the bytes begin with.
+#[tactic(auto, using(crate::proofs::Written::digit_more, crate::proofs::Written::digit_none, crate::proofs::Written::digits_past, crate::proofs::Written::digits_counted))]
 fn digit_count(bytes: &[u8]) -> usize
     ensures { result ≡ length (take_while is_digit bytes.now) }
 {
-    match bytes {
-        [] => 0,
-        [first, rest @ ..] => {
-            if 48 <= *first && *first <= 57 {
-                1 + digit_count(rest)
-            } else {
-                0
-            }
-        }
+    let mut count = 0;
+    while count < bytes.len() && is_digit(bytes[count]) {
+        count += 1;
     }
+    count
 }
 
 /// The number that digits write; numbers from 2^32 on are told as 2^32.

@@ -12,7 +12,6 @@ ghost use Rattle.ps_runner.specs.Worlds.{Answers, acting, context_of, world_of, 
 ghost use Rattle.ps_runner.specs.Heights.{structure_height, read_height, reads_height, width_height, write_height, writes_height};
 ghost use Rattle.ps_runner.specs.Runs.{Runs, levels};
 
-use crate::ending::Ending;
 use crate::expressions::{access, evaluate, take_operand};
 use crate::operators::is_true;
 use crate::stop::{Halt, Stop};
@@ -75,14 +74,12 @@ fn read_one(
 
 impl<'a> World<'a> {
     /// The width of a parameter of write; error 11 for one below 1.
+    #[tactic(auto, using(crate::proofs::Answers::stops))]
     pub fn checked_width(&self, x: i32, line: u16, c: &Context) -> Result<Option<u32>, Stop>
         ensures { Answers r.width_of (width_checked x line (context_of c.now) (world_of self.now)) result self.now }
     {
         if x < 1 {
-            Err(Stop::Ended {
-                ending: Ending::Error { number: 11, line },
-                calls: c.calls.listed(c.job.alloc)?,
-            })
+            Err(self.fault(11, line, c))
         } else {
             Ok(Some(x.unsigned_abs()))
         }

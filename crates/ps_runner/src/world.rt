@@ -5,8 +5,10 @@ ghost use Rattle.ps_meaning.specs.Values as v;
 ghost use Rattle.ps_meaning.specs.Statements.{with_opened};
 ghost use Rattle.ps_meaning.specs.Worlds.{above, frame_of, spot_in, routine_in, env_in, contents_in, with_contents, value_at_root, with_new, says, unset, no_spot, Outside};
 ghost use Rattle.ps_runner.specs.View.{value_of, root_of, spot_of};
-ghost use Rattle.ps_runner.specs.Worlds.{context_of, env_of, entries_of, entry_spot, entry_routine, entry_env, numbers_of, world_of};
+ghost use Rattle.ps_runner.specs.Worlds.{context_of, env_of, entries_of, entry_spot, entry_routine, entry_env, numbers_of, world_of, ending_of, Stopped, ends, faults};
 
+use crate::ending::Ending;
+use crate::stop::Stop;
 use crate::value::{Root, Spot, Value, part, with_part};
 use ps_tree::program::Checked;
 use std::alloc::{AllocError, Global};
@@ -277,6 +279,25 @@ impl Numbers {
             left = rest;
         }
         Ok(numbers)
+    }
+}
+
+impl<'a> World<'a> {
+    /// The end of the run, with the lines of the calls that are open; or the want of memory for them.
+    pub fn ended(&self, ending: Ending, calls: &Numbers, alloc: Global) -> Stop
+        ensures { Stopped (ends (ending_of ending (numbers_of calls.now)) (world_of self.now)) result self.now }
+    {
+        match calls.listed(alloc) {
+            Ok(calls) => Stop::Ended { ending, calls },
+            Err(_) => Stop::OutOfMemory,
+        }
+    }
+
+    /// The end with an error at a line.
+    pub fn fault(&self, number: u16, line: u16, c: &Context) -> Stop
+        ensures { Stopped (faults number line (context_of c.now) (world_of self.now)) result self.now }
+    {
+        self.ended(Ending::Error { number, line }, &c.calls, c.job.alloc)
     }
 }
 

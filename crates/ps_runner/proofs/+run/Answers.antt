@@ -1,6 +1,5 @@
 use Rattle.std.proofs.Common.{◌≡◌, ◌≤◌, ◌-◌, max, ◌+◌, ◌∙◌, refl, ap, sym, subst, map, drop, true, false, List, ◌∷◌, ℤ, to_z, of_z, w32, rules, arith}
 use Rattle.std.proofs.Math.Facts.{to_z-of_z}
-use Rattle.behavior.specs.Endings.{failed}
 use Rattle.ps_tree.specs.Tree as Tree
 use Rattle.ps_tree.specs.declared.tree.CaseElement.{out-CaseElement}
 use Rattle.ps_tree.specs.View.{structure_of, selectors_of, arithmetic_of, operands_of, set_steps_of, expr_of, set_of, members_of, arguments_of, elements_of, statements_of, statement_of, read_of, write_of, place_of}
@@ -18,7 +17,7 @@ use Rattle.ps_runner.proofs.Acts as a
 use Rattle.ps_runner.proofs.Chains as chain
 use Rattle.ps_runner.proofs.Arms as arm
 use Rattle.ps_runner.specs.View.{listed, value_of, spot_of}
-use Rattle.ps_runner.specs.Worlds.{Stopped, caller, next, context_of, world_of, env_of, actual_of, acting, acting_all, counting, turning, numbers_of, reading_all, writing_all, opening_all, opened_in, done_of}
+use Rattle.ps_runner.specs.Worlds.{Stopped, caller, next, context_of, world_of, env_of, actual_of, acting, acting_all, counting, turning, reading_all, writing_all, opening_all, opened_in, done_of}
 use Rattle.ps_runner.proofs.Answers.{members_halt, actuals_halt, call_runs, call_formal_runs}
 use Rattle.ps_runner.proofs.+run.Goals as goal
 
@@ -88,7 +87,7 @@ choices::act_selected-loop-element-preserved t c =
 
 pub choices::act_selected-returns : goal.choices::act_selected-returns
 choices::act_selected-returns t c =
-    a.selects_none c.args.c.now.job.now c.args.fuel (context_of c.args.c.now) c.args.elements.now c.loop-element.element-index (number_of (value_of c.args.x.now)) c.args.line (world_of c.loop-element.world) _ c.loop-element.invariant (omega arith) ∙ ap (λ l. m.Ends c.loop-element.world.transcript.items (failed 7 c.args.line l)) (sym (c.in_ok-listed.ensures ∙ ap numbers_of c.deref.ensures))
+    a.stopped_same _ _ c.fault.result c.loop-element.world (sym (a.selects_none c.args.c.now.job.now c.args.fuel (context_of c.args.c.now) c.args.elements.now c.loop-element.element-index (number_of (value_of c.args.x.now)) c.args.line (world_of c.loop-element.world) _ c.loop-element.invariant (omega arith))) c.fault.ensures
 
 pub transfers::read_all-returns-in_err-read_one : goal.transfers::read_all-returns-in_err-read_one
 transfers::read_all-returns-in_err-read_one t c =

@@ -1,7 +1,7 @@
-use Rattle.std.proofs.Common.{◌≡◌, ◌<◌, ◌+◌, ◌*◌, ap, ◌∙◌, subst}
+use Rattle.std.proofs.Common.{◌≡◌, ◌<◌, ◌+◌, ◌*◌, ap, ◌∙◌, subst, arith}
 use Rattle.ps_tree.specs.Sizes.{depth, depth_of_fields}
 use Rattle.ps_tree.specs.TypeView.{type_of}
-use Rattle.ps_runner.proofs.Values.{component_falls, fields_fall, field_falls}
+use Rattle.ps_runner.proofs.Values.{component_falls, fields_fall, field_falls, types_next, types_all}
 use Rattle.ps_runner.proofs.value.+first.Goals as goal
 
 pub first-first-requires : goal.first-first-requires
@@ -23,3 +23,10 @@ first_fields-first-requires t c =
     let less = field_falls c.args.fields.now c.types-ty-items.result.now c.loop-ty.ty-index c.ty-item.result c.types-ty-items.ensures c.loop-ty-test.true c.ty-item.is in
     let d : 2 * depth_of_fields c.args.fields.now + 1 ≡ t = c.decreases in
     (subst (λ n. 2 * depth (type_of c.ty-item.result) < n) d less, tt)
+
+pub first_fields-loop-ty-preserved : goal.first_fields-loop-ty-preserved
+first_fields-loop-ty-preserved t c =
+    rw c.in_ok-push.ensures.items (types_next c.types-ty-items.result.now c.loop-ty.values.items c.loop-ty.ty-index c.in_ok-first.field-0 c.ty-item.result c.loop-ty-test.true c.ty-item.is c.in_ok-first.ensures c.loop-ty.invariant)
+
+pub first_fields-returns : goal.first_fields-returns
+first_fields-returns t c = types_all c.args.fields.now c.types-ty-items.result.now c.loop-ty.values.items c.loop-ty.ty-index c.types-ty-items.ensures (omega arith) c.loop-ty.invariant
