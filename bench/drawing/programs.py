@@ -280,7 +280,7 @@ class Input:
         variables = []
         for _ in range(self.draw.randint(1, 3)):
             ways = ("integer", self.number), ("char", self.character)
-            host, give = self.draw.choice(ways if self.drawing.whole else ways[1:])
+            host, give = self.draw.choice(ways)
             found = self.drawing.readable(host)
             if found:
                 give(found.type)
@@ -304,10 +304,9 @@ def copying(drawing):
     return ["while not eof do", *indented(compound([inner, ["readln"], ["writeln('/')"]]))]
 
 
-def drawn(draw, whole=True):
-    """A program and its input, as texts; of the whole language, or of what compiles today."""
+def drawn(draw):
+    """A program and its input, as texts."""
     drawing = Programs(draw)
-    drawing.whole = whole
     drawing.draw_types()
     drawing.constants = [(f"c{count}", draw.randint(-50, 50)) for count in range(1, draw.randint(2, 4))]
     drawing.signatures = []

@@ -32,7 +32,7 @@ class Statements(Expressions):
         if self.reads and self.impure():
             ways += [self.read_character]
         if size > 0:
-            ways += [self.if_statement, self.if_statement, self.case_statement] + [self.with_statement] * 2 * self.whole
+            ways += [self.if_statement, self.if_statement, self.case_statement] + [self.with_statement] * 2
             if self.factor < 60:
                 ways += [self.for_statement, self.for_statement, self.while_statement, self.repeat_statement]
         for _ in range(8):
@@ -235,7 +235,7 @@ class Statements(Expressions):
         return compound([[f"new({found.text})"], [f"fill{node.name}({found.text}^, {self.draw.randint(0, 99)})"]])
 
     def packing(self, _):
-        if not self.pairs or not self.whole:
+        if not self.pairs:
             return None
         whole, part = self.draw.choice(self.pairs)
         plain, packed = (self.access(lambda type: type is held, self.is_writable) for held in (whole, part))

@@ -137,7 +137,6 @@ class Types:
         self.draw = draw
         self.enumerations = {}
         self.count = 0
-        self.whole = True  # or nothing is drawn of what isn't compiled yet: with, reading of integers, pack and unpack
         integer = Ordinal("integer", "integer", -LIMIT, LIMIT)
         char = Ordinal("char", "char", 32, 126)
         boolean = Ordinal("Boolean", "Boolean", 0, 1)
