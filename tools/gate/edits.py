@@ -186,7 +186,7 @@ def tried(crate, edit, flags, kept=None):
     """Whether `rt ci` refuses an edit, as it must, and what it says. One that cannot be applied, compiled or read counts as not refused."""
     rt = kit.rt()
     kind, said = rt.must_fail(crate, edit.path, flags, kept)
-    return kind in (rt.REFUSED, rt.AT_LIMIT), said
+    return kind if kit.is_before_keeping() else kind in (rt.REFUSED, rt.AT_LIMIT), said
 
 
 def alone(crate, edit, flags):
@@ -204,6 +204,16 @@ def is_sound(crate, flags):
 
 def key_of(crate, edit):
     return kit.sum_of("edit", verdicts.FORM, verdicts.facts_of(crate)["key"], edit.name, edit.text)
+
+
+def told_of(given):
+    """What a task of edits gave: for each edit whether it is refused and what to say. Kits that keep nothing give what else stands in the folder before it."""
+    return given[2] if isinstance(given, tuple) else given
+
+
+def broken_off(name):
+    """What a task of edits that broke off counts as in kits that keep nothing."""
+    return ([], [f"{name}/must-fail"], [(False, f"{name}: trying its must-fail edits broke off")])
 
 
 def add_all(tasks, crate, paths, *_):

@@ -12,6 +12,7 @@ import sys
 import time
 import traceback
 
+import edits
 import kit
 
 PR_SET_PDEATHSIG = 1
@@ -79,8 +80,8 @@ class Places:
     def has_place(self, task):
         is_last = not any(not it.is_edits for it in [*self.left, *self.running.values()])
         kept_free = 1 if task.is_edits and not is_last and self.count > 1 else 0
-        edits = sum(it.is_edits for it in self.running.values())
-        if self.idle() < 1 or task.is_edits and edits >= self.count - kept_free:
+        tried = sum(it.is_edits for it in self.running.values())
+        if self.idle() < 1 or task.is_edits and tried >= self.count - kept_free:
             return False
         return not self.running or task.memory <= self.memory - sum(it.taken for it in self.running.values())
 
@@ -127,6 +128,8 @@ class Places:
         if status == 0:
             with open(self.path(task, "given"), "rb") as file:
                 given = pickle.load(file)
+        elif task.is_edits and kit.is_before_keeping():
+            given = edits.broken_off(task.name)
         self.given[task.key] = given
         with open(self.path(task, "log"), encoding="utf-8", errors="replace") as file:
             said = file.read()

@@ -4,6 +4,8 @@ import json
 import re
 import time
 
+import edits
+
 
 def seconds(usage):
     return usage.ru_utime + usage.ru_stime
@@ -31,7 +33,8 @@ class Report:
         part = "edits" if task.is_edits else "proof"
         self.took[task.name, part] = self.took.get((task.name, part), 0) + seconds(usage)
         self.most[task.name] = max(self.most.get(task.name, 0), usage.ru_maxrss)
-        is_well = not status and (bool(given) and all(it[0] for it in given) if task.is_edits else bool(given))
+        tries = edits.told_of(given) if task.is_edits and given else []
+        is_well = not status and bool(given) and all(it[0] for it in tries)
         for it in re.findall("(?m)^gate: .*", said if is_well else ""):
             self.say(f"{task.name}: {it[6:]}")
         spent = f"{time.time() - task.began:.0f} s, {seconds(usage):.0f} of a processor, {usage.ru_maxrss // 1024} MB"
@@ -40,7 +43,7 @@ class Report:
             words = "FAILED"
         elif task.is_edits:
             tried = self.facts(task).get("tried", 0)
-            words = f"{len(given)} edits refused ({tried} tried, the rest kept) in {spent}" if tried else f"{len(given)} edits refused (kept)"
+            words = f"{len(tries)} edits refused ({tried} tried, the rest kept) in {spent}" if tried else f"{len(tries)} edits refused (kept)"
         else:
             facts = self.facts(task, ".tests" if task.part == "tests" else "")
             what = "its tests are " if task.part == "tests" else ""
