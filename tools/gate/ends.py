@@ -6,6 +6,8 @@ import re
 import shutil
 import subprocess
 
+import kit
+
 CASES = (
     ("cases", "pascal", "cases"),
     ("compiled", "pascal", "compiled"),
@@ -37,20 +39,23 @@ def run_plain(tree):
     return passed, failed or int(bool(ran.returncode))
 
 
+def run_folder(tree, what, program, folder, env):
+    """Runs a folder of cases over a program. One that ends with a bad status, or holds no case, is a failure."""
+    words = [f"{tree}/tests/run", "--folder", folder, "--program", f"{tree}/{program}"]
+    ran = subprocess.run(words, env={**os.environ, **env}, stdout=subprocess.PIPE, stderr=subprocess.STDOUT, text=True, errors="replace")
+    well, bad = count_in(ran.stdout)
+    if ran.returncode and not bad or not well + bad:
+        bad = bad or 1
+    if bad:
+        print(ran.stdout, end="")
+    print(f"tests/{folder} ({what}): {well} passed, {bad} failed", flush=True)
+    return well, bad
+
+
 def run_cases(tree):
-    """Runs each folder of cases over a program of the run. One that ends with a bad status, or holds no case, is a failure."""
-    passed = failed = 0
-    for what, program, folder in CASES:
-        words = [f"{tree}/tests/run", "--folder", folder, "--program", f"{tree}/{program}"]
-        ran = subprocess.run(words, env={**os.environ, "PASCAL_BUILT": f"{tree}/crates"}, stdout=subprocess.PIPE, stderr=subprocess.STDOUT, text=True, errors="replace")
-        well, bad = count_in(ran.stdout)
-        if ran.returncode and not bad or not well + bad:
-            bad = bad or 1
-        if bad:
-            print(ran.stdout, end="")
-        print(f"tests/{folder} ({what}): {well} passed, {bad} failed", flush=True)
-        passed, failed = passed + well, failed + bad
-    return passed, failed
+    """Runs each folder of cases over a program of the run."""
+    told = [run_folder(tree, *case, {"PASCAL_BUILT": f"{tree}/crates"}) for case in CASES]
+    return sum(well for well, _ in told), sum(bad for _, bad in told)
 
 
 def look_at_pages(tree):
@@ -64,17 +69,40 @@ def sum_of_sources(tree, name):
     return ran.stdout.strip() if ran.returncode == 0 else None
 
 
+def line_of(path):
+    """The first line of a file, or nothing where there is none."""
+    try:
+        with open(path, encoding="utf-8") as file:
+            return file.readline().strip()
+    except OSError:
+        return ""
+
+
+def differs_from_release(tree, kept):
+    """Why the released program is not what this run has built. Kits differ in the bytes that they build, so where another kit built it, it has to do what
+    the cases want."""
+    made, kit_of_release = f"{tree}/crates/pascal/out/pascal", line_of(f"{kept}.kit")
+    if not os.path.isfile(made):
+        return "there is no program to compare the released one with"
+    if filecmp.cmp(made, kept, shallow=False):
+        return None
+    if kit_of_release == kit.name():
+        return "the released program is not, byte for byte, what was built of the same sources"
+    print(f"the released program was built by {kit_of_release}, and by {kit.name()} it has other bytes: the cases are run over it", flush=True)
+    told = [run_folder(tree, "the released program", "pascal", folder, {"PASCAL_BUILT": ""}) for _, program, folder in CASES if program == "pascal"]
+    return "the released program does not do what the cases want" if any(bad for _, bad in told) else None
+
+
 def look_at_release(tree):
-    """Whether the released program is the one that this run has built, byte for byte, from sources of the sum beside it, and the launcher runs it."""
-    made, kept = f"{tree}/crates/pascal/out/pascal", f"{tree}/released/pascal"
+    """Whether the released program is the one that this run has built, from sources of the sum beside it, and the launcher runs it."""
+    kept = f"{tree}/released/pascal"
     if not os.path.isfile(kept):
         return "there is no released program: `./gate --release` writes it"
-    with open(f"{kept}.sum", encoding="utf-8") as file:
-        known = file.read().split()[:1]
-    if known != [sum_of_sources(tree, "pascal")]:
+    if line_of(f"{kept}.sum") != sum_of_sources(tree, "pascal"):
         return "the released program is of other sources: `./gate --release` writes it anew"
-    if not os.path.isfile(made) or not filecmp.cmp(made, kept, shallow=False):
-        return "the released program is not, byte for byte, what was built of the same sources"
+    why = differs_from_release(tree, kept)
+    if why:
+        return why
     env = {"PATH": "/usr/bin:/bin", "HOME": "/nowhere"}
     ran = subprocess.run([f"{tree}/pascal", "go", f"{tree}/examples/hello.pas"], env=env, capture_output=True, text=True)
     if (ran.returncode, ran.stdout) != (0, "hello\n"):
@@ -87,6 +115,8 @@ def release(tree, top):
     shutil.copy2(f"{tree}/crates/pascal/out/pascal", f"{top}/released/pascal")
     with open(f"{top}/released/pascal.sum", "w", encoding="utf-8") as file:
         file.write(f"{sum_of_sources(tree, 'pascal')}\n")
+    with open(f"{top}/released/pascal.kit", "w", encoding="utf-8") as file:
+        file.write(f"{kit.name()}\n")
 
 
 def hand_out(tree, top):

@@ -87,6 +87,12 @@ def allow_kept_work(rtlib):
     rtlib.VERDICT = re.compile(pattern, rtlib.VERDICT.flags)
 
 
+def name():
+    """The kit's own name for itself, as `rt version` prints it."""
+    with open(f"{rt().KIT}/KIT-ID", encoding="utf-8") as file:
+        return file.readline().strip()
+
+
 def file_sum(path):
     with open(path, "rb") as file:
         return hashlib.file_digest(file, "sha256").hexdigest()

@@ -16,15 +16,16 @@ import edits
 import kit
 
 PR_SET_PDEATHSIG = 1
-# (some checks take a fifth more than is reckoned)
+# (what a kit reckons for a check was measured at two to six times what it takes; some take a fifth more than half)
 SHARE_OF_MEMORY = 0.85
+SHARE_OF_RECKONING = 0.5
 
 
 class Task:
     """A task of `rt ci`: what it waits for, its size in lines, its memory, and a call that gets what was given and how many jobs it may use."""
 
     def __init__(self, key, waits, lines, memory, call):
-        self.key, self.waits, self.lines, self.memory, self.call = key, waits, lines, memory, call
+        self.key, self.waits, self.lines, self.memory, self.call = key, waits, lines, SHARE_OF_RECKONING * memory, call
         self.name, self.part = key
         self.is_edits = self.part == "edits"
         self.behind = 0
