@@ -1,10 +1,10 @@
 -- Sizes that are told up to a largest number.
-use Rattle.std.proofs.Common.{◌≡◌, ◌⊎◌, inl, inr, ℕ, zero, suc, ◌+◌, ◌*◌, ◌<◌, ◌≤◌, min, List, [], ◌∷◌, length, drop, get_or, refl, ap, arith}
+use Rattle.std.proofs.Common.{◌≡◌, ◌⊎◌, inl, inr, ℕ, zero, suc, ◌+◌, ◌*◌, ◌<◌, ◌≤◌, min, List, [], ◌∷◌, ◌++◌, length, drop, get_or, refl, sym, ap, subst, ◌∙◌, append_assoc, append-nil, arith}
 use Rattle.std.proofs.Math.Seq.{drop-cons}
 use Rattle.std.proofs.lemmas.List.{drop_all}
 use Rattle.ps_tree.specs.declared.types.Ty.{Ty}
-use Rattle.ps_tree.specs.Types.{DataType, DataTypes, field_list}
-use Rattle.ps_tree.specs.Sizes.{cells, record_cells, field_cells, bytes, record_bytes, field_bytes}
+use Rattle.ps_tree.specs.Types.{DataType, DataTypes, no_type, type_before, FieldList, field_list, field_types}
+use Rattle.ps_tree.specs.Sizes.{cells, record_cells, field_cells, bytes, record_bytes, field_bytes, bytes_before, beginnings}
 use Rattle.ps_tree.specs.TypeView.{type_of, types_of}
 
 at_least : (k b m : ℕ) → m ≤ b → m ≤ suc k * b
@@ -65,3 +65,54 @@ pub field_bytes_total : (items : List Ty) → field_bytes (types_of items) ≡ t
 unfolding field_bytes
 field_bytes_total [] = refl
 field_bytes_total (t ∷ ts) = ap (λ n. bytes (type_of t) + n) (field_bytes_total ts)
+
+-- the beginnings of the types before i are kept
+pub record Begun (m : ℕ) (items : List Ty) (i total : ℕ) (kept : List ℕ) : Type 0 where
+  pub whole : kept ++ beginnings m total (types_of (drop i items)) ≡ beginnings m 0 (types_of items)
+
+pub begun_start : (m : ℕ) (items : List Ty) → Begun m items 0 0 []
+begun_start m items = record { whole = refl }
+
+pub begun_next : (m : ℕ) (items : List Ty) (i total next : ℕ) (kept : List ℕ) (d : Ty) → i < length items → Begun m items i total kept → next ≡ min (total + min (bytes (type_of (get_or items i d))) m) m → Begun m items (i + 1) next (kept ++ total ∷ [])
+begun_next m items i total next kept d h b e =
+    let t = type_of (get_or items i d) in
+    let split : drop i items ≡ get_or items i d ∷ drop (suc i) items = drop-cons items i d h in
+    let after : i + 1 ≡ suc i = omega arith in
+    let same : next ≡ min (total + bytes t) m = omega (arith, e) in
+    record {
+      whole = append_assoc kept (total ∷ []) (beginnings m next (types_of (drop (i + 1) items)))
+          ∙ ap (λ j. kept ++ total ∷ beginnings m next (types_of (drop j items))) after
+          ∙ ap (λ n. kept ++ total ∷ beginnings m n (types_of (drop (suc i) items))) same
+          ∙ ap (λ ts. kept ++ beginnings m total (types_of ts)) (sym split)
+          ∙ b.whole;
+    }
+
+pub begun_end : (m : ℕ) (items : List Ty) (i total : ℕ) (kept : List ℕ) → length items ≤ i → Begun m items i total kept → kept ≡ beginnings m 0 (types_of items)
+begun_end m items i total kept h b = sym (append-nil kept) ∙ ap (λ ts. kept ++ beginnings m total (types_of ts)) (sym (drop_all i items h)) ∙ b.whole
+
+-- what is kept of field k, and what there is behind the last
+pub begins_at : (m n : ℕ) (types : DataTypes) (k v : ℕ) → n ≤ m → k < length (beginnings m n types) → v ≡ get_or (beginnings m n types) k v → v ≡ min (n + bytes_before types k) m
+begins_at m n no_type k v h within e = absurd (omega (arith, within))
+begins_at m n (type_before t rest) zero v h within e = omega (arith, e, h)
+begins_at m n (type_before t rest) (suc k) v h within e =
+    let s = begins_at m (min (n + bytes t) m) rest k v (omega arith) (omega (arith, within)) e in
+    omega (arith, s)
+
+pub begins_past : (m n : ℕ) (types : DataTypes) (k : ℕ) → length (beginnings m n types) ≤ k → bytes_before types k ≡ field_bytes types
+unfolding field_bytes
+begins_past m n no_type k h = refl
+begins_past m n (type_before t rest) zero h = absurd (omega (arith, h))
+begins_past m n (type_before t rest) (suc k) h = ap (λ b. bytes t + b) (begins_past m (min (n + bytes t) m) rest k (omega (arith, h)))
+
+-- the same of what a record type keeps
+pub offset_at : (fields : FieldList) (offsets all : List ℕ) (k v : ℕ) → all ≡ offsets → offsets ≡ beginnings 4294967295 0 (field_types fields) → k < length all → v ≡ get_or all k v → v ≡ min (bytes_before (field_types fields) k) 4294967295
+offset_at fields offsets all k v a o within e =
+    let is : all ≡ beginnings 4294967295 0 (field_types fields) = a ∙ o in
+    let s : v ≡ min (0 + bytes_before (field_types fields) k) 4294967295 = begins_at 4294967295 0 (field_types fields) k v (omega arith) (subst (λ l. k < length l) is within) (e ∙ ap (λ l. get_or l k v) is) in
+    omega (arith, s)
+
+pub offset_past : (fields : FieldList) (offsets all : List ℕ) (k total : ℕ) → all ≡ offsets → offsets ≡ beginnings 4294967295 0 (field_types fields) → length all ≤ k → total ≡ min (record_bytes fields) 4294967295 → total ≡ min (bytes_before (field_types fields) k) 4294967295
+unfolding record_bytes
+offset_past (field_list names types) offsets all k total a o past e =
+    let is : all ≡ beginnings 4294967295 0 types = a ∙ o in
+    e ∙ ap (λ n. min n 4294967295) (sym (begins_past 4294967295 0 types k (subst (λ l. length l ≤ k) is past)))

@@ -1,5 +1,5 @@
 -- The size of a type's variables, in cells and in bytes (this project's format).
-use Rattle.std.specs.Prelude.{ℕ, suc, max, ◌+◌, ◌*◌, ◌/◌, pos, ◌-ℤ◌, unsigned_abs, int_lt, int_le, Bool, false, ◌&&◌, if◌then◌else◌}
+use Rattle.std.specs.Prelude.{ℕ, zero, suc, max, min, ◌+◌, ◌*◌, ◌/◌, pos, ◌-ℤ◌, unsigned_abs, int_lt, int_le, Bool, false, ◌&&◌, if◌then◌else◌, List, [], ◌∷◌}
 use Rattle.ps_tree.specs.declared.types.Ordinal.{Ordinal}
 use Rattle.ps_tree.specs.Types.{DataType, OrdinalType, PointerType, NilType, SetType, EmptySetType, TextType, ArrayType, RecordType, FieldList, field_list, DataTypes, no_type, type_before}
 
@@ -54,6 +54,17 @@ unfoldable mutual
   pub field_bytes : DataTypes → ℕ
   field_bytes no_type = 0
   field_bytes (type_before type rest) = bytes type + field_bytes rest
+
+-- where field k of a record begins, counted from 0; past the last, where the record ends
+abbrev pub bytes_before : DataTypes → ℕ → ℕ
+bytes_before no_type k = 0
+bytes_before (type_before type rest) zero = 0
+bytes_before (type_before type rest) (suc k) = bytes type + bytes_before rest k
+
+-- where each of these fields begins, if the first does at n, told up to m. No contract speaks of it: it is what a record type keeps.
+abbrev pub beginnings : (m n : ℕ) → DataTypes → List ℕ
+beginnings m n no_type = []
+beginnings m n (type_before type rest) = n ∷ beginnings m (min (n + bytes type) m) rest
 
 -- how deep the records and arrays in a type stand in one another
 unfoldable mutual

@@ -2,13 +2,13 @@
 
 ghost use Rattle.std.specs.Prelude.{◌≡◌, ◌↔◌, ◌+◌, ◌*◌, ◌-◌, ◌^◌, ◌≤◌, min, IfOk, IfSome, IsTrue, option_map, ℕ, List};
 ghost use Rattle.ps_tree.specs.Types.{Compatible, Assignable, is_same_host, are_same, is_same_ordinal, is_same_type, is_char, is_string_index, string_length, goes_with, has_variables, is_compatible, is_assignable, field_list, field_types, field_at, field_in};
-ghost use Rattle.ps_tree.specs.Sizes.{depth, depth_of_fields, value_count, fits_byte, whole_words, cells, record_cells, bytes, record_bytes, field_bytes};
+ghost use Rattle.ps_tree.specs.Sizes.{depth, depth_of_fields, value_count, fits_byte, whole_words, cells, record_cells, bytes, record_bytes, field_bytes, bytes_before, beginnings};
 ghost use Rattle.ps_tree.specs.TypeDepth.{deepest};
 ghost use Rattle.ps_tree.specs.TypeView.{type_of, types_of};
 ghost use Rattle.ps_tree.specs.declared.types.Component.TheDeep.{size-Ty};
 
 use crate::names::Names;
-use std::alloc::AllocError;
+use std::alloc::{AllocError, Global};
 use std::marker::Model;
 use std::rc::Rc;
 
@@ -86,11 +86,13 @@ pub struct Component {
     byte_count: u32,
 }
 
-/// The fields of a record type: their names, in small letters, and their types, in one order. With the sizes of a record.
+/// The fields of a record type: their names, in small letters, their types, and where they begin, in one order. With the sizes
+/// of a record.
 #[cycle(types)]
 pub struct Fields {
     names: Names,
     types: Vec<Ty>,
+    offsets: Vec<u32>,
     cell_count: u64,
     byte_count: u32,
 }
@@ -113,10 +115,12 @@ impl Drop for Fields {
         let Fields {
             names,
             types,
+            offsets,
             cell_count: _,
             byte_count: _,
         } = self;
         drop(names);
+        drop(offsets);
         release_all(types);
     }
 }
@@ -195,12 +199,12 @@ impl Model for Fields {
     ghost coded = { fields_code };
 
     ghost use Rattle.std.specs.Prelude.{◌≡◌, ◌^◌, ◌-◌, min};
-    ghost use Rattle.ps_tree.specs.Sizes.{record_cells, record_bytes, depth_of_fields};
+    ghost use Rattle.ps_tree.specs.Sizes.{record_cells, record_bytes, beginnings, depth_of_fields};
     ghost use Rattle.ps_tree.specs.TypeView.{types_of};
 
     ghost view = { λ f. field_list f.names (types_of f.types.items) };
 
-    ghost invariant = { λ f. (f.cell_count ≡ min (record_cells (field_list f.names (types_of f.types.items))) (2 ^ 64 - 1)) × (f.byte_count ≡ min (record_bytes (field_list f.names (types_of f.types.items))) (2 ^ 32 - 1)) };
+    ghost invariant = { λ f. (f.cell_count ≡ min (record_cells (field_list f.names (types_of f.types.items))) (2 ^ 64 - 1)) × (f.byte_count ≡ min (record_bytes (field_list f.names (types_of f.types.items))) (2 ^ 32 - 1)) × (f.offsets.items ≡ beginnings (2 ^ 32 - 1) 0 (types_of f.types.items)) };
 
     ghost size = { depth_of_fields };
 
@@ -607,6 +611,19 @@ fn bytes_of_all(types: &[Ty]) -> u32
     total
 }
 
+/// Where each of the fields of these types begins in a record.
+fn offsets_of_all(alloc: Global, types: &[Ty]) -> Result<Vec<u32>, AllocError>
+    ensures { IfOk result (λ offsets. offsets.items ≡ beginnings (2 ^ 32 - 1) 0 (types_of types.now)) }
+{
+    let mut offsets = Vec::new(alloc);
+    let mut total: u32 = 0;
+    for ty in types {
+        offsets.push(total)?;
+        total = total.saturating_add(ty.bytes());
+    }
+    Ok(offsets)
+}
+
 /// Takes out the type with the most cells.
 #[tactic(auto, using(crate::proofs::DropLemmas::deepest_left, crate::proofs::DropLemmas::deepest_taken))]
 fn take_largest(types: &mut Vec<Ty>) -> Option<Ty>
@@ -641,17 +658,19 @@ fn field_at(types: &[Ty], place: usize) -> Option<(u32, &Ty)>
 
 impl Fields {
     /// The fields of these names and types, in their order.
-    pub fn new(names: Names, types: Vec<Ty>) -> Fields
-        ensures { result ≡ field_list names (types_of types.items) }
+    pub fn new(alloc: Global, names: Names, types: Vec<Ty>) -> Result<Fields, AllocError>
+        ensures { IfOk result (λ fields. fields ≡ field_list names (types_of types.items)) }
     {
+        let offsets = offsets_of_all(alloc, types.as_slice())?;
         let cell_count = cells_of_all(types.as_slice());
         let byte_count = bytes_of_all(types.as_slice());
-        Fields {
+        Ok(Fields {
             names,
             types,
+            offsets,
             cell_count,
             byte_count,
-        }
+        })
     }
 
     /// The field of this name (6.4.3.3): its number, counted from 0, and its type. A number above 2^32 - 1 can't be told.
@@ -669,10 +688,12 @@ impl Fields {
         let Fields {
             names,
             types,
+            offsets,
             cell_count: _,
             byte_count: _,
         } = self;
         drop(names);
+        drop(offsets);
         types
     }
 
@@ -681,6 +702,17 @@ impl Fields {
         ensures { types_of result.now ≡ field_types self.now }
     {
         self.types.as_slice()
+    }
+
+    /// Where the field of this number, counted from 0, begins: so many bytes behind the record's first, told up to 2^32 - 1.
+    /// Past the last field it is where the record ends.
+    pub fn offset(&self, number: u32) -> u32
+        ensures { result ≡ min (bytes_before (field_types self.now) number) (2 ^ 32 - 1) }
+    {
+        match self.offsets.get(number as usize) {
+            Some(offset) => *offset,
+            None => self.byte_count,
+        }
     }
 
     fn cells(&self) -> u64
