@@ -27,15 +27,15 @@ module _ (f : Frame) where
     Some (with_known r.1 (r.1.known ++ TypeMeaning r.0 ∷ []))
 
   -- one more domain type
-  unfoldable pub settle_one : Declared → Span → Option Declared
-  settle_one d name = do
+  unfoldable pub resolve_domain : Declared → Span → Option Declared
+  resolve_domain d name = do
     type ← type_named f.text (regions f [] d.known) name
     Some (record { known = d.known; domains = d.domains ++ type ∷ []; pending = d.pending; variables = d.variables })
 
   -- at the end of a part each domain type that is waited for is the type that its name denotes there
-  unfoldable pub settle : Declared → Option Declared
-  settle d = do
-    e ← steps settle_one d d.pending
+  unfoldable pub resolve_domains : Declared → Option Declared
+  resolve_domains d = do
+    e ← steps resolve_domain d d.pending
     Some (record { known = e.known; domains = e.domains; pending = []; variables = e.variables })
 
 -- One more variable of a type, whose entry comes behind those of the result and the formal parameters, which are `first` in number.
@@ -55,6 +55,6 @@ module _ (f : Frame) (first : ℕ) where
   declarations d cs ts vs = do
     a ← steps (define_constant f) d cs
     b ← steps (define_type f) a ts
-    c ← settle f b
+    c ← resolve_domains f b
     e ← steps declare_variables c vs
-    settle f e
+    resolve_domains f e

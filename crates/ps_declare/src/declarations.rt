@@ -7,7 +7,7 @@ ghost use Rattle.ps_regions.specs.Regions.{one_more};
 ghost use Rattle.ps_regions.specs.Refusal.{IsFault};
 ghost use Rattle.ps_regions.specs.Views.{constant_of, meaning_of, scope_of};
 ghost use Rattle.ps_declare.specs.Denoters.{denoter};
-ghost use Rattle.ps_declare.specs.Declarations.{meaning_of_constant, define_constant, define_type, settle_one, settle, declare_variable, declare_variables, declarations};
+ghost use Rattle.ps_declare.specs.Declarations.{meaning_of_constant, define_constant, define_type, resolve_domain, resolve_domains, declare_variable, declare_variables, declarations};
 ghost use Rattle.ps_declare.specs.Views.{frame_of, declared_of};
 
 use crate::denoters::{constant_in, denoter, type_in};
@@ -142,16 +142,16 @@ fn told_of_domain(
 }
 
 /// A domain type that was waited for, at the end of its part, which has these variables.
-#[tactic(auto, unfolding(crate::specs::Declarations::settle_one, crate::specs::Views::hidden_of))]
-fn settle_one(
+#[tactic(auto, unfolding(crate::specs::Declarations::resolve_domain, crate::specs::Views::hidden_of))]
+fn resolve_domain(
     frame: &Frame,
     alloc: Global,
     declared: &mut Declared,
     variables: &[Variables],
     name: Span,
 ) -> Result<(), Fault>
-    ensures ok { OnOk result (settle_one (frame_of frame.now) (declared_of declared.old) name ≡ Some (declared_of declared.new)) }
-    ensures err { IfErr result (λ fault. IsFault fault → settle_one (frame_of frame.now) (declared_of declared.old) name ≡ None) }
+    ensures ok { OnOk result (resolve_domain (frame_of frame.now) (declared_of declared.old) name ≡ Some (declared_of declared.new)) }
+    ensures err { IfErr result (λ fault. IsFault fault → resolve_domain (frame_of frame.now) (declared_of declared.old) name ≡ None) }
     ensures pending { OnOk result (declared.new.pending.items ≡ declared.old.pending.items) }
 {
     let known = declared.known.as_slice();
@@ -168,19 +168,19 @@ fn settle_one(
 
 /// The end of a part, which has these variables: each domain type that is waited for is the type that its name denotes
 /// there.
-#[tactic(auto, unfolding(crate::specs::Declarations::settle))]
-fn settle(
+#[tactic(auto, unfolding(crate::specs::Declarations::resolve_domains))]
+fn resolve_domains(
     frame: &Frame,
     alloc: Global,
     declared: &mut Declared,
     variables: &[Variables],
 ) -> Result<(), Fault>
-    ensures ok { OnOk result (settle (frame_of frame.now) (declared_of declared.old) ≡ Some (declared_of declared.new)) }
-    ensures err { IfErr result (λ fault. IsFault fault → settle (frame_of frame.now) (declared_of declared.old) ≡ None) }
+    ensures ok { OnOk result (resolve_domains (frame_of frame.now) (declared_of declared.old) ≡ Some (declared_of declared.new)) }
+    ensures err { IfErr result (λ fault. IsFault fault → resolve_domains (frame_of frame.now) (declared_of declared.old) ≡ None) }
 {
     for i in 0..declared.pending.len() {
         let name = declared.pending[i];
-        settle_one(frame, alloc, declared, variables, name)?;
+        resolve_domain(frame, alloc, declared, variables, name)?;
     }
     declared.pending.clear();
     Ok(())
@@ -314,7 +314,7 @@ pub fn declarations(
 {
     define_constants(frame, alloc, declared, constants)?;
     define_types(frame, alloc, declared, types)?;
-    settle(frame, alloc, declared, &[])?;
+    resolve_domains(frame, alloc, declared, &[])?;
     declare_all(frame, alloc, first, declared, variables)?;
-    settle(frame, alloc, declared, variables)
+    resolve_domains(frame, alloc, declared, variables)
 }

@@ -724,7 +724,7 @@ fn one_record(
     ensures ok { IfOk result (λ ty. small (RecordType at packed (field_list names (types_of types.items))) ≡ Some (type_of ty)) }
     ensures err { IfErr result (λ fault. IsFault fault → small (RecordType at packed (field_list names (types_of types.items))) ≡ None) }
 {
-    let fields = Rc::new(alloc, RecordFields::new(names, types))?;
+    let fields = Rc::new(alloc, RecordFields::new(alloc, names, types)?)?;
     small(Ty::Record { at, packed, fields }, at)
 }
 

@@ -1,4 +1,4 @@
 pub mod Equations
-pub mod LabelLemmas
+pub mod CaseConstants
 pub mod Opening
 pub mod Judgement

@@ -1,7 +1,7 @@
 -- What the values of the program stand for in the definitions.
 use Rattle.ps_tree.specs.declared.tree.CaseElement.{CaseElement, out-CaseElement}
 use Rattle.ps_tree.specs.View.{expr_of, statement_of}
-use Rattle.ps_statements.specs.declared.counting.Head as Rust
+use Rattle.ps_statements.specs.declared.for_statements.Head as Rust
 use Rattle.ps_statements.specs.Structured.{Head, TypedElement}
 
 abbrev pub head_of : Rust.Head → Head

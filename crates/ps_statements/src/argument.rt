@@ -4,19 +4,16 @@ ghost use Rattle.std.specs.Prelude.{◌≡◌, map, IfOk, IfErr, Some, None};
 ghost use Rattle.ps_tree.specs.View.{argument_of};
 ghost use Rattle.ps_regions.specs.Refusal.{IsFault};
 ghost use Rattle.ps_regions.specs.Views.{section_of, sections_of};
-ghost use Rattle.ps_typing.specs.Calls.{actual};
-ghost use Rattle.ps_typing.specs.Expressions.{operand};
 ghost use Rattle.ps_typing.specs.View.{context_at, regions_at, value_of, variable_of};
 ghost use Rattle.ps_statements.specs.Procedures.{first_of_parameter, actual_parameter, actual_parameters, parameter_value, parameter_variable};
 
 use ps_regions::meaning::Section;
 use ps_regions::refusal::{Fault, Rule};
-use ps_syntax::{Expr, Parameter};
+use ps_syntax::Parameter;
 use ps_tree::tree::Argument;
-use ps_typing::expression::{expr_value, name_alone, referent};
+use ps_typing::expression::{argument, expr_value, referent};
 use ps_typing::operators::wrong_type;
-use ps_typing::parameter::{by_routine, by_value, by_variable, parameters};
-use ps_typing::place::wrong_kind;
+use ps_typing::parameter::parameters;
 use ps_typing::site::Site;
 use ps_typing::value::{TypedPlace, TypedValue};
 
@@ -65,34 +62,6 @@ pub(crate) fn parameter_variable(parameter: &Parameter, site: Site<'_>) -> Resul
 }
 
 /// The actual parameter for a formal one.
-#[tactic(auto, using(ps_typing::proofs::Equations::operand_first, ps_typing::proofs::CallLemmas::actual_routine, ps_regions::proofs::ViewLemmas::section_of_Routine), unfolding(ps_typing::specs::Calls::actual, ps_regions::specs::Views::section_of))]
-fn argument(x: &Expr, site: Site<'_>, section: &Section) -> Result<Argument, Fault>
-    ensures ok { IfOk result (λ a. actual (context_at site.entry) (regions_at site.entry) (section_of section.now) (operand (context_at site.entry) (regions_at site.entry) x.now) ≡ Some (argument_of a)) }
-    ensures err { IfErr result (λ fault. IsFault fault → actual (context_at site.entry) (regions_at site.entry) (section_of section.now) (operand (context_at site.entry) (regions_at site.entry) x.now) ≡ None) }
-{
-    let at = x.first_token();
-    match section {
-        Section::Value { ty, .. } => {
-            let value = expr_value(x, site)?;
-            by_value(ty, value, site.reading.line(at), at)
-        }
-        Section::Variable { ty, .. } => {
-            let variable = referent(x, site)?;
-            by_variable(ty, variable, at)
-        }
-        Section::Routine {
-            sections,
-            result: outcome,
-        } => match name_alone(x) {
-            None => Err(wrong_kind(at)),
-            Some(name) => {
-                let found = site.denoted(name)?;
-                by_routine(sections, outcome, found, at)
-            }
-        },
-    }
-}
-
 #[tactic(auto, unfolding(crate::specs::Procedures::actual_parameter))]
 fn actual_parameter(
     parameter: &Parameter,

@@ -4,10 +4,10 @@
 mod answer;
 mod argument;
 mod assignment;
-mod counting;
+mod case_constants;
 mod file;
+mod for_statements;
 mod heap;
-mod labels;
 mod procedure;
 pub mod statement;
 mod text;

@@ -11,8 +11,8 @@ ghost use Rattle.ps_statements.specs.View.{element_of, head_of};
 
 use crate::answer::beside;
 use crate::assignment::assignment;
-use crate::counting::{Head, for_head, repeated};
-use crate::labels::{case_behind, case_labels};
+use crate::case_constants::{case_behind, case_labels};
+use crate::for_statements::{Head, for_head, repeated};
 use crate::procedure::procedure_statement;
 use ps_regions::answer::{boxed_answer, paired, push_answer};
 use ps_regions::refusal::Fault;
@@ -131,7 +131,7 @@ pub fn statements(list: &[Syntax], site: Site<'_>) -> Result<Vec<Statement>, Fau
     ensures ok { IfOk result (λ s. spec.statements (context_at site.entry) (regions_at site.entry) list.now ≡ Some (statements_of s.items)) }
     ensures err { IfErr result (λ fault. IsFault fault → spec.statements (context_at site.entry) (regions_at site.entry) list.now ≡ None) }
 {
-    let mut typed = Vec::new(site.alloc);
+    let mut typed = Vec::with_capacity(site.alloc, list.len())?;
     for x in list {
         push_answer(&mut typed, statement(x, site))?;
     }
@@ -219,7 +219,7 @@ fn elements(list: &[Element], site: Site<'_>, index: Ordinal) -> Result<Vec<Case
     ensures ok { IfOk result (λ es. traverse (λ e. spec.element (context_at site.entry) e (regions_at site.entry) index) list.now ≡ Some (map element_of es.items)) }
     ensures err { IfErr result (λ fault. IsFault fault → traverse (λ e. spec.element (context_at site.entry) e (regions_at site.entry) index) list.now ≡ None) }
 {
-    let mut typed = Vec::new(site.alloc);
+    let mut typed = Vec::with_capacity(site.alloc, list.len())?;
     for x in list {
         push_answer(&mut typed, element(x, site, index))?;
     }

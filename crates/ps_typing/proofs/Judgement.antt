@@ -4,6 +4,8 @@ use Rattle.std.proofs.lemmas.List.{length-map}
 use Rattle.ps_text.specs.declared.Span.{Span}
 use Rattle.ps_syntax.specs.First as first
 use Rattle.ps_syntax.specs.declared.expression.Sign.{Sign}
+use Rattle.ps_syntax.specs.declared.expression.AddedTerm.{AddedTerm}
+use Rattle.ps_syntax.specs.declared.expression.MultipliedFactor.{MultipliedFactor}
 use Rattle.ps_syntax.specs.declared.expression.Expr.{Expr}
 use Rattle.ps_syntax.specs.declared.expression.Selector.{Selector}
 use Rattle.ps_syntax.specs.declared.expression.Simple.{Simple, out-Simple}
@@ -62,6 +64,26 @@ module _ (c : Context) (Γ : List Region) where
   term_value x =
       ap (λ o. o.value) (term_is c Γ x)
       ∙ ap (λ (g : Value → Option Value). (factor_operand c Γ (out-Term x).first).value >>= g) (λ i v. through_map (multiply_factor c Γ) (out-Term x).more v i)
+
+  term_alone : (o : Option Value) (fs : List MultipliedFactor) → fs ≡ [] → (o >>= (λ v. steps (λ v f. multiply_factor c Γ f v) v fs)) ≡ o
+  term_alone None fs e = refl
+  term_alone (Some v) [] e = refl
+  term_alone (Some v) (f ∷ fs) e = cc
+
+  simple_alone : (o : Option Value) (sign : Option (Sign × Span)) (ts : List AddedTerm) → sign ≡ None → ts ≡ [] → (o >>= first_term c Γ sign >>= (λ v. steps (λ v t. add_term c Γ t v) v ts)) ≡ o
+  unfolding first_term
+  simple_alone None sign ts s e = refl
+  simple_alone (Some v) None [] s e = refl
+  simple_alone (Some v) None (t ∷ ts) s e = cc
+  simple_alone (Some v) (Some at) ts s e = cc
+
+  -- without sign and operators it is its one factor
+  pub value_of_one_factor : (x : Simple) → (out-Simple x).sign ≡ None → (out-Simple x).more ≡ [] → (out-Term (out-Simple x).first).more ≡ [] → (simple_operand c Γ x).value ≡ (factor_operand c Γ (out-Term (out-Simple x).first).first).value
+  value_of_one_factor x s more factors =
+      simple_value x
+      ∙ simple_alone (term_operand c Γ (out-Simple x).first).value (out-Simple x).sign (out-Simple x).more s more
+      ∙ term_value (out-Simple x).first
+      ∙ term_alone (factor_operand c Γ (out-Term (out-Simple x).first).first).value (out-Term (out-Simple x).first).more factors
 
   seen_variable : (name : Span) (ss : List Selector) → (variable_seen c Γ name (map (select c Γ) ss)).variable ≡ (named_variable c Γ name >>= (λ v. steps (λ v s. select c Γ s v) v ss))
   unfolding variable_seen

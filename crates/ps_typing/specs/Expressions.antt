@@ -75,6 +75,10 @@ constructed (ms, Some o) = SetValue (Tree.Constructor (member_list ms)) (SetType
 abbrev pub set_value : List (Option TypedMember) → Option Value
 set_value ms = steps (λ g m. m >>= gathered g) ([], None) ms >>= (λ g. Some (constructed g))
 
+-- 6.7.2.3: the negation of a value
+abbrev pub negation : Operand → Option Value
+negation x = x.value >>= negated
+
 module _ (c : Context) (Γ : List Region) where
   -- what a name alone stands for: a constant, the contents of a variable, or a function's value without actual parameters
   unfoldable pub standing : ℕ → Point → Option Value
@@ -145,7 +149,7 @@ module _ (c : Context) (Γ : List Region) where
   factor_step (Factor-F.Nil at) = plain at.from (Some (SimpleValue Tree.Nil NilType))
   factor_step (Factor-F.Set at ms) = plain at.from (set_value ms)
   factor_step (Factor-F.Group at x) = plain at.from x.value
-  factor_step (Factor-F.Not at x) = plain at.from (x.value >>= negated)
+  factor_step (Factor-F.Not at x) = plain at.from (negation x)
 
   unfoldable pub member_step : Member-F Operand Operand (Option TypedMember) (Variable → Option Variable) (Value → Option Value) (Value → Option Value) Operand Operand Operand → Option TypedMember
   member_step (Member-F.One x) = x.value >>= (λ v. single v (line_in c.text x.first))

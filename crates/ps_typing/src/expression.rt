@@ -1,7 +1,9 @@
 //! The typing of variables and expressions (ISO 7185, 6.5 and 6.7).
 
-ghost use Rattle.std.specs.Prelude.{◌≡◌, List, [], ◌∷◌, ◌++◌, map, option_map, IfOk, IfErr, MatchOption, Some, None};
+ghost use Rattle.std.specs.Prelude.{◌≡◌, List, [], ◌∷◌, ◌++◌, map, option_map, IfOk, IfErr, IsTrue, Some, None};
 ghost use Rattle.ps_tree.specs.View.{type_of, expr_of, argument_of, member_of};
+ghost use Rattle.ps_syntax.specs.declared.expression.Simple.{out-Simple};
+ghost use Rattle.ps_syntax.specs.declared.expression.Term.{out-Term};
 ghost use Rattle.ps_regions.specs.Option.{steps, traverse_both};
 ghost use Rattle.ps_regions.specs.Regions.{Context, Region};
 ghost use Rattle.ps_regions.specs.Refusal.{IsFault};
@@ -11,7 +13,7 @@ ghost use Rattle.ps_tree.specs.Tree as Tree;
 ghost use Rattle.ps_typing.specs.Values.{SimpleValue, argument_list};
 ghost use Rattle.ps_typing.specs.Places.{indexed};
 ghost use Rattle.ps_typing.specs.Calls.{actual, actuals, parameters, called, required_call, names_input};
-ghost use Rattle.ps_typing.specs.Expressions.{gathered, constructed, both, first_term, standing, set_value, operand, factor_operand, member_at, select, add_term, multiply_factor, simple_operand, term_operand, variable_operand};
+ghost use Rattle.ps_typing.specs.Expressions.{negation, gathered, constructed, both, first_term, standing, set_value, operand, factor_operand, member_at, select, add_term, multiply_factor, simple_operand, term_operand, variable_operand};
 ghost use Rattle.ps_typing.specs.View.{context_at, regions_at, value_of, variable_of};
 
 use crate::function::{
@@ -322,10 +324,37 @@ fn standing(site: Site<'_>, found: Found<'_>, name: Span) -> Result<TypedValue, 
     }
 }
 
-/// The value of an expression.
+/// Whether a simple expression is one factor, without sign and operators, as most are.
+#[tactic(auto, using(crate::proofs::Judgement::value_of_one_factor))]
+fn is_one_factor(x: &Simple) -> bool
+    ensures { IsTrue result → (c : Context) (Γ : List Region) → (simple_operand c Γ x.now).value ≡ (factor_operand c Γ (out-Term (out-Simple x.now).first).first).value }
+{
+    x.sign.is_none() && x.more.is_empty() && x.first.more.is_empty()
+}
+
+/// The value of an expression. One that is a factor alone goes straight to it: parentheses lie in one another hundreds of levels deep.
 #[cycle(expression)]
 #[tactic(auto, using(crate::proofs::Equations::operand_simple, crate::proofs::Equations::operand_compare))]
 pub fn expr_value(x: &Syntax, site: Site<'_>) -> Result<TypedValue, Fault>
+    ensures ok { IfOk result (λ v. (operand (context_at site.entry) (regions_at site.entry) x.now).value ≡ Some (value_of v)) }
+    ensures err { IfErr result (λ fault. IsFault fault → (operand (context_at site.entry) (regions_at site.entry) x.now).value ≡ None) }
+{
+    match x {
+        Syntax::Simple(only) => {
+            if is_one_factor(only) {
+                factor_value(&only.first.first, site)
+            } else {
+                simple_value(only, site)
+            }
+        }
+        Syntax::Compare(..) => compared_value(x, site),
+    }
+}
+
+/// The same, through all levels of operators: that of a relation of two simple expressions (6.7.2.5), or of one alone.
+#[cycle(expression)]
+#[tactic(auto, using(crate::proofs::Equations::operand_simple, crate::proofs::Equations::operand_compare))]
+fn compared_value(x: &Syntax, site: Site<'_>) -> Result<TypedValue, Fault>
     ensures ok { IfOk result (λ v. (operand (context_at site.entry) (regions_at site.entry) x.now).value ≡ Some (value_of v)) }
     ensures err { IfErr result (λ fault. IsFault fault → (operand (context_at site.entry) (regions_at site.entry) x.now).value ≡ None) }
 {
@@ -461,12 +490,19 @@ fn factor_value(x: &Factor, site: Site<'_>) -> Result<TypedValue, Fault>
         Factor::Nil(_) => Ok(TypedValue::Simple(Expr::Nil, Ty::Nil)),
         Factor::Set(_, members) => set_value(members.as_slice(), site),
         Factor::Group(_, inner) => expr_value(inner.get(), site),
-        Factor::Not(_, inner) => {
-            let at = inner.get().first_token();
-            let operand = factor_value(inner.get(), site)?;
-            negated(site.alloc, operand, at)
-        }
+        Factor::Not(_, inner) => negated_value(inner.get(), site),
     }
+}
+
+/// The value of the negation of a factor (6.7.2.3).
+#[cycle(expression)]
+fn negated_value(x: &Factor, site: Site<'_>) -> Result<TypedValue, Fault>
+    ensures ok { IfOk result (λ v. negation (factor_operand (context_at site.entry) (regions_at site.entry) x.now) ≡ Some (value_of v)) }
+    ensures err { IfErr result (λ fault. IsFault fault → negation (factor_operand (context_at site.entry) (regions_at site.entry) x.now) ≡ None) }
+{
+    let at = x.first_token();
+    let operand = factor_value(x, site)?;
+    negated(site.alloc, operand, at)
 }
 
 /// The value of a set constructor (6.7.1).
@@ -717,15 +753,16 @@ pub(crate) fn argument_all(
     }
     let mut list = Vec::new(site.alloc);
     for i in 0..operands.len() {
-        let argument = argument_one(&operands[i], site, formals[i])?;
+        let argument = argument(&operands[i], site, formals[i])?;
         list.push(argument)?;
     }
     Ok(list)
 }
 
+/// The actual parameter for a formal one (6.6.3).
 #[cycle(expression)]
 #[tactic(auto, using(crate::proofs::Equations::operand_first, ps_regions::proofs::ViewLemmas::section_of_Routine), unfolding(crate::specs::Calls::actual, ps_regions::specs::Views::section_of))]
-fn argument_one(x: &Syntax, site: Site<'_>, section: &Section) -> Result<Argument, Fault>
+pub fn argument(x: &Syntax, site: Site<'_>, section: &Section) -> Result<Argument, Fault>
     ensures ok { IfOk result (λ a. actual (context_at site.entry) (regions_at site.entry) (section_of section.now) (operand (context_at site.entry) (regions_at site.entry) x.now) ≡ Some (argument_of a)) }
     ensures err { IfErr result (λ fault. IsFault fault → actual (context_at site.entry) (regions_at site.entry) (section_of section.now) (operand (context_at site.entry) (regions_at site.entry) x.now) ≡ None) }
 {

@@ -3,11 +3,18 @@ use Rattle.std.proofs.lemmas.Result.{err_from_is_err_and}
 use Rattle.ps_tree.specs.View.{type_of, expr_of, place_of}
 use Rattle.ps_regions.specs.Refusal.{IsFault}
 use Rattle.ps_typing.specs.View.{context_at, regions_at}
+use Rattle.ps_regions.proofs.Lists.{reached_start}
 use Rattle.ps_statements.specs.Statements as spec
 use Rattle.ps_statements.specs.View.{element_of}
 use Rattle.ps_statements.proofs.Judgement.{statements_end, case_at, case_fault}
 use Rattle.ps_statements.proofs.Opening.{with_next, with_fault}
 use Rattle.ps_statements.proofs.statement.+statement.Goals as goal
+
+pub statements-loop-x-init : goal.statements-loop-x-init
+statements-loop-x-init t c = rw c.in_ok-typed.ensures.items (reached_start (λ s. spec.statement (context_at c.args.site) s (regions_at c.args.site)) c.args.list.now)
+
+pub elements-loop-x-init : goal.elements-loop-x-init
+elements-loop-x-init t c = rw c.in_ok-typed.ensures.items (reached_start (λ e. spec.element (context_at c.args.site) e (regions_at c.args.site) c.args.index) c.args.list.now)
 
 pub statements-returns-clause-ok : goal.statements-returns-clause-ok
 statements-returns-clause-ok t c =

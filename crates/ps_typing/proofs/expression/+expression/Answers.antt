@@ -27,11 +27,11 @@ pub argument_all-loop-i-preserved : goal.argument_all-loop-i-preserved
 argument_all-loop-i-preserved t c =
     both_next_of (λ s x. actual (context_at c.args.site) (regions_at c.args.site) s (operand (context_at c.args.site) (regions_at c.args.site) x)) (λ s. section_of s.now) argument_of c.in_ok-formals.formals.items c.args.operands.now c.loop-i.i c.loop-i.list.items c.push.new.self.items c.index.result.now c.index-operands-i.result c.in_ok-argument.argument (omega arith) c.loop-i-test.true c.index.ensures c.index-operands-i.is c.loop-i.invariant c.in_ok-argument.ensures.ok c.in_ok-push.ensures.items
 
-pub argument_one-returns-in_ok-found-in-Some-clause-ok : goal.argument_one-returns-in_ok-found-in-Some-clause-ok
-argument_one-returns-in_ok-found-in-Some-clause-ok t c = search (rules, actual_routine)
+pub argument-returns-in_ok-found-in-Some-clause-ok : goal.argument-returns-in_ok-found-in-Some-clause-ok
+argument-returns-in_ok-found-in-Some-clause-ok t c = search (rules, actual_routine)
 
-pub argument_one-returns-in_ok-found-in-Some-clause-err : goal.argument_one-returns-in_ok-found-in-Some-clause-err
-argument_one-returns-in_ok-found-in-Some-clause-err t c = search (rules, actual_routine)
+pub argument-returns-in_ok-found-in-Some-clause-err : goal.argument-returns-in_ok-found-in-Some-clause-err
+argument-returns-in_ok-found-in-Some-clause-err t c = search (rules, actual_routine)
 
 pub call_value-returns-in_err-arguments-in-Routine-clause-err : goal.call_value-returns-in_err-arguments-in-Routine-clause-err
 call_value-returns-in_err-arguments-in-Routine-clause-err t c =

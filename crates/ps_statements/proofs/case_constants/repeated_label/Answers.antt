@@ -1,7 +1,7 @@
 use Rattle.std.proofs.Common.{ap, sym, ◌∙◌}
 use Rattle.ps_tree.specs.declared.tree.CaseElement.{CaseElement, out-CaseElement}
-use Rattle.ps_statements.proofs.LabelLemmas.{labels_next, labels_repeated, labels_end}
-use Rattle.ps_statements.proofs.labels.repeated_label.Goals as goal
+use Rattle.ps_statements.proofs.CaseConstants.{labels_next, labels_repeated, labels_end}
+use Rattle.ps_statements.proofs.case_constants.repeated_label.Goals as goal
 
 pub returns-in-Some : goal.returns-in-Some
 returns-in-Some c =
