@@ -11,7 +11,7 @@ use Rattle.ps_tree.specs.View as tree
 use Rattle.ps_regions.specs.Option.{◌>>=◌, provided, traverse}
 use Rattle.ps_check.specs.declared.state.Gathered.{Gathered}
 use Rattle.ps_check.specs.declared.state.Done.{Done}
-use Rattle.ps_check.specs.Blocks as spec
+use Rattle.ps_check.specs.Readings as spec
 use Rattle.ps_check.specs.Views.{gathered_of, done_of}
 use Rattle.ps_check.specs.Programs.{assembled, program_routine, program_of}
 use Rattle.ps_check.specs.declared.chain.Finished.{Finished}

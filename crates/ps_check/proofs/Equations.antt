@@ -15,7 +15,10 @@ use Rattle.ps_syntax.specs.declared.program.Routine.TheOpen.{Routine-F}
 use Rattle.ps_syntax.specs.declared.program.Routine.TheFolds.{fold-roll-Routine, fold_out-Block}
 use Rattle.ps_regions.specs.Regions as Regions
 use Rattle.ps_regions.specs.Regions.{Context, Region, Meaning}
-use Rattle.ps_check.specs.Blocks.{RoutineReading, BlockReading, heading_name, heading_list, layer_name, layer_list, layer_is_bare, is_bare, routine_step, block_step, routine, block, layer, Routines, is_waiting, introduce, new_heading, start, Start, Entries, add_sections, first_entry}
+use Rattle.ps_check.specs.Readings.{RoutineReading, BlockReading, heading_name, heading_list, layer_name, layer_list, layer_is_bare, is_bare, Routines, Start}
+use Rattle.ps_check.specs.Forwards.{is_waiting}
+use Rattle.ps_check.specs.Entries.{start, Entries, add_sections, first_entry}
+use Rattle.ps_check.specs.Blocks.{routine_step, block_step, routine, block, layer, introduce, new_heading}
 
 abbrev as_start : List ℕ → List (List ℕ) → Entries → Start
 as_start chain names e = record { chain = chain; names = names; known = e.known; first = e.next }

@@ -20,7 +20,7 @@ use Rattle.ps_regions.specs.Regions.{Section, ValueSection, VariableSection, Rou
 use Rattle.ps_regions.specs.Views.{section_of, sections_of, meaning_of}
 use Rattle.ps_check.specs.Formals.{section_formals, formal_list}
 use Rattle.ps_check.specs.Views.{entries_of}
-use Rattle.ps_check.specs.Blocks.{Entries, add_entry, add_parameters, add_section, add_sections}
+use Rattle.ps_check.specs.Entries.{Entries, add_entry, add_parameters, add_section, add_sections}
 
 -- ---- lists of formal parameters
 

@@ -9,7 +9,7 @@ use Rattle.std.proofs.Math.Path.{fun_ext}
 use Rattle.ps_tree.specs.Tree.{Routine}
 use Rattle.ps_changes.specs.Changes.{among, watched_of}
 use Rattle.ps_changes.specs.declared.place.Entries.TheVariants.{Marked}
-use Rattle.ps_check.specs.Changes.{routine_threatens}
+use Rattle.ps_check.specs.Threats.{routine_threatens}
 
 module _ {A B : Type 0} (p : B → Bool) (f : A → B) (xs : List A) where
   -- no item before index i passes

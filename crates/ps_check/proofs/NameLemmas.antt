@@ -7,8 +7,9 @@ use Rattle.ps_text.specs.declared.Span.{Span}
 use Rattle.ps_regions.specs.Option.{◌>>=◌, provided, steps}
 use Rattle.ps_regions.specs.Spelling.{spelled, same, has}
 use Rattle.ps_declare.specs.Points.{Points, add_point, add_points, block_points}
-use Rattle.ps_check.specs.Blocks.{RoutineReading, may_complete, add_routine, block_names}
-use Rattle.ps_check.specs.Names.{AreApart, IsOfRoutine, NamesArePoints, Each}
+use Rattle.ps_check.specs.Readings.{RoutineReading}
+use Rattle.ps_check.specs.Forwards.{may_complete, add_routine, block_names}
+use Rattle.ps_check.specs.RegionNames.{AreApart, IsOfRoutine, NamesArePoints, Each}
 
 -- ---- steps that may fail
 

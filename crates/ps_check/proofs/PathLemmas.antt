@@ -9,7 +9,10 @@ use Rattle.ps_regions.specs.Option.{steps}
 use Rattle.ps_regions.specs.Spelling.{spelled, place}
 use Rattle.ps_regions.specs.Regions.{Region, BlockRegion, Meaning, Context}
 use Rattle.ps_declare.specs.Denoters.{Frame}
-use Rattle.ps_check.specs.Blocks.{Start, Gathered, Done, Routines, RoutineReading, BlockReading, heading_at, start, introduce, read_block, one_routine, block_names, declared, block_step, block, routine, layer, own_number}
+use Rattle.ps_check.specs.Readings.{Start, Gathered, Done, Routines, RoutineReading, BlockReading}
+use Rattle.ps_check.specs.Forwards.{block_names}
+use Rattle.ps_check.specs.Entries.{start}
+use Rattle.ps_check.specs.Blocks.{heading_at, introduce, read_block, one_routine, declared, block_step, block, routine, layer, own_number}
 use Rattle.ps_check.specs.Programs.{no_files, list_file, program, program_with, program_of, program_context, program_start, nothing_gathered, required}
 use Rattle.ps_check.specs.Paths.{layer_block, routine_block, block_at, outermost, within, IsRead, BlocksAreEnclosed}
 use Rattle.ps_check.proofs.Equations.{block_is, routine_Whole, routine_Completion}

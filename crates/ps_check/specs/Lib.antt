@@ -1,7 +1,10 @@
-pub mod Changes
+pub mod Threats
 pub mod Formals
+pub mod Readings
+pub mod Forwards
+pub mod Entries
 pub mod Blocks
 pub mod Programs
 pub mod Views
-pub mod Names
+pub mod RegionNames
 pub mod Paths

@@ -7,9 +7,10 @@ use Rattle.ps_syntax.specs.declared.program.Program as syntax
 use Rattle.ps_tree.specs.Tree as Tree
 use Rattle.ps_regions.specs.Option.{◌>>=◌, steps}
 use Rattle.ps_regions.specs.Regions.{Region, BlockRegion, Meaning, Context}
-use Rattle.ps_check.specs.Blocks.{Start, Gathered, Done, block, layer}
+use Rattle.ps_check.specs.Readings.{Start, Gathered, Done}
+use Rattle.ps_check.specs.Blocks.{block, layer}
 use Rattle.ps_check.specs.Programs.{Files, no_files, list_file, program, program_context, required}
-use Rattle.ps_check.specs.Names.{AreNames}
+use Rattle.ps_check.specs.RegionNames.{AreNames}
 
 abbrev pub layer_block : Routine-F Routine Block → Option Block
 layer_block (Routine-F.Whole h b) = Some b

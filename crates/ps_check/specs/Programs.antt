@@ -12,7 +12,8 @@ use Rattle.ps_regions.specs.Spelling.{spelled, same, has}
 use Rattle.ps_regions.specs.Regions.{Region, BlockRegion, Meaning, ConstantMeaning, TypeMeaning, FileMeaning, RequiredMeaning, LeftOutMeaning, Context}
 use Rattle.ps_regions.specs.Constants.{integer, char, boolean}
 use Rattle.ps_declare.specs.Points.{add_name}
-use Rattle.ps_check.specs.Blocks.{Start, Gathered, Done, block}
+use Rattle.ps_check.specs.Readings.{Start, Gathered, Done}
+use Rattle.ps_check.specs.Blocks.{block}
 
 -- ---- the region around the program
 

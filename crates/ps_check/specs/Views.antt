@@ -13,7 +13,8 @@ use Rattle.ps_check.specs.declared.program.Standard as Standard
 use Rattle.ps_check.specs.declared.program.Standard.TheVariants as s
 use Rattle.ps_tree.specs.Types.{OrdinalType}
 use Rattle.ps_regions.specs.Regions.{Meaning, ConstantMeaning, TypeMeaning, RequiredMeaning, LeftOutMeaning}
-use Rattle.ps_check.specs.Blocks.{Start, Gathered, Done, Routines, Entries}
+use Rattle.ps_check.specs.Readings.{Start, Gathered, Done, Routines}
+use Rattle.ps_check.specs.Entries.{Entries}
 use Rattle.ps_check.specs.Programs.{Files}
 
 abbrev pub finished_of : Option Finished → Option Tree.Routine

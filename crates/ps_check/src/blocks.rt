@@ -8,17 +8,17 @@ ghost use Rattle.ps_regions.specs.Regions.{BlockRegion};
 ghost use Rattle.ps_regions.specs.Views.{meaning_of, context_of, scope_of};
 ghost use Rattle.ps_declare.specs.Views.{frame_of};
 ghost use Rattle.ps_statements.specs.Statements.{statements};
-ghost use Rattle.ps_check.specs.Blocks.{with_domains, one_routine, read_block, block_names, declared, block_body, block, routine, layer};
+ghost use Rattle.ps_check.specs.Forwards.{block_names};
+ghost use Rattle.ps_check.specs.Blocks.{with_domains, one_routine, read_block, declared, block_body, block, routine, layer};
 ghost use Rattle.ps_check.specs.Views.{gathered_of, start_of, done_of, routines_of};
 
 use crate::chain::Chain;
-use crate::changes::{threatened, within};
 use crate::routines::{
     add_routines, all_complete, broken, finish, heading_at, index_of, introduce, routine_name,
     start,
 };
 use crate::state::{Done, Gathered, Start};
-use crate::told::open_fault;
+use crate::threats::{threatened, within};
 use ps_declare::declarations::declarations;
 use ps_declare::frame::{Declared, Frame};
 use ps_declare::points::add_block;
@@ -83,7 +83,7 @@ fn read_statements(
 }
 
 /// The names of a block's region, behind those that are there.
-#[tactic(auto, unfolding(crate::specs::Blocks::block_names))]
+#[tactic(auto, unfolding(crate::specs::Forwards::block_names))]
 fn add_block_names(
     written: &Block,
     reading: &Reading,
@@ -152,7 +152,8 @@ fn read_body(
     ensures err { IfErr result (λ fault. IsFault fault → block_body (context_of frame.now.reading.now) (frame_of frame.now) (layer (context_of frame.now.reading.now) written.now) (length chain.now) before (routines_of known.now gathered.now) ≡ None) }
 {
     if !all_complete(gathered, known) {
-        return Err(open_fault(written, frame, alloc, known, gathered));
+        // which heading it is, is looked for when it is told
+        return Err(broken(Rule::ForwardOpen, written.begin.from));
     }
     let body = read_statements(
         written.statements.as_slice(),

@@ -5,6 +5,7 @@ ghost use Rattle.ps_tree.specs.Checked.{program_in};
 ghost use Rattle.ps_regions.specs.Refusal.{IsFault, IsRefusal};
 ghost use Rattle.ps_regions.specs.Spelling.{has};
 ghost use Rattle.ps_regions.specs.Views.{context_of, scope_of};
+ghost use Rattle.ps_points.specs.Broken.{IsToldOf};
 ghost use Rattle.ps_check.specs.Blocks.{block};
 ghost use Rattle.ps_check.specs.Programs.{nothing_gathered, program_chain, program_with, program};
 ghost use Rattle.ps_check.specs.Views.{files_of, gathered_of, start_of, done_of};
@@ -13,6 +14,7 @@ use crate::blocks::block;
 use crate::chain::Chain;
 use crate::program::{Files, list_files, program_of, required};
 use crate::state::{Done, Gathered, Start};
+use ps_points::broken::refusal;
 use ps_regions::answer::paired;
 use ps_regions::reading::Reading;
 use ps_regions::refusal::{CheckRefusal, Fault};
@@ -108,26 +110,16 @@ fn check_text(alloc: Global, heading: &Reading, written: &Program) -> Result<Che
     check_block(alloc, &reading, files, written)
 }
 
-/// What is told of a fault.
-fn refusal(reading: &Reading, fault: Fault) -> CheckRefusal
-    ensures { IsRefusal result → IsFault fault }
-{
-    match fault {
-        Fault::OutOfMemory => CheckRefusal::OutOfMemory,
-        Fault::Broken { rule, at } => CheckRefusal::Broken {
-            rule,
-            line: u32::from(reading.line(at).number),
-        },
-    }
-}
-
 /// The checked tree of a program: the one that the definition gives.
 ///
 /// It is refused where the definition gives none: `Broken` tells a rule that the program breaks, and the line of the
-/// token that breaks it. `OutOfMemory` is answered only where a growth was refused.
+/// token that breaks it. Of `Twice`, `ControlVariable` and `ForwardOpen` the contract says that this is so, as ps_points
+/// defines it; of the first and the last it is the first such token of the text. `OutOfMemory` is answered where a growth
+/// was refused, or where that token is not found again.
 pub fn check(alloc: Global, source: &Source, written: &Program) -> Result<Checked, CheckRefusal>
     ensures ok { IfOk result (λ checked. program source.now written.now ≡ Some (program_in checked)) }
     ensures err { IfErr result (λ refusal. IsRefusal refusal → program source.now written.now ≡ None) }
+    ensures told { IfErr result (IsToldOf source.now written.now) }
 {
     let lines = match LineTable::new(alloc, source) {
         Err(_) => return Err(CheckRefusal::OutOfMemory),
@@ -142,6 +134,6 @@ pub fn check(alloc: Global, source: &Source, written: &Program) -> Result<Checke
     };
     match check_text(alloc, &heading, written) {
         Ok(checked) => Ok(checked),
-        Err(fault) => Err(refusal(&heading, fault)),
+        Err(fault) => Err(refusal(alloc, &heading, written, fault)),
     }
 }

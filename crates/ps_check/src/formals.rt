@@ -7,7 +7,7 @@ ghost use Rattle.ps_regions.specs.Regions as regions;
 ghost use Rattle.ps_regions.specs.Regions.{ParameterMeaning, one_more};
 ghost use Rattle.ps_regions.specs.Refusal.{IsFault, IsToldAt};
 ghost use Rattle.ps_regions.specs.Views.{section_of, sections_of};
-ghost use Rattle.ps_check.specs.Blocks.{add_entry, add_parameters, add_section, add_sections, first_entry};
+ghost use Rattle.ps_check.specs.Entries.{add_entry, add_parameters, add_section, add_sections, first_entry};
 ghost use Rattle.ps_check.specs.Formals.{section_formals};
 ghost use Rattle.ps_check.specs.Views.{entries_of};
 
@@ -140,7 +140,7 @@ fn add_parameters(
 }
 
 /// The entries of one more section.
-#[tactic(auto, using(crate::proofs::FormalLemmas::routine_entered), unfolding(crate::specs::Blocks::add_section, ps_regions::specs::Views::section_of, ps_regions::specs::Views::meaning_of))]
+#[tactic(auto, using(crate::proofs::FormalLemmas::routine_entered), unfolding(crate::specs::Entries::add_section, ps_regions::specs::Views::section_of, ps_regions::specs::Views::meaning_of))]
 fn add_section(
     section: &Section,
     entry: u32,

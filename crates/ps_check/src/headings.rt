@@ -9,7 +9,8 @@ ghost use Rattle.ps_regions.specs.Views.{meaning_of};
 ghost use Rattle.ps_declare.specs.Points.{all};
 ghost use Rattle.ps_declare.specs.Headings.{section_list, section_points};
 ghost use Rattle.ps_declare.specs.Views.{frame_of, signature_of};
-ghost use Rattle.ps_check.specs.Blocks.{heading_name, heading_list, is_bare, new_heading};
+ghost use Rattle.ps_check.specs.Readings.{heading_name, heading_list, is_bare};
+ghost use Rattle.ps_check.specs.Blocks.{new_heading};
 ghost use Rattle.ps_check.specs.Views.{routines_of};
 
 use crate::state::Gathered;

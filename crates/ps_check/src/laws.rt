@@ -1,6 +1,6 @@
 //! Laws of the definitions: what a block's region is, apart from how it is come to.
 
-ghost use Rattle.ps_check.specs.Names.{NamesArePoints};
+ghost use Rattle.ps_check.specs.RegionNames.{NamesArePoints};
 ghost use Rattle.ps_check.specs.Paths.{BlocksAreEnclosed};
 
 /// The names of a block's region are the spellings of its defining points in the text, each once: those of constants,

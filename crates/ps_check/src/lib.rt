@@ -3,7 +3,6 @@
 
 mod blocks;
 mod chain;
-mod changes;
 mod checking;
 mod formals;
 mod headings;
@@ -11,6 +10,6 @@ pub mod laws;
 mod program;
 mod routines;
 mod state;
-mod told;
+mod threats;
 
 pub use checking::check;

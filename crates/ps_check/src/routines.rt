@@ -10,15 +10,17 @@ ghost use Rattle.ps_regions.specs.Spelling.{spelled, place};
 ghost use Rattle.ps_regions.specs.Views.{meaning_of, heading_of, context_of};
 ghost use Rattle.ps_declare.specs.Points.{add_name};
 ghost use Rattle.ps_declare.specs.Views.{frame_of};
-ghost use Rattle.ps_check.specs.Blocks.{may_complete, add_routine, is_open, is_waiting, is_complete, all_complete, introduce, heading_at, start, add_sections, first_entry, routine_tree, is_small_routine, finished, routine};
+ghost use Rattle.ps_check.specs.Forwards.{may_complete, add_routine, is_open, is_waiting, is_complete, all_complete};
+ghost use Rattle.ps_check.specs.Entries.{start, add_sections, first_entry};
+ghost use Rattle.ps_check.specs.Blocks.{introduce, heading_at, routine_tree, is_small_routine, finished, routine};
 ghost use Rattle.ps_check.specs.declared.state.Gathered.{Gathered};
 ghost use Rattle.ps_check.specs.Views.{finished_of, gathered_of, routines_of, entries_of, start_of, done_of};
 
 use crate::chain::{Chain, Finished};
-use crate::changes::assigns;
 use crate::formals::{add_sections, copy_result, first_entry, formals_of};
 use crate::headings::{heading_name, is_bare, new_heading};
 use crate::state::{Done, Gathered, Start};
+use crate::threats::assigns;
 use ps_declare::frame::Frame;
 use ps_regions::answer::paired;
 use ps_regions::meaning::{Heading, Meaning};
@@ -62,7 +64,7 @@ fn may_complete(written: &Routine) -> bool
 }
 
 /// The name of a routine, which is new, unless the routine may complete a forward heading.
-#[tactic(auto, using(crate::proofs::Equations::routine_Whole, crate::proofs::Equations::routine_Forward, crate::proofs::Equations::routine_Completion), unfolding(crate::specs::Blocks::add_routine))]
+#[tactic(auto, using(crate::proofs::Equations::routine_Whole, crate::proofs::Equations::routine_Forward, crate::proofs::Equations::routine_Completion), unfolding(crate::specs::Forwards::add_routine))]
 fn add_routine(
     reading: &Reading,
     alloc: Global,
@@ -130,7 +132,7 @@ fn is_open(gathered: &Gathered, heading: &Heading) -> bool
 }
 
 /// Whether the meaning is that of a forward heading without its block, which the routine completes.
-#[tactic(auto, using(crate::proofs::Equations::routine_Whole, crate::proofs::Equations::routine_Forward, crate::proofs::Equations::routine_Completion), unfolding(crate::specs::Blocks::is_waiting, ps_regions::specs::Views::meaning_of))]
+#[tactic(auto, using(crate::proofs::Equations::routine_Whole, crate::proofs::Equations::routine_Forward, crate::proofs::Equations::routine_Completion), unfolding(crate::specs::Forwards::is_waiting, ps_regions::specs::Views::meaning_of))]
 fn is_waiting(gathered: &Gathered, written: &Routine, meaning: &Meaning) -> bool
     ensures { (c : Context) → result ≡ is_waiting (gathered_of gathered.now) (routine c written.now) (meaning_of meaning.now) }
 {
@@ -155,7 +157,7 @@ fn is_waiting(gathered: &Gathered, written: &Routine, meaning: &Meaning) -> bool
 }
 
 /// Whether it isn't a forward heading that still waits for its block.
-#[tactic(auto, unfolding(crate::specs::Blocks::is_complete, ps_regions::specs::Views::meaning_of))]
+#[tactic(auto, unfolding(crate::specs::Forwards::is_complete, ps_regions::specs::Views::meaning_of))]
 pub fn is_complete(gathered: &Gathered, meaning: &Meaning) -> bool
     ensures { result ≡ is_complete (gathered_of gathered.now) (meaning_of meaning.now) }
 {
@@ -174,7 +176,7 @@ pub fn is_complete(gathered: &Gathered, meaning: &Meaning) -> bool
 }
 
 /// Whether every routine has its block.
-#[tactic(auto, using(crate::proofs::Lists::all_next, crate::proofs::Lists::one_fails, crate::proofs::Lists::all_end), unfolding(crate::specs::Blocks::all_complete))]
+#[tactic(auto, using(crate::proofs::Lists::all_next, crate::proofs::Lists::one_fails, crate::proofs::Lists::all_end), unfolding(crate::specs::Forwards::all_complete))]
 pub fn all_complete(gathered: &Gathered, known: &[Meaning]) -> bool
     ensures { result ≡ all_complete (gathered_of gathered.now) (map meaning_of known.now) }
 {
@@ -299,7 +301,7 @@ fn parameters(heading: &Heading, alloc: Global, at: u32) -> Result<Start, Fault>
 }
 
 /// What the block of a routine begins with. `at` is where a fault is told.
-#[tactic(auto, using(crate::proofs::Equations::start_names_fault, crate::proofs::Equations::start_entries_fault), unfolding(crate::specs::Blocks::start))]
+#[tactic(auto, using(crate::proofs::Equations::start_names_fault, crate::proofs::Equations::start_entries_fault), unfolding(crate::specs::Entries::start))]
 pub fn start(
     heading: &Heading,
     chain: &Chain,

@@ -1,7 +1,7 @@
 use Rattle.std.proofs.Common.{rules, ◌≡◌, ◌<◌, None, arith}
 use Rattle.ps_tree.specs.View.{type_of}
 use Rattle.ps_regions.specs.Regions.{ParameterMeaning}
-use Rattle.ps_check.specs.Blocks.{add_entry, add_parameters}
+use Rattle.ps_check.specs.Entries.{add_entry, add_parameters}
 use Rattle.ps_check.specs.Views.{entries_of}
 use Rattle.ps_check.proofs.FormalLemmas.{repeated_fault}
 use Rattle.ps_check.proofs.formals.add_parameters.Goals as goal

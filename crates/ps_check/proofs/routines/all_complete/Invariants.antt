@@ -1,5 +1,5 @@
 use Rattle.ps_regions.specs.Views.{meaning_of}
-use Rattle.ps_check.specs.Blocks.{is_complete}
+use Rattle.ps_check.specs.Forwards.{is_complete}
 use Rattle.ps_check.specs.Views.{gathered_of}
 use Rattle.ps_check.proofs.Lists.{AllBefore}
 use Rattle.ps_check.proofs.routines.all_complete.Given as goal

@@ -1,6 +1,7 @@
 use Rattle.std.proofs.Common.{rules, ◌≡◌, true, false, sym, ◌∙◌}
 use Rattle.ps_regions.specs.Views.{context_of, meaning_of}
-use Rattle.ps_check.specs.Blocks.{is_waiting, routine}
+use Rattle.ps_check.specs.Forwards.{is_waiting}
+use Rattle.ps_check.specs.Blocks.{routine}
 use Rattle.ps_check.specs.Views.{gathered_of}
 use Rattle.ps_check.proofs.Equations.{introduce_waiting, introduce_twice}
 use Rattle.ps_check.proofs.routines.introduce.Goals as goal

@@ -2,7 +2,8 @@
 use Rattle.std.specs.Prelude.{◌≡◌, ℕ, true, false, List, [], ◌∷◌, ◌++◌, map, Some, Contains}
 use Rattle.ps_regions.specs.Spelling.{spelled, has}
 use Rattle.ps_declare.specs.Points.{block_points}
-use Rattle.ps_check.specs.Blocks.{RoutineReading, BlockLayer, block_names}
+use Rattle.ps_check.specs.Readings.{RoutineReading, BlockLayer}
+use Rattle.ps_check.specs.Forwards.{block_names}
 
 -- the fact holds of each
 abbrev pub Each : {A : Type 0} → (A → Type 0) → List A → Type 0

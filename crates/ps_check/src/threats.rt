@@ -4,7 +4,7 @@ ghost use Rattle.std.specs.Prelude.{◌≡◌, not, is_some, IfOk, drop, map, op
 ghost use Rattle.std.specs.List.{list_any};
 ghost use Rattle.ps_tree.specs.View.{type_of, statements_of};
 ghost use Rattle.ps_changes.specs.Changes.{watched_of};
-ghost use Rattle.ps_check.specs.Changes.{routine_threatens, is_safe, routine_assigns, assigns};
+ghost use Rattle.ps_check.specs.Threats.{routine_threatens, is_safe, routine_assigns, assigns};
 ghost use Rattle.ps_check.specs.Views.{finished_of};
 
 use crate::chain::Finished;
@@ -32,7 +32,7 @@ pub fn within(routines: &[Option<Finished>], before: usize) -> &[Option<Finished
 
 /// Where a routine within a block first threatens one of these entries of the block's routine, whose chain has `depth`
 /// numbers, if it does.
-#[tactic(auto, unfolding(crate::specs::Changes::routine_threatens))]
+#[tactic(auto, unfolding(crate::specs::Threats::routine_threatens))]
 fn routine_threat(finished: &Option<Finished>, depth: usize, watched: Entries<'_>) -> Option<u32>
     ensures { is_some result ≡ routine_threatens depth (watched_of watched.entry) (finished_of finished.now) }
 {
@@ -61,7 +61,7 @@ fn first_threat(within: &[Option<Finished>], depth: usize, watched: Entries<'_>)
 
 /// Where a routine within a block first threatens a control variable of the block's `for` statements, if one does; of
 /// several routines it is the first.
-#[tactic(auto, using(crate::proofs::Lists::marked_alike), unfolding(crate::specs::Changes::is_safe))]
+#[tactic(auto, using(crate::proofs::Lists::marked_alike), unfolding(crate::specs::Threats::is_safe))]
 pub fn threatened(
     alloc: Global,
     within: &[Option<Finished>],
@@ -76,7 +76,7 @@ pub fn threatened(
 }
 
 /// Whether a routine within a function's block assigns to the function's result.
-#[tactic(auto, unfolding(crate::specs::Changes::routine_assigns))]
+#[tactic(auto, unfolding(crate::specs::Threats::routine_assigns))]
 fn routine_assigns(finished: &Option<Finished>, depth: usize) -> bool
     ensures { result ≡ routine_assigns depth (finished_of finished.now) }
 {
@@ -104,7 +104,7 @@ fn is_assigned(within: &[Option<Finished>], depth: usize) -> bool
 
 /// Whether the result of a function, if it is one, is assigned in its block or in a routine within it. Those come behind
 /// the first ones.
-#[tactic(auto, unfolding(crate::specs::Changes::assigns))]
+#[tactic(auto, unfolding(crate::specs::Threats::assigns))]
 pub fn assigns(
     result_type: &Option<Ty>,
     depth: usize,

@@ -1,0 +1,36 @@
+-- Names that have no defining point of some form in a region.
+use Rattle.std.specs.Prelude.{◌≡◌, ℕ, Bool, true, false, List, Contains}
+use Rattle.ps_regions.specs.Spelling.{spelled}
+use Rattle.ps_points.specs.declared.point.Point.{Point}
+use Rattle.ps_points.specs.declared.point.Form.{Form}
+use Rattle.ps_points.specs.declared.point.Form.TheVariants.{Variable, WholeProcedure, WholeFunction, ProcedureBlock, FunctionBlock}
+use Rattle.ps_points.specs.declared.absent.Kind.{Kind}
+use Rattle.ps_points.specs.declared.absent.Kind.TheVariants.{Every, WithBlock, OfVariable}
+use Rattle.ps_points.specs.Points.{Points}
+
+-- both stand in one region, and are spelled alike
+pub record AreAlike (text : List ℕ) (p q : Point) : Type 0 where
+  pub outer : p.region.outer ≡ q.region.outer
+  pub owner : spelled text p.region.owner ≡ spelled text q.region.owner
+  pub name : spelled text p.name ≡ spelled text q.name
+
+-- a routine with its block
+abbrev pub has_block : Form → Bool
+has_block WholeProcedure = true
+has_block WholeFunction = true
+has_block ProcedureBlock = true
+has_block FunctionBlock = true
+has_block _ = false
+
+abbrev pub is_variable : Form → Bool
+is_variable Variable = true
+is_variable _ = false
+
+abbrev pub is_kind : Kind → Form → Bool
+is_kind Every form = true
+is_kind WithBlock form = has_block form
+is_kind OfVariable form = is_variable form
+
+-- no point of this kind is alike
+abbrev pub IsAbsent : List ℕ → Points → Kind → Point → Type 0
+IsAbsent text points kind p = (q : Point) → Contains points q → AreAlike text p q → is_kind kind q.form ≡ true → ⊥

@@ -1,0 +1,6 @@
+pub mod Points
+pub mod Absent
+pub mod Uses
+pub mod Levels
+pub mod Control
+pub mod Broken

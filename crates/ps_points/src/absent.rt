@@ -1,0 +1,69 @@
+//! Names that have no defining point of some form in a region.
+
+ghost use Rattle.std.specs.Prelude.{◌≡◌, true, false};
+ghost use Rattle.ps_points.specs.Absent.{AreAlike, IsAbsent, has_block, is_variable, is_kind};
+
+use crate::point::{Form, Point};
+use crate::twice::are_alike;
+use ps_regions::reading::Reading;
+
+/// Which points of a name are asked for.
+#[derive(Clone, Copy)]
+pub enum Kind {
+    /// All.
+    Every,
+    /// Those of routines with their blocks.
+    WithBlock,
+    /// Those of variable parts.
+    OfVariable,
+}
+
+/// Whether it is a routine with its block.
+pub fn has_block(form: Form) -> bool
+    ensures { result ≡ has_block form }
+{
+    match form {
+        Form::WholeProcedure | Form::WholeFunction | Form::ProcedureBlock | Form::FunctionBlock =>
+            true,
+        _ => false,
+    }
+}
+
+fn is_variable(form: Form) -> bool
+    ensures { result ≡ is_variable form }
+{
+    match form {
+        Form::Variable => true,
+        _ => false,
+    }
+}
+
+fn is_kind(kind: Kind, form: Form) -> bool
+    ensures { result ≡ is_kind kind form }
+{
+    match kind {
+        Kind::Every => true,
+        Kind::WithBlock => has_block(form),
+        Kind::OfVariable => is_variable(form),
+    }
+}
+
+/// Whether a point is of this kind, and alike.
+fn is_such(reading: &Reading, kind: Kind, like: Point, point: Point) -> bool
+    ensures { result ≡ false → AreAlike reading.now.source.now like point → is_kind kind point.form ≡ true → ⊥ }
+{
+    is_kind(kind, point.form) && are_alike(reading, like, point)
+}
+
+/// Whether no point of this kind is alike.
+#[tactic(auto, using(crate::proofs::Lists::none_next, crate::proofs::Lists::none_end))]
+pub fn is_absent(reading: &Reading, points: &[Point], kind: Kind, like: Point) -> bool
+    ensures { result ≡ true → IsAbsent reading.now.source.now points.now kind like }
+{
+    for point in points {
+        if is_such(reading, kind, like, *point) {
+            return false;
+        }
+    }
+    true
+}

@@ -1,0 +1,17 @@
+//! The defining points of a program and the uses of its names, with their regions, and where a rule about them is broken (ISO
+//! 7185, 6.2.2, 6.6.1, 6.8.3.9).
+#![tactic(auto)]
+
+mod absent;
+mod blocks;
+mod bodies;
+pub mod broken;
+mod control;
+mod functions;
+mod headings;
+mod levels;
+mod open;
+mod point;
+mod twice;
+mod types;
+mod uses;

@@ -1,0 +1,121 @@
+//! Names with two defining points in a region.
+
+ghost use Rattle.std.specs.Prelude.{◌≡◌, IfOk, IfSome, MatchBool};
+ghost use Rattle.ps_regions.specs.Spelling.{spelled};
+ghost use Rattle.ps_points.specs.Absent.{AreAlike};
+ghost use Rattle.ps_points.specs.Broken.{IsTwice, completes};
+
+use crate::point::{Form, Point};
+use ps_regions::reading::Reading;
+use ps_text::Span;
+use ps_tree::names::Names;
+use std::alloc::{AllocError, Global};
+use std::mem;
+
+/// Whether two names are spelled alike.
+pub fn same_name(reading: &Reading, a: Span, b: Span) -> bool
+    ensures { MatchBool result (spelled reading.now.source.now a ≡ spelled reading.now.source.now b) (spelled reading.now.source.now a ≡ spelled reading.now.source.now b → ⊥) }
+{
+    reading.bytes(a).eq_ignore_ascii_case(reading.bytes(b))
+}
+
+/// Whether both stand in one region, and are spelled alike.
+pub fn are_alike(reading: &Reading, p: Point, q: Point) -> bool
+    ensures { MatchBool result (AreAlike reading.now.source.now p q) (AreAlike reading.now.source.now p q → ⊥) }
+{
+    p.region.outer == q.region.outer
+        && same_name(reading, p.name, q.name)
+        && same_name(reading, p.region.owner, q.region.owner)
+}
+
+/// Whether the second completes the first, a forward heading.
+fn completes(first: Form, second: Form) -> bool
+    ensures { result ≡ completes first second }
+{
+    match first {
+        Form::ForwardProcedure => match second {
+            Form::ProcedureBlock => true,
+            _ => false,
+        },
+        Form::ForwardFunction => match second {
+            Form::FunctionBlock => true,
+            _ => false,
+        },
+        _ => false,
+    }
+}
+
+/// Where the later of these points stands, if it is one too many beside the earlier one.
+fn repeated(reading: &Reading, points: &[Point], earlier: usize, later: usize) -> Option<u32>
+    ensures { IfSome result (IsTwice reading.now.source.now points.now) }
+{
+    let first = *points.get(earlier)?;
+    let second = *points.get(later)?;
+    if earlier < later && are_alike(reading, first, second) && !completes(first.form, second.form) {
+        Some(second.name.from)
+    } else {
+        None
+    }
+}
+
+/// What points are looked up by: the spelling, and what their region is known by.
+pub fn key(reading: &Reading, alloc: Global, point: Point) -> Result<Vec<u8>, AllocError> {
+    let mut key = reading.name(alloc, point.name)?;
+    key.push(b'/')?;
+    for byte in reading.bytes(point.region.owner) {
+        key.push(byte.to_ascii_lowercase())?;
+    }
+    key.push(b'/')?;
+    for byte in point.region.outer.to_le_bytes() {
+        key.push(byte)?;
+    }
+    Ok(key)
+}
+
+/// The latest place of each key.
+#[derive(Drop)]
+struct Latest {
+    keys: Names,
+    places: Vec<usize>,
+}
+
+impl Latest {
+    /// The latest place of a key, which is this one from now on.
+    fn replace(&mut self, key: Vec<u8>, place: usize) -> Result<Option<usize>, AllocError> {
+        match self.keys.find(&key) {
+            None => {
+                self.keys.add(key)?;
+                self.places.push(place)?;
+                Ok(None)
+            }
+            Some(index) => match self.places.get_mut(index) {
+                None => Ok(None),
+                Some(latest) => Ok(Some(mem::replace(latest, place))),
+            },
+        }
+    }
+}
+
+/// The first point of the text that is one too many in its region.
+pub fn first_repeated(
+    reading: &Reading,
+    alloc: Global,
+    points: &[Point],
+) -> Result<Option<u32>, AllocError>
+    ensures { IfOk result (λ found. IfSome found (IsTwice reading.now.source.now points.now)) }
+{
+    let mut latest = Latest {
+        keys: Names::new(alloc),
+        places: Vec::new(alloc),
+    };
+    for (later, point) in points.iter().enumerate() {
+        let key = key(reading, alloc, *point)?;
+        if let Some(earlier) = latest.replace(key, later)? {
+            let found = repeated(reading, points, earlier, later);
+            if found.is_some() {
+                return Ok(found);
+            }
+        }
+    }
+    Ok(None)
+}
