@@ -1,5 +1,5 @@
 -- What a block that was read has: its names are its points, each means what its point gives, and its routines stand so too.
-use Rattle.std.proofs.Common.{◌≡◌, ℕ, ◌+◌, true, List, [], ◌∷◌, ◌++◌, length, map, take, drop, Some, slice_get, not, refl, sym, ap, ◌∙◌, subst, append_assoc, append-nil, arith}
+use Rattle.std.proofs.Common.{◌≡◌, ℕ, ◌+◌, true, List, [], ◌∷◌, ◌++◌, length, map, take, drop, Some, slice_get, refl, sym, ap, ◌∙◌, subst, append_assoc, append-nil, length-append, arith}
 use Rattle.std.proofs.lemmas.List.{map-append}
 use Rattle.ps_syntax.specs.declared.program.ConstantDefinition.{ConstantDefinition}
 use Rattle.ps_syntax.specs.declared.program.TypeDefinition.{TypeDefinition}
@@ -11,14 +11,16 @@ use Rattle.ps_syntax.specs.declared.program.Routine.TheOpen.{Routine-F, Block-F}
 use Rattle.ps_syntax.specs.declared.program.Routine.TheFolds.{fold_out-Block, ind-Block}
 use Rattle.ps_tree.specs.Types.{DataType}
 use Rattle.ps_regions.specs.Option.{provided, steps}
-use Rattle.ps_regions.specs.Spelling.{spelled, has, line_in}
+use Rattle.ps_regions.specs.Spelling.{spelled, line_in}
 use Rattle.ps_regions.specs.Regions.{Region, BlockRegion, Context}
-use Rattle.ps_declare.specs.Points.{Points, all, add_point, add_points, constant_points, definition_points, variables_points, block_points, type_points}
+use Rattle.ps_declare.specs.Points.{Points, all, add_points, constant_points, definition_points, variables_points, block_points, type_points}
 use Rattle.ps_declare.specs.Denoters.{Frame, Declared}
 use Rattle.ps_declare.specs.Declarations.{declarations}
 use Rattle.ps_statements.specs.Statements.{statements}
-use Rattle.ps_check.specs.Blocks.{Gathered, Start, Done, Routines, BlockReading, BlockLayer, add_routine, own_number, with_domains, one_routine, all_complete, block_names, declared, block_body, block_step, block, routine, layer}
-use Rattle.ps_check.specs.Changes.{is_safe}
+use Rattle.ps_check.specs.Readings.{Gathered, Start, Done, Routines, BlockReading, BlockLayer}
+use Rattle.ps_check.specs.Forwards.{add_routine, all_complete, block_names}
+use Rattle.ps_check.specs.Blocks.{own_number, with_domains, one_routine, declared, block_body, block_step, block, routine, layer}
+use Rattle.ps_check.specs.Threats.{is_safe}
 use Rattle.ps_check.specs.Paths.{layer_block, routine_block}
 use Rattle.ps_check.proofs.Equations.{block_is}
 use Rattle.ps_names.specs.Definitions.{Declarations, OfConstant, OfType, OfVariable, OfDeclaration, numbered, joined, type_declarations, definition_declarations, variable_declarations, own_declarations, declared_name, introduced_from, introduced, definitions_of, names_of, points_before_variables, points_before_routines}
@@ -30,9 +32,16 @@ use Rattle.ps_names.proofs.Declared.{Standing, Stand, declarations_stand}
 use Rattle.ps_names.proofs.Routines.{counted_none}
 use Rattle.ps_names.specs.Forward.{AreCompleted}
 use Rattle.ps_names.specs.Domains.{type_domains, variable_domains, AreDomains}
-use Rattle.ps_names.proofs.Domains.{declarations_length, domains_stay, declarations_told}
+use Rattle.ps_names.specs.InDeclarations.{declarations_part}
+use Rattle.ps_check.specs.RegionNames.{AreApart}
+use Rattle.ps_names.proofs.Apart.{block_apart}
+use Rattle.ps_names.proofs.Enclosed.{AllKnown, known_later, declarations_read, points_added}
+use Rattle.ps_names.proofs.Domains.{declarations_length, domains_stay, declarations_told, declarations_extend}
 use Rattle.ps_names.proofs.Forwards.{none_open, all_open, are_completed}
-use Rattle.ps_names.proofs.Steps.{Grown, Ready, BlockGrows, RoutineGrows, points, At, AllTold, all_told}
+use Rattle.ps_names.specs.Counts.{block_domains, own_domains}
+use Rattle.ps_names.proofs.Drawn.{block_domains_are}
+use Rattle.ps_regions.specs.Regions.{Meaning}
+use Rattle.ps_names.proofs.Steps.{Longer, Grown, Ready, BlockGrows, RoutineGrows, points, At, AllTold, all_told}
 
 -- ---- the points of the declarations
 
@@ -65,7 +74,7 @@ variables_named n (v ∷ vs) =
     ∙ ap (λ l. l ++ map declared_name (variable_declarations (n + length v.names) vs)) (map-append declared_name (type_declarations v.ty) (numbered (OfVariable v) n v.names) ∙ ap (λ l. l ++ map declared_name (numbered (OfVariable v) n v.names)) (types_told no_frame v.ty).there.names ∙ ap (λ l. type_points v.ty ++ l) (numbered_named v n v.names))
     ∙ ap (λ l. (type_points v.ty ++ v.names) ++ l) (variables_named (n + length v.names) vs)
 
-own_named : (b : syntax_block.Block) → map declared_name (own_declarations b) ≡ block_points (out-Block b).constants (out-Block b).types (out-Block b).variables
+pub own_named : (b : syntax_block.Block) → map declared_name (own_declarations b) ≡ block_points (out-Block b).constants (out-Block b).types (out-Block b).variables
 unfolding own_declarations block_points
 own_named b =
     let cs = map OfConstant (out-Block b).constants in
@@ -75,19 +84,12 @@ own_named b =
     ∙ ap (λ l. l ++ map declared_name vs) (map-append declared_name cs ts ∙ ap (λ l. l ++ map declared_name ts) (constants_named (out-Block b).constants) ∙ ap (λ l. all (map constant_points (out-Block b).constants) ++ l) (types_named (out-Block b).types))
     ∙ ap (λ l. (all (map constant_points (out-Block b).constants) ++ all (map definition_points (out-Block b).types)) ++ l) (variables_named 0 (out-Block b).variables)
 
-points_added : (text : List ℕ) (ps : Points) (xs ys : List (List ℕ)) → steps (add_point text) xs ps ≡ Some ys → ys ≡ xs ++ map (spelled text) ps
-points_added text [] xs ys e = sym (inside xs ys e) ∙ sym (append-nil xs)
-points_added text (p ∷ ps) xs ys e =
-    let one = then_some (add_point text xs p) _ ys e in
-    let q = provided_some (not (has xs (spelled text p))) (xs ++ spelled text p ∷ []) one.0 one.1 in
-    points_added text ps one.0 ys one.2 ∙ ap (λ l. l ++ map (spelled text) ps) (sym q.1) ∙ append_assoc xs (spelled text p ∷ []) (map (spelled text) ps)
-
 spelled_names : (text : List ℕ) (xs : Declarations) → names_of text (map OfDeclaration xs) ≡ map (spelled text) (map declared_name xs)
 unfolding names_of
 spelled_names text [] = refl
 spelled_names text (x ∷ xs) = ap (λ l. spelled text (declared_name x) ∷ l) (spelled_names text xs)
 
-names_both : (text : List ℕ) (xs ys : Declarations) → names_of text (map OfDeclaration (xs ++ ys)) ≡ names_of text (map OfDeclaration xs) ++ map (spelled text) (map declared_name ys)
+pub names_both : (text : List ℕ) (xs ys : Declarations) → names_of text (map OfDeclaration (xs ++ ys)) ≡ names_of text (map OfDeclaration xs) ++ map (spelled text) (map declared_name ys)
 names_both text xs ys =
     spelled_names text (xs ++ ys) ∙ ap (map (spelled text)) (map-append declared_name xs ys) ∙ map-append (spelled text) (map declared_name xs) (map declared_name ys)
     ∙ ap (λ l. l ++ map (spelled text) (map declared_name ys)) (sym (spelled_names text xs))
@@ -108,18 +110,26 @@ module _ (c : Context) (b : syntax_block.Block) (outer : List Region) (s : Start
     pub before : Routines
     pub behind : Routines
     pub known : Standing (record { text = c.text; routine = own_number s.chain; names = names; outer = outer }) s.first (λ k. length g.routines + counted c.text [] (map (routine_count c.text) (take k rs))) (definitions_of c.text D b) behind.known
+    pub apart : AreApart names
     pub names_are : names ≡ names_of c.text (definitions_of c.text D b)
-    pub told : AllTold c (own_number s.chain) names outer s.first s.chain (D ++ own_declarations b) (length g.routines) rs [] rs before behind
+    pub told : AllTold c (own_number s.chain) names outer s.first s.chain (D ++ own_declarations b) (length g.routines) (length before.gathered.domains) rs [] rs before behind
     pub same_gathered : d.gathered ≡ behind.gathered
-    pub grown : Grown g d.gathered (headings_within c.text b)
+    pub grown : Grown g d.gathered (headings_within c.text b) (block_domains b)
+    pub drawn_first : length before.gathered.domains ≡ length g.domains + own_domains b
+    pub declared : declarations (record { text = c.text; routine = own_number s.chain; names = names; outer = outer }) s.first (record { known = s.known; domains = g.domains; pending = []; variables = [] }) (out-Block b).constants (out-Block b).types (out-Block b).variables
+        ≡ Some (record { known = take (points_before_routines D b) behind.known; domains = before.gathered.domains; pending = []; variables = d.variables })
+    pub later : Longer before.gathered d.gathered
+    pub line : d.line ≡ line_in c.text (out-Block b).begin.from
+    pub known_more : (more : List Meaning) × (behind.known ≡ s.known ++ more)
     pub completed : AreCompleted c.text rs
     pub type_domains_are : AreDomains (record { text = c.text; routine = own_number s.chain; names = names; outer = outer }) (take (points_before_variables D b) behind.known) (length g.domains) (type_domains (out-Block b).types) d.gathered.domains
     pub variable_domains_are : AreDomains (record { text = c.text; routine = own_number s.chain; names = names; outer = outer }) (take (points_before_routines D b) behind.known) (length g.domains + length (type_domains (out-Block b).types)) (variable_domains (out-Block b).variables) d.gathered.domains
+    pub uses : AllKnown (record { text = c.text; routine = own_number s.chain; names = names; outer = outer }) [] behind.known (length D) (declarations_part (out-Block b).constants (out-Block b).types (out-Block b).variables).uses
     pub safe : is_safe (length s.chain) (drop (length g.routines) d.gathered.routines) d.body ≡ true
     pub body : statements (with_domains c d.gathered.domains) (BlockRegion (own_number s.chain) names behind.known ∷ outer) (out-Block b).statements ≡ Some d.body
 
   inside_block : Ready c.text outer s D → Each (RoutineGrows c) rs → block c b outer s g ≡ Some d → BlockHas
-  unfolding block_step block_names add_points declared block_body introduced_from own_declarations definitions_of points_before_variables points_before_routines
+  unfolding block_step block_names add_points declared block_body introduced_from own_declarations definitions_of points_before_variables points_before_routines own_domains
   inside_block ready grows e =
       let q = ap (λ (r : BlockReading). r outer s g) (sym (block_is c b)) ∙ e in
       let l : BlockLayer = layer c b in
@@ -143,24 +153,25 @@ module _ (c : Context) (b : syntax_block.Block) (outer : List Region) (s : Start
       let all_declared = D ++ own_declarations b in
       let stands : Stand f s.first numbers all_declared made.0.known = declarations_stand f s.first numbers l.constants l.types l.variables D begin made.0 made.1 refl (ready.stands (own_number s.chain) n.0 s.first numbers) in
       let domains = declarations_told f s.first l.constants l.types l.variables numbers D begin made.0 made.1 refl (ready.stands (own_number s.chain) n.0 s.first numbers) in
-      let at : At c (own_number s.chain) n.0 outer s.first s.chain all_declared (length g.routines) rs [] first_routines = record {
+      let declared_is : o.0.0.gathered.domains ≡ made.0.domains = ap (λ (z : Routines). z.gathered.domains) (sym before_is) in
+      let at : At c (own_number s.chain) n.0 outer s.first s.chain all_declared (length g.routines) (length o.0.0.gathered.domains) rs [] first_routines = record {
         stands = subst (λ ds. Standing f s.first numbers ds made.0.known) (sym (append-nil (map OfDeclaration all_declared))) stands;
         count = (let z = counted_none c.text [] in omega (arith, z));
+        drawn_so = (let z = ap length declared_is in omega (arith, z));
       } in
       let from_is : declared_names.0 ≡ names_of c.text (points c.text all_declared (introduced c.text [])) =
       points_added c.text (block_points l.constants l.types l.variables) s.names declared_names.0 declared_names.1
       ∙ ap (λ x. x ++ map (spelled c.text) (block_points l.constants l.types l.variables)) ready.names
       ∙ ap (λ x. names_of c.text (map OfDeclaration D) ++ map (spelled c.text) x) (sym (own_named b))
       ∙ sym (names_both c.text D (own_declarations b)) ∙ ap (names_of c.text) (sym (append-nil (map OfDeclaration all_declared))) in
-      let told = all_told c (own_number s.chain) n.0 outer s.first s.chain all_declared (length g.routines) rs rs [] o.0.0 t.0 refl grows
-      (subst (At c (own_number s.chain) n.0 outer s.first s.chain all_declared (length g.routines) rs []) before_is at)
+      let told = all_told c (own_number s.chain) n.0 outer s.first s.chain all_declared (length g.routines) (length o.0.0.gathered.domains) rs rs [] o.0.0 t.0 refl grows
+      (subst (At c (own_number s.chain) n.0 outer s.first s.chain all_declared (length g.routines) (length o.0.0.gathered.domains) rs []) before_is at)
       (ap (λ x. steps (add_routine c.text) x (map (routine c) rs)) (sym from_is) ∙ declared_names.2) t.1 in
-      let opened = all_open c (own_number s.chain) n.0 outer s.first s.chain all_declared (length g.routines) rs rs [] o.0.0 t.0 refl grows
-      (subst (At c (own_number s.chain) n.0 outer s.first s.chain all_declared (length g.routines) rs []) before_is at)
-      (none_open c (own_number s.chain) n.0 outer s.first s.chain all_declared (length g.routines) rs o.0.0 (subst (At c (own_number s.chain) n.0 outer s.first s.chain all_declared (length g.routines) rs []) before_is at))
+      let opened = all_open c (own_number s.chain) n.0 outer s.first s.chain all_declared (length g.routines) (length o.0.0.gathered.domains) rs rs [] o.0.0 t.0 refl grows
+      (subst (At c (own_number s.chain) n.0 outer s.first s.chain all_declared (length g.routines) (length o.0.0.gathered.domains) rs []) before_is at)
+      (none_open c (own_number s.chain) n.0 outer s.first s.chain all_declared (length g.routines) (length o.0.0.gathered.domains) rs o.0.0 (subst (At c (own_number s.chain) n.0 outer s.first s.chain all_declared (length g.routines) (length o.0.0.gathered.domains) rs []) before_is at))
       (ap (λ x. steps (add_routine c.text) x (map (routine c) rs)) (sym from_is) ∙ declared_names.2) t.1 in
       let gathered_is : d.gathered ≡ t.0.gathered = ap (λ (z : Done). z.gathered) (sym d_is) in
-      let declared_is : o.0.0.gathered.domains ≡ made.0.domains = ap (λ (z : Routines). z.gathered.domains) (sym before_is) in
       let domains_longer : d.gathered.domains ≡ made.0.domains ++ told.domains.0 = ap (λ (z : Gathered). z.domains) gathered_is ∙ told.domains.1 ∙ ap (λ l. l ++ told.domains.0) declared_is in
       let known_longer : t.0.known ≡ made.0.known ++ told.known_more.0 = told.known_more.1 ∙ ap (λ (z : Routines). z.known ++ told.known_more.0) (sym before_is) in
       let before_routines : made.0.known ≡ take (length all_declared) t.0.known =
@@ -168,13 +179,27 @@ module _ (c : Context) (b : syntax_block.Block) (outer : List Region) (s : Start
       let types_end = length ((D ++ map OfConstant l.constants) ++ joined (map definition_declarations l.types)) in
       let before_variables : take types_end made.0.known ≡ take types_end t.0.known = sym (ap (take types_end) known_longer ∙ take_left made.0.known told.known_more.0 types_end domains.below) in
       let counted_all = told.behind.count in
+      let part = declarations_part l.constants l.types l.variables in
+      let first_points : length s.known ≡ length D = (ready.stands (own_number s.chain) n.0 s.first numbers).many ∙ declarations_length D in
+      let used = subst (λ k. AllKnown f [] made.0.known k part.uses) first_points (declarations_read f s.first l.constants l.types l.variables begin made.0 made.1).uses in
       let within = within_is c.text b in
+      let drawn_count : length o.0.0.gathered.domains ≡ length g.domains + own_domains b =
+      (let z = ap length declared_is in let y = ap length domains.longer in let w = length-append g.domains domains.more in let u = domains.count in omega (arith, z, y, w, u)) in
+      let declared_all : Declared = record { known = take (length all_declared) t.0.known; domains = o.0.0.gathered.domains; pending = []; variables = d.variables } in
+      let variables_are : made.0.variables ≡ d.variables = ap (λ (z : Routines × List DataType). z.1) o_is ∙ ap (λ (z : Done). z.variables) d_is in
+      let made_is : made.0 ≡ declared_all =
+      ap (λ x. record { known = x; domains = made.0.domains; pending = made.0.pending; variables = made.0.variables }) before_routines
+      ∙ ap (λ x. record { known = take (length all_declared) t.0.known; domains = x; pending = made.0.pending; variables = made.0.variables }) (sym declared_is)
+      ∙ ap (λ x. record { known = take (length all_declared) t.0.known; domains = o.0.0.gathered.domains; pending = x; variables = made.0.variables }) domains.none_waits
+      ∙ ap (λ x. record { known = take (length all_declared) t.0.known; domains = o.0.0.gathered.domains; pending = []; variables = x }) variables_are in
+      let first_more = declarations_extend f s.first l.constants l.types l.variables begin made.0 made.1 in
       let behind_domains : complete.0.domains ≡ d.gathered.domains = ap (λ (z : Gathered). z.domains) (sym complete_is.1 ∙ sym gathered_is) in
       record {
         names = n.0;
         before = o.0.0;
         behind = t.0;
         known = told.behind.stands;
+        apart = block_apart c.text l s.names n.0 n.1 ready.apart;
         names_are = told.names_are;
         told = told;
         same_gathered = gathered_is;
@@ -182,12 +207,19 @@ module _ (c : Context) (b : syntax_block.Block) (outer : List Region) (s : Start
             (subst (λ k. AreDomains f k (length g.domains) (type_domains l.types) made.0.domains) before_variables domains.types);
         variable_domains_are = domains_stay f (take (length all_declared) t.0.known) (length g.domains + length (type_domains l.types)) (variable_domains l.variables) made.0.domains told.domains.0 d.gathered.domains domains_longer
             (subst (λ k. AreDomains f k (length g.domains + length (type_domains l.types)) (variable_domains l.variables) made.0.domains) before_routines domains.variables);
+        uses = known_later f [] made.0.known t.0.known told.known_more.0 (length D) part.uses known_longer used;
         safe = ap (λ (x : Gathered). is_safe (length s.chain) (drop (length g.routines) x.routines) d.body) (gathered_is ∙ complete_is.1)
             ∙ ap (is_safe (length s.chain) (drop (length g.routines) complete.0.routines)) (sym (read_is.1 ∙ ap (λ (z : Done). z.body) d_is)) ∙ read_is.0;
-        completed = are_completed c (own_number s.chain) n.0 outer s.first s.chain all_declared (length g.routines) rs t.0 opened complete_is.0;
+        drawn_first = drawn_count;
+        declared = made.1 ∙ ap (λ z. Some z) made_is;
+        later = (told.domains.0, domains_longer ∙ ap (λ z. z ++ told.domains.0) (sym declared_is));
+        line = ap (λ (z : Done). z.line) (sym d_is);
+        known_more = (first_more.0 ++ told.known_more.0, known_longer ∙ ap (λ z. z ++ told.known_more.0) first_more.1 ∙ append_assoc s.known first_more.0 told.known_more.0);
+        completed = are_completed c (own_number s.chain) n.0 outer s.first s.chain all_declared (length g.routines) (length o.0.0.gathered.domains) rs t.0 opened complete_is.0;
         grown = record {
           count = ap (λ (z : Gathered). length z.routines) gathered_is ∙ counted_all ∙ ap (λ k. length g.routines + k) (sym within);
           keeps = λ k x z. ap (λ (y : Gathered). slice_get y.routines k) gathered_is ∙ told.keeps k x (ap (λ (y : Routines). slice_get y.gathered.routines k) (sym before_is) ∙ z);
+          drawn = (let u = ap (λ (z : Gathered). length z.domains) gathered_is in let w = told.behind.drawn_so in let y = block_domains_are b in omega (arith, u, w, y, drawn_count));
           domains = (domains.more ++ told.domains.0, domains_longer ∙ ap (λ z. z ++ told.domains.0) domains.longer ∙ append_assoc g.domains domains.more told.domains.0);
           lower = λ k l. ap (λ (y : Gathered). slice_get y.routines k) gathered_is ∙ told.lower k l ∙ ap (λ (y : Routines). slice_get y.gathered.routines k) (sym before_is);
         };

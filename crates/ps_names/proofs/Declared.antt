@@ -11,7 +11,7 @@ use Rattle.ps_regions.specs.Option.{steps}
 use Rattle.ps_regions.specs.Regions.{Meaning, TypeMeaning, VariableMeaning, one_more}
 use Rattle.ps_regions.specs.Constants.{constant}
 use Rattle.ps_declare.specs.Denoters.{Frame, Declared, with_known, regions, type_named, denoter}
-use Rattle.ps_declare.specs.Declarations.{meaning_of_constant, define_constant, define_type, settle_one, settle, declare_variable, declare_variables, declarations}
+use Rattle.ps_declare.specs.Declarations.{meaning_of_constant, define_constant, define_type, resolve_domain, resolve_domains, declare_variable, declare_variables, declarations}
 use Rattle.ps_names.specs.Definitions.{Declaration, Declarations, OfConstant, OfEnumeration, OfType, OfVariable, Definition, OfDeclaration, numbered, joined, type_declarations, definition_declarations, variable_declarations}
 use Rattle.ps_names.specs.Meanings.{Declares, Defines, AreMeanings}
 use Rattle.ps_names.proofs.Lists.{inside, then_some, get_below, get_left, get_at, get_last, take_left, take_whole, Each}
@@ -105,25 +105,25 @@ module _ (f : Frame) (first : ℕ) (numbers : ℕ → ℕ) where
       (step_behind (behind ++ rest) d one.0 e (ap (λ (z : Declared). z.variables) (sym is) ∙ inner.variables) (types_stand ts behind one.0 e one.2 stands))
 
   -- domain types that are found leave the names as they are
-  settled_one : (d e : Declared) (name : Span) → settle_one f d name ≡ Some e → (e.known ≡ d.known) × (e.variables ≡ d.variables)
-  unfolding settle_one
+  settled_one : (d e : Declared) (name : Span) → resolve_domain f d name ≡ Some e → (e.known ≡ d.known) × (e.variables ≡ d.variables)
+  unfolding resolve_domain
   settled_one d e name q =
       let t = then_some (type_named f.text (regions f [] d.known) name) _ e q in
       let is = inside _ e t.2 in
       (ap (λ (z : Declared). z.known) (sym is), ap (λ (z : Declared). z.variables) (sym is))
 
-  all_settled : (names : List Span) (d e : Declared) → steps (settle_one f) d names ≡ Some e → (e.known ≡ d.known) × (e.variables ≡ d.variables)
+  all_settled : (names : List Span) (d e : Declared) → steps (resolve_domain f) d names ≡ Some e → (e.known ≡ d.known) × (e.variables ≡ d.variables)
   all_settled [] d e q = let is = inside d e q in (ap (λ (z : Declared). z.known) (sym is), ap (λ (z : Declared). z.variables) (sym is))
   all_settled (x ∷ xs) d e q =
-      let one = then_some (settle_one f d x) _ e q in
+      let one = then_some (resolve_domain f d x) _ e q in
       let a = settled_one d one.0 x one.1 in
       let b = all_settled xs one.0 e one.2 in
       (b.0 ∙ a.0, b.1 ∙ a.1)
 
-  settled : (d e : Declared) → settle f d ≡ Some e → (e.known ≡ d.known) × (e.variables ≡ d.variables)
-  unfolding settle
+  settled : (d e : Declared) → resolve_domains f d ≡ Some e → (e.known ≡ d.known) × (e.variables ≡ d.variables)
+  unfolding resolve_domains
   settled d e q =
-      let t = then_some (steps (settle_one f) d d.pending) _ e q in
+      let t = then_some (steps (resolve_domain f) d d.pending) _ e q in
       let is = inside _ e t.2 in
       let a = all_settled d.pending d t.0 t.1 in
       (ap (λ (z : Declared). z.known) (sym is) ∙ a.0, ap (λ (z : Declared). z.variables) (sym is) ∙ a.1)
@@ -177,7 +177,7 @@ module _ (f : Frame) (first : ℕ) (numbers : ℕ → ℕ) where
   declarations_stand cs ts vs xs d e q none s =
       let a = then_some (steps (define_constant f) d cs) _ e q in
       let b = then_some (steps (define_type f) a.0 ts) _ e a.2 in
-      let c = then_some (settle f b.0) _ e b.2 in
+      let c = then_some (resolve_domains f b.0) _ e b.2 in
       let g = then_some (steps (declare_variables f first) c.0 vs) _ e c.2 in
       let one = constants_stand cs xs d a.0 a.1 s in
       let two = types_stand ts (xs ++ map OfConstant cs) a.0 b.0 b.1 one.stands in

@@ -15,12 +15,12 @@ use Rattle.ps_syntax.specs.declared.program.Structure.TheFolds.{fold-Structure, 
 use Rattle.ps_tree.specs.Types.{DataType, OrdinalType, RecordType, field_list, listed}
 use Rattle.ps_tree.specs.declared.types.Ordinal.{Ordinal}
 use Rattle.ps_regions.specs.Option.{steps}
-use Rattle.ps_regions.specs.Regions.{Meaning, VariableMeaning, one_more}
+use Rattle.ps_regions.specs.Regions.{Meaning, TypeMeaning, VariableMeaning, one_more}
 use Rattle.ps_regions.specs.Constants.{constant}
 use Rattle.ps_declare.specs.Points.{Points, all}
 use Rattle.ps_declare.specs.Denoters as denoters
 use Rattle.ps_declare.specs.Denoters.{Frame, Declared, Hidden, Reading, StructureReading, FieldsReading, Indices, FieldTypes, regions, type_named, ordinal_at, enumerated, constants_from, subrange, begins, is_packed, index_begins, index_type, array_of, set_of, small, fields_of_type, ordinal, pointer, add_fields, record_names, array_type, record_type, set_type, simple_type, denoter, structure, fields}
-use Rattle.ps_declare.specs.Declarations.{meaning_of_constant, define_constant, define_type, settle_one, settle, declare_variable, declare_variables, declarations}
+use Rattle.ps_declare.specs.Declarations.{meaning_of_constant, define_constant, define_type, resolve_domain, resolve_domains, declare_variable, declare_variables, declarations}
 use Rattle.ps_names.specs.Domains.{fields_step, structure_step, type_step, domain_names, type_domains, variable_domains, AreDomains}
 use Rattle.ps_names.specs.Definitions.{Declarations, OfConstant, OfDeclaration, joined, type_declarations, definition_declarations}
 use Rattle.ps_names.proofs.TypePoints.{constant_of, types_told}
@@ -265,12 +265,36 @@ module _ (f : Frame) where
         let c = variables_extend vs one.0 e one.2 in
         ((constants ++ b.0) ++ c.0, c.1 ∙ ap (λ l. l ++ c.0) (b.1 ∙ ap (λ l. l ++ b.0) a.0 ∙ append_assoc d.known constants b.0) ∙ append_assoc d.known (constants ++ b.0) c.0)
 
+  constants_extend : (cs : List ConstantDefinition) (d e : Declared) → steps (define_constant f) d cs ≡ Some e → (more : List Meaning) × (e.known ≡ d.known ++ more)
+  unfolding define_constant
+  constants_extend [] d e q = ([], ap (λ (z : Declared). z.known) (sym (inside d e q)) ∙ sym (append-nil d.known))
+  constants_extend (c ∷ cs) d e q =
+      let one = then_some (define_constant f d c) _ e q in
+      let v = then_some (constant f.text (regions f [] d.known) c.value) _ one.0 one.1 in
+      let m = meaning_of_constant v.0 in
+      let rest = constants_extend cs one.0 e one.2 in
+      (m ∷ rest.0, rest.1 ∙ ap (λ (z : Declared). z.known ++ rest.0) (sym (inside (denoters.with_known d (d.known ++ m ∷ [])) one.0 v.2)) ∙ append_assoc d.known (m ∷ []) rest.0)
+
+  types_extend : (ts : List TypeDefinition) (d e : Declared) → steps (define_type f) d ts ≡ Some e → (more : List Meaning) × (e.known ≡ d.known ++ more)
+  unfolding define_type
+  types_extend [] d e q = ([], ap (λ (z : Declared). z.known) (sym (inside d e q)) ∙ sym (append-nil d.known))
+  types_extend (t ∷ ts) d e q =
+      let one = then_some (define_type f d t) _ e q in
+      let r = then_some (denoter f t.ty [] d) _ one.0 one.1 in
+      let constants : List Meaning = map constant_of (type_declarations t.ty) in
+      let m = TypeMeaning r.0.0 in
+      let a = (types_told f t.ty).adds [] d r.0 r.1 in
+      let rest = types_extend ts one.0 e one.2 in (
+        (constants ++ m ∷ []) ++ rest.0,
+        rest.1 ∙ ap (λ (z : Declared). z.known ++ rest.0) (sym (inside (denoters.with_known r.0.1 (r.0.1.known ++ m ∷ [])) one.0 r.2)) ∙ ap (λ l. (l ++ m ∷ []) ++ rest.0) a.0 ∙ ap (λ l. l ++ rest.0) (append_assoc d.known constants (m ∷ [])) ∙ append_assoc d.known (constants ++ m ∷ []) rest.0,
+      )
+
   -- ---- where a part ends
 
   -- the names that waited denote the domain types that come behind
-  record Settled (names : Points) (d e : Declared) : Type 0 where
-    types : List DataType
-    known : e.known ≡ d.known
+  pub record Settled (names : Points) (d e : Declared) : Type 0 where
+    pub types : List DataType
+    pub known : e.known ≡ d.known
     domains : e.domains ≡ d.domains ++ types
     many : length types ≡ length names
     are : (i : ℕ) (name : Span) → slice_get names i ≡ Some name → (type : DataType) × (type_named f.text (regions f [] d.known) name ≡ Some type) × (slice_get types i ≡ Some type)
@@ -282,11 +306,11 @@ module _ (f : Frame) where
   settled_at x xs type types known e further zero name g = (type, ap (type_named f.text (regions f [] known)) (sym (inside x name g)) ∙ e, refl)
   settled_at x xs type types known e further (suc i) name g = further i name g
 
-  all_settled : (names : Points) (d e : Declared) → steps (settle_one f) d names ≡ Some e → Settled names d e
-  unfolding settle_one
+  all_settled : (names : Points) (d e : Declared) → steps (resolve_domain f) d names ≡ Some e → Settled names d e
+  unfolding resolve_domain
   all_settled [] d e q = subst (Settled [] d) (inside d e q) (record { types = []; known = refl; domains = sym (append-nil d.domains); many = refl; are = λ i name g. absurd (none_some g) })
   all_settled (x ∷ xs) d e q =
-      let one = then_some (settle_one f d x) _ e q in
+      let one = then_some (resolve_domain f d x) _ e q in
       let t = then_some (type_named f.text (regions f [] d.known) x) _ one.0 one.1 in
       let made : Declared = record { known = d.known; domains = d.domains ++ t.0 ∷ []; pending = d.pending; variables = d.variables } in
       let is : made ≡ one.0 = inside made one.0 t.2 in
@@ -300,10 +324,10 @@ module _ (f : Frame) where
         are = settled_at x xs t.0 rest.types d.known t.1 (λ j n h. let r = rest.are j n h in (r.0, ap (λ k. type_named f.text (regions f [] k) n) (sym same_known) ∙ r.1, r.2));
       }
 
-  settled : (d e : Declared) → settle f d ≡ Some e → Settled d.pending d e × (e.pending ≡ [])
-  unfolding settle
+  pub settled : (d e : Declared) → resolve_domains f d ≡ Some e → Settled d.pending d e × (e.pending ≡ [])
+  unfolding resolve_domains
   settled d e q =
-      let t = then_some (steps (settle_one f) d d.pending) _ e q in
+      let t = then_some (steps (resolve_domain f) d d.pending) _ e q in
       let is = inside (record { known = t.0.known; domains = t.0.domains; pending = []; variables = t.0.variables }) e t.2 in
       let a = all_settled d.pending d t.0 t.1 in
       (record { types = a.types; known = ap (λ (z : Declared). z.known) (sym is) ∙ a.known; domains = ap (λ (z : Declared). z.domains) (sym is) ∙ a.domains; many = a.many; are = a.are }, ap (λ (z : Declared). z.pending) (sym is))
@@ -314,6 +338,8 @@ module _ (f : Frame) where
   pub record DomainsTold (n : ℕ) (ts : List TypeDefinition) (vs : List Variables) (d e : Declared) : Type 0 where
     pub more : List DataType
     pub longer : e.domains ≡ d.domains ++ more
+    pub count : length more ≡ length (type_domains ts) + length (variable_domains vs)
+    pub none_waits : e.pending ≡ []
     pub below : n ≤ length e.known
     pub types : AreDomains f (take n e.known) (length d.domains) (type_domains ts) e.domains
     pub variables : AreDomains f e.known (length d.domains + length (type_domains ts)) (variable_domains vs) e.domains
@@ -330,7 +356,7 @@ module _ (f : Frame) where
   declarations_told first cs ts vs numbers xs d e q none stands =
       let a = then_some (steps (define_constant f) d cs) _ e q in
       let b = then_some (steps (define_type f) a.0 ts) _ e a.2 in
-      let c = then_some (settle f b.0) _ e b.2 in
+      let c = then_some (resolve_domains f b.0) _ e b.2 in
       let g = then_some (steps (declare_variables f first) c.0 vs) _ e c.2 in
       let one = constants_wait cs d a.0 a.1 in
       let two = types_wait ts a.0 b.0 b.1 in
@@ -357,6 +383,8 @@ module _ (f : Frame) where
         more = three.0.types ++ five.0.types;
         below = (let z = ap length known in let y = length-append b.0.known further.0 in omega (arith, z, y, many));
         longer = whole ∙ append_assoc d.domains three.0.types five.0.types;
+        count = (let y = length-append three.0.types five.0.types in let w = five.0.many in let u = ap length in_variables in omega (arith, y, w, u, m, n));
+        none_waits = five.1;
         types = λ i name at.
             let r = three.0.are i name (ap (λ l. slice_get l i) in_types ∙ at) in
             (r.0, ap (λ k. type_named f.text (regions f [] k) name) (sym taken) ∙ r.1, shifted (length d.domains) d.domains three.0.types five.0.types e.domains i r.0 refl whole r.2);
@@ -367,3 +395,18 @@ module _ (f : Frame) where
               shifted (length d.domains + length (type_domains ts)) (d.domains ++ three.0.types) five.0.types [] e.domains i r.0 (omega (arith, l, m, n)) (whole ∙ sym (append-nil ((d.domains ++ three.0.types) ++ five.0.types))) r.2,
             );
       }
+
+  -- the points that were known stay the first
+  pub declarations_extend : (first : ℕ) (cs : List ConstantDefinition) (ts : List TypeDefinition) (vs : List Variables) (d e : Declared) → declarations f first d cs ts vs ≡ Some e → (more : List Meaning) × (e.known ≡ d.known ++ more)
+  unfolding declarations
+  declarations_extend first cs ts vs d e q =
+      let a = then_some (steps (define_constant f) d cs) _ e q in
+      let b = then_some (steps (define_type f) a.0 ts) _ e a.2 in
+      let c = then_some (resolve_domains f b.0) _ e b.2 in
+      let g = then_some (steps (declare_variables f first) c.0 vs) _ e c.2 in
+      let one = constants_extend cs d a.0 a.1 in
+      let two = types_extend ts a.0 b.0 b.1 in
+      let three = (settled b.0 c.0 c.1).0.known in
+      let four = variables_extend first vs c.0 g.0 g.1 in
+      let five = (settled g.0 e g.2).0.known in
+      ((one.0 ++ two.0) ++ four.0, five ∙ four.1 ∙ ap (λ l. l ++ four.0) (three ∙ two.1 ∙ ap (λ l. l ++ two.0) one.1 ∙ append_assoc d.known one.0 two.0) ∙ append_assoc d.known (one.0 ++ two.0) four.0)

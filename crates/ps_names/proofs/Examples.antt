@@ -26,11 +26,32 @@ use Rattle.ps_tree.specs.Types.{DataType, OrdinalType, RecordType, FieldList, fi
 use Rattle.ps_regions.specs.Spelling.{has, place}
 use Rattle.ps_regions.specs.Regions.{Region, BlockRegion, Point, BlockPoint, FieldPoint, VariableMeaning, find, find_past}
 use Rattle.ps_regions.specs.Constants.{integer}
-use Rattle.ps_check.specs.Blocks.{heading_name, heading_list, is_bare}
+use Rattle.ps_check.specs.Readings.{heading_name, heading_list, is_bare}
 use Rattle.ps_check.specs.Paths.{block_at, routine_block}
 use Rattle.ps_names.specs.Definitions.{Definition, own_declarations, variable_declarations, section_points, formal_points, formal_declarations, routine_name, routine_heading, routine_names, introduced_from, definitions_of, names_of, introducer, heading_of, points_before}
 use Rattle.ps_names.specs.Uses.{Opened, opened_regions, IsOfRecord, IsDenoted, of_record, of_block, of_required}
 use Rattle.ps_names.specs.Forward.{is_function, Completes}
+use Rattle.ps_syntax.specs.declared.expression.Expr.{Expr, roll-Expr}
+use Rattle.ps_syntax.specs.declared.expression.Simple.{roll-Simple}
+use Rattle.ps_syntax.specs.declared.expression.Term.{roll-Term}
+use Rattle.ps_syntax.specs.declared.expression.Factor.{roll-Factor}
+use Rattle.ps_syntax.specs.declared.expression.Variable.{Variable, roll-Variable}
+use Rattle.ps_syntax.specs.declared.expression.Expr.TheOpen.{Expr-F, Factor-F}
+use Rattle.ps_syntax.specs.declared.expression.Expr.TheFolds.{fold-roll-Expr, fold-roll-Simple, fold-roll-Term, fold-roll-Factor, fold-roll-Variable}
+use Rattle.ps_syntax.specs.declared.statement.Statement.{Statement, roll-Statement}
+use Rattle.ps_syntax.specs.declared.statement.Statement.TheOpen.{Statement-F}
+use Rattle.ps_syntax.specs.declared.statement.Statement.TheFolds.{fold-roll-Statement}
+use Rattle.ps_syntax.specs.declared.program.Ordinal.TheVariants as ordinal
+use Rattle.ps_syntax.specs.declared.program.Structure.{roll-Structure}
+use Rattle.ps_syntax.specs.declared.program.TypeDenoter.{TypeDenoter, roll-TypeDenoter}
+use Rattle.ps_syntax.specs.declared.program.Fields.{Fields, roll-Fields}
+use Rattle.ps_syntax.specs.declared.program.Structure.TheOpen.{Structure-F, TypeDenoter-F}
+use Rattle.ps_syntax.specs.declared.program.Structure.TheFolds.{fold-roll-Structure, fold-roll-TypeDenoter, fold-roll-Fields}
+use Rattle.ps_syntax.specs.declared.program.Heading.TheFolds.{fold-roll-Heading, fold-roll-Section}
+use Rattle.ps_names.specs.Occurrences.{statements_uses}
+use Rattle.ps_names.specs.InDeclarations as declarations
+use Rattle.ps_names.specs.Counts as drawn
+use Rattle.ps_names.specs.Counts.{own_domains, domains_before, first_domain_at}
 use Rattle.ps_names.proofs.Lists.{none_some, inside}
 use Rattle.ps_names.specs.Denoting.{Where, Denotes, here, outward, first_declarations, definitions_at, points_before_at, counted, block_step, headings_before, own_heading, first_number, number_at}
 
@@ -88,6 +109,20 @@ numbers = simp (out-roll-Routine, out-roll-Heading, out-roll-Section, fold-roll-
 known_within : (points_before_at text program 0 [] ≡ Some 2) × (points_before_at text program 1 [] ≡ Some 3) × (points_before_at text program 0 (0 ∷ []) ≡ Some 3)
 unfolding points_before_at points_before first_declarations block_at routine_block heading_of introducer definitions_of own_declarations variable_declarations introduced_from routine_names routine_name routine_heading heading_name heading_list section_points formal_points formal_declarations names_of
 known_within = simp (out-roll-Routine, out-roll-Heading, out-roll-Section) (refl, refl, refl)
+
+-- pointer types are numbered in the order of the text: in a program with one of its own and one in each of two procedures
+abbrev pointed_block : List Routine → Block
+pointed_block rs = roll-Block (record { constants = []; types = record { name = at 0 1; ty = roll-TypeDenoter (TypeDenoter-F.Pointer (at 0 0) (at 0 1)) } ∷ []; variables = []; routines = rs; begin = at 0 0; statements = [] })
+
+abbrev pointed : ℕ → ℕ → Routine
+pointed from to = roll-Routine (Routine-F.Whole (roll-Heading (Heading-F.Procedure (at from to) [])) (pointed_block []))
+
+abbrev with_pointers : syntax.Program
+with_pointers = record { name = at 0 0; parameters = []; block = pointed_block (pointed 3 4 ∷ pointed 4 5 ∷ []) }
+
+pointer_numbers : (first_domain_at with_pointers [] ≡ Some 0) × (first_domain_at with_pointers (0 ∷ []) ≡ Some 1) × (first_domain_at with_pointers (1 ∷ []) ≡ Some 2)
+unfolding first_domain_at domains_before own_domains drawn.block_step block_at routine_block
+pointer_numbers = simp (fold-roll-Block, fold-roll-Routine, fold-roll-TypeDenoter) (refl, refl, refl)
 
 -- ---- what names denote
 
@@ -207,3 +242,47 @@ q_completes = record {
 -- two headings with blocks are no forward heading and its block
 no_second_block : Completes text q_completed q_completed → ⊥
 no_second_block t = (let clash : Routine-F.Whole (bare 1 2) empty ≡ Routine-F.Forward t.heading = sym (out-roll-Routine (Routine-F.Whole (bare 1 2) empty)) ∙ t.forward in cc)
+
+-- ---- uses in statements: `with r do a := q; a := q`
+
+abbrev variable_at : ℕ → ℕ → Variable
+variable_at from to = roll-Variable (record { name = at from to; selectors = [] })
+
+abbrev value_at : ℕ → ℕ → Expr
+value_at from to = roll-Expr (Expr-F.Simple (roll-Simple (record { sign = None; first = roll-Term (record { first = roll-Factor (Factor-F.Variable (variable_at from to)); more = [] }); more = [] })))
+
+abbrev set_a : Statement
+set_a = roll-Statement (Statement-F.Assign (variable_at 0 1) (at 0 1) (value_at 1 2))
+
+-- the names in order: r outside of the `with`, a and q in it, with r open, and a and q behind it
+used_with : statements_uses (roll-Statement (Statement-F.With (variable_at 3 4 ∷ []) set_a) ∷ set_a ∷ [])
+    ≡ record { name = at 3 4; opened = [] } ∷ record { name = at 0 1; opened = variable_at 3 4 ∷ [] } ∷ record { name = at 1 2; opened = variable_at 3 4 ∷ [] } ∷ record { name = at 0 1; opened = [] } ∷ record { name = at 1 2; opened = [] } ∷ []
+used_with = simp (fold-roll-Statement, fold-roll-Expr, fold-roll-Simple, fold-roll-Term, fold-roll-Factor, fold-roll-Variable) refl
+
+-- `with r, b do a := q`: b is opened within r, and the innermost stands first
+used_with_two : statements_uses (roll-Statement (Statement-F.With (variable_at 3 4 ∷ variable_at 2 3 ∷ []) set_a) ∷ [])
+    ≡ record { name = at 3 4; opened = [] } ∷ record { name = at 2 3; opened = variable_at 3 4 ∷ [] } ∷ record { name = at 0 1; opened = variable_at 2 3 ∷ variable_at 3 4 ∷ [] } ∷ record { name = at 1 2; opened = variable_at 2 3 ∷ variable_at 3 4 ∷ [] } ∷ []
+used_with_two = simp (fold-roll-Statement, fold-roll-Expr, fold-roll-Simple, fold-roll-Term, fold-roll-Factor, fold-roll-Variable) refl
+
+-- ---- uses in declarations: `record a: (q, r); b: s end`
+
+abbrev field_of : ℕ → ℕ → TypeDenoter → Fields
+field_of from to type = roll-Fields (record { names = at from to ∷ []; ty = type })
+
+abbrev a_record : TypeDenoter
+a_record = roll-TypeDenoter (TypeDenoter-F.Structure (roll-Structure (Structure-F.Record (at 0 0)
+    (field_of 0 1 (roll-TypeDenoter (TypeDenoter-F.Ordinal (ordinal.Enumeration (at 0 0) (at 1 2 ∷ at 3 4 ∷ [])))) ∷ field_of 2 3 (roll-TypeDenoter (TypeDenoter-F.Ordinal (ordinal.Name (at 4 5)))) ∷ []))))
+
+-- s is used within the record type, which has the names a and b, and where the two constants stand before it
+used_in_record : (declarations.type_part a_record).uses ≡ record { name = at 4 5; enclosing = (at 0 1 ∷ at 2 3 ∷ []) ∷ []; before = 2 } ∷ []
+unfolding declarations.ordinal_part
+used_in_record = simp (fold-roll-TypeDenoter, fold-roll-Structure, fold-roll-Fields) refl
+
+-- ---- uses in headings: `function q(b: a): r`
+
+abbrev q_function : Heading
+q_function = roll-Heading (Heading-F.Function (at 1 2) (roll-Section (Section-F.Value (at 2 3 ∷ []) (at 0 1)) ∷ []) (at 3 4))
+
+-- the parameter's type is used within the list, which has the name b, and the result's behind it
+used_in_heading : (declarations.heading_part q_function).1 ≡ record { name = at 0 1; enclosing = (at 2 3 ∷ []) ∷ []; before = 0 } ∷ record { name = at 3 4; enclosing = []; before = 0 } ∷ []
+used_in_heading = simp (fold-roll-Heading, fold-roll-Section) refl

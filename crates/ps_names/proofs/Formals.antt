@@ -1,5 +1,5 @@
 -- Formal parameters and program parameters: the first points of a block, and what they give their names there.
-use Rattle.std.proofs.Common.{◌≡◌, ℕ, zero, suc, ◌+◌, ◌<◌, Bool, true, false, not, if◌then◌else◌, List, [], ◌∷◌, ◌++◌, length, map, take, nat_lt, nat_le, Option, Some, None, is_some, slice_get, refl, sym, ap, ◌∙◌, subst, append_assoc, append-nil, length-append, ltb-true, arith}
+use Rattle.std.proofs.Common.{◌≡◌, ℕ, zero, suc, ◌+◌, ◌<◌, ◌≤◌, Bool, true, false, not, if◌then◌else◌, List, [], ◌∷◌, ◌++◌, length, map, take, nat_lt, nat_le, Option, Some, None, is_some, slice_get, refl, sym, ap, ◌∙◌, subst, append_assoc, append-nil, length-append, ltb-true, arith}
 use Rattle.std.proofs.lemmas.List.{map-append}
 use Rattle.ps_text.specs.declared.Span.{Span}
 use Rattle.ps_syntax.specs.declared.program.Heading as syntax
@@ -11,15 +11,16 @@ use Rattle.ps_syntax.specs.declared.program.Heading.TheFolds.{fold-roll-Heading,
 use Rattle.ps_tree.specs.Types.{DataType}
 use Rattle.ps_regions.specs.declared.meaning.File.{File}
 use Rattle.ps_regions.specs.declared.meaning.File.TheVariants.{Input, Output}
-use Rattle.ps_regions.specs.Option.{provided, steps}
+use Rattle.ps_regions.specs.Option.{◌>>=◌, provided, steps}
 use Rattle.ps_regions.specs.Spelling.{spelled, same, has}
 use Rattle.ps_regions.specs.Regions.{Meaning, ParameterMeaning, RoutineParameterMeaning, RoutineMeaning, FileMeaning, Heading, Section, ValueSection, VariableSection, RoutineSection, Sections, no_section, section_before, BlockPoint, find, one_more}
-use Rattle.ps_declare.specs.Points.{Points, all, add_name}
+use Rattle.ps_declare.specs.Points.{Points, all, add_name, add_points}
 use Rattle.ps_declare.specs.Denoters.{Frame, Hidden}
 use Rattle.ps_declare.specs.Headings as headings
 use Rattle.ps_declare.specs.Headings.{HeadingReading, SectionReading, Signature, section_list, few, formal_type, list_names, sections_of, result_type, heading_step, section_step, heading, section, parameters, section_meanings, section_count, formal_meanings}
-use Rattle.ps_check.specs.Blocks.{layer_list, heading_name, heading_list, Entries, add_entry, add_parameters, add_section, add_sections, first_entry, Start, start}
-use Rattle.ps_check.specs.Blocks as blocks
+use Rattle.ps_check.specs.Readings.{layer_list, heading_name, heading_list, Start}
+use Rattle.ps_check.specs.Entries.{Entries, add_entry, add_parameters, add_section, add_sections, first_entry, start}
+use Rattle.ps_check.specs.Readings as readings
 use Rattle.ps_check.specs.Programs.{Files, file_named, list_file}
 use Rattle.ps_names.specs.Definitions.{Declarations, OfFile, OfFormal, Definition, OfDeclaration, numbered, layer_points, section_points, formal_points, formal_declarations, layer_entries, entries_before, names_of, point}
 use Rattle.std.specs.Prelude.{codes}
@@ -37,10 +38,13 @@ total_more : (ss : List Section) (s : Section) → total (ss ++ s ∷ []) ≡ to
 total_more [] s = omega arith
 total_more (x ∷ ss) s = let q = total_more ss s in omega (arith, q)
 
+at_most : (m n : ℕ) → nat_le m n ≡ true → m ≤ n
+at_most m n e = grind (arith, e)
+
 -- ---- headings
 
 module _ (f : Frame) (known : List Meaning) where
-  name_at : (h : syntax.Heading) (x : Heading-F syntax.Heading syntax_section.Section) → out-Heading h ≡ x → (heading f known h).0 ≡ blocks.layer_name x
+  name_at : (h : syntax.Heading) (x : Heading-F syntax.Heading syntax_section.Section) → out-Heading h ≡ x → (heading f known h).0 ≡ readings.layer_name x
   unfolding heading_step
   name_at h (Heading-F.Procedure name xs) o = ap (λ y. (heading f known y).0) (sym (roll-out-Heading h) ∙ ap roll-Heading o) ∙ ap (λ (r : HeadingReading). r.0) (fold-roll-Heading HeadingReading SectionReading (heading_step f known) (section_step f known) (Heading-F.Procedure name xs))
   name_at h (Heading-F.Function name xs type) o = ap (λ y. (heading f known y).0) (sym (roll-out-Heading h) ∙ ap roll-Heading o) ∙ ap (λ (r : HeadingReading). r.0) (fold-roll-Heading HeadingReading SectionReading (heading_step f known) (section_step f known) (Heading-F.Function name xs type))
@@ -104,6 +108,32 @@ module _ (f : Frame) (known : List Meaning) where
       let l = length-append (section_points x) (all (map section_points xs)) in
       omega (arith, made, count, rest, l)
 
+  names_length : (ps : Points) (xs ys : List (List ℕ)) → add_points f.text xs ps ≡ Some ys → length ys ≡ length xs + length ps
+  unfolding add_points
+  names_length [] xs ys e = ap length (sym (inside xs ys e)) ∙ (let n = length xs in let z : n ≡ n + 0 = omega arith in z)
+  names_length (p ∷ ps) xs ys e =
+      let one = then_some (add_name xs (spelled f.text p)) _ ys e in
+      let q = provided_some (not (has xs (spelled f.text p))) (xs ++ spelled f.text p ∷ []) one.0 one.1 in
+      let l = length-append xs (spelled f.text p ∷ []) in
+      let m = ap length q.1 in
+      let rest = names_length ps one.0 ys one.2 in
+      omega (arith, l, m, rest)
+
+  list_points : (xs : List syntax_section.Section) → all (map (λ (x : SectionReading). x.0) (map (section f known) xs)) ≡ all (map section_points xs)
+  list_points [] = refl
+  list_points (x ∷ xs) = ap (λ l. l ++ all (map (λ (x : SectionReading). x.0) (map (section f known) xs))) (section_told x).points ∙ ap (λ l. section_points x ++ l) (list_points xs)
+
+  -- a list has at most 32 of them
+  list_few : (hidden : Hidden) (xs : List syntax_section.Section) (ss : List Section) → sections_of f known (map (section f known) xs) hidden ≡ Some ss → length (all (map section_points xs)) ≤ 32
+  unfolding sections_of list_names
+  list_few hidden xs ss e =
+      let names = then_some (list_names f known (map (section f known) xs)) _ ss e in
+      let n = then_some (few (length names.0)) _ ss names.2 in
+      let q = at_most (length names.0) 32 (provided_some (nat_le (length names.0) 32) (length names.0) n.0 n.1).0 in
+      let l = names_length (all (map (λ (x : SectionReading). x.0) (map (section f known) xs))) [] names.0 names.1 in
+      let z = ap length (list_points xs) in
+      omega (arith, q, l, z)
+
   list_count : (hidden : Hidden) (xs : List syntax_section.Section) (ss : List Section) → sections_of f known (map (section f known) xs) hidden ≡ Some ss → total ss ≡ length (all (map section_points xs))
   unfolding sections_of
   list_count hidden xs ss e =
@@ -114,6 +144,7 @@ module _ (f : Frame) (known : List Meaning) where
   -- what a heading says of its formal parameters and its result
   pub record HeadingTold (h : syntax.Heading) (said : Signature) : Type 0 where
     pub count : total said.0 ≡ length (formal_points h)
+    pub is_short : length (formal_points h) ≤ 32
     pub entries : entries_before h ≡ first_entry said.1 + length (formal_points h)
     pub result : is_some said.1 ≡ is_function h
 
@@ -126,6 +157,7 @@ module _ (f : Frame) (known : List Meaning) where
       let list : heading_list h ≡ xs = ap layer_list o in
       record {
         count = ap (λ (r : Signature). total r.0) (sym same_said) ∙ list_count [] xs ss.0 ss.1 ∙ ap (λ l. length (all (map section_points l))) (sym list);
+        is_short = (let z = ap (λ l. length (all (map section_points l))) list in let y = list_few [] xs ss.0 ss.1 in omega (arith, z, y));
         entries = ap (layer_entries (length (formal_points h))) o ∙ (let n = length (formal_points h) in let z : n ≡ 0 + n = omega arith in z) ∙ ap (λ (r : Signature). first_entry r.1 + length (formal_points h)) same_said;
         result = ap (λ (r : Signature). is_some r.1) (sym same_said) ∙ ap layer_is_function (sym o);
       }
@@ -137,6 +169,7 @@ module _ (f : Frame) (known : List Meaning) where
       let list : heading_list h ≡ xs = ap layer_list o in
       record {
         count = ap (λ (r : Signature). total r.0) (sym same_said) ∙ list_count [] xs ss.0 ss.1 ∙ ap (λ l. length (all (map section_points l))) (sym list);
+        is_short = (let z = ap (λ l. length (all (map section_points l))) list in let y = list_few [] xs ss.0 ss.1 in omega (arith, z, y));
         entries = ap (layer_entries (length (formal_points h))) o ∙ (let n = length (formal_points h) in let z : n + 1 ≡ 1 + n = omega arith in z) ∙ ap (λ (r : Signature). first_entry r.1 + length (formal_points h)) same_said;
         result = ap (λ (r : Signature). is_some r.1) (sym same_said) ∙ ap layer_is_function (sym o);
       }
@@ -221,7 +254,7 @@ parameters_entered type (suc n) e d q =
       next = (let x = c.next in omega (arith, x));
     }
 
-section_entered : (s : Section) (e d : Entries) → add_section e s ≡ Some d → Entered e (section_meanings e.next s) (section_count s) d
+pub section_entered : (s : Section) (e d : Entries) → add_section e s ≡ Some d → Entered e (section_meanings e.next s) (section_count s) d
 unfolding add_section section_meanings section_count
 section_entered (ValueSection count type) e d q = parameters_entered type count e d q
 section_entered (VariableSection count type) e d q = parameters_entered type count e d q
@@ -236,6 +269,37 @@ sections_entered (s ∷ ss) e d q =
     let b = sections_entered ss one.0 d one.2 in
     let c = entered_both e one.0 d (section_meanings e.next s) (formal_meanings one.0.next (section_list ss)) (section_count s) (total ss) a b in
     record { known = c.known ∙ ap (λ k. e.known ++ (section_meanings e.next s ++ formal_meanings k (section_list ss))) a.next; next = c.next }
+
+-- ---- there are entries enough
+
+less_so : (m n : ℕ) → m < n → nat_lt m n ≡ true
+less_so m n l = grind (arith, l)
+
+entry_enters : (meaning : ℕ → Meaning) (e : Entries) → e.next < 4294967295 → add_entry meaning e ≡ Some (record { next = e.next + 1; known = e.known ++ meaning e.next ∷ [] })
+entry_enters meaning e l = ap (λ b. provided b (e.next + 1) >>= (λ n. Some (record { next = n; known = e.known ++ meaning e.next ∷ [] }))) (less_so e.next 4294967295 l)
+
+parameters_enter : (type : DataType) (n : ℕ) (e : Entries) → e.next + n ≤ 4294967295 → (d : Entries) × (add_parameters type n e ≡ Some d)
+unfolding add_parameters
+parameters_enter type zero e l = (e, refl)
+parameters_enter type (suc n) e l =
+    let next : Entries = record { next = e.next + 1; known = e.known ++ ParameterMeaning e.next type ∷ [] } in
+    let rest = parameters_enter type n next (omega (arith, l)) in
+    (rest.0, ap (λ o. o >>= add_parameters type n) (entry_enters (λ i. ParameterMeaning i type) e (omega (arith, l))) ∙ rest.1)
+
+section_enters : (s : Section) (e : Entries) → e.next + section_count s ≤ 4294967295 → (d : Entries) × (add_section e s ≡ Some d)
+unfolding add_section section_count
+section_enters (ValueSection count type) e l = parameters_enter type count e l
+section_enters (VariableSection count type) e l = parameters_enter type count e l
+section_enters (RoutineSection sections result) e l = (record { next = e.next + 1; known = e.known ++ RoutineParameterMeaning e.next sections result ∷ [] }, entry_enters (λ i. RoutineParameterMeaning i sections result) e (omega (arith, l)))
+
+pub sections_enter : (ss : List Section) (e : Entries) → e.next + total ss ≤ 4294967295 → (d : Entries) × (add_sections e (section_list ss) ≡ Some d)
+unfolding add_sections
+sections_enter [] e l = (e, refl)
+sections_enter (s ∷ ss) e l =
+    let one = section_enters s e (omega (arith, l)) in
+    let count = (section_entered s e one.0 one.1).next in
+    let rest = sections_enter ss one.0 (omega (arith, l, count)) in
+    (rest.0, ap (λ o. o >>= (λ d. add_sections d (section_list ss))) one.1 ∙ rest.1)
 
 -- ---- what the block of a heading begins with
 
@@ -276,6 +340,34 @@ begun f before x h chain s is e =
       many = ap (λ (z : Start). length z.known) (sym same_start) ∙ count;
       first = ap (λ (z : Start). z.first) (sym same_start) ∙ entered.next ∙ ap (λ n. first_entry h.result + n) told.count ∙ ap (λ r. first_entry r + length (formal_points x)) is.result ∙ sym told.entries;
     }
+
+start_parts : (a b : Start) → a.chain ≡ b.chain → a.names ≡ b.names → a.known ≡ b.known → a.first ≡ b.first → a ≡ b
+start_parts a b c n k f =
+    let as_start : List ℕ → List (List ℕ) → List Meaning → ℕ → Start = λ c n k f. record { chain = c; names = n; known = k; first = f } in
+    ap (λ x. as_start x a.names a.known a.first) c ∙ ap (λ x. as_start b.chain x a.known a.first) n ∙ ap (λ x. as_start b.chain b.names x a.first) k ∙ ap (as_start b.chain b.names b.known) f
+
+short_entry : (r : Option DataType) → first_entry r ≤ 1
+short_entry None = omega arith
+short_entry (Some type) = omega arith
+
+-- and that is how it begins
+pub begins_so : (f : Frame) (before : List Meaning) (x : syntax.Heading) (h : Heading) (chain : List ℕ) (s : Start) → IsHeading f before x h → length chain < 16 → steps add_name [] h.names ≡ Some h.names → s.chain ≡ h.number ∷ chain → s.names ≡ h.names
+    → s.known ≡ formal_meanings (first_entry h.result) h.sections → s.first ≡ entries_before x → start chain h ≡ Some s
+unfolding start
+begins_so f before x h chain s is deep apart chained names known first =
+    let told = heading_told f before x is.said is.reading in
+    let begin : Entries = record { next = first_entry h.result; known = [] } in
+    let entry = short_entry h.result in
+    let count = told.count in
+    let short = told.is_short in
+    let d = sections_enter is.said.0 begin (omega (arith, entry, count, short)) in
+    let made : Start = record { chain = h.number ∷ chain; names = h.names; known = d.0.known; first = d.0.next } in
+    let starts : start chain h ≡ Some made =
+    ap (λ b. provided b (h.number ∷ chain) >>= (λ inner. steps add_name [] h.names >>= (λ names. add_sections begin h.sections >>= (λ e. Some (record { chain = inner; names = names; known = e.known; first = e.next }))))) (less_so (length chain) 16 deep)
+    ∙ ap (λ o. o >>= (λ names. add_sections begin h.sections >>= (λ e. Some (record { chain = h.number ∷ chain; names = names; known = e.known; first = e.next })))) apart
+    ∙ ap (λ o. o >>= (λ e. Some (record { chain = h.number ∷ chain; names = h.names; known = e.known; first = e.next }))) (ap (add_sections begin) is.sections ∙ d.1) in
+    let b = begun f before x h chain made is starts in
+    starts ∙ ap (λ z. Some z) (start_parts made s (sym chained) (sym names) (b.known ∙ sym known) (b.first ∙ sym first))
 
 -- ---- they are the first points
 

@@ -9,7 +9,9 @@ use Rattle.ps_tree.specs.Tree as Tree
 use Rattle.ps_regions.specs.Option.{steps}
 use Rattle.ps_regions.specs.Spelling.{same, has, place}
 use Rattle.ps_regions.specs.Regions.{Region, Meaning, RoutineMeaning, Heading, Context}
-use Rattle.ps_check.specs.Blocks.{Routines, is_bare, is_name_alone, may_complete, add_routine, is_vacant, is_same_kind, is_complete, all_complete, one_routine, block, routine}
+use Rattle.ps_check.specs.Readings.{Routines, is_bare, is_name_alone}
+use Rattle.ps_check.specs.Forwards.{may_complete, add_routine, is_vacant, is_same_kind, is_complete, all_complete}
+use Rattle.ps_check.specs.Blocks.{one_routine, block, routine}
 use Rattle.ps_check.specs.Paths.{layer_block, routine_block}
 use Rattle.ps_names.specs.Definitions.{Declaration, Declarations, Definition, OfDeclaration, layer_heading, routine_heading, introduced_from, names_of}
 use Rattle.ps_names.specs.Forward.{is_function, layer_completes, Completes, HasBlock, AreCompleted}
@@ -55,11 +57,11 @@ none_not : {A : Type 0} (o : Option A) → is_none o ≡ true → is_some o ≡ 
 none_not None e = refl
 none_not (Some x) e = never e
 
-and_left : (a b : Bool) → (a && b) ≡ true → a ≡ true
+pub and_left : (a b : Bool) → (a && b) ≡ true → a ≡ true
 and_left true b e = refl
 and_left false b e = never e
 
-and_right : (a b : Bool) → (a && b) ≡ true → b ≡ true
+pub and_right : (a b : Bool) → (a && b) ≡ true → b ≡ true
 and_right true b e = e
 and_right false b e = never e
 
@@ -95,7 +97,7 @@ declaration_at [] i d e = absurd (none_some e)
 declaration_at (y ∷ D) zero d e = (y, sym (inside (OfDeclaration y) d e))
 declaration_at (y ∷ D) (suc i) d e = declaration_at D i d e
 
-module _ (c : Context) (number : ℕ) (names : List (List ℕ)) (outer : List Region) (first : ℕ) (chain : List ℕ) (D : Declarations) (base : ℕ) (all : List Routine) where
+module _ (c : Context) (number : ℕ) (names : List (List ℕ)) (outer : List Region) (first : ℕ) (chain : List ℕ) (D : Declarations) (base drawn : ℕ) (all : List Routine) where
   -- a routine that was read: the heading that its name has, which has a block where the routine has one
   pub record Named (r : Routines) (x : Routine) : Type 0 where
     pub index : ℕ
@@ -124,7 +126,7 @@ module _ (c : Context) (number : ℕ) (names : List (List ℕ)) (outer : List Re
     pub only : (k j : ℕ) (x y : Routine) → k < j → slice_get done k ≡ Some x → slice_get done j ≡ Some y → sp c.text y ≡ sp c.text x → Completes c.text x y
 
   abbrev Introduced : List Routine → Routine → Routines → Routines → ℕ → Type 0
-  Introduced done x r s index = HasHeading c number names outer first chain D base all done x r s index
+  Introduced done x r s index = HasHeading c number names outer first chain D base drawn all done x r s index
 
   -- ---- one routine
 
@@ -133,9 +135,9 @@ module _ (c : Context) (number : ℕ) (names : List (List ℕ)) (outer : List Re
       (others : (n : ℕ) → n < length s.gathered.routines → (n ≡ intro.heading.number → ⊥) → slice_get w.gathered.routines n ≡ slice_get s.gathered.routines n)
       (without : routine_block x ≡ None → s ≡ w)
       (made : (b : syntax_block.Block) → routine_block x ≡ Some b → (y : Tree.Routine) × (slice_get w.gathered.routines intro.heading.number ≡ Some (Some y)))
-      (may : has (names_of c.text (before c number names outer first chain D base all done)) (sp c.text x) ≡ true → may_complete (routine c x) ≡ true) where
+      (may : has (names_of c.text (before c number names outer first chain D base drawn all done)) (sp c.text x) ≡ true → may_complete (routine c x) ≡ true) where
     abbrev IsHow : Type 0
-    IsHow = How c number names outer first chain D base all done x r s index intro.by intro.heading
+    IsHow = How c number names outer first chain D base drawn all done x r s index intro.by intro.heading
 
     old_or_new : IsHow → (i : ℕ) (h : Heading) (C : Type 0) → slice_get s.known i ≡ Some (RoutineMeaning h) → (slice_get r.known i ≡ Some (RoutineMeaning h) → C)
         → (h ≡ intro.heading → i ≡ index → intro.heading.number ≡ length r.gathered.routines → C) → C
@@ -184,7 +186,7 @@ module _ (c : Context) (number : ℕ) (names : List (List ℕ)) (outer : List Re
     forward_new (completing here same_routines alike) none = absurd (block_of c x (may here) none)
     forward_new (introducing is last known numbered) none =
         let said : routine_heading x ≡ Some intro.said = ap routine_heading (sym is) ∙ intro.is_said in
-        let told = heading_told (f c number names outer first chain D base all) intro.known intro.said intro.is.said intro.is.reading in
+        let told = heading_told (f c number names outer first chain D base drawn all) intro.known intro.said intro.is.said intro.is.reading in
         (intro.said, forward_is x (out-Routine x) intro.said refl none said, ap is_some intro.is.result ∙ told.result)
 
     named_new : Named w x
@@ -251,7 +253,7 @@ module _ (c : Context) (number : ℕ) (names : List (List ℕ)) (outer : List Re
 
   -- ---- all routines
 
-  pub none_open : (r : Routines) → At c number names outer first chain D base all [] r → Open [] r
+  pub none_open : (r : Routines) → At c number names outer first chain D base drawn all [] r → Open [] r
   unfolding introduced_from
   none_open r at =
       let none : (i : ℕ) (h : Heading) → slice_get r.known i ≡ Some (RoutineMeaning h) → ⊥ = λ i h e.
@@ -259,7 +261,7 @@ module _ (c : Context) (number : ℕ) (names : List (List ℕ)) (outer : List Re
       let l = get_below r.known i (RoutineMeaning h) e in
       let d = there_is (map OfDeclaration D ++ []) i (omega (arith, many, l)) in
       let y = declaration_at D i d.0 d.1 in
-      plain_not (RoutineMeaning h) h refl (declares_plain (f c number names outer first chain D base all) first (take i r.known) y.0 (RoutineMeaning h) (at.stands.are i (OfDeclaration y.0) (RoutineMeaning h) (d.1 ∙ ap (λ z. Some z) y.1) e)) in
+      plain_not (RoutineMeaning h) h refl (declares_plain (f c number names outer first chain D base drawn all) first (take i r.known) y.0 (RoutineMeaning h) (at.stands.are i (OfDeclaration y.0) (RoutineMeaning h) (d.1 ∙ ap (λ z. Some z) y.1) e)) in
       record {
         below = λ i h e. absurd (none i h e);
         apart = λ i j h g a b e. absurd (none i h a);
@@ -268,15 +270,15 @@ module _ (c : Context) (number : ℕ) (names : List (List ℕ)) (outer : List Re
         only = λ k j x y l a b e. absurd (none_some a);
       }
 
-  pub all_open : (rs done : List Routine) (r w : Routines) → all ≡ done ++ rs → Each (RoutineGrows c) rs → At c number names outer first chain D base all done r → Open done r
-      → steps (add_routine c.text) (names_of c.text (before c number names outer first chain D base all done)) (map (routine c) rs) ≡ Some names → steps (one_routine (f c number names outer first chain D base all) chain) r (map (routine c) rs) ≡ Some w → Open all w
+  pub all_open : (rs done : List Routine) (r w : Routines) → all ≡ done ++ rs → Each (RoutineGrows c) rs → At c number names outer first chain D base drawn all done r → Open done r
+      → steps (add_routine c.text) (names_of c.text (before c number names outer first chain D base drawn all done)) (map (routine c) rs) ≡ Some names → steps (one_routine (f c number names outer first chain D base drawn all) chain) r (map (routine c) rs) ≡ Some w → Open all w
   all_open [] done r w split grows at o added e = subst (Open all) (inside r w e) (subst (λ l. Open l r) (sym (append-nil done) ∙ sym split) o)
   all_open (x ∷ rs) done r w split grows at o added e =
-      let to = then_some (add_routine c.text (names_of c.text (before c number names outer first chain D base all done)) (routine c x)) _ names added in
-      let v = then_some (one_routine (f c number names outer first chain D base all) chain r (routine c x)) _ w e in
+      let to = then_some (add_routine c.text (names_of c.text (before c number names outer first chain D base drawn all done)) (routine c x)) _ names added in
+      let v = then_some (one_routine (f c number names outer first chain D base drawn all) chain r (routine c x)) _ w e in
       let more = all_more c.text (map (routine c) rs) to.0 names to.2 in
-      let taken = one_taken c number names outer first chain D base all done rs x r v.0 more.0 split at to.0 to.1 more.1 v.1 in
-      let step = step_at c number names outer first chain D base all done rs x r taken.introduced_to v.0 split at grows.0 taken.index taken.found taken.intro (routine_block x) refl taken.reading in
+      let taken = one_taken c number names outer first chain D base drawn all done rs x r v.0 more.0 split at to.0 to.1 more.1 v.1 in
+      let step = step_at c number names outer first chain D base drawn all done rs x r taken.introduced_to v.0 split at grows.0 taken.index taken.found taken.intro (routine_block x) refl taken.reading in
       let behind = open_behind done x r taken.introduced_to v.0 taken.index taken.found taken.intro o step.known_same step.longer step.keeps step.others step.without step.made taken.may in
       all_open rs (done ++ x ∷ []) v.0 w (split ∙ sym (append_assoc done (x ∷ []) rs)) grows.1 step.behind behind (ap (λ l. steps (add_routine c.text) l (map (routine c) rs)) (sym taken.names_are) ∙ to.2) v.2
 

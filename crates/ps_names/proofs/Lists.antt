@@ -3,6 +3,7 @@ use Rattle.std.proofs.Common.{◌≡◌, ℕ, zero, suc, ◌+◌, ◌<◌, ◌�
 use Rattle.std.specs.List.{position_from}
 use Rattle.ps_regions.specs.Option.{◌>>=◌, provided}
 use Rattle.ps_regions.specs.Spelling.{same, has}
+pub use Rattle.ps_check.specs.RegionNames.{Each}
 
 -- ---- steps that were made
 
@@ -134,10 +135,6 @@ difference (suc k) zero l = absurd (omega (arith, l))
 difference (suc k) (suc j) l = let r = difference k j (omega (arith, l)) in (r.0, (let z = r.1 in omega (arith, z)))
 
 -- ---- each item of a list
-
-abbrev pub Each : {A : Type 0} → (A → Type 0) → List A → Type 0
-Each P [] = Unit {0}
-Each P (x ∷ xs) = P x × Each P xs
 
 pub each_at : {A : Type 0} (P : A → Type 0) (xs : List A) (i : ℕ) (x : A) → Each P xs → slice_get xs i ≡ Some x → P x
 each_at P [] i x h e = absurd (none_some e)

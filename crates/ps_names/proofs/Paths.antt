@@ -14,23 +14,38 @@ use Rattle.ps_regions.specs.Option.{◌>>=◌, steps, traverse}
 use Rattle.ps_regions.specs.Spelling.{spelled, has, place}
 use Rattle.ps_regions.specs.Regions.{Region, BlockRegion, Meaning, Heading, formals_of, Context}
 use Rattle.ps_declare.specs.Denoters.{Frame}
-use Rattle.ps_check.specs.Blocks.{Gathered, Start, Done, routine_tree, own_number, block}
+use Rattle.ps_check.specs.Readings.{Gathered, Start, Done}
+use Rattle.ps_check.specs.Blocks.{routine_tree, own_number, block, with_domains}
 use Rattle.ps_check.specs.Programs.{Files, no_files, list_file, program, program_with, program_of, program_context, program_start, program_routine, assembled, nothing_gathered, required}
-use Rattle.ps_check.specs.Changes.{assigns}
+use Rattle.ps_check.specs.Threats.{is_safe, assigns}
 use Rattle.ps_check.specs.Paths.{layer_block, routine_block, block_at}
 use Rattle.ps_names.specs.Definitions.{points_before_variables, points_before_routines, routine_names, Declarations, OfFile, Definition, OfDeclaration, OfRoutine, InPart, formal_declarations, entries_before, routine_heading, routine_name, own_declarations, introduced, of_routine, definitions_of, names_of, introducer, heading_of, points_before, as_routine}
 use Rattle.ps_names.specs.Denoting.{heading_at, counted, routine_count, headings_within, first_declarations, first_entry_at, definitions_at, points_before_at, headings_before, own_heading, first_number, number_at, chain_at}
-use Rattle.ps_names.specs.Meanings.{IsOfHeading, of_program, of_heading, ReadProgramsAreChecked, AreMeanings, IsRegion, AreAround, program_block, routine_block as further_in, IsReadThere, BlocksAreReadThere, NamesMeanTheirPoints}
+use Rattle.ps_names.specs.Meanings.{AreMeanings, IsRegion, AreAround, program_block, routine_block as further_in}
+use Rattle.ps_names.specs.Read.{IsOfHeading, of_program, of_heading, IsReadThere, BlocksAreReadThere, NamesMeanTheirPoints}
 use Rattle.ps_names.specs.Domains.{type_domains, variable_domains, AreDomains}
 use Rattle.ps_names.proofs.Domains.{domains_stay}
 use Rattle.ps_names.specs.Within.{IsWithin, IsTaken, AreThoseWithin}
 use Rattle.ps_names.specs.Forward.{layer_completes, AreCompleted, ForwardHeadingsHaveBlocks}
-use Rattle.ps_names.proofs.Lists.{never, take_drop, get_drop, drop_length, take_next, take_all, compare, difference, Each, each_at, none_some, inside, then_some, provided_some, get_below, there_is, get_left, get_stays, set_same, set_other}
+use Rattle.ps_names.specs.Occurrences.{statements_uses}
+use Rattle.ps_names.specs.InDeclarations.{declarations_part}
+use Rattle.ps_names.proofs.Statements.{statements_read, denoted_there}
+use Rattle.ps_check.specs.RegionNames.{AreApart}
+use Rattle.ps_names.proofs.Apart.{none_apart, files_apart}
+use Rattle.ps_names.proofs.Enclosed.{AllKnown}
+use Rattle.ps_names.proofs.Before.{denoted_before, headings_denoted}
+use Rattle.ps_tree.specs.Types.{DataType}
+use Rattle.ps_declare.specs.Declarations.{declarations}
+use Rattle.ps_statements.specs.Statements.{statements}
+use Rattle.ps_names.proofs.Domains.{declarations_length}
+use Rattle.ps_names.proofs.Lists.{take_whole, set_length, never, take_drop, get_drop, drop_length, take_next, take_all, compare, difference, Each, each_at, none_some, inside, then_some, provided_some, get_below, there_is, get_left, get_stays, set_same, set_other}
 use Rattle.ps_names.proofs.Declared.{Standing}
 use Rattle.ps_names.proofs.Formals.{Listed, files_listed}
 use Rattle.ps_names.proofs.Routines.{introduced_append, introduced_more, inner_count, count_is, own, counts, counted_none, counted_last, sp, one_introduced, introduced_there}
 use Rattle.ps_names.proofs.Steps.{Longer, longer_both, Ready, points, in_part, Nested}
-use Rattle.ps_names.proofs.Blocks.{BlockHas, block_told, within_is}
+use Rattle.ps_names.specs.Counts.{sum, routine_domains, block_domains, own_domains, domains_before, first_domain_at}
+use Rattle.ps_names.specs.Rule.{IsBegun, of_program as begins_program, of_heading as begins_heading, routines_within, KeepsRules, BlockIsRead, is_read, CheckedProgramsAreRead}
+use Rattle.ps_names.proofs.Blocks.{BlockHas, blocks_grow, block_told, within_is}
 
 -- ---- lists
 
@@ -72,6 +87,10 @@ tree_formals chain h d = refl
 tree_result : (chain : List ℕ) (h : Heading) (d : Done) → (routine_tree chain h d).result ≡ h.result
 unfolding routine_tree
 tree_result chain h d = refl
+
+tree_line : (chain : List ℕ) (h : Heading) (d : Done) → (routine_tree chain h d).line ≡ d.line
+unfolding routine_tree
+tree_line chain h d = refl
 
 tree_chain : (chain : List ℕ) (h : Heading) (d : Done) → (routine_tree chain h d).chain ≡ chain
 unfolding routine_tree
@@ -121,6 +140,9 @@ module _ (text : List ℕ) (p : syntax.Program) (files : Files) (made : Tree.Pro
     is_variables : routine.variables ≡ done.variables
     is_chain : routine.chain ≡ start.chain
     is_of_heading : IsOfHeading text p v regions routine
+    is_line : routine.line ≡ done.line
+    begins : IsBegun text p files made v regions start routine
+    drawn : first_domain_at p v ≡ Some (length gathered.domains)
     domains : Longer done.gathered final
     levels : length start.chain ≡ suc (length v)
     deep : length v < 16
@@ -168,10 +190,10 @@ module _ (text : List ℕ) (p : syntax.Program) (files : Files) (made : Tree.Pro
     -- ---- one path further in
 
     module _ (k : ℕ) (r : Routine) (inner : syntax_block.Block) (at : slice_get (out-Block b).routines k ≡ Some r) (is : routine_block r ≡ Some inner) where
-      nested : Nested c (own_number t.start.chain) in_block.names t.regions t.start.first t.start.chain (t.first ++ own_declarations b) (length t.gathered.routines) (out-Block b).routines k r inner in_block.behind
+      nested : Nested c (own_number t.start.chain) in_block.names t.regions t.start.first t.start.chain (t.first ++ own_declarations b) (length t.gathered.routines) (length in_block.before.gathered.domains) (out-Block b).routines k r inner in_block.behind
       nested =
           let z : 0 + k ≡ k = omega arith in
-          subst (λ n. Nested c (own_number t.start.chain) in_block.names t.regions t.start.first t.start.chain (t.first ++ own_declarations b) (length t.gathered.routines) (out-Block b).routines n r inner in_block.behind) z (in_block.told.nested k r inner at is)
+          subst (λ n. Nested c (own_number t.start.chain) in_block.names t.regions t.start.first t.start.chain (t.first ++ own_declarations b) (length t.gathered.routines) (length in_block.before.gathered.domains) (out-Block b).routines n r inner in_block.behind) z (in_block.told.nested k r inner at is)
 
       abbrev before : List Definition
       before = points text (t.first ++ own_declarations b) (introduced text (take (k + 1) (out-Block b).routines))
@@ -253,6 +275,15 @@ module _ (text : List ℕ) (p : syntax.Program) (files : Files) (made : Tree.Pro
       unfolding points_before_at
       before_is = ap (λ o. o >>= (λ y. first_declarations text p v >>= (λ first. Some (points_before text first y k)))) t.there ∙ ap (λ o. o >>= (λ first. Some (points_before text first b k))) t.firsts
 
+      drawn_is : first_domain_at p (k ∷ v) ≡ Some (length nested.gathered.domains)
+      unfolding first_domain_at domains_before
+      drawn_is =
+          let a = nested.drawn_so in
+          let d = in_block.drawn_first in
+          let m = sum (map routine_domains (take k (out-Block b).routines)) in
+          let z : length t.gathered.domains + (own_domains b + m) ≡ length nested.gathered.domains = omega (arith, a, d) in
+          ap (λ o. o >>= (λ y. first_domain_at p v >>= (λ n. Some (n + domains_before y k)))) t.there ∙ ap (λ o. o >>= (λ n. Some (n + domains_before b k))) t.drawn ∙ ap (λ n. Some n) z
+
       many : length nested.known ≡ points_before text t.first b k
       unfolding points_before
       many =
@@ -306,6 +337,10 @@ module _ (text : List ℕ) (p : syntax.Program) (files : Files) (made : Tree.Pro
             is_chain = tree_chain nested.inner.chain nested.heading nested.done;
             is_of_heading = of_heading k v (BlockRegion (own_number t.start.chain) in_block.names nested.known ∷ t.regions) (routine_tree nested.inner.chain nested.heading nested.done) nested.said nested.heading heading_there nested.is_denoted number_is
                 (tree_formals nested.inner.chain nested.heading nested.done) (tree_result nested.inner.chain nested.heading nested.done);
+            is_line = tree_line nested.inner.chain nested.heading nested.done;
+            begins = begins_heading k v (BlockRegion (own_number t.start.chain) in_block.names nested.known ∷ t.regions) nested.inner (routine_tree nested.inner.chain nested.heading nested.done) nested.said nested.heading t.start.chain heading_there nested.is_denoted t.chain nested.begins.chain_is nested.begins.known nested.begins.first
+                (tree_formals nested.inner.chain nested.heading nested.done) (tree_result nested.inner.chain nested.heading nested.done);
+            drawn = drawn_is;
             domains = longer_both nested.done.gathered t.done.gathered final (nested.inner_domains.0, ap (λ (y : Gathered). y.domains) same_done ∙ nested.inner_domains.1) t.domains;
             levels = ap length nested.begins.chain_is ∙ ap suc t.levels;
             deep = (let l = t.levels in let d = nested.begins.deep in omega (arith, l, d));
@@ -541,6 +576,9 @@ module _ (text : List ℕ) (p : syntax.Program) (files : Files) (made : Tree.Pro
     abbrev framed_at : (w : List ℕ) (a : syntax_block.Block) (s : There w a) → Frame
     framed_at w a s = frame_of w a s (names_of text (ds w a s))
 
+    abbrev region_there : IsRegion text p v (length (ds v b t)) t.regions (BlockRegion (own_number t.start.chain) (in_block v b t).names (in_block v b t).behind.known)
+    region_there = region_at v b t (length (ds v b t)) (in_block v b t).behind.known (ds v b t) [] (in_block v b t).known.many (sym (append-nil (ds v b t))) (in_block v b t).known
+
     read_there : IsReadThere text p files made v b
     unfolding region_at
     read_there = record {
@@ -557,8 +595,15 @@ module _ (text : List ℕ) (p : syntax.Program) (files : Files) (made : Tree.Pro
       own = BlockRegion (own_number t.start.chain) (in_block v b t).names (in_block v b t).behind.known;
       all = ds v b t;
       points = points_are v b t;
-      region = region_at v b t (length (ds v b t)) (in_block v b t).behind.known (ds v b t) [] (in_block v b t).known.many (sym (append-nil (ds v b t))) (in_block v b t).known;
+      apart = subst AreApart (in_block v b t).names_are (in_block v b t).apart;
+      region = region_there;
       body = (in_block v b t).body;
+      uses = denoted_there (with_domains (program_context text files) t.done.gathered.domains) p v (length (ds v b t)) (BlockRegion (own_number t.start.chain) (in_block v b t).names (in_block v b t).behind.known) t.regions
+          region_there t.around (statements_uses (out-Block b).statements)
+          (statements_read (with_domains (program_context text files) t.done.gathered.domains) (BlockRegion (own_number t.start.chain) (in_block v b t).names (in_block v b t).behind.known ∷ t.regions) (out-Block b).statements t.done.body (in_block v b t).body);
+      declared = denoted_before text p v (length (ds v b t)) t.regions (BlockRegion (own_number t.start.chain) (in_block v b t).names (in_block v b t).behind.known) region_there t.around (length t.first) (declarations_part (out-Block b).constants (out-Block b).types (out-Block b).variables).uses
+          (subst (λ z. AllKnown (frame_of v b t z) [] (in_block v b t).behind.known (length t.first) (declarations_part (out-Block b).constants (out-Block b).types (out-Block b).variables).uses) (in_block v b t).names_are (in_block v b t).uses);
+      headings = λ i k r h at is. headings_denoted text p v (length (ds v b t)) t.regions (BlockRegion (own_number t.start.chain) (in_block v b t).names (in_block v b t).behind.known) region_there t.around i k r h (in_block v b t).known.many at is;
       number = own_number t.start.chain;
       numbered = t.own;
       routine = t.routine;
@@ -584,6 +629,117 @@ module _ (text : List ℕ) (p : syntax.Program) (files : Files) (made : Tree.Pro
       let a = then_some (block_at p.block v) _ b e in
       let r = then_some (slice_get (out-Block a.0).routines k) _ b a.2 in
       inner_there v a.0 (all_there root v a.0 a.1) k r.0 b r.1 r.2
+
+  -- ---- what the block keeps of the rules
+
+  all_some_list : (xs : List (Option Tree.Routine)) (ys : List Tree.Routine) → ((i : ℕ) → i < length xs → (r : Tree.Routine) × (slice_get xs i ≡ Some (Some r)) × (slice_get ys i ≡ Some r)) → xs ≡ map (λ r. Some r) (take (length xs) ys)
+  all_some_list [] ys each = refl
+  all_some_list (x ∷ xs) [] each = absurd (none_some (each 0 (omega arith)).2)
+  all_some_list (x ∷ xs) (y ∷ ys) each =
+      let one = each 0 (omega arith) in
+      ap (λ z. z ∷ xs) (inside x (Some one.0) one.1 ∙ ap (λ z. Some z) (sym (inside y one.0 one.2))) ∙ ap (λ l. Some y ∷ l) (all_some_list xs ys (λ i l. each (suc i) (omega (arith, l))))
+
+  module _ (v : List ℕ) (b : syntax_block.Block) (t : There v b) where
+    taken_is : taken v b t ≡ routines_within text p files made t.base b
+    unfolding routines_within
+    taken_is =
+        let xs = taken v b t in
+        all_some_list xs (drop t.base made.routines) (λ i l. let r = (taken_only v b t i l).1 in (r.routine, r.is, get_drop t.base made.routines i ∙ r.checked)) ∙ ap (λ n. map (λ r. Some r) (take n (drop t.base made.routines))) (taken_many v b t)
+
+    first_part : (some : List DataType) (more : List DataType) (n : ℕ) → made.domains ≡ some ++ more → length some ≡ n → some ≡ take n made.domains
+    first_part some more n e many = sym (take_whole some more) ∙ ap (take (length some)) (sym e) ∙ ap (λ k. take k made.domains) many
+
+    domains_behind : t.done.gathered.domains ≡ take (length t.gathered.domains + block_domains b) made.domains
+    domains_behind = first_part t.done.gathered.domains t.domains.0 (length t.gathered.domains + block_domains b) (all_domains ∙ t.domains.1) (in_block v b t).grown.drawn
+
+    domains_first : t.gathered.domains ≡ take (length t.gathered.domains) made.domains
+    domains_first =
+        let more = (in_block v b t).grown.domains in
+        first_part t.gathered.domains (more.0 ++ t.domains.0) (length t.gathered.domains) (all_domains ∙ t.domains.1 ∙ ap (λ l. l ++ t.domains.0) more.1 ∙ append_assoc t.gathered.domains more.0 t.domains.0) refl
+
+    domains_own : (in_block v b t).before.gathered.domains ≡ take (length t.gathered.domains + own_domains b) made.domains
+    domains_own =
+        let more = (in_block v b t).later in
+        let own = (in_block v b t).before.gathered.domains in
+        first_part own (more.0 ++ t.domains.0) (length t.gathered.domains + own_domains b) (all_domains ∙ t.domains.1 ∙ ap (λ l. l ++ t.domains.0) more.1 ∙ append_assoc own more.0 t.domains.0) (in_block v b t).drawn_first
+
+    known_first : t.start.known ≡ take (length t.first) (in_block v b t).behind.known
+    known_first =
+        let more = (in_block v b t).known_more in
+        let many = (t.ready.stands 0 [] 0 (λ k. k)).many ∙ declarations_length t.first in
+        sym (take_whole t.start.known more.0) ∙ ap (take (length t.start.known)) (sym more.1) ∙ ap (λ k. take k (in_block v b t).behind.known) many
+
+    abbrev behind_known : List Meaning
+    behind_known = (in_block v b t).behind.known
+
+    kept : KeepsRules text p files made v b t.regions
+    unfolding region_at
+    kept = record {
+      start = t.start;
+      routine = t.routine;
+      begins = t.begins;
+      chain = t.chain;
+      is_chain = t.is_chain;
+      checked = t.checked;
+      is_line = t.is_line ∙ (in_block v b t).line;
+      first = t.first;
+      firsts = t.firsts;
+      names = t.ready.names;
+      next = t.base;
+      numbers = t.numbers;
+      pointers = length t.gathered.domains;
+      domains = t.drawn;
+      apart = subst AreApart (in_block v b t).names_are (in_block v b t).apart;
+      completed = (in_block v b t).completed;
+      known = behind_known;
+      many = (in_block v b t).known.many;
+      begun = known_first;
+      means = (region_there v b t).meanings;
+      declared = ap (λ l. declarations (frame_of v b t v b t (names_of text (ds v b t))) t.start.first (record { known = t.start.known; domains = l; pending = []; variables = [] }) (out-Block b).constants (out-Block b).types (out-Block b).variables) (sym domains_first)
+          ∙ ap (λ z. declarations (frame_of v b t v b t z) t.start.first (record { known = t.start.known; domains = t.gathered.domains; pending = []; variables = [] }) (out-Block b).constants (out-Block b).types (out-Block b).variables) (sym (in_block v b t).names_are)
+          ∙ (in_block v b t).declared ∙ ap (λ l. Some (record { known = take (points_before_routines t.first b) behind_known; domains = l; pending = []; variables = t.done.variables })) domains_own
+          ∙ ap (λ l. Some (record { known = take (points_before_routines t.first b) behind_known; domains = take (length t.gathered.domains + own_domains b) made.domains; pending = []; variables = l })) (sym t.is_variables);
+      body = ap (λ l. statements (with_domains (program_context text files) l) (BlockRegion (own_number t.start.chain) (names_of text (ds v b t)) behind_known ∷ t.regions) (out-Block b).statements) (sym domains_behind)
+          ∙ ap (λ z. statements (with_domains (program_context text files) t.done.gathered.domains) (BlockRegion (own_number t.start.chain) z behind_known ∷ t.regions) (out-Block b).statements) (sym (in_block v b t).names_are)
+          ∙ (in_block v b t).body ∙ ap (λ l. Some l) (sym t.is_body);
+      safe = ap (λ l. is_safe (length t.start.chain) l t.routine.body) (sym taken_is) ∙ ap (is_safe (length t.start.chain) (taken v b t)) t.is_body ∙ (in_block v b t).safe;
+      assigned = ap (λ l. assigns (length t.start.chain) t.routine.result t.routine.body l) (sym taken_is) ∙ ap (λ s. assigns (length t.start.chain) t.routine.result s (taken v b t)) t.is_body ∙ t.assigned;
+    }
+
+    -- its regions within are those that the rule says
+    inner_region : (k : ℕ) (r : Routine) (inner : syntax_block.Block) (at : slice_get (out-Block b).routines k ≡ Some r) (is : routine_block r ≡ Some inner)
+        → BlockRegion (own_number t.start.chain) (in_block v b t).names (nested v b t k r inner at is).known ≡ BlockRegion (own_number t.start.chain) (names_of text (ds v b t)) (take (points_before text t.first b k) behind_known)
+    inner_region k r inner at is =
+        let n = nested v b t k r inner at is in
+        ap (λ z. BlockRegion (own_number t.start.chain) z n.known) (in_block v b t).names_are
+        ∙ ap (λ l. BlockRegion (own_number t.start.chain) (names_of text (ds v b t)) l)
+        (sym (take_whole n.known n.known_more.0) ∙ ap (take (length n.known)) (sym n.known_more.1) ∙ ap (λ k. take k behind_known) (many v b t k r inner at is))
+
+  abbrev BlockReads : syntax_block.Block → Type 0
+  BlockReads b = (v : List ℕ) (t : There v b) → BlockIsRead text p files made v b t.regions
+
+  abbrev RoutineReads : Routine → Type 0
+  RoutineReads x = (b : syntax_block.Block) → routine_block x ≡ Some b → BlockReads b
+
+  block_reads : (b : syntax_block.Block) → Each RoutineReads (out-Block b).routines → BlockReads b
+  unfolding inner_there kept
+  block_reads b reads v t = is_read v b t.regions (kept v b t) (λ k r inner at is.
+      subst (λ z. BlockIsRead text p files made (k ∷ v) inner (z ∷ t.regions)) (inner_region v b t k r inner at is) (each_at RoutineReads (out-Block b).routines k r reads at inner is (k ∷ v) (inner_there v b t k r inner at is)))
+
+  reads_layer : (y : Routine-F ((x : Routine) × RoutineReads x) ((x : syntax_block.Block) × BlockReads x)) → RoutineReads (roll-Routine (map-Routine ((x : Routine) × RoutineReads x) ((x : syntax_block.Block) × BlockReads x) Routine syntax_block.Block (λ e. e.0) (λ e. e.0) y))
+  unfolding routine_block
+  reads_layer (Routine-F.Whole h x) b e = subst BlockReads (inside x.0 b (sym (ap layer_block (out-roll-Routine (Routine-F.Whole h x.0))) ∙ e)) x.1
+  reads_layer (Routine-F.Forward h) b e = absurd (none_some (sym (ap layer_block (out-roll-Routine (Routine-F.Forward h))) ∙ e))
+  reads_layer (Routine-F.Completion name x) b e = subst BlockReads (inside x.0 b (sym (ap layer_block (out-roll-Routine (Routine-F.Completion name x.0))) ∙ e)) x.1
+
+  each_reads : (ys : List ((x : Routine) × RoutineReads x)) → Each RoutineReads (map (λ y. y.0) ys)
+  each_reads [] = tt
+  each_reads (y ∷ ys) = (y.1, each_reads ys)
+
+  all_reads : (b : syntax_block.Block) → BlockReads b
+  all_reads = ind-Block RoutineReads BlockReads
+      (λ x y is. subst (λ z. RoutineReads (roll-Routine z)) is (reads_layer y))
+      (λ x y is. block_reads (roll-Block x) (subst (λ (z : Block-F Routine syntax_block.Block). Each RoutineReads z.routines) (sym (out-roll-Block x)) (subst (λ (z : Block-F Routine syntax_block.Block). Each RoutineReads z.routines) is (each_reads y.routines))))
 
 -- ---- programs
 
@@ -621,10 +777,10 @@ module _ (text : List ℕ) (p : syntax.Program) (files : Files) (made : Tree.Pro
   root_listed number names first numbers = files_listed (framed number names) first numbers p.parameters [] no_files files listed (nothing_listed (framed number names) first numbers)
 
   root_ready : Ready text (required ∷ []) (program_start files) (map OfFile p.parameters)
-  root_ready = record { names = (root_listed 0 [] 0 (λ k. k)).names; stands = λ number names first numbers. (root_listed number names first numbers).stands }
+  root_ready = record { apart = files_apart text p.parameters no_files files listed none_apart; names = (root_listed 0 [] 0 (λ k. k)).names; stands = λ number names first numbers. (root_listed number names first numbers).stands }
 
   root_there : There text p files made d.gathered others all_domains [] p.block
-  unfolding block_at first_declarations first_entry_at first_number number_at chain_at own_number assigns
+  unfolding block_at first_declarations first_entry_at first_number number_at chain_at own_number assigns first_domain_at
   root_there =
       let told = block_told (program_context text files) p.block (required ∷ []) (program_start files) nothing_gathered d (map OfFile p.parameters) root_ready read in
       let long = told.grown.count in
@@ -654,6 +810,9 @@ module _ (text : List ℕ) (p : syntax.Program) (files : Files) (made : Tree.Pro
         is_variables = refl;
         is_chain = refl;
         is_of_heading = of_program (required ∷ []) (program_routine d) refl refl;
+        is_line = refl;
+        begins = begins_program (required ∷ []) (program_routine d) refl refl;
+        drawn = refl;
         domains = ([], sym (append-nil d.gathered.domains));
         levels = refl;
         deep = omega arith;
@@ -704,6 +863,39 @@ names_mean_their_points text p made e =
     let whole = then_some (block (program_context text files.0) p.block (required ∷ []) (program_start files.0) nothing_gathered) program_of made files.2 in
     all_read text p files.0 made whole.0 files.1 whole.1 whole.2
 
-pub read_programs_are_checked : ReadProgramsAreChecked
-unfolding program program_with
-read_programs_are_checked text p made r = ap (λ o. o >>= program_with text p) r.listed ∙ ap (λ o. o >>= program_of) r.reading ∙ r.is_made
+traversed_length : (xs : List (Option Tree.Routine)) (ys : List Tree.Routine) → traverse (λ r. r) xs ≡ Some ys → length ys ≡ length xs
+traversed_length [] ys e = ap length (sym (inside [] ys e))
+traversed_length (x ∷ xs) ys e =
+    let a = then_some x _ ys e in
+    let b = then_some (traverse (λ r. r) xs) _ ys a.2 in
+    ap length (sym (inside (a.0 ∷ b.0) ys b.2)) ∙ ap suc (traversed_length xs b.0 b.1)
+
+made_length : (d : Done) (made : Tree.Program) → program_of d ≡ Some made → (length made.routines ≡ length d.gathered.routines) × (is_within_limits made ≡ true)
+unfolding program_of assembled
+made_length d made e =
+    let set = slice_set d.gathered.routines 0 (Some (program_routine d)) in
+    let rs = then_some (traverse (λ r. r) set) _ made e in
+    let is = provided_some (is_within_limits (record { routines = rs.0; domains = d.gathered.domains })) (record { routines = rs.0; domains = d.gathered.domains }) made rs.2 in
+    (ap (λ (z : Tree.Program). length z.routines) (sym is.1) ∙ traversed_length set rs.0 rs.1 ∙ set_length d.gathered.routines 0 (Some (program_routine d)), ap is_within_limits (sym is.1) ∙ is.0)
+
+pub checked_programs_are_read : CheckedProgramsAreRead
+unfolding program program_with root_there
+checked_programs_are_read text p made e =
+    let files = then_some (steps (list_file text) no_files p.parameters) (program_with text p) made e in
+    let whole = then_some (block (program_context text files.0) p.block (required ∷ []) (program_start files.0) nothing_gathered) program_of made files.2 in
+    let final = others text p files.0 made whole.0 files.1 whole.1 whole.2 in
+    let domains = all_domains text p files.0 made whole.0 files.1 whole.1 whole.2 in
+    let grown = blocks_grow (program_context text files.0) p.block (required ∷ []) (program_start files.0) nothing_gathered whole.0 (map OfFile p.parameters) (root_ready text p files.0 made whole.0 files.1 whole.1 whole.2) whole.1 in
+    let limits = made_length whole.0 made whole.2 in
+    let count = grown.count in
+    let drawn = grown.drawn in
+    let m = limits.0 in
+    let n = ap length domains in
+    record {
+      files = files.0;
+      listed = files.1;
+      block = all_reads text p files.0 made whole.0.gathered final domains p.block [] (root_there text p files.0 made whole.0 files.1 whole.1 whole.2);
+      routines = omega (arith, count, m);
+      domains = omega (arith, drawn, n);
+      limits = limits.1;
+    }

@@ -8,7 +8,8 @@ use Rattle.ps_syntax.specs.declared.program.Routine.TheOpen.{Routine-F}
 use Rattle.ps_syntax.specs.declared.program.Routine.TheFolds.{fold-roll-Routine}
 use Rattle.ps_regions.specs.Spelling.{spelled, same, has}
 use Rattle.ps_regions.specs.Regions.{Context}
-use Rattle.ps_check.specs.Blocks.{RoutineReading, BlockReading, heading_name, routine_step, block_step, block, routine}
+use Rattle.ps_check.specs.Readings.{RoutineReading, BlockReading, heading_name}
+use Rattle.ps_check.specs.Blocks.{routine_step, block_step, block, routine}
 use Rattle.ps_check.specs.Paths.{layer_block, routine_block}
 use Rattle.ps_names.specs.Definitions.{InPart, layer_name, routine_name, layer_heading, routine_heading, routine_names, introduced_from, introduced}
 use Rattle.ps_names.specs.Denoting as denoting

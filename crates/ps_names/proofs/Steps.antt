@@ -16,15 +16,22 @@ use Rattle.ps_declare.specs.Denoters.{Frame}
 use Rattle.ps_declare.specs.Declarations.{meaning_of_constant}
 use Rattle.ps_declare.specs.Headings as headings
 use Rattle.ps_declare.specs.Headings.{heading, section_list, formal_meanings}
-use Rattle.ps_check.specs.Blocks.{Gathered, Start, Done, Routines, RoutineReading, heading_name, heading_list, may_complete, add_routine, is_vacant, is_open, is_same_kind, is_waiting, first_entry, start, routine_tree, is_small_routine, finished, heading_at, new_heading, introduce, read_block, one_routine, block, routine}
-use Rattle.ps_check.specs.Changes.{assigns}
+use Rattle.ps_check.specs.Readings.{Gathered, Start, Done, Routines, RoutineReading, heading_name, heading_list}
+use Rattle.ps_check.specs.Forwards.{may_complete, add_routine, is_vacant, is_open, is_same_kind, is_waiting}
+use Rattle.ps_check.specs.Entries.{first_entry, start}
+use Rattle.ps_check.specs.Blocks.{routine_tree, is_small_routine, finished, heading_at, new_heading, introduce, read_block, one_routine, block, routine}
+use Rattle.ps_check.specs.Threats.{assigns}
 use Rattle.ps_check.specs.Paths.{routine_block}
 use Rattle.ps_names.specs.Definitions.{Declaration, Declarations, OfFile, OfFormal, OfConstant, OfEnumeration, OfType, OfVariable, Definition, OfDeclaration, OfRoutine, InPart, numbered, formal_points, formal_declarations, routine_name, routine_heading, routine_names, introduced, of_routine, point, names_of, as_routine}
 use Rattle.ps_names.specs.Denoting.{counted, headings_within}
 use Rattle.ps_names.specs.Meanings.{Declares, Defines, IsHeading}
 use Rattle.ps_declare.specs.Points as points_of
 use Rattle.ps_names.proofs.Lists.{or_false, none_some, inside, then_some, provided_some, never, get_below, there_is, get_left, get_stays, get_at, get_end, take_whole, set_same, set_other, set_length, Each, each_at, has_append, there_place, new_place}
+use Rattle.ps_names.specs.Counts.{sum, routine_domains, block_domains}
+use Rattle.ps_names.proofs.Drawn.{inner_domains as inner_drawn, domains_are as drawn_are, sum_last}
 use Rattle.ps_names.proofs.Declared.{Standing, Stand, one_more_stands}
+use Rattle.ps_check.specs.RegionNames.{AreApart}
+use Rattle.ps_names.proofs.Apart.{start_apart}
 use Rattle.ps_names.proofs.Formals.{IsPlain, formals_plain, points_told, Begins, begun, formals_stand}
 use Rattle.ps_names.proofs.Routines.{same_equal, same_itself, or_true, read, heading_named, count_is, inner_count, sp, introduced_last, own, counts, counted_last}
 
@@ -46,11 +53,12 @@ pub longer_both : (g h j : Gathered) → Longer g h → Longer h j → Longer g 
 longer_both g h j a b = (a.0 ++ b.0, b.1 ∙ ap (λ l. l ++ b.0) a.1 ∙ append_assoc g.domains a.0 b.0)
 
 -- so many headings more
-pub record Grown (g h : Gathered) (n : ℕ) : Type 0 where
+pub record Grown (g h : Gathered) (n m : ℕ) : Type 0 where
   pub count : length h.routines ≡ length g.routines + n
   pub keeps : Keeps g h
   pub lower : Same (length g.routines) g h
   pub domains : Longer g h
+  pub drawn : length h.domains ≡ length g.domains + m
 
 or_vacant : Option (Option Tree.Routine) → Option Tree.Routine
 or_vacant None = None
@@ -64,6 +72,10 @@ vacant_is None e = never e
 pub not_both : (o : Option (Option Tree.Routine)) (x : Tree.Routine) → o ≡ Some None → o ≡ Some (Some x) → ⊥
 unfolding or_vacant
 not_both o x e f = none_some (ap or_vacant (sym e ∙ f))
+
+pub none_stays : {A B : Type 0} (g : A → B) (o : Option A) → is_none (option_map g o) ≡ is_none o
+none_stays g None = refl
+none_stays g (Some x) = refl
 
 -- ---- no declaration is a routine
 
@@ -117,23 +129,23 @@ module _ (text : List ℕ) where
   in_part (d ∷ D) I zero j q e = absurd (none_some (ap (λ (o : Option Definition). o >>= as_routine) e))
   in_part (d ∷ D) I (suc i) j q e = in_part D I i j q e
 
-  points_last : (D : Declarations) (I : List InPart) (k : ℕ) (x : Routine) → points D (I ++ (k, x) ∷ []) ≡ points D I ++ OfRoutine k x ∷ []
+  pub points_last : (D : Declarations) (I : List InPart) (k : ℕ) (x : Routine) → points D (I ++ (k, x) ∷ []) ≡ points D I ++ OfRoutine k x ∷ []
   points_last D I k x = ap (λ l. map OfDeclaration D ++ l) (map-append of_routine I ((k, x) ∷ [])) ∙ sym (append_assoc (map OfDeclaration D) (map of_routine I) (OfRoutine k x ∷ []))
 
-  points_names : (D : Declarations) (I : List InPart) → names_of text (points D I) ≡ names_of text (map OfDeclaration D) ++ names_of text (map of_routine I)
+  pub points_names : (D : Declarations) (I : List InPart) → names_of text (points D I) ≡ names_of text (map OfDeclaration D) ++ names_of text (map of_routine I)
   unfolding names_of
   points_names D I = map-append (λ d. spelled text (point d)) (map OfDeclaration D) (map of_routine I)
 
-  routines_names : (I : List InPart) → names_of text (map of_routine I) ≡ routine_names text I
+  pub routines_names : (I : List InPart) → names_of text (map of_routine I) ≡ routine_names text I
   unfolding names_of routine_names
   routines_names [] = refl
   routines_names (y ∷ I) = ap (λ l. sp text y.1 ∷ l) (routines_names I)
 
-  points_names_last : (ds : List Definition) (k : ℕ) (x : Routine) → names_of text (ds ++ OfRoutine k x ∷ []) ≡ names_of text ds ++ sp text x ∷ []
+  pub points_names_last : (ds : List Definition) (k : ℕ) (x : Routine) → names_of text (ds ++ OfRoutine k x ∷ []) ≡ names_of text ds ++ sp text x ∷ []
   unfolding names_of
   points_names_last ds k x = map-append (λ d. spelled text (point d)) ds (OfRoutine k x ∷ [])
 
-  names_length : (ds : List Definition) → length (names_of text ds) ≡ length ds
+  pub names_length : (ds : List Definition) → length (names_of text ds) ≡ length ds
   unfolding names_of
   names_length [] = refl
   names_length (d ∷ ds) = ap suc (names_length ds)
@@ -171,15 +183,16 @@ all_more text (r ∷ rs) xs ys e =
 -- a block begins with its first points, which mean what they declare
 pub record Ready (text : List ℕ) (outer : List Region) (s : Start) (D : Declarations) : Type 0 where
   pub names : s.names ≡ names_of text (map OfDeclaration D)
+  pub apart : AreApart s.names
   pub stands : (number : ℕ) (names : List (List ℕ)) (first : ℕ) (numbers : ℕ → ℕ) → Stand (record { text = text; routine = number; names = names; outer = outer }) first numbers D s.known
 
 abbrev pub BlockGrows : Context → syntax_block.Block → Type 0
-BlockGrows c b = (outer : List Region) (s : Start) (g : Gathered) (d : Done) (D : Declarations) → Ready c.text outer s D → block c b outer s g ≡ Some d → Grown g d.gathered (headings_within c.text b)
+BlockGrows c b = (outer : List Region) (s : Start) (g : Gathered) (d : Done) (D : Declarations) → Ready c.text outer s D → block c b outer s g ≡ Some d → Grown g d.gathered (headings_within c.text b) (block_domains b)
 
 abbrev pub RoutineGrows : Context → Routine → Type 0
 RoutineGrows c x = (b : syntax_block.Block) → routine_block x ≡ Some b → BlockGrows c b
 
-formals_names : (text : List ℕ) (x : syntax.Heading) (n : ℕ) (names : List Span) → names_of text (map OfDeclaration (numbered (OfFormal x) n names)) ≡ map (spelled text) names
+pub formals_names : (text : List ℕ) (x : syntax.Heading) (n : ℕ) (names : List Span) → names_of text (map OfDeclaration (numbered (OfFormal x) n names)) ≡ map (spelled text) names
 unfolding names_of
 formals_names text x n [] = refl
 formals_names text x n (name ∷ names) = ap (λ l. spelled text name ∷ l) (formals_names text x (n + 1) names)
@@ -187,7 +200,7 @@ formals_names text x n (name ∷ names) = ap (λ l. spelled text name ∷ l) (fo
 pub found_at : (up : ℕ) (known : List Meaning) (i : ℕ) (m : Meaning) (o : Option ℕ) (outside : Option Point) → o ≡ Some i → slice_get known i ≡ Some m → in_block up known o outside ≡ Some (BlockPoint up m)
 found_at up known i m o outside e g = ap (λ q. in_block up known q outside) e ∙ ap (option_map (BlockPoint up)) g
 
-module _ (c : Context) (number : ℕ) (names : List (List ℕ)) (outer : List Region) (first : ℕ) (chain : List ℕ) (D : Declarations) (base : ℕ) (all : List Routine) where
+module _ (c : Context) (number : ℕ) (names : List (List ℕ)) (outer : List Region) (first : ℕ) (chain : List ℕ) (D : Declarations) (base drawn : ℕ) (all : List Routine) where
   abbrev pub f : Frame
   f = record { text = c.text; routine = number; names = names; outer = outer }
 
@@ -201,6 +214,7 @@ module _ (c : Context) (number : ℕ) (names : List (List ℕ)) (outer : List Re
   pub record At (done : List Routine) (r : Routines) : Type 0 where
     pub stands : Standing f first numbers (before done) r.known
     pub count : length r.gathered.routines ≡ base + counted c.text [] (counts c.text done)
+    pub drawn_so : length r.gathered.domains ≡ drawn + sum (map routine_domains done)
 
   -- a heading is that of a name before, which the routine completes, or it is new
   pub data How (done : List Routine) (x : Routine) (r s : Routines) (index : ℕ) (by : Routine) (heading : Heading) : Type 0 where
@@ -308,7 +322,7 @@ module _ (c : Context) (number : ℕ) (names : List (List ℕ)) (outer : List Re
         let longer : before (done ++ x ∷ []) ≡ before done ++ OfRoutine k x ∷ [] = ap (points c.text D) grows ∙ points_last c.text D I k x in
         let made_is : made ≡ s = inside made s g.2 in
         let result : HasHeading done x r made index = record {
-          stands = subst (λ l. Standing f first numbers l made.known) (sym longer) (one_more_stands f first numbers (before done) r.known (OfRoutine k x) (RoutineMeaning h) at.stands (h, xh, refl, number_is, is_said, is_heading));
+          stands = subst (λ l. Standing f first numbers l made.known) (sym longer) (one_more_stands f first numbers (before done) r.known (OfRoutine k x) (RoutineMeaning h) at.stands (h, xh, refl, number_is, is_said, is_heading, ap is_none (read c x).block_is ∙ none_stays (block c) (routine_block x)));
           count = length-append r.gathered.routines (None ∷ []) ∙ ap (λ b. length r.gathered.routines + (if b then 0 else 1)) (sym absent);
           keeps = λ j y z. get_stays r.gathered.routines (None ∷ []) j (Some y) z;
           lower = λ n l. get_left r.gathered.routines (None ∷ []) n l;
@@ -370,6 +384,8 @@ module _ (c : Context) (number : ℕ) (names : List (List ℕ)) (outer : List Re
     pub assigned : assigns (length inner.chain) heading.result done.body (drop (length gathered.routines) done.gathered.routines) ≡ true
     -- the routines within the block have theirs too
     pub inner_domains : Longer done.gathered w.gathered
+    pub drawn_so : length gathered.domains ≡ drawn + sum (map routine_domains (take n all))
+    pub known_more : (more : List Meaning) × (w.known ≡ known ++ more)
     pub inner_keeps : (m : ℕ) (y : Tree.Routine) → length gathered.routines ≤ m → slice_get done.gathered.routines m ≡ Some (Some y) → slice_get w.gathered.routines m ≡ Some (Some y)
 
   module _ (done rest : List Routine) (x : Routine) (r s w : Routines) (split : all ≡ done ++ x ∷ rest) (at : At done r) (grows : RoutineGrows c x) (index : ℕ) (found : place names (sp c.text x) ≡ Some index) (intro : HasHeading done x r s index) where
@@ -401,6 +417,7 @@ module _ (c : Context) (number : ℕ) (names : List (List ℕ)) (outer : List Re
       keeps : Keeps s.gathered w.gathered
       others : Others s.gathered w.gathered intro.heading.number
       domains : Longer s.gathered w.gathered
+      drawn_more : length w.gathered.domains ≡ length s.gathered.domains + block_domains b
       made : (y : Tree.Routine) × (slice_get w.gathered.routines intro.heading.number ≡ Some (Some y))
 
     within : (b : syntax_block.Block) → routine_block x ≡ Some b → read_block f chain index s (Some (block c b)) ≡ Some w → WithinBlock b
@@ -421,6 +438,7 @@ module _ (c : Context) (number : ℕ) (names : List (List ℕ)) (outer : List Re
         let set : List (Option Tree.Routine) = slice_set d.0.gathered.routines h.0.number (Some small.0) in
         let g_is : record { domains = d.0.gathered.domains; routines = set } ≡ g.0 = inside (record { domains = d.0.gathered.domains; routines = set }) g.0 small.2 in
         let ready : Ready c.text Γ st.0 (formal_declarations intro.said) = record {
+          apart = start_apart chain h.0 st.0 st.1;
           names = begins.names ∙ intro.is.names ∙ sym (formals_names c.text intro.said 0 (formal_points intro.said));
           stands = λ number' names' first' numbers'. formals_stand (record { text = c.text; routine = number'; names = names'; outer = Γ }) first' numbers' intro.said intro.heading st.0.known denoted begins.known begins.many;
         } in
@@ -459,6 +477,8 @@ module _ (c : Context) (number : ℕ) (names : List (List ℕ)) (outer : List Re
             made = made;
             assigned = ap (λ (z : Heading). assigns (length st.0.chain) z.result d.0.body (drop (length s.gathered.routines) d.0.gathered.routines)) same_heading ∙ t_is.0;
             inner_domains = ([], domains_are ∙ sym (append-nil d.0.gathered.domains));
+            drawn_so = ap length intro.domains ∙ at.drawn_so ∙ ap (λ l. drawn + sum (map routine_domains l)) (sym taken);
+            known_more = ([], ap (λ (z : Routines). z.known) (sym w_is) ∙ sym (append-nil s.known));
             inner_keeps = λ m y le k. ap (λ l. slice_get l m) routines_are ∙ set_other d.0.gathered.routines m h.0.number (Some small.0) (λ q. omega (arith, q, below, le)) ∙ k;
           };
           known_same = ap (λ (z : Routines). z.known) (sym w_is);
@@ -466,6 +486,7 @@ module _ (c : Context) (number : ℕ) (names : List (List ℕ)) (outer : List Re
           keeps = λ n y k. ap (λ l. slice_get l n) routines_are ∙ set_other d.0.gathered.routines n h.0.number (Some small.0) (λ q. not_both (slice_get s.gathered.routines n) y (ap (slice_get s.gathered.routines) q ∙ vacant) k) ∙ inner.keeps n y k;
           others = λ n l differs. ap (λ l. slice_get l n) routines_are ∙ set_other d.0.gathered.routines n h.0.number (Some small.0) (λ q. differs (q ∙ ap (λ (z : Heading). z.number) (sym same_heading))) ∙ inner.lower n l;
           domains = (inner.domains.0, domains_are ∙ inner.domains.1);
+          drawn_more = ap length domains_are ∙ inner.drawn;
           made = (routine_tree st.0.chain intro.heading d.0, made);
         }
 
@@ -491,6 +512,14 @@ module _ (c : Context) (number : ℕ) (names : List (List ℕ)) (outer : List Re
         let b = intro.count in
         omega (arith, e, is, last, inner, a, b)
 
+    drawn_step : (n : ℕ) → inner_drawn (routine_block x) ≡ n → length w.gathered.domains ≡ length s.gathered.domains + n → length w.gathered.domains ≡ drawn + sum (map routine_domains (done ++ x ∷ []))
+    drawn_step n is e =
+        let last = sum_last done x in
+        let inner = drawn_are x in
+        let a = at.drawn_so in
+        let b = ap length intro.domains in
+        omega (arith, e, is, last, inner, a, b)
+
     known_by : How done x r s index intro.by intro.heading → (more : List Meaning) × (s.known ≡ r.known ++ more)
     known_by (completing here same_routines alike) = ([], ap (λ (z : Routines). z.known) (sym same_routines) ∙ sym (append-nil r.known))
     known_by (introducing is last known numbered) = (RoutineMeaning intro.heading ∷ [], known)
@@ -503,6 +532,7 @@ module _ (c : Context) (number : ℕ) (names : List (List ℕ)) (outer : List Re
           behind = record {
             stands = subst (λ (z : Routines). Standing f first numbers (before (done ++ x ∷ [])) z.known) same_routines intro.stands;
             count = counted_step 0 (ap (inner_count c.text) is) (ap (λ (z : Routines). length z.gathered.routines) (sym same_routines) ∙ (let n = length s.gathered.routines in let z : n ≡ n + 0 = omega arith in z));
+            drawn_so = drawn_step 0 (ap inner_drawn is) (ap (λ (z : Routines). length z.gathered.domains) (sym same_routines) ∙ (let n = length s.gathered.domains in let z : n ≡ n + 0 = omega arith in z));
           };
           keeps = subst (λ (z : Routines). Keeps r.gathered z.gathered) same_routines intro.keeps;
           known_same = ap (λ (z : Routines). z.known) (sym same_routines);
@@ -520,6 +550,7 @@ module _ (c : Context) (number : ℕ) (names : List (List ℕ)) (outer : List Re
           behind = record {
             stands = subst (Standing f first numbers (before (done ++ x ∷ []))) (sym in_block.known_same) intro.stands;
             count = counted_step (headings_within c.text b) (ap (inner_count c.text) is) in_block.count;
+            drawn_so = drawn_step (block_domains b) (ap inner_drawn is) in_block.drawn_more;
           };
           keeps = λ n y k. in_block.keeps n y (intro.keeps n y k);
           known_same = in_block.known_same;
@@ -580,8 +611,8 @@ module _ (c : Context) (number : ℕ) (names : List (List ℕ)) (outer : List Re
         let intro = intro_by (has so_far (sp c.text x)) refl i.0 s.0 found s.1 in
         record { names_are = names_to ∙ sym intro.names_so; index = i.0; introduced_to = s.0; found = found; intro = intro; reading = ap (read_block f chain i.0 s.0) (sym (read c x).block_is) ∙ s.2; may = may_so }
 
-  nested_keeps : (n : ℕ) (x : Routine) (b : syntax_block.Block) (w v : Routines) → Keeps w.gathered v.gathered → Longer w.gathered v.gathered → Nested n x b w → Nested n x b v
-  nested_keeps n x b w v k more t = record {
+  nested_keeps : (n : ℕ) (x : Routine) (b : syntax_block.Block) (w v : Routines) → Keeps w.gathered v.gathered → Longer w.gathered v.gathered → ((later : List Meaning) × (v.known ≡ w.known ++ later)) → Nested n x b w → Nested n x b v
+  nested_keeps n x b w v k more later t = record {
     known = t.known;
     inner = t.inner;
     gathered = t.gathered;
@@ -605,6 +636,8 @@ module _ (c : Context) (number : ℕ) (names : List (List ℕ)) (outer : List Re
     made = k t.heading.number (routine_tree t.inner.chain t.heading t.done) t.made;
     assigned = t.assigned;
     inner_domains = longer_both t.done.gathered w.gathered v.gathered t.inner_domains more;
+    drawn_so = t.drawn_so;
+    known_more = (t.known_more.0 ++ later.0, later.1 ∙ ap (λ l. l ++ later.0) t.known_more.1 ∙ append_assoc t.known t.known_more.0 later.0);
     inner_keeps = λ m y le z. k m y (t.inner_keeps m y le z);
   }
 
@@ -618,14 +651,14 @@ module _ (c : Context) (number : ℕ) (names : List (List ℕ)) (outer : List Re
     pub known_more : (more : List Meaning) × (w.known ≡ r.known ++ more)
     pub nested : (k : ℕ) (x : Routine) (b : syntax_block.Block) → slice_get rs k ≡ Some x → routine_block x ≡ Some b → Nested (length done + k) x b w
 
-  nested_at : (done rs : List Routine) (x : Routine) (w v : Routines) → ((b : syntax_block.Block) → routine_block x ≡ Some b → Nested (length done) x b w) → Keeps w.gathered v.gathered → Longer w.gathered v.gathered
+  nested_at : (done rs : List Routine) (x : Routine) (w v : Routines) → ((b : syntax_block.Block) → routine_block x ≡ Some b → Nested (length done) x b w) → Keeps w.gathered v.gathered → Longer w.gathered v.gathered → ((later : List Meaning) × (v.known ≡ w.known ++ later))
       → ((k : ℕ) (y : Routine) (b : syntax_block.Block) → slice_get rs k ≡ Some y → routine_block y ≡ Some b → Nested (length (done ++ x ∷ []) + k) y b v)
       → (k : ℕ) (y : Routine) (b : syntax_block.Block) → slice_get (x ∷ rs) k ≡ Some y → routine_block y ≡ Some b → Nested (length done + k) y b v
-  nested_at done rs x w v one keeps longer further zero y b e is =
+  nested_at done rs x w v one keeps longer later further zero y b e is =
       let same_routine : x ≡ y = inside x y e in
       let n : length done ≡ length done + 0 = omega arith in
-      subst (λ m. Nested m y b v) n (subst (λ z. Nested (length done) z b v) same_routine (nested_keeps (length done) x b w v keeps longer (one b (ap routine_block same_routine ∙ is))))
-  nested_at done rs x w v one keeps longer further (suc k) y b e is =
+      subst (λ m. Nested m y b v) n (subst (λ z. Nested (length done) z b v) same_routine (nested_keeps (length done) x b w v keeps longer later (one b (ap routine_block same_routine ∙ is))))
+  nested_at done rs x w v one keeps longer later further (suc k) y b e is =
       let l = length-append done (x ∷ []) in
       let n : length (done ++ x ∷ []) + k ≡ length done + suc k = omega (arith, l) in
       subst (λ m. Nested m y b v) n (further k y b e is)
@@ -662,5 +695,5 @@ module _ (c : Context) (number : ℕ) (names : List (List ℕ)) (outer : List Re
             further.lower n l ∙ step.others n (omega (arith, l, many, longer)) (λ q. omega (arith, q, own_number, l)) ∙ taken.intro.lower n (omega (arith, l, many));
         domains = longer_both r.gathered v.0.gathered w.gathered step.domains further.domains;
         known_more = (step.known_more.0 ++ further.known_more.0, further.known_more.1 ∙ ap (λ l. l ++ further.known_more.0) step.known_more.1 ∙ append_assoc r.known step.known_more.0 further.known_more.0);
-        nested = nested_at done rs x v.0 w step.nested further.keeps further.domains further.nested;
+        nested = nested_at done rs x v.0 w step.nested further.keeps further.domains further.known_more further.nested;
       }

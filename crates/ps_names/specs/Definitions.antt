@@ -18,7 +18,7 @@ use Rattle.ps_syntax.specs.declared.program.Routine.TheOpen.{Routine-F}
 use Rattle.ps_regions.specs.Option.{◌>>=◌}
 use Rattle.ps_regions.specs.Spelling.{spelled, has, place}
 use Rattle.ps_declare.specs.Points.{Points, all}
-use Rattle.ps_check.specs.Blocks.{HeadingLayer, heading_name, heading_list}
+use Rattle.ps_check.specs.Readings.{HeadingLayer, heading_name, heading_list}
 
 -- what defines a name
 pub data Declaration : Type 0 where

@@ -9,7 +9,7 @@ use Rattle.ps_syntax.specs.declared.program.Routine.TheFolds.{fold-Block, fold-R
 use Rattle.ps_syntax.specs.declared.program.Program as syntax
 use Rattle.ps_regions.specs.Option.{◌>>=◌}
 use Rattle.ps_regions.specs.Spelling.{spelled, has, place}
-use Rattle.ps_check.specs.Blocks.{heading_name}
+use Rattle.ps_check.specs.Readings.{heading_name}
 use Rattle.ps_check.specs.Paths.{block_at}
 use Rattle.ps_names.specs.Definitions.{Declarations, OfFile, Definition, formal_declarations, entries_before, definitions_of, names_of, introducer, heading_of, routine_name, routine_names, introduced, points_before}
 

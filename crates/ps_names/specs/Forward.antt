@@ -8,7 +8,7 @@ use Rattle.ps_syntax.specs.declared.program.Routine.TheOpen.{Routine-F}
 use Rattle.ps_syntax.specs.declared.program.Program as syntax
 use Rattle.ps_tree.specs.Tree as Tree
 use Rattle.ps_regions.specs.Spelling.{spelled}
-use Rattle.ps_check.specs.Blocks.{HeadingLayer, is_bare}
+use Rattle.ps_check.specs.Readings.{HeadingLayer, is_bare}
 use Rattle.ps_check.specs.Paths.{block_at}
 use Rattle.ps_check.specs.Programs.{program}
 use Rattle.ps_names.specs.Definitions.{routine_name}
@@ -46,5 +46,9 @@ pub record AreCompleted (text : List ℕ) (rs : List Routine) : Type 0 where
   pub each : (k : ℕ) (x : Routine) (h : Heading) → slice_get rs k ≡ Some x → out-Routine x ≡ Routine-F.Forward h → HasBlock text rs k x
   pub only : (k j : ℕ) (x y : Routine) → k < j → slice_get rs k ≡ Some x → slice_get rs j ≡ Some y → spelled text (routine_name y) ≡ spelled text (routine_name x) → Completes text x y
 
+-- so in each block
+abbrev pub BlocksAreCompleted : List ℕ → syntax.Program → Type 0
+BlocksAreCompleted text p = (v : List ℕ) (b : Block) → block_at p.block v ≡ Some b → AreCompleted text (out-Block b).routines
+
 abbrev pub ForwardHeadingsHaveBlocks : Type 0
-ForwardHeadingsHaveBlocks = (text : List ℕ) (p : syntax.Program) (made : Tree.Program) → program text p ≡ Some made → (v : List ℕ) (b : Block) → block_at p.block v ≡ Some b → AreCompleted text (out-Block b).routines
+ForwardHeadingsHaveBlocks = (text : List ℕ) (p : syntax.Program) (made : Tree.Program) → program text p ≡ Some made → BlocksAreCompleted text p

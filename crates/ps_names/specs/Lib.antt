@@ -4,4 +4,10 @@ pub mod Within
 pub mod Domains
 pub mod Meanings
 pub mod Uses
+pub mod Occurrences
+pub mod InStatements
+pub mod InDeclarations
+pub mod Read
 pub mod Forward
+pub mod Counts
+pub mod Rule

@@ -1,7 +1,8 @@
 //! What a name denotes, told of the whole tree (ISO 7185, 6.2.2): laws of the checked program.
 #![tactic(auto)]
 
-ghost use Rattle.ps_names.specs.Meanings.{NamesMeanTheirPoints, ReadProgramsAreChecked};
+ghost use Rattle.ps_names.specs.Read.{NamesMeanTheirPoints};
+ghost use Rattle.ps_names.specs.Rule.{CheckedProgramsAreRead, ReadProgramsAreChecked, OneProgramIsRead};
 ghost use Rattle.ps_names.specs.Forward.{ForwardHeadingsHaveBlocks};
 ghost use Rattle.ps_names.specs.Uses.{UsesFindWhatTheyDenote, WhatIsDenotedIsFound, OnePointIsDenoted};
 
@@ -32,7 +33,18 @@ pub fn one_point_is_denoted()
     ensures { OnePointIsDenoted }
 {}
 
-/// A program whose blocks are so read has that checked tree: where the checker has none, no program is so read.
+/// A tree that has a checked program is read as that program: block by block each defining point has one meaning, which
+/// is what its definition says, and each block keeps the rules where the names mean that.
+pub fn checked_programs_are_read()
+    ensures { CheckedProgramsAreRead }
+{}
+
+/// No other program is so read: where the checker has none, the tree is read as no program.
 pub fn read_programs_are_checked()
     ensures { ReadProgramsAreChecked }
+{}
+
+/// A tree is read as one program at most.
+pub fn one_program_is_read()
+    ensures { OneProgramIsRead }
 {}

@@ -1,4 +1,4 @@
-use Rattle.ps_names.proofs.Paths.{read_programs_are_checked}
+use Rattle.ps_names.proofs.Programs.{read_programs_are_checked}
 use Rattle.ps_names.proofs.read_programs_are_checked.Goals as goal
 
 pub returns : goal.returns

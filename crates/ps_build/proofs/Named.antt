@@ -1,0 +1,29 @@
+-- What names denote in accepted and in refused texts.
+use Rattle.std.proofs.Common.{ℕ, List, sym, ◌∙◌}
+use Rattle.ps_tree.specs.Tree as Tree
+use Rattle.ps_names.proofs.Lists.{none_some}
+use Rattle.ps_names.proofs.Paths.{names_mean_their_points, forward_headings_have_blocks, checked_programs_are_read}
+use Rattle.ps_names.proofs.Programs.{read_programs_are_checked}
+use Rattle.ps_build.specs.Accepts.{IsProgramOf}
+use Rattle.ps_build.specs.Names.{NamesAreMeant, NamesOfBuiltTexts, NamesOfRefusedTexts}
+
+named : (text : List ℕ) (checked : Tree.Program) → IsProgramOf text checked → NamesAreMeant text checked
+named text checked is = record {
+  tokens = is.accepts.tokens;
+  tree = is.accepts.tree;
+  parsed = is.accepts.parsed;
+  is_read = checked_programs_are_read text is.accepts.tree checked is.accepts.checks;
+  read = names_mean_their_points text is.accepts.tree checked is.accepts.checks;
+  completed = forward_headings_have_blocks text is.accepts.tree checked is.accepts.checks;
+}
+
+pub names_are_meant : NamesOfBuiltTexts
+names_are_meant text bytes compiles = named text compiles.checked compiles.program
+
+pub refused_names_are_not_meant : NamesOfRefusedTexts
+refused_names_are_not_meant text rule line refused = record {
+  tokens = refused.tokens;
+  tree = refused.tree;
+  parsed = refused.parsed;
+  unread = λ others other made parsed read. none_some (sym (refused.none others other parsed) ∙ read_programs_are_checked text other made read);
+}
