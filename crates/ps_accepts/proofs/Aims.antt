@@ -16,7 +16,7 @@ use Rattle.ps_tree.specs.Types.{DataType}
 use Rattle.ps_tree.specs.Tree as Tree
 use Rattle.ps_layout.specs.Shapes.{Shape}
 use Rattle.ps_code.specs.Scopes.{Scope}
-use Rattle.ps_code.specs.Fits.{StatementsFit}
+use Rattle.ps_accepts.proofs.Tidy.{StatementsSound}
 use Rattle.ps_regions.specs.Regions.{Context, Region, Meaning, ConstantMeaning, TextMeaning, TypeMeaning, VariableMeaning}
 use Rattle.ps_declare.specs.Denoters.{Frame, Declared}
 use Rattle.ps_declare.specs.Declarations.{declarations}
@@ -45,7 +45,7 @@ abbrev pub StatementsTell : Type 0
 StatementsTell =
     (c : Context) (Γ : List Region) (D : Table) (k : Scope) (os : List Shape) → Here c Γ D k os
     → (n : ℕ) (xs : List Statement) (ts r : Tokens) → IsSequence (statement_within n) xs ts r
-    → (ss : Tree.Statements) → statements c Γ xs ≡ Some ss → StatementsFit k os ss
+    → (ss : Tree.Statements) → statements c Γ xs ≡ Some ss → StatementsSound k os ss
 
 -- ---- constants, types and variables of a block
 

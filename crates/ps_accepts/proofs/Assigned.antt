@@ -10,7 +10,9 @@ use Rattle.ps_layout.specs.Shapes.{Shape, shape_of, Whole}
 use Rattle.ps_layout.specs.Paths.{NumberSort, PointerSort}
 use Rattle.ps_layout.specs.Frames.{Own, entries, result_kinds, listed_kinds, kinds_of, variable_kinds}
 use Rattle.ps_code.specs.Scopes.{Scope}
-use Rattle.ps_code.specs.Fits.{PlaceFits, RangeFits, StatementFits, IsStructure, shape_in}
+use Rattle.ps_code.specs.Fits.{RangeFits, IsStructure, shape_in}
+use Rattle.tac_code.specs.Sound.{IsLine}
+use Rattle.ps_accepts.proofs.Tidy.{ExprSound, PlaceSound, StatementSound}
 use Rattle.ps_regions.specs.Regions.{Context, Region, BlockRegion, RecordRegion, FieldNames, Point, BlockPoint, FieldPoint, Heading, ConstantMeaning, TextMeaning, TypeMeaning, VariableMeaning, ParameterMeaning, RoutineMeaning, RoutineParameterMeaning, RequiredMeaning, FileMeaning, LeftOutMeaning}
 use Rattle.ps_typing.specs.Names.{denoted}
 use Rattle.ps_typing.specs.Values.{Value, SimpleValue, SetValue, StructureValue, Variable, Operand, range_of}
@@ -138,27 +140,32 @@ module _ (D : Table) (k : Scope) (os : List Shape) where
   range_there o true known small = small refl
   range_there o false known small = (known.low, known.high, not_or (fits_byte (OrdinalType o)))
 
-  simple_assigned : (p : Place) (b : Bool) (type from : DataType) (e : Expr) (line : ℕ) → TypeKnown D (bound_of k) type → (b ≡ true → fits_byte type ≡ true) → PlaceFits k os p (part_of b type) → SimpleTold D k os e from → is_compatible from type ≡ true → StatementFits k os (Assign p (range_of type) e line)
+  pointer_assigned : (p : Place) (b : Bool) (n : ℕ) (e : Expr) (line : ℕ) → IsLine line → (b ≡ true → fits_byte (PointerType n) ≡ true) → PlaceSound k os p (part_of b (PointerType n)) → ExprSound k os e (PointerSort n) → StatementSound k os (Assign p (range_of (PointerType n)) e line)
+  pointer_assigned p b n e line ln small fits h =
+      let w = whole_fits D k os p (PointerType n) b fits (no_byte b small) in
+      ((Whole (shape_of (PointerType n)), w.0, tt, (PointerSort n, refl, h.0)), (w.1, h.1, tt, ln))
+
+  simple_assigned : (p : Place) (b : Bool) (type from : DataType) (e : Expr) (line : ℕ) → IsLine line → TypeKnown D (bound_of k) type → (b ≡ true → fits_byte type ≡ true) → PlaceSound k os p (part_of b type) → SimpleTold D k os e from → is_compatible from type ≡ true → StatementSound k os (Assign p (range_of type) e line)
   unfolding is_compatible is_same_type string_length
-  simple_assigned p b (OrdinalType o) (OrdinalType q) e line known small fits h g = (part_of b (OrdinalType o), fits, range_there o b known small, (NumberSort, number_part D k os o b, h.1))
-  simple_assigned p b (PointerType n) (PointerType m) e line known small fits h g = (Whole (shape_of (PointerType n)), whole_fits D k os p (PointerType n) b fits (no_byte b small), tt, (PointerSort n, refl, pointer_of_same D k os m n e g h.1))
-  simple_assigned p b (PointerType n) NilType e line known small fits h g = (Whole (shape_of (PointerType n)), whole_fits D k os p (PointerType n) b fits (no_byte b small), tt, (PointerSort n, refl, h n))
-  simple_assigned p b (OrdinalType o) (PointerType m) e line known small fits h g = never g
-  simple_assigned p b (OrdinalType o) NilType e line known small fits h g = never g
-  simple_assigned p b (PointerType n) (OrdinalType q) e line known small fits h g = never g
-  simple_assigned p b (SetType d l o) (OrdinalType q) e line known small fits h g = never g
-  simple_assigned p b (SetType d l o) (PointerType m) e line known small fits h g = never g
-  simple_assigned p b (SetType d l o) NilType e line known small fits h g = never g
-  simple_assigned p b (ArrayType at l i t) (OrdinalType q) e line known small fits h g = never g
-  simple_assigned p b (ArrayType at l i t) (PointerType m) e line known small fits h g = never g
-  simple_assigned p b (ArrayType at l i t) NilType e line known small fits h g = never g
-  simple_assigned p b (RecordType at l fs) (OrdinalType q) e line known small fits h g = never g
-  simple_assigned p b (RecordType at l fs) (PointerType m) e line known small fits h g = never g
-  simple_assigned p b (RecordType at l fs) NilType e line known small fits h g = never g
-  simple_assigned p b NilType from e line known small fits h g = absurd known
-  simple_assigned p b EmptySetType from e line known small fits h g = absurd known
-  simple_assigned p b (TextType n) from e line known small fits h g = absurd known
-  simple_assigned p b type from e line known small fits h g = absurd h
+  simple_assigned p b (OrdinalType o) (OrdinalType q) e line ln known small fits h g = ((part_of b (OrdinalType o), fits.0, range_there o b known small, (NumberSort, number_part D k os o b, h.1.0)), (fits.1, h.1.1, (known.low, known.high), ln))
+  simple_assigned p b (PointerType n) (PointerType m) e line ln known small fits h g = pointer_assigned p b n e line ln small fits (pointer_of_same D k os m n e g h.1)
+  simple_assigned p b (PointerType n) NilType e line ln known small fits h g = pointer_assigned p b n e line ln small fits (h n)
+  simple_assigned p b (OrdinalType o) (PointerType m) e line ln known small fits h g = never g
+  simple_assigned p b (OrdinalType o) NilType e line ln known small fits h g = never g
+  simple_assigned p b (PointerType n) (OrdinalType q) e line ln known small fits h g = never g
+  simple_assigned p b (SetType d l o) (OrdinalType q) e line ln known small fits h g = never g
+  simple_assigned p b (SetType d l o) (PointerType m) e line ln known small fits h g = never g
+  simple_assigned p b (SetType d l o) NilType e line ln known small fits h g = never g
+  simple_assigned p b (ArrayType at l i t) (OrdinalType q) e line ln known small fits h g = never g
+  simple_assigned p b (ArrayType at l i t) (PointerType m) e line ln known small fits h g = never g
+  simple_assigned p b (ArrayType at l i t) NilType e line ln known small fits h g = never g
+  simple_assigned p b (RecordType at l fs) (OrdinalType q) e line ln known small fits h g = never g
+  simple_assigned p b (RecordType at l fs) (PointerType m) e line ln known small fits h g = never g
+  simple_assigned p b (RecordType at l fs) NilType e line ln known small fits h g = never g
+  simple_assigned p b NilType from e line ln known small fits h g = absurd known
+  simple_assigned p b EmptySetType from e line ln known small fits h g = absurd known
+  simple_assigned p b (TextType n) from e line ln known small fits h g = absurd known
+  simple_assigned p b type from e line ln known small fits h g = absurd h
 
   -- an array or a record is no byte
   structure_whole : (type : DataType) (b : Bool) → IsStructure (shape_of type) → (b ≡ true → fits_byte type ≡ true) → b ≡ false
@@ -171,27 +178,28 @@ module _ (D : Table) (k : Scope) (os : List Shape) where
   structure_whole (ArrayType at l i t) b st small = no_byte b small
   structure_whole (RecordType at l fs) b st small = no_byte b small
 
-  set_into : (v : Variable) (e : _) (from : DataType) (line : ℕ) (s : Statement) → VariableTold D k os v → SetTold D k os e from → set_assigned v.place v.type e from line ≡ Some s → StatementFits k os s
+  set_into : (v : Variable) (e : _) (from : DataType) (line : ℕ) → IsLine line → (s : Statement) → VariableTold D k os v → SetTold D k os e from → set_assigned v.place v.type e from line ≡ Some s → StatementSound k os s
   unfolding set_assigned
-  set_into v e from line s told h q = go v.type (λ b. told.small b) told.fits q
+  set_into v e from line ln s told h q = go v.type told.known (λ b. told.small b) told.fits q
     where
-      go : (type : DataType) → (told.byte ≡ true → fits_byte type ≡ true) → PlaceFits k os v.place (part_of told.byte type) → set_assigned v.place type e from line ≡ Some s → StatementFits k os s
-      go (SetType d l o) small fits f = subst (StatementFits k os) (provided_some _ _ s f).1 (whole_fits D k os v.place (SetType d l o) told.byte fits (no_byte told.byte small), set_fits D k os e from h)
-      go (OrdinalType o) small fits f = absurd (none_some f)
-      go (PointerType n) small fits f = absurd (none_some f)
-      go NilType small fits f = absurd (none_some f)
-      go EmptySetType small fits f = absurd (none_some f)
-      go (TextType n) small fits f = absurd (none_some f)
-      go (ArrayType at l i t) small fits f = absurd (none_some f)
-      go (RecordType at l fs) small fits f = absurd (none_some f)
+      go : (type : DataType) → TypeKnown D (bound_of k) type → (told.byte ≡ true → fits_byte type ≡ true) → PlaceSound k os v.place (part_of told.byte type) → set_assigned v.place type e from line ≡ Some s → StatementSound k os s
+      go (SetType d l o) known small fits f = subst (StatementSound k os) (provided_some _ _ s f).1 (let w = whole_fits D k os v.place (SetType d l o) told.byte fits (no_byte told.byte small) in let x = set_fits D k os e from h in ((w.0, x.0), (w.1, x.1, known, ln)))
+      go (OrdinalType o) known small fits f = absurd (none_some f)
+      go (PointerType n) known small fits f = absurd (none_some f)
+      go NilType known small fits f = absurd (none_some f)
+      go EmptySetType known small fits f = absurd (none_some f)
+      go (TextType n) known small fits f = absurd (none_some f)
+      go (ArrayType at l i t) known small fits f = absurd (none_some f)
+      go (RecordType at l fs) known small fits f = absurd (none_some f)
 
-  pub assigned_fits : (v : Variable) (x : Value) (line : ℕ) (s : Statement) → VariableTold D k os v → ValueTold D k os x → assigned v x line ≡ Some s → StatementFits k os s
+  pub assigned_fits : (v : Variable) (x : Value) (line : ℕ) → IsLine line → (s : Statement) → VariableTold D k os v → ValueTold D k os x → assigned v x line ≡ Some s → StatementSound k os s
   unfolding assigned
-  assigned_fits v (SimpleValue e from) line s told h q =
+  assigned_fits v (SimpleValue e from) line ln s told h q =
       let p = provided_some (is_assignable from v.type) (Assign v.place (range_of v.type) e line) s q in
-      subst (StatementFits k os) p.1 (simple_assigned v.place told.byte v.type from e line told.known (λ b. told.small b) told.fits h (right (has_variables v.type) (is_compatible from v.type) p.0))
-  assigned_fits v (SetValue e from) line s told h q = set_into v e from line s told h q
-  assigned_fits v (StructureValue e from) line s told h q =
+      subst (StatementSound k os) p.1 (simple_assigned v.place told.byte v.type from e line ln told.known (λ b. told.small b) told.fits h (right (has_variables v.type) (is_compatible from v.type) p.0))
+  assigned_fits v (SetValue e from) line ln s told h q = set_into v e from line ln s told h q
+  assigned_fits v (StructureValue e from) line ln s told h q =
       let p = provided_some (is_assignable from v.type) (AssignStructure v.place e) s q in
       let goes = structure_goes D k os e from v.type h told.known (right (has_variables v.type) (is_compatible from v.type) p.0) in
-      subst (StatementFits k os) p.1 (shape_of v.type, whole_fits D k os v.place v.type told.byte told.fits (structure_whole v.type told.byte goes.structure (λ b. told.small b)), goes.fits, goes.structure)
+      let w = whole_fits D k os v.place v.type told.byte told.fits (structure_whole v.type told.byte goes.structure (λ b. told.small b)) in
+      subst (StatementSound k os) p.1 ((shape_of v.type, w.0, goes.fits.0, goes.structure), (w.1, goes.fits.1))

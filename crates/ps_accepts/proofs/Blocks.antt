@@ -13,15 +13,19 @@ use Rattle.ps_tree.specs.Types.{DataType}
 use Rattle.ps_tree.specs.Tree as Tree
 use Rattle.ps_tree.specs.Tree.{Program, routine_at}
 use Rattle.ps_layout.specs.Frames.{Kind, variable_kinds, entries}
-use Rattle.ps_code.specs.Fits.{StatementsFit, outermost_of}
-use Rattle.ps_calls.specs.Routines.{RoutineFits}
+use Rattle.ps_code.specs.Fits.{outermost_of}
+use Rattle.ps_accepts.proofs.Tidy.{StatementsSound, RoutineSound}
+use Rattle.tac_code.specs.Sound.{IsLine}
 use Rattle.ps_regions.specs.Option.{◌>>=◌, provided, steps}
 use Rattle.ps_regions.specs.Spelling.{place, spelled}
 use Rattle.ps_regions.specs.Regions.{Region, BlockRegion, Meaning, ParameterMeaning, RoutineParameterMeaning, RoutineMeaning, Heading, Context}
 use Rattle.ps_declare.specs.Denoters.{Frame}
 use Rattle.ps_declare.specs.Headings.{Signature, heading, section_list}
-use Rattle.ps_check.specs.Blocks.{Gathered, Start, Done, Routines, RoutineReading, is_vacant, is_open, is_same_kind, is_waiting, start, routine_tree, is_small_routine, finished, heading_at, new_heading, introduce, read_block, one_routine, heading_name, block, routine}
-use Rattle.ps_check.specs.Changes.{assigns}
+use Rattle.ps_check.specs.Readings.{Gathered, Start, Done, Routines, RoutineReading, heading_name}
+use Rattle.ps_check.specs.Forwards.{is_vacant, is_open, is_same_kind, is_waiting}
+use Rattle.ps_check.specs.Entries.{start}
+use Rattle.ps_check.specs.Blocks.{routine_tree, is_small_routine, finished, heading_at, new_heading, introduce, read_block, one_routine, block, routine}
+use Rattle.ps_check.specs.Threats.{assigns}
 use Rattle.ps_check.proofs.Equations.{routine_Whole, routine_Forward, routine_Completion}
 use Rattle.ps_accepts.proofs.Lists.{Each, each_at, each_append, each_left, each_right, each_map, then_some, provided_some, none_some, inside, left, never, get_left}
 use Rattle.ps_accepts.proofs.Tables.{Table, Extends, extends_self, extends_both, EndsBefore, TypeKnown}
@@ -155,8 +159,9 @@ pub record BlockTold (own : ℕ) (rest : List ℕ) (outer : List Region) (known 
   pub grows : Grows g done.gathered
   pub count : length g.routines ≤ length done.gathered.routines
   pub kept : (i : ℕ) → i < length g.routines → slice_get done.gathered.routines i ≡ slice_get g.routines i
+  pub line : IsLine done.line
   pub fits : (P : Program) (F : Table) → Final P F table done.gathered → Targets P F → BlocksStand P F outer rest → OwnStand P (own ∷ rest) first known done.variables
-      → AllFit P (length g.routines) done.gathered × StatementsFit (record { program = P; chain = own ∷ rest; opened = [] }) [] done.body
+      → AllFit P (length g.routines) done.gathered × StatementsSound (record { program = P; chain = own ∷ rest; opened = [] }) [] done.body
 
 abbrev pub start_of : List ℕ → List (List ℕ) → List Meaning → ℕ → Start
 start_of chain names known first = record { chain = chain; names = names; known = known; first = first }
@@ -344,25 +349,29 @@ module _ (own : ℕ) (rest : List ℕ) (f : Frame) (base : ℕ) (begun : List Me
         own = λ ms k. all_own P h.number (own ∷ rest) (first_kinds h) done.variables entries_there ms (subst (λ n. Each (IsOwn n done.variables) ms) first_is k);
       }
 
-      inner_fits : AllFit P (length s.gathered.routines) done.gathered × StatementsFit (record { program = P; chain = h.number ∷ own ∷ rest; opened = [] }) [] done.body
+      inner_fits : AllFit P (length s.gathered.routines) done.gathered × StatementsSound (record { program = P; chain = h.number ∷ own ∷ rest; opened = [] }) [] done.body
       inner_fits = told.fits P F within targets (routine_own, meanings_more D F before.extends (length s.gathered.domains) (length P.domains) (all_domains P F D s.gathered before) s.known reading.known, stand, blocks) own_stand
 
-      tree_fits : RoutineFits P tree
+      tree_fits : RoutineSound P tree
       unfolding routine_tree
       tree_fits = record {
-        result = result_fits F (length P.domains) h.result (result_more D F before.extends (length s.gathered.domains) (length P.domains) (all_domains P F D s.gathered before) h.result heading_known.1);
-        variables = variables_fit F (length P.domains) done.variables (types_all_more told.table F within.extends (length done.gathered.domains) (length P.domains) (all_domains P F told.table done.gathered within) done.variables told.variables);
-        body = inner_fits.1;
+        fits = record {
+          result = result_fits F (length P.domains) h.result (result_more D F before.extends (length s.gathered.domains) (length P.domains) (all_domains P F D s.gathered before) h.result heading_known.1);
+          variables = variables_fit F (length P.domains) done.variables (types_all_more told.table F within.extends (length done.gathered.domains) (length P.domains) (all_domains P F told.table done.gathered within) done.variables told.variables);
+          body = inner_fits.1.0;
+        };
+        line = told.line;
+        tidy = inner_fits.1.1;
       }
 
       closed_fits : AllFit P base (closed h done)
-      closed_fits i x le m = either i h.number (RoutineFits P x) here other
+      closed_fits i x le m = either i h.number (RoutineSound P x) here other
         where
-          here : i ≡ h.number → RoutineFits P x
-          here q = subst (RoutineFits P) (one_made (closed h done) h.number tree x made_there (subst (λ n. IsMade (closed h done) n x) q m)) tree_fits
+          here : i ≡ h.number → RoutineSound P x
+          here q = subst (RoutineSound P) (one_made (closed h done) h.number tree x made_there (subst (λ n. IsMade (closed h done) n x) q m)) tree_fits
 
-          other : (i ≡ h.number → ⊥) → RoutineFits P x
-          other q = below_or i (length s.gathered.routines) (RoutineFits P x) (λ l. reading.fits P F before targets stand blocks i x le (made_before i x l (made_other i x q m))) (λ l. inner_fits.0 i x l (made_other i x q m))
+          other : (i ≡ h.number → ⊥) → RoutineSound P x
+          other q = below_or i (length s.gathered.routines) (RoutineSound P x) (λ l. reading.fits P F before targets stand blocks i x le (made_before i x l (made_other i x q m))) (λ l. inner_fits.0 i x l (made_other i x q m))
 
     closed_reading : Reading (record { known = s.known; gathered = closed h done }) told.table
     closed_reading =

@@ -11,7 +11,9 @@ use Rattle.ps_layout.specs.Shapes.{Shape, PointerShape, shape_of, Whole}
 use Rattle.ps_layout.specs.Paths.{NumberSort, PointerSort}
 use Rattle.ps_layout.specs.Frames.{Kind, Own, Reference, Closure, Kinds, no_kind, kind_before, kinds_of, result_shape}
 use Rattle.ps_code.specs.Scopes.{Scope}
-use Rattle.ps_code.specs.Fits.{PlaceFits, ExprFits, ArgumentsFit, ArgumentFits, FunctionFits, SortOf}
+use Rattle.ps_code.specs.Fits.{FunctionFits, SortOf}
+use Rattle.ps_accepts.proofs.Tidy.{line_there, PlaceSound, ExprSound, ArgumentsSound, ArgumentSound}
+use Rattle.tac_code.specs.Sound.{IsLine}
 use Rattle.ps_regions.specs.declared.meaning.Required.{Required}
 use Rattle.ps_regions.specs.declared.meaning.Required.TheVariants as required
 use Rattle.ps_regions.specs.Constants.{char}
@@ -134,87 +136,93 @@ not_true false e = refl
 module _ (D : Table) (k : Scope) (os : List Shape) where
   -- ---- actual parameters
 
-  pub pointer_of_same : (m n : ℕ) (e : Expr) → is_compatible (PointerType m) (PointerType n) ≡ true → ExprFits k os e (PointerSort m) → ExprFits k os e (PointerSort n)
+  pub pointer_of_same : (m n : ℕ) (e : Expr) → is_compatible (PointerType m) (PointerType n) ≡ true → ExprSound k os e (PointerSort m) → ExprSound k os e (PointerSort n)
   unfolding is_compatible is_same_type string_length
   pointer_of_same m n e q h = go (m == n) refl q
     where
-      go : (b : Bool) → (m == n) ≡ b → (b || false) ≡ true → ExprFits k os e (PointerSort n)
-      go true p g = subst (λ i. ExprFits k os e (PointerSort i)) (eqb-true m n p) h
+      go : (b : Bool) → (m == n) ≡ b → (b || false) ≡ true → ExprSound k os e (PointerSort n)
+      go true p g = subst (λ i. ExprSound k os e (PointerSort i)) (eqb-true m n p) h
       go false p g = never g
 
-  simple_passed : (type from : DataType) (e : Expr) (line : ℕ) → TypeKnown D (bound_of k) type → SimpleTold D k os e from → is_compatible from type ≡ true → ArgumentFits k os (ByValue e (range_of type) line) (Own (shape_of type))
+  simple_passed : (type from : DataType) (e : Expr) (line : ℕ) → IsLine line → TypeKnown D (bound_of k) type → SimpleTold D k os e from → is_compatible from type ≡ true → ArgumentSound k os (ByValue e (range_of type) line) (Own (shape_of type))
   unfolding is_compatible is_same_type string_length
-  simple_passed (OrdinalType o) (OrdinalType p) e line t h q = (shape_of (OrdinalType o), refl, (t.low, t.high, not_or (fits_byte (OrdinalType o))), (NumberSort, refl, h.1))
-  simple_passed (PointerType n) (PointerType m) e line t h q = (PointerShape n, refl, tt, (PointerSort n, refl, pointer_of_same m n e q h.1))
-  simple_passed (PointerType n) NilType e line t h q = (PointerShape n, refl, tt, (PointerSort n, refl, h n))
-  simple_passed (OrdinalType o) (PointerType m) e line t h q = never q
-  simple_passed (OrdinalType o) NilType e line t h q = never q
-  simple_passed (PointerType n) (OrdinalType p) e line t h q = never q
-  simple_passed (SetType d p b) (OrdinalType o) e line t h q = never q
-  simple_passed (SetType d p b) (PointerType m) e line t h q = never q
-  simple_passed (SetType d p b) NilType e line t h q = never q
-  simple_passed (ArrayType at p i c) (OrdinalType o) e line t h q = never q
-  simple_passed (ArrayType at p i c) (PointerType m) e line t h q = never q
-  simple_passed (ArrayType at p i c) NilType e line t h q = never q
-  simple_passed (RecordType at p fs) (OrdinalType o) e line t h q = never q
-  simple_passed (RecordType at p fs) (PointerType m) e line t h q = never q
-  simple_passed (RecordType at p fs) NilType e line t h q = never q
-  simple_passed NilType from e line t h q = absurd t
-  simple_passed EmptySetType from e line t h q = absurd t
-  simple_passed (TextType n) from e line t h q = absurd t
-  simple_passed type from e line t h q = absurd h
+  simple_passed (OrdinalType o) (OrdinalType p) e line l t h q = ((shape_of (OrdinalType o), refl, (t.low, t.high, not_or (fits_byte (OrdinalType o))), (NumberSort, refl, h.1.0)), (h.1.1, (t.low, t.high), l))
+  simple_passed (PointerType n) (PointerType m) e line l t h q = (let x = pointer_of_same m n e q h.1 in ((PointerShape n, refl, tt, (PointerSort n, refl, x.0)), (x.1, tt, l)))
+  simple_passed (PointerType n) NilType e line l t h q = (let x = h n in ((PointerShape n, refl, tt, (PointerSort n, refl, x.0)), (x.1, tt, l)))
+  simple_passed (OrdinalType o) (PointerType m) e line l t h q = never q
+  simple_passed (OrdinalType o) NilType e line l t h q = never q
+  simple_passed (PointerType n) (OrdinalType p) e line l t h q = never q
+  simple_passed (SetType d p b) (OrdinalType o) e line l t h q = never q
+  simple_passed (SetType d p b) (PointerType m) e line l t h q = never q
+  simple_passed (SetType d p b) NilType e line l t h q = never q
+  simple_passed (ArrayType at p i c) (OrdinalType o) e line l t h q = never q
+  simple_passed (ArrayType at p i c) (PointerType m) e line l t h q = never q
+  simple_passed (ArrayType at p i c) NilType e line l t h q = never q
+  simple_passed (RecordType at p fs) (OrdinalType o) e line l t h q = never q
+  simple_passed (RecordType at p fs) (PointerType m) e line l t h q = never q
+  simple_passed (RecordType at p fs) NilType e line l t h q = never q
+  simple_passed NilType from e line l t h q = absurd t
+  simple_passed EmptySetType from e line l t h q = absurd t
+  simple_passed (TextType n) from e line l t h q = absurd t
+  simple_passed type from e line l t h q = absurd h
 
-  value_passed : (type : DataType) (v : Value) (line : ℕ) (a : Argument) → TypeKnown D (bound_of k) type → ValueTold D k os v → by_value type v line ≡ Some a → ArgumentFits k os a (Own (shape_of type))
+  value_passed : (type : DataType) (v : Value) (line : ℕ) → IsLine line → (a : Argument) → TypeKnown D (bound_of k) type → ValueTold D k os v → by_value type v line ≡ Some a → ArgumentSound k os a (Own (shape_of type))
   unfolding by_value
-  value_passed type (SimpleValue e from) line a t h q =
+  value_passed type (SimpleValue e from) line l a t h q =
       let p = provided_some (is_assignable from type) (ByValue e (range_of type) line) a q in
-      subst (λ x. ArgumentFits k os x (Own (shape_of type))) p.1 (simple_passed type from e line t h (right (has_variables type) (is_compatible from type) p.0))
-  value_passed (SetType d l o) (SetValue e from) line a t h q =
-      let p = provided_some (is_assignable from (SetType d l o)) (BySet e o.low o.high line) a q in
-      subst (λ x. ArgumentFits k os x (Own (shape_of (SetType d l o)))) p.1 (refl, set_fits D k os e from h)
-  value_passed type (StructureValue e from) line a t h q =
+      subst (λ x. ArgumentSound k os x (Own (shape_of type))) p.1 (simple_passed type from e line l t h (right (has_variables type) (is_compatible from type) p.0))
+  value_passed (SetType d i o) (SetValue e from) line l a t h q =
+      let p = provided_some (is_assignable from (SetType d i o)) (BySet e o.low o.high line) a q in
+      subst (λ x. ArgumentSound k os x (Own (shape_of (SetType d i o)))) p.1 (let x = set_fits D k os e from h in ((refl, x.0), (x.1, t, l)))
+  value_passed type (StructureValue e from) line l a t h q =
       let p = provided_some (is_assignable from type) (ByCopy e type) a q in
       let goes = structure_goes D k os e from type h t (right (has_variables type) (is_compatible from type) p.0) in
-      subst (λ x. ArgumentFits k os x (Own (shape_of type))) p.1 (refl, goes.structure, goes.fits)
-  value_passed type (SetValue e from) line a t h q = absurd (none_some q)
+      subst (λ x. ArgumentSound k os x (Own (shape_of type))) p.1 ((refl, goes.structure, goes.fits.0), goes.fits.1)
+  value_passed type (SetValue e from) line l a t h q = absurd (none_some q)
 
-  variable_passed : (type : DataType) (v : Variable) (a : Argument) → TypeKnown D (bound_of k) type → VariableTold D k os v → by_variable type v ≡ Some a → ArgumentFits k os a (Reference (shape_of type))
+  variable_passed : (type : DataType) (v : Variable) (a : Argument) → TypeKnown D (bound_of k) type → VariableTold D k os v → by_variable type v ≡ Some a → ArgumentSound k os a (Reference (shape_of type))
   variable_passed type v a t told q =
       let p = provided_some (is_same_type v.type type && not v.in_packed) (ByVariable v.place) a q in
       let whole = go told.byte refl (not_true v.in_packed (right (is_same_type v.type type) (not v.in_packed) p.0)) in
       let same = same_shape D (bound_of k) (bound_of k) v.type type told.known t (left (is_same_type v.type type) (not v.in_packed) p.0) in
-      subst (λ x. ArgumentFits k os x (Reference (shape_of type))) p.1 (shape_of type, refl, subst (λ s. PlaceFits k os v.place (Whole s)) same (subst (λ b. PlaceFits k os v.place (part_of b v.type)) whole told.fits))
+      subst (λ x. ArgumentSound k os x (Reference (shape_of type))) p.1 (let x = subst (λ s. PlaceSound k os v.place (Whole s)) same (subst (λ b. PlaceSound k os v.place (part_of b v.type)) whole told.fits) in ((shape_of type, refl, x.0), x.1))
     where
       go : (b : Bool) → told.byte ≡ b → v.in_packed ≡ false → told.byte ≡ false
       go false e f = e
       go true e f = never (sym f ∙ told.packed e)
 
-  routine_passed : (sections : Sections) (result : Option DataType) (p : Point) (a : Argument) → SectionKnown D (bound_of k) (RoutineSection sections result) → PointStands D k os p → by_routine sections result p ≡ Some a → ArgumentFits k os a (Closure (kinds_of (formals_of sections)) (result_shape result))
+  routine_passed : (sections : Sections) (result : Option DataType) (p : Point) (a : Argument) → SectionKnown D (bound_of k) (RoutineSection sections result) → PointStands D k os p → by_routine sections result p ≡ Some a → ArgumentSound k os a (Closure (kinds_of (formals_of sections)) (result_shape result))
   unfolding by_routine
   routine_passed sections result (BlockPoint up (RoutineMeaning h)) a s st q =
       let p = provided_some (congruous sections h.sections && are_one_type result h.result) (ByRoutine h.number up) a q in
       let there = declared_there k up h st.1 in
       let kinds = same_kinds D (bound_of k) sections h.sections s.0 st.0.0 (left (congruous sections h.sections) (are_one_type result h.result) p.0) in
       let results = same_results D (bound_of k) result h.result s.1 st.0.1 (right (congruous sections h.sections) (are_one_type result h.result) p.0) in
-      subst (λ x. ArgumentFits k os x (Closure (kinds_of (formals_of sections)) (result_shape result))) p.1 (
-        there.at,
-        ap (λ z. Closure z (result_shape result)) (kinds ∙ ap kinds_of (sym there.is.formals)) ∙ ap (λ z. Closure (kinds_of (routine_at k.program h.number).formals) z) (results ∙ ap result_shape (sym there.is.result)),
+      subst (λ x. ArgumentSound k os x (Closure (kinds_of (formals_of sections)) (result_shape result))) p.1 (
+        (
+          there.at,
+          ap (λ z. Closure z (result_shape result)) (kinds ∙ ap kinds_of (sym there.is.formals)) ∙ ap (λ z. Closure (kinds_of (routine_at k.program h.number).formals) z) (results ∙ ap result_shape (sym there.is.result)),
+        ),
+        tt,
       )
   routine_passed sections result (BlockPoint up (RoutineParameterMeaning entry x r)) a s st q =
       let p = provided_some (congruous sections x && are_one_type result r) (ByFormal up entry) a q in
       let there = entry_there k up entry (Closure (kinds_of (formals_of x)) (result_shape r)) st.1 in
       let kinds = same_kinds D (bound_of k) sections x s.0 st.0.0 (left (congruous sections x) (are_one_type result r) p.0) in
       let results = same_results D (bound_of k) result r s.1 st.0.1 (right (congruous sections x) (are_one_type result r) p.0) in
-      subst (λ y. ArgumentFits k os y (Closure (kinds_of (formals_of sections)) (result_shape result))) p.1 (
-        there.0,
-        (kinds_of (formals_of x), (result_shape r, ap (λ z. Closure z (result_shape result)) kinds ∙ ap (λ z. Closure (kinds_of (formals_of x)) z) results, there.1)),
+      subst (λ y. ArgumentSound k os y (Closure (kinds_of (formals_of sections)) (result_shape result))) p.1 (
+        (
+          there.0,
+          (kinds_of (formals_of x), (result_shape r, ap (λ z. Closure z (result_shape result)) kinds ∙ ap (λ z. Closure (kinds_of (formals_of x)) z) results, there.1)),
+        ),
+        tt,
       )
   routine_passed sections result (FieldPoint which record_type number type) a s st q = absurd (none_some q)
   routine_passed sections result (BlockPoint up m) a s st q = absurd (none_some q)
 
-  pub ordinal_told : (v : Value) (x : Expr × Ordinal) → ValueTold D k os v → ordinal_of v ≡ Some x → OrdinalKnown D x.1 × ExprFits k os x.0 NumberSort
+  pub ordinal_told : (v : Value) (x : Expr × Ordinal) → ValueTold D k os v → ordinal_of v ≡ Some x → OrdinalKnown D x.1 × ExprSound k os x.0 NumberSort
   unfolding ordinal_of
-  ordinal_told (SimpleValue e (OrdinalType o)) x h q = subst (λ y. OrdinalKnown D y.1 × ExprFits k os y.0 NumberSort) (inside _ x q) h
+  ordinal_told (SimpleValue e (OrdinalType o)) x h q = subst (λ y. OrdinalKnown D y.1 × ExprSound k os y.0 NumberSort) (inside _ x q) h
   ordinal_told (SimpleValue e (PointerType n)) x h q = absurd (none_some q)
   ordinal_told (SimpleValue e NilType) x h q = absurd (none_some q)
   ordinal_told (SimpleValue e type) x h q = absurd h
@@ -222,11 +230,11 @@ module _ (D : Table) (k : Scope) (os : List Shape) where
   ordinal_told (StructureValue e type) x h q = absurd (none_some q)
 
   module _ (c : Context) (Γ : List Region) (here : Here c Γ D k os) where
-    pub actual_told : (s : Section) (x : Operand) (a : Argument) → SectionKnown D (bound_of k) s → OperandTold D k os x → actual c Γ s x ≡ Some a → ArgumentFits k os a (kind_of_section s)
+    pub actual_told : (s : Section) (x : Operand) (a : Argument) → SectionKnown D (bound_of k) s → OperandTold D k os x → actual c Γ s x ≡ Some a → ArgumentSound k os a (kind_of_section s)
     unfolding actual
     actual_told (ValueSection n type) x a t told q =
         let v = then_some x.value _ a q in
-        value_passed type v.0 (line_in c.text x.first) a t (told.value v.0 v.1) v.2
+        value_passed type v.0 (line_in c.text x.first) (line_there c.text x.first here.lines) a t (told.value v.0 v.1) v.2
     actual_told (VariableSection n type) x a t told q =
         let v = then_some x.variable _ a q in
         variable_passed type v.0 a t (told.variable v.0 v.1) v.2
@@ -235,18 +243,20 @@ module _ (D : Table) (k : Scope) (os : List Shape) where
         let p = then_some (denoted c Γ name.0) _ a name.2 in
         routine_passed sections result p.0 a t (denoted_stands c Γ D k os here name.0 p.0 p.1) p.2
 
-    arguments_listed : (ss : List Section) (xs : List Operand) (args : List Argument) → Each (SectionKnown D (bound_of k)) ss → Each (OperandTold D k os) xs → traverse_both (actual c Γ) ss xs ≡ Some args → ArgumentsFit k os (argument_list args) (kinds_listed ss)
-    arguments_listed [] [] args t told q = subst (λ l. ArgumentsFit k os (argument_list l) no_kind) (inside [] args q) refl
+    arguments_listed : (ss : List Section) (xs : List Operand) (args : List Argument) → Each (SectionKnown D (bound_of k)) ss → Each (OperandTold D k os) xs → traverse_both (actual c Γ) ss xs ≡ Some args → ArgumentsSound k os (argument_list args) (kinds_listed ss)
+    arguments_listed [] [] args t told q = subst (λ l. ArgumentsSound k os (argument_list l) no_kind) (inside [] args q) (refl, tt)
     arguments_listed [] (x ∷ xs) args t told q = absurd (none_some q)
     arguments_listed (s ∷ ss) [] args t told q = absurd (none_some q)
     arguments_listed (s ∷ ss) (x ∷ xs) args t told q =
         let a = then_some (actual c Γ s x) _ args q in
         let rest = then_some (traverse_both (actual c Γ) ss xs) _ args a.2 in
-        subst (λ l. ArgumentsFit k os (argument_list l) (kinds_listed (s ∷ ss))) (inside (a.0 ∷ rest.0) args rest.2)
-        (kind_of_section s, (kinds_listed ss, refl, actual_told s x a.0 t.0 told.0 a.1, arguments_listed ss xs rest.0 t.1 told.1 rest.1))
+        let one = actual_told s x a.0 t.0 told.0 a.1 in
+        let others = arguments_listed ss xs rest.0 t.1 told.1 rest.1 in
+        subst (λ l. ArgumentsSound k os (argument_list l) (kinds_listed (s ∷ ss))) (inside (a.0 ∷ rest.0) args rest.2)
+        ((kind_of_section s, (kinds_listed ss, refl, one.0, others.0)), (one.1, others.1))
 
-    pub arguments_told : (sections : Sections) (xs : List Operand) (args : List Argument) → SectionsKnown D (bound_of k) sections → Each (OperandTold D k os) xs → actuals c Γ sections xs ≡ Some args → ArgumentsFit k os (argument_list args) (kinds_of (formals_of sections))
-    arguments_told sections xs args t told q = subst (ArgumentsFit k os (argument_list args)) (sym (kinds_are sections)) (arguments_listed (parameters sections) xs args (parameters_known D (bound_of k) sections t) told q)
+    pub arguments_told : (sections : Sections) (xs : List Operand) (args : List Argument) → SectionsKnown D (bound_of k) sections → Each (OperandTold D k os) xs → actuals c Γ sections xs ≡ Some args → ArgumentsSound k os (argument_list args) (kinds_of (formals_of sections))
+    arguments_told sections xs args t told q = subst (ArgumentsSound k os (argument_list args)) (sym (kinds_are sections)) (arguments_listed (parameters sections) xs args (parameters_known D (bound_of k) sections t) told q)
 
     -- ---- required functions
 
@@ -260,61 +270,61 @@ module _ (D : Table) (k : Scope) (os : List Shape) where
     function_told required.Pred o g h q = let t = host_ordinal D o.host h.host in subst (λ x. FunctionFits x.0 × OrdinalKnown D x.1) (inside _ g q) (t.low, t)
     function_told r o g h q = absurd (none_some q)
 
-    applied_told : (r : Required) (line : ℕ) (x : Expr × Ordinal) (g : RequiredFunction × Ordinal) (v : Value) → ExprFits k os x.0 NumberSort → FunctionFits g.0 × OrdinalKnown D g.1 → applied r line x g ≡ Some v → ValueTold D k os v
-    applied_told r line x g v h t q = go (needs_integer r && not (is_same_host x.1.host Integer)) q
+    applied_told : (r : Required) (line : ℕ) → IsLine line → (x : Expr × Ordinal) (g : RequiredFunction × Ordinal) (v : Value) → ExprSound k os x.0 NumberSort → FunctionFits g.0 × OrdinalKnown D g.1 → applied r line x g ≡ Some v → ValueTold D k os v
+    applied_told r line l x g v h t q = go (needs_integer r && not (is_same_host x.1.host Integer)) q
       where
         go : (b : Bool) → (if b then None else Some (ordinal_value (Apply g.0 x.0 line) g.1)) ≡ Some v → ValueTold D k os v
         go true e = absurd (none_some e)
-        go false e = subst (ValueTold D k os) (inside _ v e) (t.1, (refl, t.0, h))
+        go false e = subst (ValueTold D k os) (inside _ v e) (t.1, ((refl, t.0, h.0), (h.1, l)))
 
-    required_told : (r : Required) (line : ℕ) (v w : Value) → ValueTold D k os v → required_value r line v ≡ Some w → ValueTold D k os w
+    required_told : (r : Required) (line : ℕ) → IsLine line → (v w : Value) → ValueTold D k os v → required_value r line v ≡ Some w → ValueTold D k os w
     unfolding required_value
-    required_told r line v w h q =
+    required_told r line l v w h q =
         let x = then_some (ordinal_of v) _ w q in
         let g = then_some (function_of r x.0.1) _ w x.2 in
         let told = ordinal_told v x.0 h x.1 in
-        applied_told r line x.0 g.0 w told.1 (function_told r x.0.1 g.0 told.0 g.1) g.2
+        applied_told r line l x.0 g.0 w told.1 (function_told r x.0.1 g.0 told.0 g.1) g.2
 
-    look_told : (r : Required) (line : ℕ) (v : Value) → look r line ≡ Some v → ValueTold D k os v
+    look_told : (r : Required) (line : ℕ) → IsLine line → (v : Value) → look r line ≡ Some v → ValueTold D k os v
     unfolding look
-    look_told required.Eof line v q = subst (ValueTold D k os) (inside _ v q) (boolean_known D, (refl, here.outermost))
-    look_told required.Eoln line v q = subst (ValueTold D k os) (inside _ v q) (boolean_known D, (refl, here.outermost))
-    look_told r line v q = absurd (none_some q)
+    look_told required.Eof line l v q = subst (ValueTold D k os) (inside _ v q) (boolean_known D, ((refl, here.outermost), tt))
+    look_told required.Eoln line l v q = subst (ValueTold D k os) (inside _ v q) (boolean_known D, ((refl, here.outermost), l))
+    look_told r line l v q = absurd (none_some q)
 
-    required_called : (r : Required) (line : ℕ) (xs : List Operand) (v : Value) → Each (OperandTold D k os) xs → required_call c Γ r line xs ≡ Some v → ValueTold D k os v
+    required_called : (r : Required) (line : ℕ) → IsLine line → (xs : List Operand) (v : Value) → Each (OperandTold D k os) xs → required_call c Γ r line xs ≡ Some v → ValueTold D k os v
     unfolding required_call
-    required_called r line [] v told q = look_told r line v (if_some c.has_input (look r line) v q).1
-    required_called r line (x ∷ []) v told q = go (names_input c Γ x) q
+    required_called r line l [] v told q = look_told r line l v (if_some c.has_input (look r line) v q).1
+    required_called r line l (x ∷ []) v told q = go (names_input c Γ x) q
       where
         go : (b : Bool) → (if b then look r line else x.value >>= required_value r line) ≡ Some v → ValueTold D k os v
-        go true e = look_told r line v e
-        go false e = let w = then_some x.value _ v e in required_told r line w.0 v (told.0.value w.0 w.1) w.2
-    required_called r line (x ∷ y ∷ rest) v told q = absurd (none_some q)
+        go true e = look_told r line l v e
+        go false e = let w = then_some x.value _ v e in required_told r line l w.0 v (told.0.value w.0 w.1) w.2
+    required_called r line l (x ∷ y ∷ rest) v told q = absurd (none_some q)
 
     -- ---- calls of functions
 
-    result_told : (type : DataType) (e : Expr) → ResultKnown D (bound_of k) (Some type) → ((sort : _) → SortOf (Whole (shape_of type)) sort → ExprFits k os e sort) → SimpleTold D k os e type
+    result_told : (type : DataType) (e : Expr) → ResultKnown D (bound_of k) (Some type) → ((sort : _) → SortOf (Whole (shape_of type)) sort → ExprSound k os e sort) → SimpleTold D k os e type
     result_told (OrdinalType o) e h g = (h.1, g NumberSort refl)
     result_told (PointerType n) e h g = (h.1, g (PointerSort n) refl)
     result_told type e h g = absurd h.0
 
-    pub called_told : (line : ℕ) (p : Point) (xs : List Operand) (v : Value) → PointStands D k os p → Each (OperandTold D k os) xs → called c Γ line p xs ≡ Some v → ValueTold D k os v
+    pub called_told : (line : ℕ) → IsLine line → (p : Point) (xs : List Operand) (v : Value) → PointStands D k os p → Each (OperandTold D k os) xs → called c Γ line p xs ≡ Some v → ValueTold D k os v
     unfolding called
-    called_told line (BlockPoint up (RoutineMeaning h)) xs v st told q =
+    called_told line l (BlockPoint up (RoutineMeaning h)) xs v st told q =
         let type = then_some h.result _ v q in
         let args = then_some (actuals c Γ h.sections xs) _ v type.2 in
         let there = declared_there k up h st.1 in
         let result = ap result_shape (there.is.result ∙ type.1) in
         let arguments = arguments_told h.sections xs args.0 st.0.0 told args.1 in
         subst (ValueTold D k os) (inside _ v args.2) (result_told type.0 (Call h.number up (argument_list args.0) line) (subst (ResultKnown D (bound_of k)) type.1 st.0.1)
-        (λ sort s. (there.at, (shape_of type.0, result, s), subst (λ fs. ArgumentsFit k os (argument_list args.0) (kinds_of fs)) (sym there.is.formals) arguments)))
-    called_told line (BlockPoint up (RoutineParameterMeaning entry sections result)) xs v st told q =
+        (λ sort s. ((there.at, (shape_of type.0, result, s), (subst (λ fs. ArgumentsSound k os (argument_list args.0) (kinds_of fs)) (sym there.is.formals) arguments).0), (arguments.1, l))))
+    called_told line l (BlockPoint up (RoutineParameterMeaning entry sections result)) xs v st told q =
         let type = then_some result _ v q in
         let args = then_some (actuals c Γ sections xs) _ v type.2 in
         let there = entry_there k up entry (Closure (kinds_of (formals_of sections)) (result_shape result)) st.1 in
         let arguments = arguments_told sections xs args.0 st.0.0 told args.1 in
         subst (ValueTold D k os) (inside _ v args.2) (result_told type.0 (CallFormal up entry (argument_list args.0) line) (subst (ResultKnown D (bound_of k)) type.1 st.0.1)
-        (λ sort s. (there.0, (kinds_of (formals_of sections), (shape_of type.0, there.1 ∙ ap (λ r. Some (Closure (kinds_of (formals_of sections)) (result_shape r))) type.1, s), arguments))))
-    called_told line (BlockPoint up (RequiredMeaning r)) xs v st told q = required_called r line xs v told q
-    called_told line (BlockPoint up m) xs v st told q = absurd (none_some q)
-    called_told line (FieldPoint which record_type number type) xs v st told q = absurd (none_some q)
+        (λ sort s. ((there.0, (kinds_of (formals_of sections), (shape_of type.0, there.1 ∙ ap (λ r. Some (Closure (kinds_of (formals_of sections)) (result_shape r))) type.1, s), arguments.0)), (arguments.1, l))))
+    called_told line l (BlockPoint up (RequiredMeaning r)) xs v st told q = required_called r line l xs v told q
+    called_told line l (BlockPoint up m) xs v st told q = absurd (none_some q)
+    called_told line l (FieldPoint which record_type number type) xs v st told q = absurd (none_some q)

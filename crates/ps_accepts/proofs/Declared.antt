@@ -15,7 +15,7 @@ use Rattle.ps_regions.specs.Option.{steps}
 use Rattle.ps_regions.specs.Regions.{Meaning, ConstantMeaning, TextMeaning, TypeMeaning, VariableMeaning, one_more}
 use Rattle.ps_regions.specs.Constants.{ConstantValue, OrdinalConstant, TextConstant, constant}
 use Rattle.ps_declare.specs.Denoters.{Frame, Declared, with_known, regions, type_named, denoter}
-use Rattle.ps_declare.specs.Declarations.{meaning_of_constant, define_constant, define_type, settle_one, settle, declare_variable, declare_variables, declarations}
+use Rattle.ps_declare.specs.Declarations.{meaning_of_constant, define_constant, define_type, resolve_domain, resolve_domains, declare_variable, declare_variables, declarations}
 use Rattle.ps_accepts.proofs.Lists.{Each, each_append, each_map, then_some, inside, get_left}
 use Rattle.ps_accepts.proofs.Tables.{Table, extends_self, EndsBefore, TypeKnown}
 use Rattle.ps_accepts.proofs.Standing.{MeaningKnown, RegionsKnown}
@@ -207,22 +207,22 @@ module _ (f : Frame) (first : ℕ) where
     count : length more ≡ length names
     all : Each (TypeKnown D b) e.domains
 
-  settle_steps : (D : Table) (b : ℕ) → RegionsKnown D b f.outer → (names : List Span) (d e : Declared) → Each (MeaningKnown D b) d.known → Each (TypeKnown D b) d.domains → steps (settle_one f) d names ≡ Some e → Settled D b names d e
-  unfolding settle_one
+  settle_steps : (D : Table) (b : ℕ) → RegionsKnown D b f.outer → (names : List Span) (d e : Declared) → Each (MeaningKnown D b) d.known → Each (TypeKnown D b) d.domains → steps (resolve_domain f) d names ≡ Some e → Settled D b names d e
+  unfolding resolve_domain
   settle_steps D b outer [] d e known domains q = subst (Settled D b [] d) (inside d e q) (record { known = refl; variables = refl; more = []; domains = sym (append-nil d.domains); count = refl; all = domains })
   settle_steps D b outer (x ∷ names) d e known domains q =
-      let u = then_some (settle_one f d x) (λ z. steps (settle_one f) z names) e q in
+      let u = then_some (resolve_domain f d x) (λ z. steps (resolve_domain f) z names) e q in
       let t = then_some (type_named f.text (regions f [] d.known) x) _ u.0 u.1 in
       let one : Declared = record { known = d.known; domains = d.domains ++ t.0 ∷ []; pending = d.pending; variables = d.variables } in
       let is : one ≡ u.0 = inside one u.0 t.2 in
       let type_there = named_known D b f.text (regions f [] d.known) x t.0 (regions_known D b f [] d.known outer known) t.1 in
-      let rest = settle_steps D b outer names one e known (each_append (TypeKnown D b) d.domains (t.0 ∷ []) domains (type_there, tt)) (ap (λ z. steps (settle_one f) z names) is ∙ u.2) in
+      let rest = settle_steps D b outer names one e known (each_append (TypeKnown D b) d.domains (t.0 ∷ []) domains (type_there, tt)) (ap (λ z. steps (resolve_domain f) z names) is ∙ u.2) in
       record { known = rest.known; variables = rest.variables; more = t.0 ∷ rest.more; domains = rest.domains ∙ append_assoc d.domains (t.0 ∷ []) rest.more; count = let c = rest.count in omega (arith, c); all = rest.all }
 
-  settle_made : (low high : ℕ) (r : Tokens) (D : Table) (d e : Declared) → AreOrdered low high r → EndsBefore low D → Known f D d → settle f d ≡ Some e → Made low high r D d e × (e.pending ≡ [])
-  unfolding settle
+  settle_made : (low high : ℕ) (r : Tokens) (D : Table) (d e : Declared) → AreOrdered low high r → EndsBefore low D → Known f D d → resolve_domains f d ≡ Some e → Made low high r D d e × (e.pending ≡ [])
+  unfolding resolve_domains
   settle_made low high r D d e ordered ends k q =
-      let s = then_some (steps (settle_one f) d d.pending) _ e q in
+      let s = then_some (steps (resolve_domain f) d d.pending) _ e q in
       let b = pointers d in
       let told = settle_steps D b k.outer d.pending d s.0 k.declared.known k.declared.domains s.1 in
       let made : Declared = record { known = s.0.known; domains = s.0.domains; pending = []; variables = s.0.variables } in
@@ -332,7 +332,7 @@ declarations_tell f first D low high d e n cs types vs ts a b r constants defini
     let k : Known f D d = record { declared = known; outer = regions_more D D (extends_self D) (length d.domains) (pointers d) (omega arith) f.outer outer } in
     let c = then_some (steps (define_constant f) d cs) _ e q in
     let t = then_some (steps (define_type f) c.0 types) _ e c.2 in
-    let s = then_some (settle f t.0) _ e t.2 in
+    let s = then_some (resolve_domains f t.0) _ e t.2 in
     let v = then_some (steps (declare_variables f first) s.0 vs) _ e s.2 in
     let one = all_constants f first bytes short _ cs ts a constants low high D d c.0 ordered ends k c.1 in
     let two = all_types f first bytes short n _ types a b definitions one.next high one.table c.0 t.0 one.ordered one.ends one.known t.1 in

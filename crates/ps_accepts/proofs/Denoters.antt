@@ -119,8 +119,8 @@ module _ (f : Frame) where
   abbrev lower : (low middle high : ℕ) (r : Tokens) (D : Table) (d e : Declared) (Q : Table → ℕ → Type 0) → low ≤ middle → Behind middle high r D d e Q → Behind low high r D d e Q
   lower low middle high r D d e Q le a = record { table = a.table; next = a.next; later = let x = a.later in omega (arith, x, le); ordered = a.ordered; agrees = agrees_both low middle D D a.table le (agrees_self low D) a.agrees; ends = a.ends; known = a.known; told = a.told; more = a.more; domains = a.domains; variables = a.variables; new = a.new; all_known = a.all_known; constants = a.constants }
 
-  set_known : (at : ℕ) (packed : Bool) (o : Ordinal) (type : DataType) → set_of at packed o ≡ Some type → (E : Table) (b : ℕ) → TypeKnown E b type
-  set_known at packed o type q E b = let is = provided_some (int_le (pos 0) o.low && int_le o.high (pos 255)) (SetType (Some at) (packing_of packed) o) type q in subst (TypeKnown E b) is.1 tt
+  set_known : (at : ℕ) (packed : Bool) (o : Ordinal) (type : DataType) → set_of at packed o ≡ Some type → (E : Table) (b : ℕ) → OrdinalKnown E o → TypeKnown E b type
+  set_known at packed o type q E b known = let is = provided_some (int_le (pos 0) o.low && int_le o.high (pos 255)) (SetType (Some at) (packing_of packed) o) type q in subst (TypeKnown E b) is.1 (known.low, known.high)
 
   -- structures are built of what was read
   built_behind : (low high top : ℕ) (r : Tokens) (D : Table) (d e : Declared) (Q : Table → ℕ → Type 0) (type : DataType) → (a : Behind low high r D d e Q) → top ≤ a.next → Built low top a.table (pointers e) type → TypeBehind low high r D d e type
@@ -438,7 +438,7 @@ module _ (f : Frame) where
           let le : low ≤ of.to = let a = ordered.0 in let b = ordered.1 in let u = ordered.2.0 in let w = ordered.2.1 in omega (arith, place, a, b, u, w) in
           let read = from_ordinal of.to high y r D d o.0.1 o.0.0 (ordinal_read f bytes short y us r (index_is y us r inner) hidden D d o.0.1 o.0.0 of.to high ordered.2.2 (ends_later D low of.to le ends) k o.1) in
           subst (λ (z : DataType × Declared). TypeBehind low high r D d z.1 z.0) (inside (t.0, o.0.1) (type, e) t.2)
-          (retold low high r D d o.0.1 (λ E b. OrdinalKnown E o.0.0) (λ E b. TypeKnown E b t.0) (lower low of.to high r D d o.0.1 (λ E b. OrdinalKnown E o.0.0) le read) (set_known (begins packed at.from) (is_packed packed) o.0.0 t.0 t.1 (lower low of.to high r D d o.0.1 (λ E b. OrdinalKnown E o.0.0) le read).table (pointers o.0.1)))
+          (retold low high r D d o.0.1 (λ E b. OrdinalKnown E o.0.0) (λ E b. TypeKnown E b t.0) (lower low of.to high r D d o.0.1 (λ E b. OrdinalKnown E o.0.0) le read) (set_known (begins packed at.from) (is_packed packed) o.0.0 t.0 t.1 (lower low of.to high r D d o.0.1 (λ E b. OrdinalKnown E o.0.0) le read).table (pointers o.0.1) (let known = read.told in known)))
 
       type_read : TypeTells (IsType index symbol)
       type_read x ts r (p.ordinal {x = y} der) hidden D d e type low high ordered ends k q = simple_read y ts r der hidden D d e type low high ordered ends k (sym (denoter_Ordinal f y hidden d) ∙ q)

@@ -8,7 +8,8 @@ use Rattle.ps_code.specs.Fits.{shape_in}
 use Rattle.ps_regions.specs.Option.{provided, steps}
 use Rattle.ps_regions.specs.Regions.{Section, ValueSection, VariableSection, RoutineSection, Sections, no_section, section_before, values_before, variables_before, formals_before, formals_of, Heading, Meaning, ConstantMeaning, TextMeaning, TypeMeaning, VariableMeaning, ParameterMeaning, RoutineParameterMeaning, one_more}
 use Rattle.ps_declare.specs.Points.{add_name}
-use Rattle.ps_check.specs.Blocks.{Entries, Start, add_entry, add_parameters, add_section, add_sections, first_entry, start}
+use Rattle.ps_check.specs.Readings.{Start}
+use Rattle.ps_check.specs.Entries.{Entries, add_entry, add_parameters, add_section, add_sections, first_entry, start}
 use Rattle.ps_accepts.proofs.Lists.{Each, each_append, each_map, then_some, provided_some, none_some, inside, get_left}
 use Rattle.ps_accepts.proofs.Tables.{Table, TypeKnown}
 use Rattle.ps_accepts.proofs.Standing.{SectionKnown, SectionsKnown, MeaningKnown, MeaningStands}

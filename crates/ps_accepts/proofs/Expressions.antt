@@ -20,7 +20,8 @@ use Rattle.tac_code.specs.Numbers.{is_integer}
 use Rattle.ps_layout.specs.Shapes.{Shape}
 use Rattle.ps_layout.specs.Paths.{NumberSort}
 use Rattle.ps_code.specs.Scopes.{Scope}
-use Rattle.ps_code.specs.Fits.{ExprFits, MembersFit, MemberFits}
+use Rattle.tac_code.specs.Sound.{IsLine}
+use Rattle.ps_accepts.proofs.Tidy.{line_there, ExprSound, MembersSound, MemberSound}
 use Rattle.ps_regions.specs.Constants.{integer, OrdinalConstant, number_at, text_constant}
 use Rattle.ps_regions.specs.Option.{◌>>=◌, steps}
 use Rattle.ps_regions.specs.Spelling.{bytes_at, line_in, spelled}
@@ -122,17 +123,17 @@ module _ (D : Table) (k : Scope) (os : List Shape) where
   -- ---- set constructors (6.7.1)
 
   abbrev MemberTold : TypedMember → Type 0
-  MemberTold t = MemberFits k os t.0
+  MemberTold t = MemberSound k os t.0
 
   abbrev OptionMember : Option TypedMember → Type 0
   OptionMember o = (t : TypedMember) → o ≡ Some t → MemberTold t
 
-  members_after : (ms : List Tree.Member) (t : Tree.Member) → MembersFit k os (member_list ms) → MemberFits k os t → MembersFit k os (member_list (ms ++ t ∷ []))
-  members_after [] t h g = (g, tt)
-  members_after (x ∷ ms) t h g = (h.0, members_after ms t h.1 g)
+  members_after : (ms : List Tree.Member) (t : Tree.Member) → MembersSound k os (member_list ms) → MemberSound k os t → MembersSound k os (member_list (ms ++ t ∷ []))
+  members_after [] t h g = ((g.0, tt), (g.1, tt))
+  members_after (x ∷ ms) t h g = let r = members_after ms t (h.0.1, h.1.1) g in ((h.0.0, r.0), (h.1.0, r.1))
 
   abbrev GatheredTold : Gathered → Type 0
-  GatheredTold g = MembersFit k os (member_list g.0)
+  GatheredTold g = MembersSound k os (member_list g.0)
 
   gathered_told : (x : Gathered) (t : TypedMember) (y : Gathered) → GatheredTold x → MemberTold t → gathered x t ≡ Some y → GatheredTold y
   unfolding gathered
@@ -154,27 +155,29 @@ module _ (D : Table) (k : Scope) (os : List Shape) where
   set_told : (ts : List (Option TypedMember)) (v : Value) → Each OptionMember ts → set_value ts ≡ Some v → ValueTold D k os v
   set_told ts v h q =
       let x = then_some (steps (λ g o. o >>= gathered g) ([], None) ts) _ v q in
-      subst (ValueTold D k os) (inside _ v x.2) (constructed_told x.0 (all_gathered ([], None) ts x.0 tt h x.1))
+      subst (ValueTold D k os) (inside _ v x.2) (constructed_told x.0 (all_gathered ([], None) ts x.0 (tt, tt) h x.1))
 
-  single_told : (v : Value) (line : ℕ) → ValueTold D k os v → OptionMember (single v line)
-  single_told v line h t q =
+  single_told : (v : Value) (line : ℕ) → IsLine line → ValueTold D k os v → OptionMember (single v line)
+  single_told v line l h t q =
       let a = then_some (ordinal_of v) _ t q in
-      subst MemberTold (inside _ t a.2) (ordinal_of_told v a.0 h a.1)
+      subst MemberTold (inside _ t a.2) (let x = ordinal_of_told v a.0 h a.1 in (x.0, (x.1, l)))
     where
-      ordinal_of_told : (v : Value) (x : Tree.Expr × Ordinal) → ValueTold D k os v → ordinal_of v ≡ Some x → ExprFits k os x.0 NumberSort
+      ordinal_of_told : (v : Value) (x : Tree.Expr × Ordinal) → ValueTold D k os v → ordinal_of v ≡ Some x → ExprSound k os x.0 NumberSort
       ordinal_of_told v x h q = (ordinal_told D k os v x h q).1
 
-  several_told : (v w : Value) (line : ℕ) → ValueTold D k os v → ValueTold D k os w → OptionMember (several_members v w line)
-  several_told v w line h g t q =
+  several_told : (v w : Value) (line : ℕ) → IsLine line → ValueTold D k os v → ValueTold D k os w → OptionMember (several_members v w line)
+  several_told v w line l h g t q =
       let a = then_some (ordinal_of v) _ t q in
       let b = then_some (ordinal_of w) _ t a.2 in
-      subst MemberTold (provided_some _ _ t b.2).1 ((ordinal_told D k os v a.0 h a.1).1, (ordinal_told D k os w b.0 g b.1).1)
+      let x = (ordinal_told D k os v a.0 h a.1).1 in
+      let y = (ordinal_told D k os w b.0 g b.1).1 in
+      subst MemberTold (provided_some _ _ t b.2).1 ((x.0, y.0), (x.1, y.1, l))
 
   -- ---- constants
 
   constant_number : (n : ℤ) (v : Value) → IsTrue (is_integer n) → constant_value (OrdinalConstant integer n) ≡ Some v → ValueTold D k os v
   unfolding constant_value
-  constant_number n v h q = subst (ValueTold D k os) (inside _ v q) (integer_known D, (refl, h))
+  constant_number n v h q = subst (ValueTold D k os) (inside _ v q) (integer_known D, ((refl, h), tt))
 
   module _ (c : Context) (Γ : List Region) (here : Here c Γ D k os) where
     text_there : (at : Span) → IsText (characters (bytes_at c.text at))
@@ -183,35 +186,35 @@ module _ (D : Table) (k : Scope) (os : List Shape) where
     constant_text : (w : List ℕ) (v : Value) → IsText w → constant_value (text_constant w) ≡ Some v → ValueTold D k os v
     unfolding constant_value
     constant_text [] v h q = subst (ValueTold D k os) (inside _ v q) (refl, h)
-    constant_text (a ∷ []) v h q = subst (ValueTold D k os) (inside _ v q) (char_known D, (refl, lt-ltb a 2147483648 (let l = h.bytes.0 in omega (arith, l))))
+    constant_text (a ∷ []) v h q = subst (ValueTold D k os) (inside _ v q) (char_known D, ((refl, lt-ltb a 2147483648 (let l = h.bytes.0 in omega (arith, l))), tt))
     constant_text (a ∷ b ∷ rest) v h q = subst (ValueTold D k os) (provided_some _ _ v q).1 (refl, h)
 
     -- ---- names
 
-    standing_told : (line : ℕ) (p : Point) (v : Value) → PointStands D k os p → standing c Γ line p ≡ Some v → ValueTold D k os v
+    standing_told : (line : ℕ) → IsLine line → (p : Point) (v : Value) → PointStands D k os p → standing c Γ line p ≡ Some v → ValueTold D k os v
     unfolding standing constant_value
-    standing_told line (BlockPoint up (ConstantMeaning o n)) v st q = subst (ValueTold D k os) (inside _ v q) (st.0.0, (refl, st.0.1))
-    standing_told line (BlockPoint up (TextMeaning w)) v st q = subst (ValueTold D k os) (provided_some _ _ v q).1 (refl, st.0)
-    standing_told line (BlockPoint up (VariableMeaning entry type)) v st q =
+    standing_told line l (BlockPoint up (ConstantMeaning o n)) v st q = subst (ValueTold D k os) (inside _ v q) (st.0.0, ((refl, st.0.1), tt))
+    standing_told line l (BlockPoint up (TextMeaning w)) v st q = subst (ValueTold D k os) (provided_some _ _ v q).1 (refl, st.0)
+    standing_told line l (BlockPoint up (VariableMeaning entry type)) v st q =
         let x = then_some (variable_at (BlockPoint up (VariableMeaning entry type))) loaded v q in
         loaded_told D k os x.0 v (point_told D k os (BlockPoint up (VariableMeaning entry type)) x.0 st x.1) x.2
-    standing_told line (BlockPoint up (ParameterMeaning entry type)) v st q =
+    standing_told line l (BlockPoint up (ParameterMeaning entry type)) v st q =
         let x = then_some (variable_at (BlockPoint up (ParameterMeaning entry type))) loaded v q in
         loaded_told D k os x.0 v (point_told D k os (BlockPoint up (ParameterMeaning entry type)) x.0 st x.1) x.2
-    standing_told line (FieldPoint which record_type number type) v st q =
+    standing_told line l (FieldPoint which record_type number type) v st q =
         let x = then_some (variable_at (FieldPoint which record_type number type)) loaded v q in
         loaded_told D k os x.0 v (point_told D k os (FieldPoint which record_type number type) x.0 st x.1) x.2
-    standing_told line (BlockPoint up (TypeMeaning type)) v st q = called_told D k os c Γ here line (BlockPoint up (TypeMeaning type)) [] v st tt q
-    standing_told line (BlockPoint up (RoutineParameterMeaning entry sections result)) v st q = called_told D k os c Γ here line (BlockPoint up (RoutineParameterMeaning entry sections result)) [] v st tt q
-    standing_told line (BlockPoint up (RoutineMeaning h)) v st q = called_told D k os c Γ here line (BlockPoint up (RoutineMeaning h)) [] v st tt q
-    standing_told line (BlockPoint up (FileMeaning file)) v st q = called_told D k os c Γ here line (BlockPoint up (FileMeaning file)) [] v st tt q
-    standing_told line (BlockPoint up (RequiredMeaning r)) v st q = called_told D k os c Γ here line (BlockPoint up (RequiredMeaning r)) [] v st tt q
-    standing_told line (BlockPoint up LeftOutMeaning) v st q = called_told D k os c Γ here line (BlockPoint up LeftOutMeaning) [] v st tt q
+    standing_told line l (BlockPoint up (TypeMeaning type)) v st q = called_told D k os c Γ here line l (BlockPoint up (TypeMeaning type)) [] v st tt q
+    standing_told line l (BlockPoint up (RoutineParameterMeaning entry sections result)) v st q = called_told D k os c Γ here line l (BlockPoint up (RoutineParameterMeaning entry sections result)) [] v st tt q
+    standing_told line l (BlockPoint up (RoutineMeaning h)) v st q = called_told D k os c Γ here line l (BlockPoint up (RoutineMeaning h)) [] v st tt q
+    standing_told line l (BlockPoint up (FileMeaning file)) v st q = called_told D k os c Γ here line l (BlockPoint up (FileMeaning file)) [] v st tt q
+    standing_told line l (BlockPoint up (RequiredMeaning r)) v st q = called_told D k os c Γ here line l (BlockPoint up (RequiredMeaning r)) [] v st tt q
+    standing_told line l (BlockPoint up LeftOutMeaning) v st q = called_told D k os c Γ here line l (BlockPoint up LeftOutMeaning) [] v st tt q
 
     named_told : (name : Span) (v : Value) → named_value c Γ name ≡ Some v → ValueTold D k os v
     named_told name v q =
         let p = then_some (denoted c Γ name) _ v q in
-        standing_told (line_in c.text name.from) p.0 v (denoted_stands c Γ D k os here name p.0 p.1) p.2
+        standing_told (line_in c.text name.from) (line_there c.text name.from here.lines) p.0 v (denoted_stands c Γ D k os here name p.0 p.1) p.2
 
     pub name_told : (name : Span) (v : Variable) → named_variable c Γ name ≡ Some v → VariableTold D k os v
     name_told name v q =
@@ -247,7 +250,7 @@ module _ (D : Table) (k : Scope) (os : List Shape) where
     first_told : (sign : Option (Sign × Span)) (v w : Value) → ValueTold D k os v → first_term c Γ sign v ≡ Some w → ValueTold D k os w
     unfolding first_term
     first_told None v w h q = subst (ValueTold D k os) (inside v w q) h
-    first_told (Some s) v w h q = sign_told D k os s.0 (line_in c.text s.1.from) v w h q
+    first_told (Some s) v w h q = sign_told D k os s.0 (line_in c.text s.1.from) (line_there c.text s.1.from here.lines) v w h q
 
     simple_seen_told : (sign : Option (Sign × Span)) (x : Operand) (fs : List (Value → Option Value)) → OperandTold D k os x → Each (Keeps (ValueTold D k os)) fs → OperandTold D k os (simple_seen c Γ sign x fs)
     unfolding simple_seen
@@ -272,12 +275,12 @@ module _ (D : Table) (k : Scope) (os : List Shape) where
       indices_told (x ∷ xs) v w h t q =
           let y = then_some (indexed c v x) _ w q in
           let i = then_some x.value _ y.0 y.1 in
-          indices_told xs y.0 w h.1 (element_told D k os v i.0 (line_in c.text x.first) y.0 t (h.0.value i.0 i.1) i.2) y.2
+          indices_told xs y.0 w h.1 (element_told D k os v i.0 (line_in c.text x.first) (line_there c.text x.first here.lines) y.0 t (h.0.value i.0 i.1) i.2) y.2
 
       selector_told : (x : Selector) (ts r : Tokens) → IsSelector expr x ts r → Keeps (VariableTold D k os) (select c Γ x)
       selector_told x ts r (g.index {xs = xs} d) v w t q = indices_told (map (operand c Γ) xs) v w (separated_told xs _ _ d) t (ap (λ h. h v) (sym (select_index c Γ xs)) ∙ q)
       selector_told x ts r (g.field {at = at}) v w t q = component_told D k os v (spelled c.text at) w t (ap (λ h. h v) (sym (select_field c Γ at)) ∙ q)
-      selector_told x ts r (g.content {at = at}) v w t q = target_told D k os c Γ here v (line_in c.text at.from) w t (ap (λ h. h v) (sym (select_content c Γ at)) ∙ q)
+      selector_told x ts r (g.content {at = at}) v w t q = target_told D k os c Γ here v (line_in c.text at.from) (line_there c.text at.from here.lines) w t (ap (λ h. h v) (sym (select_content c Γ at)) ∙ q)
 
       selectors_told : (xs : List Selector) (ts r : Tokens) → Many (IsSelector expr) xs ts r → Each (Keeps (VariableTold D k os)) (map (select c Γ) xs)
       selectors_told [] ts r none = tt
@@ -292,13 +295,13 @@ module _ (D : Table) (k : Scope) (os : List Shape) where
       member_told x ts r (g.single {x = y} d) t q =
           let told = exprs_tell y _ _ d in
           let v = then_some (operand c Γ y).value _ t (sym (member_single c Γ y) ∙ q) in
-          single_told v.0 (line_in c.text (operand c Γ y).first) (told.value v.0 v.1) t v.2
+          single_told v.0 (line_in c.text (operand c Γ y).first) (line_there c.text (operand c Γ y).first here.lines) (told.value v.0 v.1) t v.2
       member_told x ts r (g.range {x = y} {y = z} d d') t q =
           let v = then_some (operand c Γ y).value _ t (sym (member_several c Γ y z) ∙ q) in
           let w = then_some (operand c Γ z).value _ t v.2 in
           let told = exprs_tell y _ _ d in
           let told' = exprs_tell z _ _ d' in
-          several_told v.0 w.0 (line_in c.text (operand c Γ y).first) (told.value v.0 v.1) (told'.value w.0 w.1) t w.2
+          several_told v.0 w.0 (line_in c.text (operand c Γ y).first) (line_there c.text (operand c Γ y).first here.lines) (told.value v.0 v.1) (told'.value w.0 w.1) t w.2
 
       members_told : {separator : _} (xs : List Member) (ts r : Tokens) → Separated separator (IsMember expr) xs ts r → Each OptionMember (map (member_at c Γ) xs)
       members_told [] ts r d = elim d [ ]
@@ -310,10 +313,10 @@ module _ (D : Table) (k : Scope) (os : List Shape) where
         factors_tell x ts r (g.variable {v = v} d) = subst (OperandTold D k os) (sym (factor_variable c Γ v)) (variables_tell v _ _ d)
         factors_tell x ts r (g.call {at = at} {xs = xs} d) = subst (OperandTold D k os) (sym (factor_call c Γ at xs)) (plain_told at.from (call_value c Γ at (map (operand c Γ) xs)) (λ v q.
             let p = then_some (denoted c Γ at) _ v q in
-            called_told D k os c Γ here (line_in c.text at.from) p.0 (map (operand c Γ) xs) v (denoted_stands c Γ D k os here at p.0 p.1) (separated_told xs _ _ d) p.2))
+            called_told D k os c Γ here (line_in c.text at.from) (line_there c.text at.from here.lines) p.0 (map (operand c Γ) xs) v (denoted_stands c Γ D k os here at p.0 p.1) (separated_told xs _ _ d) p.2))
         factors_tell x ts r (g.number {at = at}) = subst (OperandTold D k os) (sym (factor_number c Γ at)) (plain_told at.from _ (λ v q. constant_number (number_at c.text at) v (integer_there (bytes_at c.text at)) q))
         factors_tell x ts r (g.text {at = at}) = subst (OperandTold D k os) (sym (factor_text c Γ at)) (plain_told at.from _ (λ v q. constant_text (characters (bytes_at c.text at)) v (text_there at) q))
-        factors_tell x ts r (g.nil {at = at}) = subst (OperandTold D k os) (sym (factor_nil c Γ at)) (plain_told at.from _ (λ v q. subst (ValueTold D k os) (inside _ v q) (λ n. (n, refl))))
+        factors_tell x ts r (g.nil {at = at}) = subst (OperandTold D k os) (sym (factor_nil c Γ at)) (plain_told at.from _ (λ v q. subst (ValueTold D k os) (inside _ v q) (λ n. ((n, refl), tt))))
         factors_tell x ts r (g.empty {left = at}) = subst (OperandTold D k os) (sym (factor_set c Γ at [])) (plain_told at.from _ (λ v q. set_told [] v tt q))
         factors_tell x ts r (g.set {left = at} {xs = xs} d) = subst (OperandTold D k os) (sym (factor_set c Γ at xs)) (plain_told at.from _ (λ v q. set_told (map (member_at c Γ) xs) v (members_told xs _ _ d) q))
         factors_tell x ts r (g.group {left = at} {x = y} d) = subst (OperandTold D k os) (sym (factor_group c Γ at y)) (plain_told at.from (operand c Γ y).value (let told = exprs_tell y _ _ d in told.value))
@@ -329,7 +332,7 @@ module _ (D : Table) (k : Scope) (os : List Shape) where
       multiplied_tell x ts r (g.multiplied op at y d) v w t q =
           let u = then_some (factor_operand c Γ y).value _ w (sym (multiply_factor_is c Γ x v) ∙ q) in
           let told = factors y _ _ d in
-          multiplied_told D k os op (line_in c.text at.from) v u.0 w t (told.value u.0 u.1) u.2
+          multiplied_told D k os op (line_in c.text at.from) (line_there c.text at.from here.lines) v u.0 w t (told.value u.0 u.1) u.2
 
       all_multiplied : (xs : List MultipliedFactor) (ts r : Tokens) → Many (IsMultiplied factor) xs ts r → Each (Keeps (ValueTold D k os)) (map (multiply_factor c Γ) xs)
       all_multiplied [] ts r none = tt
@@ -343,7 +346,7 @@ module _ (D : Table) (k : Scope) (os : List Shape) where
           let is = add_term_is c Γ x v ∙ ap (λ z. (term_operand c Γ z.term).value >>= added z.operator (line_in c.text z.at.from) v) (out-roll-AddedTerm (record { operator = op; at = at; term = y })) in
           let u = then_some (term_operand c Γ y).value _ w (sym is ∙ q) in
           let told = terms_tell y _ _ d in
-          added_told D k os op (line_in c.text at.from) v u.0 w t (told.value u.0 u.1) u.2
+          added_told D k os op (line_in c.text at.from) (line_there c.text at.from here.lines) v u.0 w t (told.value u.0 u.1) u.2
 
       all_added : (xs : List AddedTerm) (ts r : Tokens) → Many (IsAdded (IsTerm factor)) xs ts r → Each (Keeps (ValueTold D k os)) (map (add_term c Γ) xs)
       all_added [] ts r none = tt

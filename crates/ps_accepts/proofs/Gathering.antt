@@ -5,10 +5,11 @@ use Rattle.ps_tree.specs.Tree as Tree
 use Rattle.ps_tree.specs.Tree.{Program, routine_at, no_routine}
 use Rattle.ps_layout.specs.Paths.{NumberSort, PointerSort}
 use Rattle.ps_calls.specs.Binding.{FirstsFit}
-use Rattle.ps_calls.specs.Routines.{ResultFits, RoutineFits}
+use Rattle.ps_calls.specs.Routines.{ResultFits}
 use Rattle.ps_regions.specs.Regions.{formals_of, Heading}
-use Rattle.ps_check.specs.Blocks.{Gathered}
+use Rattle.ps_check.specs.Readings.{Gathered}
 use Rattle.ps_accepts.proofs.Lists.{Each, none_some, inside}
+use Rattle.ps_accepts.proofs.Tidy.{RoutineSound}
 use Rattle.ps_accepts.proofs.Tables.{Table, Extends, extends_both, TypeKnown}
 use Rattle.ps_accepts.proofs.Standing.{ResultKnown, IsDeclared}
 use Rattle.ps_accepts.proofs.Firsts.{first_fits}
@@ -114,9 +115,9 @@ final_before P F D E g h x a f = record {
 pub all_domains : (P : Program) (F D : Table) (g : Gathered) → Final P F D g → length g.domains ≤ length P.domains
 all_domains P F D g f = let l = length-append g.domains f.more in let e = ap length f.domains in omega (arith, l, e)
 
--- the routines from a number on that have their blocks fit
+-- the routines from a number on that have their blocks are sound
 abbrev pub AllFit : Program → (base : ℕ) → Gathered → Type 0
-AllFit P base g = (i : ℕ) (x : Tree.Routine) → base ≤ i → IsMade g i x → RoutineFits P x
+AllFit P base g = (i : ℕ) (x : Tree.Routine) → base ≤ i → IsMade g i x → RoutineSound P x
 
 -- the routine of a heading
 pub record IsRoutineOf (chain : List ℕ) (h : Heading) (x : Tree.Routine) : Type 0 where

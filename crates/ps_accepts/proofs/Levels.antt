@@ -1,6 +1,7 @@
 -- What is known of a block is known of the blocks within it: each block of a program fits.
 use Rattle.std.proofs.Common.{◌≡◌, ℕ, zero, suc, ◌<◌, ◌≤◌, Bool, true, not, List, [], ◌∷◌, ◌++◌, length, map, drop, Option, Some, None, slice_get, refl, sym, ap, ◌∙◌, subst, arith, length-append, append_assoc}
 use Rattle.std.specs.List.{list_all}
+use Rattle.ps_text.specs.Lines.{line_count}
 use Rattle.ps_text.specs.declared.Span.{Span}
 use Rattle.ps_scan.specs.Spans.{AreOrdered}
 use Rattle.ps_scan.specs.declared.token.Kind.TheVariants as k
@@ -15,15 +16,19 @@ use Rattle.ps_grammar.specs.Programs.{IsPart, IsConstantDefinition, IsTypeDefini
 use Rattle.ps_tree.specs.Types.{DataType}
 use Rattle.ps_tree.specs.Tree as Tree
 use Rattle.ps_tree.specs.Tree.{Program}
-use Rattle.ps_code.specs.Fits.{StatementsFit, outermost_of}
+use Rattle.ps_code.specs.Fits.{outermost_of}
+use Rattle.ps_accepts.proofs.Tidy.{line_there, StatementsSound}
+use Rattle.tac_code.specs.Sound.{IsLine}
 use Rattle.ps_regions.specs.Option.{◌>>=◌, provided, steps}
 use Rattle.ps_regions.specs.Spelling.{line_in}
 use Rattle.ps_regions.specs.Regions.{Region, BlockRegion, Meaning, ConstantMeaning, TextMeaning, TypeMeaning, VariableMeaning, RoutineMeaning, Heading, Context}
 use Rattle.ps_declare.specs.Denoters.{Frame, Declared}
 use Rattle.ps_declare.specs.Declarations.{declarations}
 use Rattle.ps_statements.specs.Statements.{statements}
-use Rattle.ps_check.specs.Blocks.{Gathered, Done, Routines, RoutineReading, BlockReading, BlockLayer, is_vacant, is_complete, all_complete, with_domains, own_number, one_routine, block_names, declared, block_body, block_step, routine_step, routine}
-use Rattle.ps_check.specs.Changes.{is_safe}
+use Rattle.ps_check.specs.Readings.{Gathered, Done, Routines, RoutineReading, BlockReading, BlockLayer}
+use Rattle.ps_check.specs.Forwards.{is_vacant, is_complete, all_complete, block_names}
+use Rattle.ps_check.specs.Blocks.{with_domains, own_number, one_routine, declared, block_body, block_step, routine_step, routine}
+use Rattle.ps_check.specs.Threats.{is_safe}
 use Rattle.ps_accepts.proofs.Lists.{Each, each_at, each_append, each_map, then_some, provided_some, none_some, inside, left, right, never, get_left}
 use Rattle.ps_accepts.proofs.Tables.{Table, extends_self, extends_both, TypeKnown}
 use Rattle.ps_accepts.proofs.Standing.{MeaningStands, BlocksStand, Here}
@@ -117,7 +122,7 @@ module _ (own : ℕ) (rest : List ℕ) (names : List (List ℕ)) (text : List �
   }
 
   -- ---- the statements
-  module _ (c : Context) (same : c.text ≡ text) (bytes : Each (λ b. b < 256) c.text) (short : length c.text ≤ 1048576) (outermost : outermost_of (own ∷ rest) ≡ 0)
+  module _ (c : Context) (same : c.text ≡ text) (bytes : Each (λ b. b < 256) c.text) (short : length c.text ≤ 1048576) (lines : line_count c.text ≤ 65535) (outermost : outermost_of (own ∷ rest) ≡ 0)
       (n : ℕ) (t : Routines) (us : Tokens) (step : Step own rest frame (length g.routines) e.known (behind_declarations e g) t declares.table declares.next high us)
       (ss : List syntax_statement.Statement) (vs r : Tokens) (body : Tree.Statements) (sequence : IsSequence (statement_within n) ss vs r)
       (complete : all_complete t.gathered t.known ≡ true) (read : statements (with_domains c t.gathered.domains) (BlockRegion own names t.known ∷ outer) ss ≡ Some body) where
@@ -136,13 +141,14 @@ module _ (own : ℕ) (rest : List ℕ) (names : List (List ℕ)) (text : List �
         outermost = outermost;
         bytes = bytes;
         short = short;
+        lines = lines;
       }
 
-      body_fits : AllFit P (length g.routines) t.gathered × StatementsFit (record { program = P; chain = own ∷ rest; opened = [] }) [] body
+      body_fits : AllFit P (length g.routines) t.gathered × StatementsSound (record { program = P; chain = own ∷ rest; opened = [] }) [] body
       body_fits = (step.reading.fits P F final targets all_stand blocks, statements_tell_all (with_domains c t.gathered.domains) (BlockRegion own names t.known ∷ outer) F (record { program = P; chain = own ∷ rest; opened = [] }) [] here n ss vs r sequence body read)
 
-    pub block_read : (line next : ℕ) (ws : Tokens) → step.next ≤ next → AreOrdered next high ws → BlockTold own rest outer known first D low high ws g (record { variables = e.variables; body = body; line = line; gathered = t.gathered })
-    block_read line next ws le ordered = record {
+    pub block_read : (line next : ℕ) (ws : Tokens) → IsLine line → step.next ≤ next → AreOrdered next high ws → BlockTold own rest outer known first D low high ws g (record { variables = e.variables; body = body; line = line; gathered = t.gathered })
+    block_read line next ws there le ordered = record {
       table = step.table;
       next = next;
       later = let a = declares.later in let b = step.later in omega (arith, a, b, le);
@@ -158,12 +164,13 @@ module _ (own : ℕ) (rest : List ℕ) (names : List (List ℕ)) (text : List �
       grows = record { more = declares.more ++ step.grows.more; domains = step.grows.domains ∙ ap (λ l. l ++ step.grows.more) declares.domains ∙ append_assoc g.domains declares.more step.grows.more; made = step.grows.made };
       count = step.reading.count;
       kept = step.kept;
+      line = there;
       fits = body_fits;
     }
 
 -- ---- blocks
 
-module _ (declarations_tell : DeclarationsTell) (c : Context) (bytes : Each (λ b. b < 256) c.text) (short : length c.text ≤ 1048576) (is_forward : Span → Bool) where
+module _ (declarations_tell : DeclarationsTell) (c : Context) (bytes : Each (λ b. b < 256) c.text) (short : length c.text ≤ 1048576) (lines : line_count c.text ≤ 65535) (is_forward : Span → Bool) where
   module _ (n : ℕ) (symbol : Symbol syntax_block.Block) (tells : BlockTells c symbol) where
     block_tells : BlockTells c (p.IsBlock is_forward (type_within n) (heading_within n) (statement_within n) symbol)
     unfolding block_step declared block_body own_number
@@ -190,7 +197,7 @@ module _ (declarations_tell : DeclarationsTell) (c : Context) (bytes : Each (λ 
         (first_reading own rest all.0 c.text outer known first g D ready low high tc made.0 declares) declares.ordered declares.ends t.1 in
         let later : Later (token k.Begin begin ∷ td) r = behind _ td r (past _ td r r (sequences_go n ss td _ dss) (same_place r)) in
         let at = later.on step.next high step.ordered in
-        let told = block_read own rest all.0 c.text outer known first g D ready low high tc made.0 declares c refl bytes short outermost n t.0 _ step ss td _ body.0 dss all_there.0 (ap in_context all_there.1 ∙ read.1 ∙ ap Some safe.1) (line_in c.text begin.from) at.0 r at.1 at.2 in
+        let told = block_read own rest all.0 c.text outer known first g D ready low high tc made.0 declares c refl bytes short lines outermost n t.0 _ step ss td _ body.0 dss all_there.0 (ap in_context all_there.1 ∙ read.1 ∙ ap Some safe.1) (line_in c.text begin.from) at.0 r (line_there c.text begin.from lines) at.1 at.2 in
         subst (BlockTold own rest outer known first D low high r g) (inside _ done body.2) told
 
   pub blocks_tell : (n : ℕ) → BlockTells c (block_within is_forward n)

@@ -1,4 +1,7 @@
 pub mod Lists
+pub mod Tidy
+pub mod Counts
+pub mod Formed
 pub mod Tables
 pub mod Same
 pub mod Standing

@@ -1,5 +1,6 @@
--- Whole programs: what is accepted fits.
+-- Whole programs: what is accepted is sound.
 use Rattle.std.proofs.Common.{◌≡◌, ℕ, zero, suc, ◌<◌, ◌≤◌, Bool, true, false, if◌then◌else◌, List, [], ◌∷◌, ◌++◌, length, Option, Some, None, slice_get, slice_set, codes, refl, sym, ap, ◌∙◌, subst, arith, append-nil}
+use Rattle.ps_text.specs.Lines.{line_count}
 use Rattle.ps_text.specs.declared.Span.{Span}
 use Rattle.ps_scan.specs.Lexis.{IsTokens}
 use Rattle.ps_scan.specs.Spans.{AreOrdered}
@@ -15,10 +16,10 @@ use Rattle.ps_tree.specs.Counts.{is_within_limits}
 use Rattle.ps_tree.specs.Tree as Tree
 use Rattle.ps_tree.specs.Tree.{Program, routine_at}
 use Rattle.ps_layout.specs.Frames.{variable_kinds, entries}
-use Rattle.ps_code.specs.Fits.{StatementsFit}
+use Rattle.ps_accepts.proofs.Tidy.{StatementsSound, RoutineSound}
 use Rattle.ps_relation.specs.Here.{AreSmall}
 use Rattle.ps_calls.specs.Begin.{IsOutermost}
-use Rattle.ps_calls.specs.Routines.{RoutineFits, RoutinesFit}
+use Rattle.ps_calls.specs.Binding.{FirstsFit}
 use Rattle.ps_lowers.specs.Fits.{ProgramFits}
 use Rattle.ps_regions.specs.declared.meaning.File.TheVariants.{Input, Output}
 use Rattle.ps_regions.specs.Option.{steps, traverse}
@@ -26,7 +27,8 @@ use Rattle.ps_regions.specs.Spelling.{spelled, same}
 use Rattle.ps_regions.specs.Regions.{Meaning, FileMeaning}
 use Rattle.ps_regions.specs.Constants.{integer, char, boolean}
 use Rattle.ps_declare.specs.Points.{add_name}
-use Rattle.ps_check.specs.Blocks.{Gathered, Done, block}
+use Rattle.ps_check.specs.Readings.{Gathered, Done}
+use Rattle.ps_check.specs.Blocks.{block}
 use Rattle.ps_check.specs.Programs.{Files, no_files, file_named, list_file, required, required_names, required_types, required_routines, left_out, program_start, nothing_gathered, program_routine, program_context, assembled, program_of, program_with, program}
 use Rattle.ps_accepts.proofs.Lists.{Each, each_append, each_map, then_some, provided_some, none_some, inside}
 use Rattle.ps_accepts.proofs.Tables.{Table, extends_self, EndsBefore, OrdinalKnown, TypeKnown}
@@ -143,6 +145,13 @@ assembled_is g P e =
 
 -- ---- the program
 
+-- all that is told of it
+pub record ProgramSound (P : Program) : Type 0 where
+  pub limits : is_within_limits P ≡ true
+  pub fits : ProgramFits P
+  pub routines : (i : ℕ) → i < length P.routines → RoutineSound P (routine_at P i)
+  pub domains : FirstsFit P.domains
+
 module _ (small : (P : Program) → is_within_limits P ≡ true → AreSmall P) where
   module _ (known : List Meaning) (files : Each IsFile known) (D : Table) (low high : ℕ) (r : Tokens) (done : Done) (told : BlockTold 0 [] (required ∷ []) known 0 D low high r nothing_gathered done) (P : Program)
       (assembled : IsAssembled (record { domains = done.gathered.domains; routines = slice_set done.gathered.routines 0 (Some (program_routine done)) }) P) where
@@ -171,19 +180,23 @@ module _ (small : (P : Program) → is_within_limits P ≡ true → AreSmall P) 
       own = λ ms k. all_own P 0 [] [] done.variables entries_there ms k;
     }
 
-    all_fit : AllFit P 1 done.gathered × StatementsFit (record { program = P; chain = 0 ∷ []; opened = [] }) [] done.body
+    all_fit : AllFit P 1 done.gathered × StatementsSound (record { program = P; chain = 0 ∷ []; opened = [] }) [] done.body
     all_fit = told.fits P told.table final (subst (λ l. Each (TypeKnown told.table (length l)) l) assembled.domains told.domains) (required_stand P told.table) own_stand
 
-    block_fits : RoutineFits P (program_routine done)
-    block_fits = record { result = tt; variables = variables_fit told.table (length done.gathered.domains) done.variables told.variables; body = all_fit.1 }
+    block_fits : RoutineSound P (program_routine done)
+    block_fits = record {
+      fits = record { result = tt; variables = variables_fit told.table (length done.gathered.domains) done.variables told.variables; body = all_fit.1.0 };
+      line = told.line;
+      tidy = all_fit.1.1;
+    }
 
-    routines_fit : RoutinesFit P
-    routines_fit i l =
+    routines_sound : (i : ℕ) → i < length P.routines → RoutineSound P (routine_at P i)
+    routines_sound i l =
         let there = there_is P.routines i l in
         let x = there.0 in
         let made = at_made (slice_set done.gathered.routines 0 (Some (program_routine done))) P.routines i x assembled.routines there.1 in
-        subst (RoutineFits P) (sym (or_there P.routines i x there.1)) (either i 0 (RoutineFits P x)
-        (λ e. subst (RoutineFits P) (inside (program_routine done) x (sym first_there ∙ ap (slice_get P.routines) (sym e) ∙ there.1)) block_fits)
+        subst (RoutineSound P) (sym (or_there P.routines i x there.1)) (either i 0 (RoutineSound P x)
+        (λ e. subst (RoutineSound P) (inside (program_routine done) x (sym first_there ∙ ap (slice_get P.routines) (sym e) ∙ there.1)) block_fits)
         (λ apart. all_fit.0 i x (omega (arith, apart)) (sym (set_other done.gathered.routines i 0 (Some (program_routine done)) apart) ∙ made)))
 
     outermost_is : IsOutermost (program_routine done)
@@ -195,7 +208,15 @@ module _ (small : (P : Program) → is_within_limits P ≡ true → AreSmall P) 
       begins = get_below P.routines 0 (program_routine done) first_there;
       chain = ap (λ (q : Tree.Routine). q.chain) first_is;
       outermost = subst IsOutermost (sym first_is) outermost_is;
-      routines = routines_fit;
+      routines = λ i l. let sound = routines_sound i l in sound.fits;
+    }
+
+    whole_sound : ProgramSound P
+    whole_sound = record {
+      limits = assembled.limits;
+      fits = whole_fits;
+      routines = routines_sound;
+      domains = variables_fit told.table (length done.gathered.domains) P.domains (subst (Each (TypeKnown told.table (length done.gathered.domains))) assembled.domains told.domains);
     }
 
   abbrev nothing_known : Table
@@ -204,10 +225,10 @@ module _ (small : (P : Program) → is_within_limits P ≡ true → AreSmall P) 
   nothing_ends : (low : ℕ) → EndsBefore low nothing_known
   nothing_ends low = record { structures = λ at l. refl; subranges = λ at l. refl; enumerations = λ at l. refl }
 
-  module _ (text : List ℕ) (bytes : Each (λ b. b < 256) text) (short : length text ≤ 1048576) (P : Program) where
-    read_fits : (name : Span) (xs : List Span) (b : syntax_block.Block) (n low high : ℕ) (ts r : Tokens) → block_within (is_forward text) n b ts r → AreOrdered low high ts → program text (record { name = name; parameters = xs; block = b }) ≡ Some P → ProgramFits P
+  module _ (text : List ℕ) (bytes : Each (λ b. b < 256) text) (short : length text ≤ 1048576) (lines : line_count text ≤ 65535) (P : Program) where
+    read_sound : (name : Span) (xs : List Span) (b : syntax_block.Block) (n low high : ℕ) (ts r : Tokens) → block_within (is_forward text) n b ts r → AreOrdered low high ts → program text (record { name = name; parameters = xs; block = b }) ≡ Some P → ProgramSound P
     unfolding program program_with program_of
-    read_fits name xs b n low high ts r derived ordered e =
+    read_sound name xs b n low high ts r derived ordered e =
         let files = then_some (steps (list_file text) no_files xs) _ P e in
         let listed = files_told text xs no_files files.0 tt files.1 in
         let done = then_some (block (program_context text files.0) b (required ∷ []) (program_start files.0) nothing_gathered) _ P files.2 in
@@ -217,18 +238,18 @@ module _ (small : (P : Program) → is_within_limits P ≡ true → AreSmall P) 
           plain = each_map IsFile IsPlain file_plain files.0.known listed;
           domains = tt;
         } in
-        let told = blocks_tell declarations_tell (program_context text files.0) bytes short (is_forward text) n 0 [] refl (required ∷ []) files.0.names files.0.known 0 nothing_gathered nothing_known low high b ts r derived ready ordered (nothing_ends low) done.0 done.1 in
-        whole_fits files.0.known listed nothing_known low high r done.0 told P (assembled_is _ P done.2)
+        let told = blocks_tell declarations_tell (program_context text files.0) bytes short lines (is_forward text) n 0 [] refl (required ∷ []) files.0.names files.0.known 0 nothing_gathered nothing_known low high b ts r derived ready ordered (nothing_ends low) done.0 done.1 in
+        whole_sound files.0.known listed nothing_known low high r done.0 told P (assembled_is _ P done.2)
 
-    derived_fits : (n : ℕ) (tree : syntax.Program) (ts : Tokens) (high : ℕ) → DerivesWithin (is_forward text) n ts tree → AreOrdered 0 high ts → program text tree ≡ Some P → ProgramFits P
-    derived_fits n tree ts high (p.plain {at = name} {b = b} {ts = us} d) ordered e =
+    derived_sound : (n : ℕ) (tree : syntax.Program) (ts : Tokens) (high : ℕ) → DerivesWithin (is_forward text) n ts tree → AreOrdered 0 high ts → program text tree ≡ Some P → ProgramSound P
+    derived_sound n tree ts high (p.plain {at = name} {b = b} {ts = us} d) ordered e =
         let later : Later ts us = behind _ _ us (behind _ _ us (behind _ us us (same_place us))) in
         let at = later.on 0 high ordered in
-        read_fits name [] b n at.0 high us _ d at.2 e
-    derived_fits n tree ts high (p.listed {at = name} {xs = xs} {b = b} {ts = us} {m = m} names d) ordered e =
+        read_sound name [] b n at.0 high us _ d at.2 e
+    derived_sound n tree ts high (p.listed {at = name} {xs = xs} {b = b} {ts = us} {m = m} names d) ordered e =
         let later : Later ts m = behind _ _ m (behind _ _ m (behind _ us m (past _ us _ m (names_go xs us _ names) (behind _ m m (same_place m))))) in
         let at = later.on 0 high ordered in
-        read_fits name xs b n at.0 high m _ d at.2 e
+        read_sound name xs b n at.0 high m _ d at.2 e
 
-    pub accepted_fits : (tokens : Tokens) (tree : syntax.Program) → IsTokens text tokens → IsTreeOf text tokens tree → program text tree ≡ Some P → ProgramFits P
-    accepted_fits tokens tree scanned derived e = derived_fits derived.derives.0 tree tokens (length text) derived.derives.1 (tokens_ordered text tokens scanned) e
+    pub accepted_sound : (tokens : Tokens) (tree : syntax.Program) → IsTokens text tokens → IsTreeOf text tokens tree → program text tree ≡ Some P → ProgramSound P
+    accepted_sound tokens tree scanned derived e = derived_sound derived.derives.0 tree tokens (length text) derived.derives.1 (tokens_ordered text tokens scanned) e

@@ -9,7 +9,9 @@ use Rattle.ps_layout.specs.Shapes.{Shape, PointerShape, ByteShape, ArrayShape, s
 use Rattle.ps_layout.specs.Paths.{NumberSort}
 use Rattle.ps_layout.specs.Frames.{Own}
 use Rattle.ps_code.specs.Scopes.{Scope, kind_at}
-use Rattle.ps_code.specs.Fits.{PlaceFits, SelectorsFit, SelectorFits, ExprFits, SortOf, CountIs, shape_in}
+use Rattle.ps_code.specs.Fits.{SortOf, CountIs, shape_in}
+use Rattle.ps_accepts.proofs.Tidy.{PlaceSound, SelectorsSound, SelectorSound, ExprSound}
+use Rattle.tac_code.specs.Sound.{IsLine}
 use Rattle.ps_regions.specs.Regions.{Context, Region, Point, BlockPoint, FieldPoint, ConstantMeaning, TextMeaning, TypeMeaning, VariableMeaning, ParameterMeaning, RoutineParameterMeaning, RoutineMeaning, FileMeaning, RequiredMeaning, LeftOutMeaning}
 use Rattle.ps_typing.specs.Chains.{selector_after, selected}
 use Rattle.ps_typing.specs.Values.{Value, SimpleValue, SetValue, StructureValue, Variable, contents, loaded}
@@ -44,31 +46,31 @@ part_there index component false = refl
 module _ (D : Table) (k : Scope) (os : List Shape) where
   -- ---- a selector behind the others
 
-  selectors_after : (ss : Selectors) (s : Selector) (p : Part) (shape : Shape) (q : Part) → SelectorsFit k os ss p (Whole shape) → SelectorFits k os s shape q → SelectorsFit k os (selector_after ss s) p q
+  selectors_after : (ss : Selectors) (s : Selector) (p : Part) (shape : Shape) (q : Part) → SelectorsSound k os ss p (Whole shape) → SelectorSound k os s shape q → SelectorsSound k os (selector_after ss s) p q
   unfolding selector_after
-  selectors_after no_selector s p shape q h f = (shape, h, (q, f, refl))
-  selectors_after (selector_before first rest) s p shape q h f = (h.0, h.1, (h.2.0, h.2.1, selectors_after rest s h.2.0 shape q h.2.2 f))
+  selectors_after no_selector s p shape q h f = ((shape, h.0, (q, f.0, refl)), (f.1, tt))
+  selectors_after (selector_before first rest) s p shape q h f = let r = selectors_after rest s h.0.2.0 shape q (h.0.2.2, h.1.1) f in ((h.0.0, h.0.1, (h.0.2.0, h.0.2.1, r.0)), (h.1.0, r.1))
 
-  selected_fits : (p : Place) (s : Selector) (shape : Shape) (q : Part) → PlaceFits k os p (Whole shape) → SelectorFits k os s shape q → PlaceFits k os (selected p s) q
-  selected_fits (Tree.Variable base ss) s shape q h f = (h.0, h.1, selectors_after ss s (Whole h.0) shape q h.2 f)
+  selected_fits : (p : Place) (s : Selector) (shape : Shape) (q : Part) → PlaceSound k os p (Whole shape) → SelectorSound k os s shape q → PlaceSound k os (selected p s) q
+  selected_fits (Tree.Variable base ss) s shape q h f = let r = selectors_after ss s (Whole h.0.0) shape q (h.0.2, h.1) f in ((h.0.0, h.0.1, r.0), r.1)
 
-  pub whole_fits : (p : Place) (type : DataType) (b : Bool) → PlaceFits k os p (part_of b type) → b ≡ false → PlaceFits k os p (Whole (shape_of type))
-  whole_fits p type b h e = subst (λ c. PlaceFits k os p (part_of c type)) e h
+  pub whole_fits : (p : Place) (type : DataType) (b : Bool) → PlaceSound k os p (part_of b type) → b ≡ false → PlaceSound k os p (Whole (shape_of type))
+  whole_fits p type b h e = subst (λ c. PlaceSound k os p (part_of c type)) e h
 
   -- ---- elements, fields, and what pointers identify
 
-  index_told : (index : Ordinal) (v : Value) (e : Expr) → ValueTold D k os v → index_operand index v ≡ Some e → ExprFits k os e NumberSort
+  index_told : (index : Ordinal) (v : Value) (e : Expr) → ValueTold D k os v → index_operand index v ≡ Some e → ExprSound k os e NumberSort
   unfolding index_operand is_compatible is_same_type string_length
-  index_told index (SimpleValue x (OrdinalType o)) e h q = let p = provided_some _ x e q in subst (λ y. ExprFits k os y NumberSort) p.1 h.1
+  index_told index (SimpleValue x (OrdinalType o)) e h q = let p = provided_some _ x e q in subst (λ y. ExprSound k os y NumberSort) p.1 h.1
   index_told index (SimpleValue x (PointerType n)) e h q = absurd (none_some q)
   index_told index (SimpleValue x NilType) e h q = absurd (none_some q)
   index_told index (SimpleValue x type) e h q = absurd h
   index_told index (SetValue x type) e h q = absurd (none_some q)
   index_told index (StructureValue x type) e h q = absurd (none_some q)
 
-  element_of_array : (p : Place) (b in_packed : Bool) (at : ℕ) (packed : Bool) (index : Ordinal) (c : DataType) (v : Value) (line : ℕ) (x : Variable) → TypeKnown D (bound_of k) (ArrayType at packed index c) → PlaceFits k os p (Whole (shape_of (ArrayType at packed index c))) → ValueTold D k os v → element p (ArrayType at packed index c) v line ≡ Some x → VariableTold D k os x
+  element_of_array : (p : Place) (b in_packed : Bool) (at : ℕ) (packed : Bool) (index : Ordinal) (c : DataType) (v : Value) (line : ℕ) → IsLine line → (x : Variable) → TypeKnown D (bound_of k) (ArrayType at packed index c) → PlaceSound k os p (Whole (shape_of (ArrayType at packed index c))) → ValueTold D k os v → element p (ArrayType at packed index c) v line ≡ Some x → VariableTold D k os x
   unfolding element
-  element_of_array p b in_packed at packed index c v line x known fits h q =
+  element_of_array p b in_packed at packed index c v line l x known fits h q =
       let type = ArrayType at packed index c in
       let e = then_some (index_operand index v) _ x q in
       let small = packed && fits_byte c in
@@ -78,15 +80,15 @@ module _ (D : Table) (k : Scope) (os : List Shape) where
         packed = λ s. left packed (fits_byte c) s;
         small = λ s. right packed (fits_byte c) s;
         fits = selected_fits p (Tree.Element type e.0 line) (shape_of type) (part_of small c) fits
-            (refl, part_there index c small, (counted index c small, known.1.low, known.1.high), index_told index v e.0 h e.1);
+            (let i = index_told index v e.0 h e.1 in ((refl, part_there index c small, (counted index c small, known.1.low, known.1.high), i.0), (known.1.rises, i.1, l)));
       })
 
-  pub element_told : (v : Variable) (index : Value) (line : ℕ) (x : Variable) → VariableTold D k os v → ValueTold D k os index → element v.place v.type index line ≡ Some x → VariableTold D k os x
+  pub element_told : (v : Variable) (index : Value) (line : ℕ) → IsLine line → (x : Variable) → VariableTold D k os v → ValueTold D k os index → element v.place v.type index line ≡ Some x → VariableTold D k os x
   unfolding element
-  element_told v index line x told h q = go v.type told.known (λ b. told.small b) told.fits q
+  element_told v index line l x told h q = go v.type told.known (λ b. told.small b) told.fits q
     where
-      go : (type : DataType) → TypeKnown D (bound_of k) type → (told.byte ≡ true → fits_byte type ≡ true) → PlaceFits k os v.place (part_of told.byte type) → element v.place type index line ≡ Some x → VariableTold D k os x
-      go (ArrayType at packed i c) known small fits r = element_of_array v.place told.byte v.in_packed at packed i c index line x known (whole_fits v.place (ArrayType at packed i c) told.byte fits (no_byte told.byte small)) h r
+      go : (type : DataType) → TypeKnown D (bound_of k) type → (told.byte ≡ true → fits_byte type ≡ true) → PlaceSound k os v.place (part_of told.byte type) → element v.place type index line ≡ Some x → VariableTold D k os x
+      go (ArrayType at packed i c) known small fits r = element_of_array v.place told.byte v.in_packed at packed i c index line l x known (whole_fits v.place (ArrayType at packed i c) told.byte fits (no_byte told.byte small)) h r
       go (OrdinalType o) known small fits r = absurd (none_some r)
       go (PointerType n) known small fits r = absurd (none_some r)
       go NilType known small fits r = absurd (none_some r)
@@ -95,7 +97,7 @@ module _ (D : Table) (k : Scope) (os : List Shape) where
       go (TextType n) known small fits r = absurd (none_some r)
       go (RecordType at packed fs) known small fits r = absurd (none_some r)
 
-  field_there : (p : Place) (at : ℕ) (packed : Bool) (fs : FieldList) (name : List ℕ) (x : Variable) (o : Option (ℕ × DataType)) → field_in fs name ≡ o → TypeKnown D (bound_of k) (RecordType at packed fs) → PlaceFits k os p (Whole (shape_of (RecordType at packed fs))) → field_of p (RecordType at packed fs) o ≡ Some x → VariableTold D k os x
+  field_there : (p : Place) (at : ℕ) (packed : Bool) (fs : FieldList) (name : List ℕ) (x : Variable) (o : Option (ℕ × DataType)) → field_in fs name ≡ o → TypeKnown D (bound_of k) (RecordType at packed fs) → PlaceSound k os p (Whole (shape_of (RecordType at packed fs))) → field_of p (RecordType at packed fs) o ≡ Some x → VariableTold D k os x
   field_there p at packed fs name x None e known fits r = absurd (none_some r)
   field_there p at packed fs name x (Some f) e known fits r =
       let type = RecordType at packed fs in
@@ -105,14 +107,14 @@ module _ (D : Table) (k : Scope) (os : List Shape) where
         byte = false;
         packed = λ s. never s;
         small = λ s. never s;
-        fits = selected_fits p (Tree.Field type f.0) (shape_of type) (Whole (shape_of f.1)) fits (refl, (shape_of f.1, told.part, refl));
+        fits = selected_fits p (Tree.Field type f.0) (shape_of type) (Whole (shape_of f.1)) fits ((refl, (shape_of f.1, told.part, refl)), tt);
       })
 
   pub component_told : (v : Variable) (name : List ℕ) (x : Variable) → VariableTold D k os v → component v.place v.type name ≡ Some x → VariableTold D k os x
   unfolding component
   component_told v name x told q = go v.type told.known (λ b. told.small b) told.fits q
     where
-      go : (type : DataType) → TypeKnown D (bound_of k) type → (told.byte ≡ true → fits_byte type ≡ true) → PlaceFits k os v.place (part_of told.byte type) → component v.place type name ≡ Some x → VariableTold D k os x
+      go : (type : DataType) → TypeKnown D (bound_of k) type → (told.byte ≡ true → fits_byte type ≡ true) → PlaceSound k os v.place (part_of told.byte type) → component v.place type name ≡ Some x → VariableTold D k os x
       go (RecordType at packed fs) known small fits r = field_there v.place at packed fs name x (field_in fs name) refl known (whole_fits v.place (RecordType at packed fs) told.byte fits (no_byte told.byte small)) r
       go (OrdinalType o) known small fits r = absurd (none_some r)
       go (PointerType n) known small fits r = absurd (none_some r)
@@ -122,11 +124,11 @@ module _ (D : Table) (k : Scope) (os : List Shape) where
       go (TextType n) known small fits r = absurd (none_some r)
       go (ArrayType at packed i c) known small fits r = absurd (none_some r)
 
-  pub target_told : (c : Context) (Γ : List Region) → Here c Γ D k os → (v : Variable) (line : ℕ) (x : Variable) → VariableTold D k os v → target c.domains v.place v.type line ≡ Some x → VariableTold D k os x
+  pub target_told : (c : Context) (Γ : List Region) → Here c Γ D k os → (v : Variable) (line : ℕ) → IsLine line → (x : Variable) → VariableTold D k os v → target c.domains v.place v.type line ≡ Some x → VariableTold D k os x
   unfolding target
-  target_told c Γ here v line x told q = go v.type told.known (λ b. told.small b) told.fits q
+  target_told c Γ here v line l x told q = go v.type told.known (λ b. told.small b) told.fits q
     where
-      go : (type : DataType) → TypeKnown D (bound_of k) type → (told.byte ≡ true → fits_byte type ≡ true) → PlaceFits k os v.place (part_of told.byte type) → target c.domains v.place type line ≡ Some x → VariableTold D k os x
+      go : (type : DataType) → TypeKnown D (bound_of k) type → (told.byte ≡ true → fits_byte type ≡ true) → PlaceSound k os v.place (part_of told.byte type) → target c.domains v.place type line ≡ Some x → VariableTold D k os x
       go (PointerType n) known small fits r =
           let t = then_some (slice_get c.domains n) _ x r in
           let there = here.domains n t.0 t.1 in
@@ -135,7 +137,7 @@ module _ (D : Table) (k : Scope) (os : List Shape) where
             byte = false;
             packed = λ s. never s;
             small = λ s. never s;
-            fits = selected_fits v.place (Tree.Target n line) (PointerShape n) (Whole (shape_of t.0)) (whole_fits v.place (PointerType n) told.byte fits (no_byte told.byte small)) (refl, ap (λ d. Whole (shape_of d)) (sym (domain_there k.program.domains n t.0 there)));
+            fits = selected_fits v.place (Tree.Target n line) (PointerShape n) (Whole (shape_of t.0)) (whole_fits v.place (PointerType n) told.byte fits (no_byte told.byte small)) ((refl, ap (λ d. Whole (shape_of d)) (sym (domain_there k.program.domains n t.0 there))), l);
           })
       go (OrdinalType o) known small fits r = absurd (none_some r)
       go NilType known small fits r = absurd (none_some r)
@@ -153,7 +155,7 @@ module _ (D : Table) (k : Scope) (os : List Shape) where
     byte = false;
     packed = λ s. never s;
     small = λ s. never s;
-    fits = (shape_of type, there, refl);
+    fits = ((shape_of type, there, refl), tt);
   }
 
   pub point_told : (p : Point) (x : Variable) → PointStands D k os p → variable_at p ≡ Some x → VariableTold D k os x
@@ -169,7 +171,7 @@ module _ (D : Table) (k : Scope) (os : List Shape) where
         byte = false;
         packed = λ s. never s;
         small = λ s. never s;
-        fits = (shape_of type, (h.0, h.1), refl);
+        fits = ((shape_of type, (h.0, h.1), refl), tt);
       })
   point_told (BlockPoint up (ConstantMeaning o n)) x h q = absurd (none_some q)
   point_told (BlockPoint up (TextMeaning w)) x h q = absurd (none_some q)
@@ -190,9 +192,9 @@ module _ (D : Table) (k : Scope) (os : List Shape) where
   unfolding contents
   loaded_told v x told q = go v.type told.known (λ b. told.small b) told.fits q
     where
-      go : (type : DataType) → TypeKnown D (bound_of k) type → (told.byte ≡ true → fits_byte type ≡ true) → PlaceFits k os v.place (part_of told.byte type) → contents v.place type ≡ Some x → ValueTold D k os x
-      go (OrdinalType o) known small fits r = subst (ValueTold D k os) (inside _ x r) (known, (part_of told.byte (OrdinalType o), number_part o told.byte, fits))
-      go (PointerType n) known small fits r = subst (ValueTold D k os) (inside _ x r) (known, (Whole (PointerShape n), refl, whole_fits v.place (PointerType n) told.byte fits (no_byte told.byte small)))
+      go : (type : DataType) → TypeKnown D (bound_of k) type → (told.byte ≡ true → fits_byte type ≡ true) → PlaceSound k os v.place (part_of told.byte type) → contents v.place type ≡ Some x → ValueTold D k os x
+      go (OrdinalType o) known small fits r = subst (ValueTold D k os) (inside _ x r) (known, ((part_of told.byte (OrdinalType o), number_part o told.byte, fits.0), fits.1))
+      go (PointerType n) known small fits r = subst (ValueTold D k os) (inside _ x r) (known, (let w = whole_fits v.place (PointerType n) told.byte fits (no_byte told.byte small) in ((Whole (PointerShape n), refl, w.0), w.1)))
       go (SetType d p o) known small fits r = subst (ValueTold D k os) (inside _ x r) (whole_fits v.place (SetType d p o) told.byte fits (no_byte told.byte small))
       go (ArrayType at packed i c) known small fits r = subst (ValueTold D k os) (inside _ x r) (refl, known, whole_fits v.place (ArrayType at packed i c) told.byte fits (no_byte told.byte small))
       go (RecordType at packed fs) known small fits r = subst (ValueTold D k os) (inside _ x r) (refl, known, whole_fits v.place (RecordType at packed fs) told.byte fits (no_byte told.byte small))

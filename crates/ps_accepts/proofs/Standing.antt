@@ -1,5 +1,6 @@
 -- What the names at a place stand for in the program that is made at the end.
 use Rattle.std.proofs.Common.{◌≡◌, ℕ, ◌<◌, ◌≤◌, List, [], ◌∷◌, length, drop, Option, Some, None, IsTrue, slice_get}
+use Rattle.ps_text.specs.Lines.{line_count}
 use Rattle.ps_tree.specs.Types.{DataType, OrdinalType, PointerType, RecordType, FieldList}
 use Rattle.ps_tree.specs.Tree.{Program, routine_at}
 use Rattle.tac_code.specs.Numbers.{is_integer}
@@ -115,6 +116,7 @@ pub record Here (c : Context) (Γ : List Region) (D : Table) (k : Scope) (os : L
   pub outermost : outermost_of k.chain ≡ 0
   pub bytes : Each (λ b. b < 256) c.text
   pub short : length c.text ≤ 1048576
+  pub lines : line_count c.text ≤ 65535
 
 -- ---- what a point that a name denotes is there
 abbrev pub PointStands : Table → Scope → List Shape → Point → Type 0

@@ -1,8 +1,10 @@
 -- What statements have that the lowering needs, by their derivations (6.8).
-use Rattle.std.proofs.Common.{◌≡◌, ℕ, zero, suc, ◌==◌, Bool, true, false, if◌then◌else◌, List, [], ◌∷◌, ◌++◌, map, ℤ, Option, Some, None, is_some, refl, sym, ap, ◌∙◌, subst, eqb-true}
+use Rattle.std.proofs.Common.{◌≡◌, ℕ, zero, suc, ◌==◌, Bool, true, false, if◌then◌else◌, List, [], ◌∷◌, ◌++◌, length, map, ℤ, Option, Some, None, is_some, refl, sym, ap, ◌∙◌, subst, eqb-true}
 use Rattle.ps_text.specs.declared.Span.{Span}
 use Rattle.ps_syntax.specs.declared.expression.Expr.{Expr}
 use Rattle.ps_syntax.specs.declared.expression.Variable as syntax
+use Rattle.ps_syntax.specs.First.{first_of_expr}
+use Rattle.ps_syntax.specs.declared.statement.Constant.{Constant}
 use Rattle.ps_syntax.specs.declared.statement.Element.{Element, out-Element, out-roll-Element}
 use Rattle.ps_syntax.specs.declared.statement.Parameter.{Parameter}
 use Rattle.ps_syntax.specs.declared.statement.Parameter.TheVariants as p
@@ -15,22 +17,26 @@ use Rattle.ps_tree.specs.declared.types.Ordinal.{Ordinal}
 use Rattle.ps_tree.specs.Types.{DataType, OrdinalType, PointerType, NilType, SetType, EmptySetType, TextType, ArrayType, RecordType, is_compatible, is_same_type, string_length}
 use Rattle.ps_tree.specs.Sizes.{fits_byte}
 use Rattle.ps_tree.specs.Tree as Tree
-use Rattle.ps_tree.specs.Tree.{Statement, Statements, Place, routine_at}
+use Rattle.ps_tree.specs.Tree.{Program, Statement, Statements, Place, routine_at}
 use Rattle.ps_meaning.specs.Values.{first_ordinal}
+use Rattle.tac_code.specs.Sound.{IsLine, IsInteger}
 use Rattle.ps_layout.specs.Shapes.{Shape, NumberShape, shape_of, Whole}
 use Rattle.ps_layout.specs.Paths.{NumberSort}
 use Rattle.ps_layout.specs.Frames.{Own, Closure, kinds_of, result_shape}
 use Rattle.ps_code.specs.Scopes.{Scope, kind_at}
-use Rattle.ps_code.specs.Fits.{PlaceFits, ExprFits, OpenedFit, StatementFits, StatementsFit, ElementsFit, ArgumentsFit}
+use Rattle.ps_bounds.specs.Forms.{AreIntegers, AllIntegers}
+use Rattle.ps_regions.specs.Constants.{ConstantValue, OrdinalConstant, TextConstant, constant}
+use Rattle.ps_accepts.proofs.Constants.{ConstantKnown, constant_known}
+use Rattle.ps_accepts.proofs.Tidy.{line_there, PlaceSound, ExprSound, OpenedSound, StatementSound, StatementsSound, ElementsSound, ArgumentsSound}
 use Rattle.ps_regions.specs.Option.{◌>>=◌, traverse, steps}
-use Rattle.ps_regions.specs.Regions.{Context, Region, Point, BlockPoint, FieldPoint, formals_of, ConstantMeaning, TextMeaning, TypeMeaning, VariableMeaning, ParameterMeaning, RoutineMeaning, RoutineParameterMeaning, RequiredMeaning, FileMeaning, LeftOutMeaning}
+use Rattle.ps_regions.specs.Regions.{Context, Region, BlockRegion, RecordRegion, FieldNames, Point, BlockPoint, FieldPoint, formals_of, ConstantMeaning, TextMeaning, TypeMeaning, VariableMeaning, ParameterMeaning, RoutineMeaning, RoutineParameterMeaning, RequiredMeaning, FileMeaning, LeftOutMeaning}
 use Rattle.ps_regions.specs.Spelling.{line_in}
 use Rattle.ps_typing.specs.Names.{denoted}
 use Rattle.ps_typing.specs.Values.{Value, SimpleValue, SetValue, StructureValue, Variable, ordinal_of, argument_list}
 use Rattle.ps_typing.specs.Expressions.{operand, variable_operand}
 use Rattle.ps_statements.specs.Assignments.{target}
 use Rattle.ps_statements.specs.Procedures.{procedure_called, procedure_statement, actual_parameters}
-use Rattle.ps_statements.specs.Structured.{TypedElement, condition, are_distinct, control_at, bound, bound_at, Head, Opening, repeated, record_region, record_at, open_next}
+use Rattle.ps_statements.specs.Structured.{TypedElement, case_constant, case_label, condition, are_distinct, control_at, bound, bound_at, Head, Opening, repeated, record_region, record_at, open_next}
 use Rattle.ps_statements.specs.Statements.{statement_list, element_list, condition_at, index_at, for_head, statement, element, statements}
 use Rattle.ps_statements.proofs.Equations.{statement_empty, statement_assign, statement_call, statement_compound, statement_if, statement_if_else, statement_case, elements_are, statement_while, statement_repeat, statement_for, statement_with, element_is}
 use Rattle.ps_accepts.proofs.Aims.{StatementsTell}
@@ -41,7 +47,7 @@ use Rattle.ps_accepts.proofs.Lists.{Each, never, inside, none_some, then_some, p
 use Rattle.ps_accepts.proofs.Names.{denoted_stands}
 use Rattle.ps_accepts.proofs.Reach.{entry_there, declared_there}
 use Rattle.ps_accepts.proofs.Selected.{no_byte, whole_fits}
-use Rattle.ps_accepts.proofs.Standing.{Here, PointStands}
+use Rattle.ps_accepts.proofs.Standing.{Here, PointStands, BlocksStand, RegionsStand, RegionsKnown}
 use Rattle.ps_accepts.proofs.Tables.{Table, TypeKnown}
 use Rattle.ps_accepts.proofs.Told.{bound_of, part_of, VariableTold, ValueTold, OperandTold}
 use Rattle.ps_accepts.proofs.Written.{ParameterTold, required_fits, parameters_fit}
@@ -50,22 +56,45 @@ if_none : {A : Type 0} (b : Bool) (o : Option A) (x : A) → (if b then None els
 if_none true o x h = absurd (none_some h)
 if_none false o x h = h
 
+number_there : (D : Table) (o : Ordinal) (v : ConstantValue) (n : ℤ) → ConstantKnown D v → case_constant o v ≡ Some n → IsInteger n
+unfolding case_constant
+number_there D o (OrdinalConstant p m) n h q = subst IsInteger (provided_some _ m n q).1 h.1
+number_there D o (TextConstant w) n h q = absurd (none_some q)
+
+-- all that the regions round a statement give a meaning is known
+blocks_known : (P : Program) (D : Table) (Γ : List Region) (chain : List ℕ) → BlocksStand P D Γ chain → RegionsKnown D (length P.domains) Γ
+blocks_known P D [] chain st = tt
+blocks_known P D (BlockRegion routine names known ∷ Γ) [] st = (st.0, blocks_known P D Γ [] st.2)
+blocks_known P D (BlockRegion routine names known ∷ Γ) (r ∷ chain) st = (st.1, blocks_known P D Γ chain st.3)
+blocks_known P D (RecordRegion type fields ∷ Γ) chain st = absurd st
+blocks_known P D (FieldNames names ∷ Γ) chain st = absurd st
+
+all_known : (P : Program) (D : Table) (Γ : List Region) (chain : List ℕ) (os : List Shape) → RegionsStand P D Γ chain os → RegionsKnown D (length P.domains) Γ
+all_known P D (RecordRegion type fields ∷ Γ) chain [] st = absurd st
+all_known P D (RecordRegion type fields ∷ Γ) chain (o ∷ os) st = (tt, all_known P D Γ chain os st.3)
+all_known P D [] chain [] st = tt
+all_known P D (BlockRegion routine names known ∷ Γ) chain [] st = blocks_known P D (BlockRegion routine names known ∷ Γ) chain st
+all_known P D (FieldNames names ∷ Γ) chain [] st = absurd st
+all_known P D [] chain (o ∷ os) st = absurd st
+all_known P D (BlockRegion routine names known ∷ Γ) chain (o ∷ os) st = absurd st
+all_known P D (FieldNames names ∷ Γ) chain (o ∷ os) st = absurd st
+
 module _ (D : Table) (k : Scope) where
   module _ (os : List Shape) where
     -- ---- conditions and bounds
 
-    condition_fits : (v : Value) (e : Tree.Expr) → ValueTold D k os v → condition v ≡ Some e → ExprFits k os e NumberSort
+    condition_fits : (v : Value) (e : Tree.Expr) → ValueTold D k os v → condition v ≡ Some e → ExprSound k os e NumberSort
     unfolding condition
-    condition_fits (SimpleValue x (OrdinalType o)) e h q = subst (λ y. ExprFits k os y NumberSort) (provided_some _ _ e q).1 h.1
+    condition_fits (SimpleValue x (OrdinalType o)) e h q = subst (λ y. ExprSound k os y NumberSort) (provided_some _ _ e q).1 h.1
     condition_fits (SimpleValue x (PointerType n)) e h q = absurd (none_some q)
     condition_fits (SimpleValue x NilType) e h q = absurd (none_some q)
     condition_fits (SimpleValue x type) e h q = absurd h
     condition_fits (SetValue x type) e h q = absurd (none_some q)
     condition_fits (StructureValue x type) e h q = absurd (none_some q)
 
-    bound_fits : (o : Ordinal) (v : Value) (e : Tree.Expr) → ValueTold D k os v → bound o v ≡ Some e → ExprFits k os e NumberSort
+    bound_fits : (o : Ordinal) (v : Value) (e : Tree.Expr) → ValueTold D k os v → bound o v ≡ Some e → ExprSound k os e NumberSort
     unfolding bound is_compatible is_same_type string_length
-    bound_fits o (SimpleValue x (OrdinalType p)) e h q = subst (λ y. ExprFits k os y NumberSort) (provided_some _ _ e q).1 h.1
+    bound_fits o (SimpleValue x (OrdinalType p)) e h q = subst (λ y. ExprSound k os y NumberSort) (provided_some _ _ e q).1 h.1
     bound_fits o (SimpleValue x (PointerType n)) e h q = absurd (none_some q)
     bound_fits o (SimpleValue x NilType) e h q = absurd (none_some q)
     bound_fits o (SimpleValue x type) e h q = absurd h
@@ -76,12 +105,16 @@ module _ (D : Table) (k : Scope) where
     abbrev ControlThere : ℕ → Type 0
     ControlThere variable = (first : ℤ) × ((narrow : Bool) × (kind_at k 0 variable ≡ Some (Own (NumberShape first narrow))))
 
-    control_there : (p : Point) (x : ℕ × Ordinal) → PointStands D k os p → control_at p ≡ Some x → ControlThere x.0
+    -- and its type's bounds are integers
+    abbrev ControlKnown : ℕ × Ordinal → Type 0
+    ControlKnown x = ControlThere x.0 × AreIntegers x.1.low x.1.high
+
+    control_there : (p : Point) (x : ℕ × Ordinal) → PointStands D k os p → control_at p ≡ Some x → ControlKnown x
     unfolding control_at
     control_there (BlockPoint up (VariableMeaning entry (OrdinalType o))) x st q =
         let b = provided_some (up == 0) (entry, o) x q in
         let there = entry_there k up entry (Own (shape_of (OrdinalType o))) st.1 in
-        subst (λ y. ControlThere y.0) b.1 (first_ordinal o, (fits_byte (OrdinalType o), subst (λ n. kind_at k n entry ≡ Some (Own (shape_of (OrdinalType o)))) (eqb-true up 0 b.0) there.1))
+        subst ControlKnown b.1 ((first_ordinal o, (fits_byte (OrdinalType o), subst (λ n. kind_at k n entry ≡ Some (Own (shape_of (OrdinalType o)))) (eqb-true up 0 b.0) there.1)), (st.0.low, st.0.high))
     control_there (BlockPoint up (VariableMeaning entry (PointerType n))) x st q = absurd (none_some q)
     control_there (BlockPoint up (VariableMeaning entry NilType)) x st q = absurd (none_some q)
     control_there (BlockPoint up (VariableMeaning entry (SetType d l o))) x st q = absurd (none_some q)
@@ -103,42 +136,42 @@ module _ (D : Table) (k : Scope) where
     -- ---- procedure statements (6.8.2.3)
 
     module _ (c : Context) (Γ : List Region) (here : Here c Γ D k os) where
-      called_fits : (line : ℕ) (xs : List Parameter) (p : Point) (t : Statement) → Each (ParameterTold D k os c Γ here) xs → PointStands D k os p → procedure_called c Γ line xs p ≡ Some t → StatementFits k os t
+      called_fits : (line : ℕ) → IsLine line → (xs : List Parameter) (p : Point) (t : Statement) → Each (ParameterTold D k os c Γ here) xs → PointStands D k os p → procedure_called c Γ line xs p ≡ Some t → StatementSound k os t
       unfolding procedure_called
-      called_fits line xs (BlockPoint up (RoutineMeaning h)) t told st q =
+      called_fits line ln xs (BlockPoint up (RoutineMeaning h)) t told st q =
           let args = then_some (actual_parameters c Γ h.sections xs) _ t (if_none (is_some h.result) _ t q) in
           let there = declared_there k up h st.1 in
-          subst (StatementFits k os) (inside _ t args.2)
-          (there.at, subst (λ fs. ArgumentsFit k os (argument_list args.0) (kinds_of fs)) (sym there.is.formals) (parameters_fit D k os c Γ here h.sections xs args.0 st.0.0 told args.1))
-      called_fits line xs (BlockPoint up (RoutineParameterMeaning entry sections result)) t told st q =
+          let all = subst (λ fs. ArgumentsSound k os (argument_list args.0) (kinds_of fs)) (sym there.is.formals) (parameters_fit D k os c Γ here h.sections xs args.0 st.0.0 told args.1) in
+          subst (StatementSound k os) (inside _ t args.2) ((there.at, all.0), (all.1, ln))
+      called_fits line ln xs (BlockPoint up (RoutineParameterMeaning entry sections result)) t told st q =
           let args = then_some (actual_parameters c Γ sections xs) _ t (if_none (is_some result) _ t q) in
           let there = entry_there k up entry (Closure (kinds_of (formals_of sections)) (result_shape result)) st.1 in
-          subst (StatementFits k os) (inside _ t args.2)
-          (there.0, (kinds_of (formals_of sections), (result_shape result, there.1, parameters_fit D k os c Γ here sections xs args.0 st.0.0 told args.1)))
-      called_fits line xs (BlockPoint up (RequiredMeaning r)) t told st q = required_fits D k os c Γ here line r xs t told q
-      called_fits line xs (BlockPoint up m) t told st q = absurd (none_some q)
-      called_fits line xs (FieldPoint which record_type number type) t told st q = absurd (none_some q)
+          let all = parameters_fit D k os c Γ here sections xs args.0 st.0.0 told args.1 in
+          subst (StatementSound k os) (inside _ t args.2) ((there.0, (kinds_of (formals_of sections), (result_shape result, there.1, all.0))), (all.1, ln))
+      called_fits line ln xs (BlockPoint up (RequiredMeaning r)) t told st q = required_fits D k os c Γ here line ln r xs t told q
+      called_fits line ln xs (BlockPoint up m) t told st q = absurd (none_some q)
+      called_fits line ln xs (FieldPoint which record_type number type) t told st q = absurd (none_some q)
 
   -- ---- records that are opened one after another (6.8.3.10)
 
-  opened_after : (os inner : List Shape) (ps : List Place) (p : Place) (shape : Shape) → OpenedFit k os ps inner → PlaceFits k inner p (Whole shape) → OpenedFit k os (ps ++ p ∷ []) (shape ∷ inner)
-  opened_after os inner [] p shape h f = (shape, subst (λ l. PlaceFits k l p (Whole shape)) h f, ap (λ l. shape ∷ l) h)
-  opened_after os inner (q ∷ ps) p shape h f = (h.0, h.1, opened_after (h.0 ∷ os) inner ps p shape h.2 f)
+  opened_after : (os inner : List Shape) (ps : List Place) (p : Place) (shape : Shape) → OpenedSound k os ps inner → PlaceSound k inner p (Whole shape) → OpenedSound k os (ps ++ p ∷ []) (shape ∷ inner)
+  opened_after os inner [] p shape h f = ((shape, (subst (λ l. PlaceSound k l p (Whole shape)) h.0 f).0, ap (λ l. shape ∷ l) h.0), (f.1, tt))
+  opened_after os inner (q ∷ ps) p shape h f = let r = opened_after (h.0.0 ∷ os) inner ps p shape (h.0.2, h.1.1) f in ((h.0.0, h.0.1, r.0), (h.1.0, r.1))
 
   -- what is known behind some of the records
   record OpenedSo (c : Context) (os : List Shape) (o : Opening) : Type 0 where
     inner : List Shape
     here : Here c o.1 D k inner
-    fits : OpenedFit k os o.0 inner
+    fits : OpenedSound k os o.0 inner
 
-  one_opened : (c : Context) (os inner : List Shape) (places : List Place) (Γ : List Region) (v : Variable) (r : Region) → Here c Γ D k inner → OpenedFit k os places inner → VariableTold D k inner v → record_region v.type ≡ Some r → OpenedSo c os (places ++ v.place ∷ [], r ∷ Γ)
+  one_opened : (c : Context) (os inner : List Shape) (places : List Place) (Γ : List Region) (v : Variable) (r : Region) → Here c Γ D k inner → OpenedSound k os places inner → VariableTold D k inner v → record_region v.type ≡ Some r → OpenedSo c os (places ++ v.place ∷ [], r ∷ Γ)
   unfolding record_region
   one_opened c os inner places Γ v r here fits told q = go v.type told.known (λ b. told.small b) told.fits q
     where
-      go : (type : DataType) → TypeKnown D (bound_of k) type → (told.byte ≡ true → fits_byte type ≡ true) → PlaceFits k inner v.place (part_of told.byte type) → record_region type ≡ Some r → OpenedSo c os (places ++ v.place ∷ [], r ∷ Γ)
+      go : (type : DataType) → TypeKnown D (bound_of k) type → (told.byte ≡ true → fits_byte type ≡ true) → PlaceSound k inner v.place (part_of told.byte type) → record_region type ≡ Some r → OpenedSo c os (places ++ v.place ∷ [], r ∷ Γ)
       go (RecordType at l fs) known small place f = subst (λ x. OpenedSo c os (places ++ v.place ∷ [], x ∷ Γ)) (inside _ r f) (record {
         inner = shape_of (RecordType at l fs) ∷ inner;
-        here = record { stands = (refl, refl, known, here.stands); domains = here.domains; targets = here.targets; outermost = here.outermost; bytes = here.bytes; short = here.short };
+        here = record { stands = (refl, refl, known, here.stands); domains = here.domains; targets = here.targets; outermost = here.outermost; bytes = here.bytes; short = here.short; lines = here.lines };
         fits = opened_after os inner places v.place (shape_of (RecordType at l fs)) fits (whole_fits D k inner v.place (RecordType at l fs) told.byte place (no_byte told.byte small));
       })
       go type known small place f = absurd (none_some f)
@@ -151,7 +184,7 @@ module _ (D : Table) (k : Scope) where
     ExprTells symbol = (Γ : List Region) (os : List Shape) → Here c Γ D k os → (x : Expr) (ts r : Tokens) → symbol x ts r → OperandTold D k os (operand c Γ x)
 
     abbrev StatementTells : (Bool → Symbol syntax_statement.Statement) → Type 0
-    StatementTells symbol = (Γ : List Region) (os : List Shape) → Here c Γ D k os → (ends : Bool) (x : syntax_statement.Statement) (ts r : Tokens) → symbol ends x ts r → (t : Statement) → statement c x Γ ≡ Some t → StatementFits k os t
+    StatementTells symbol = (Γ : List Region) (os : List Shape) → Here c Γ D k os → (ends : Bool) (x : syntax_statement.Statement) (ts r : Tokens) → symbol ends x ts r → (t : Statement) → statement c x Γ ≡ Some t → StatementSound k os t
 
     next_opened : (expr : Symbol Expr) → VariableTells (IsVariable expr) → (x : syntax.Variable) (ts r : Tokens) → IsVariable expr x ts r → (os : List Shape) (o o' : Opening) → OpenedSo c os o → open_next c o x ≡ Some o' → OpenedSo c os o'
     unfolding open_next
@@ -176,45 +209,60 @@ module _ (D : Table) (k : Scope) where
     -- ---- all statements, where those in them are told
 
     module _ (expr : Symbol Expr) (exprs_tell : ExprTells expr) (variables_tell : VariableTells (IsVariable expr)) (inner : Bool → Symbol syntax_statement.Statement) (inner_tell : StatementTells inner) where
-      one_of_sequence : (Γ : List Region) (os : List Shape) → Here c Γ D k os → (x : syntax_statement.Statement) (ts r : Tokens) → InSequence inner x ts r → (t : Statement) → statement c x Γ ≡ Some t → StatementFits k os t
+      one_of_sequence : (Γ : List Region) (os : List Shape) → Here c Γ D k os → (x : syntax_statement.Statement) (ts r : Tokens) → InSequence inner x ts r → (t : Statement) → statement c x Γ ≡ Some t → StatementSound k os t
       one_of_sequence Γ os here x ts r (g.in_sequence {ends = ends} d) t q = inner_tell Γ os here ends x _ _ d t q
 
-      listed_fit : (Γ : List Region) (os : List Shape) → Here c Γ D k os → {separator : _} (xs : List syntax_statement.Statement) (ts r : Tokens) → Separated separator (InSequence inner) xs ts r → (list : List Statement) → traverse (λ s. statement c s Γ) xs ≡ Some list → StatementsFit k os (statement_list list)
+      listed_fit : (Γ : List Region) (os : List Shape) → Here c Γ D k os → {separator : _} (xs : List syntax_statement.Statement) (ts r : Tokens) → Separated separator (InSequence inner) xs ts r → (list : List Statement) → traverse (λ s. statement c s Γ) xs ≡ Some list → StatementsSound k os (statement_list list)
       listed_fit Γ os here [] ts r d list q = elim d [ ]
       listed_fit Γ os here (x ∷ []) ts r (one d) list q =
           let t = then_some (statement c x Γ) _ list q in
-          subst (λ l. StatementsFit k os (statement_list l)) (inside _ list t.2) (one_of_sequence Γ os here x _ _ d t.0 t.1, tt)
+          subst (λ l. StatementsSound k os (statement_list l)) (inside _ list t.2) (let h = one_of_sequence Γ os here x _ _ d t.0 t.1 in ((h.0, tt), (h.1, tt)))
       listed_fit Γ os here (x ∷ xs) ts r (several d rest) list q =
           let t = then_some (statement c x Γ) _ list q in
           let others = then_some (traverse (λ s. statement c s Γ) xs) _ list t.2 in
-          subst (λ l. StatementsFit k os (statement_list l)) (inside _ list others.2) (one_of_sequence Γ os here x _ _ d t.0 t.1, listed_fit Γ os here xs _ _ rest others.0 others.1)
+          subst (λ l. StatementsSound k os (statement_list l)) (inside _ list others.2) (let h = one_of_sequence Γ os here x _ _ d t.0 t.1 in let g = listed_fit Γ os here xs _ _ rest others.0 others.1 in ((h.0, g.0), (h.1, g.1)))
 
-      sequence_fits : (Γ : List Region) (os : List Shape) → Here c Γ D k os → (xs : List syntax_statement.Statement) (ts r : Tokens) → IsSequence inner xs ts r → (ss : Statements) → statements c Γ xs ≡ Some ss → StatementsFit k os ss
+      sequence_fits : (Γ : List Region) (os : List Shape) → Here c Γ D k os → (xs : List syntax_statement.Statement) (ts r : Tokens) → IsSequence inner xs ts r → (ss : Statements) → statements c Γ xs ≡ Some ss → StatementsSound k os ss
       unfolding statements
       sequence_fits Γ os here xs ts r d ss q =
           let list = then_some (traverse (λ s. statement c s Γ) xs) _ ss q in
-          subst (StatementsFit k os) (inside (statement_list list.0) ss list.2) (listed_fit Γ os here xs ts r d list.0 list.1)
+          subst (StatementsSound k os) (inside (statement_list list.0) ss list.2) (listed_fit Γ os here xs ts r d list.0 list.1)
 
       -- ---- case elements (6.8.3.5)
 
-      element_fits : (Γ : List Region) (os : List Shape) → Here c Γ D k os → (o : Ordinal) (x : Element) (ts r : Tokens) → IsElement inner x ts r → (t : TypedElement) → element c x Γ o ≡ Some t → StatementFits k os t.1
+      label_there : (Γ : List Region) (os : List Shape) → Here c Γ D k os → (o : Ordinal) (x : Constant) (n : ℤ) → case_label c Γ o x ≡ Some n → IsInteger n
+      label_there Γ os here o x n q =
+          let v = then_some (constant c.text Γ x) (case_constant o) n q in
+          number_there D o v.0 n (constant_known D (bound_of k) c.text Γ x v.0 here.bytes here.short (all_known k.program D Γ k.chain os here.stands) v.1) v.2
+
+      labels_there : (Γ : List Region) (os : List Shape) → Here c Γ D k os → (o : Ordinal) (xs : List Constant) (ns : List ℤ) → traverse (case_label c Γ o) xs ≡ Some ns → AllIntegers ns
+      labels_there Γ os here o [] ns q = subst AllIntegers (inside [] ns q) tt
+      labels_there Γ os here o (x ∷ xs) ns q =
+          let n = then_some (case_label c Γ o x) _ ns q in
+          let rest = then_some (traverse (case_label c Γ o) xs) _ ns n.2 in
+          subst AllIntegers (inside _ ns rest.2) (label_there Γ os here o x n.0 n.1, labels_there Γ os here o xs rest.0 rest.1)
+
+      abbrev ElementSound : List Shape → TypedElement → Type 0
+      ElementSound os t = AllIntegers t.0 × StatementSound k os t.1
+
+      element_fits : (Γ : List Region) (os : List Shape) → Here c Γ D k os → (o : Ordinal) (x : Element) (ts r : Tokens) → IsElement inner x ts r → (t : TypedElement) → element c x Γ o ≡ Some t → ElementSound os t
       element_fits Γ os here o x ts r (g.element cs y {ends = ends} labels d) t q =
           let z = out-roll-Element (record { constants = cs; statement = y }) in
-          let e = then_some (traverse _ (out-Element x).constants) _ t (sym (element_is c Γ x o) ∙ q) in
+          let e = then_some (traverse (case_label c Γ o) (out-Element x).constants) _ t (sym (element_is c Γ x o) ∙ q) in
           let body = then_some (statement c (out-Element x).statement Γ) _ t e.2 in
-          subst (λ u. StatementFits k os u.1) (inside _ t body.2) (inner_tell Γ os here ends y _ _ d body.0 (ap (λ u. statement c u.statement Γ) (sym z) ∙ body.1))
+          subst (ElementSound os) (inside _ t body.2) (labels_there Γ os here o (out-Element x).constants e.0 e.1, inner_tell Γ os here ends y _ _ d body.0 (ap (λ u. statement c u.statement Γ) (sym z) ∙ body.1))
 
-      separated_elements : (Γ : List Region) (os : List Shape) → Here c Γ D k os → (o : Ordinal) → {separator : _} (xs : List Element) (ts r : Tokens) → Separated separator (IsElement inner) xs ts r → (list : List TypedElement) → traverse (λ x. element c x Γ o) xs ≡ Some list → ElementsFit k os (element_list list)
+      separated_elements : (Γ : List Region) (os : List Shape) → Here c Γ D k os → (o : Ordinal) → {separator : _} (xs : List Element) (ts r : Tokens) → Separated separator (IsElement inner) xs ts r → (list : List TypedElement) → traverse (λ x. element c x Γ o) xs ≡ Some list → ElementsSound k os (element_list list)
       separated_elements Γ os here o [] ts r d list q = elim d [ ]
       separated_elements Γ os here o (x ∷ []) ts r (one d) list q =
           let t = then_some (element c x Γ o) _ list q in
-          subst (λ l. ElementsFit k os (element_list l)) (inside _ list t.2) (element_fits Γ os here o x _ _ d t.0 t.1, tt)
+          subst (λ l. ElementsSound k os (element_list l)) (inside _ list t.2) (let h = element_fits Γ os here o x _ _ d t.0 t.1 in ((h.1.0, tt), (h.0, h.1.1, tt)))
       separated_elements Γ os here o (x ∷ xs) ts r (several d rest) list q =
           let t = then_some (element c x Γ o) _ list q in
           let others = then_some (traverse (λ x. element c x Γ o) xs) _ list t.2 in
-          subst (λ l. ElementsFit k os (element_list l)) (inside _ list others.2) (element_fits Γ os here o x _ _ d t.0 t.1, separated_elements Γ os here o xs _ _ rest others.0 others.1)
+          subst (λ l. ElementsSound k os (element_list l)) (inside _ list others.2) (let h = element_fits Γ os here o x _ _ d t.0 t.1 in let g = separated_elements Γ os here o xs _ _ rest others.0 others.1 in ((h.1.0, g.0), (h.0, h.1.1, g.1)))
 
-      elements_fit : (Γ : List Region) (os : List Shape) → Here c Γ D k os → (o : Ordinal) → {separator : _} (xs : List Element) (ts r : Tokens) → Terminated separator (IsElement inner) xs ts r → (list : List TypedElement) → traverse (λ x. element c x Γ o) xs ≡ Some list → ElementsFit k os (element_list list)
+      elements_fit : (Γ : List Region) (os : List Shape) → Here c Γ D k os → (o : Ordinal) → {separator : _} (xs : List Element) (ts r : Tokens) → Terminated separator (IsElement inner) xs ts r → (list : List TypedElement) → traverse (λ x. element c x Γ o) xs ≡ Some list → ElementsSound k os (element_list list)
       elements_fit Γ os here o xs ts r (exactly d) list q = separated_elements Γ os here o xs _ _ d list q
       elements_fit Γ os here o xs ts r (trailing d) list q = separated_elements Γ os here o xs _ _ d list q
 
@@ -256,18 +304,18 @@ module _ (D : Table) (k : Scope) where
       parameters_told Γ os here (x ∷ []) ts r (one d) = (parameter_told Γ os here x _ _ d, tt)
       parameters_told Γ os here (x ∷ xs) ts r (several d rest) = (parameter_told Γ os here x _ _ d, parameters_told Γ os here xs _ _ rest)
 
-      call_fits : (Γ : List Region) (os : List Shape) (here : Here c Γ D k os) (at : Span) (xs : List Parameter) (t : Statement) → Each (ParameterTold D k os c Γ here) xs → procedure_statement c Γ at xs ≡ Some t → StatementFits k os t
+      call_fits : (Γ : List Region) (os : List Shape) (here : Here c Γ D k os) (at : Span) (xs : List Parameter) (t : Statement) → Each (ParameterTold D k os c Γ here) xs → procedure_statement c Γ at xs ≡ Some t → StatementSound k os t
       call_fits Γ os here at xs t told q =
           let point = then_some (denoted c Γ at) _ t q in
-          called_fits os c Γ here (line_in c.text at.from) xs point.0 t told (denoted_stands c Γ D k os here at point.0 point.1) point.2
+          called_fits os c Γ here (line_in c.text at.from) (line_there c.text at.from here.lines) xs point.0 t told (denoted_stands c Γ D k os here at point.0 point.1) point.2
 
-      condition_there : (Γ : List Region) (os : List Shape) → Here c Γ D k os → (x : Expr) (ts r : Tokens) → expr x ts r → (e : Tree.Expr) → condition_at c Γ x ≡ Some e → ExprFits k os e NumberSort
+      condition_there : (Γ : List Region) (os : List Shape) → Here c Γ D k os → (x : Expr) (ts r : Tokens) → expr x ts r → (e : Tree.Expr) → condition_at c Γ x ≡ Some e → ExprSound k os e NumberSort
       condition_there Γ os here x ts r d e q =
           let v = then_some (operand c Γ x).value condition e q in
           let told = exprs_tell Γ os here x ts r d in
           condition_fits os v.0 e (told.value v.0 v.1) v.2
 
-      bound_there : (Γ : List Region) (os : List Shape) → Here c Γ D k os → (o : Ordinal) (x : Expr) (ts r : Tokens) → expr x ts r → (e : Tree.Expr) → bound_at c Γ o x ≡ Some e → ExprFits k os e NumberSort
+      bound_there : (Γ : List Region) (os : List Shape) → Here c Γ D k os → (o : Ordinal) (x : Expr) (ts r : Tokens) → expr x ts r → (e : Tree.Expr) → bound_at c Γ o x ≡ Some e → ExprSound k os e NumberSort
       bound_there Γ os here o x ts r d e q =
           let v = then_some (operand c Γ x).value (bound o) e q in
           let told = exprs_tell Γ os here x ts r d in
@@ -275,46 +323,46 @@ module _ (D : Table) (k : Scope) where
 
       -- ---- for (6.8.3.9)
 
-      repeated_fits : (os : List Shape) (h : Head) (body t : Statement) → ControlThere os h.variable → ExprFits k os h.first NumberSort → ExprFits k os h.last NumberSort → StatementFits k os body → repeated h body ≡ Some t → StatementFits k os t
+      repeated_fits : (os : List Shape) (h : Head) (body t : Statement) → ControlKnown os (h.variable, h.type) → IsLine h.first_line → IsLine h.last_line → ExprSound k os h.first NumberSort → ExprSound k os h.last NumberSort → StatementSound k os body → repeated h body ≡ Some t → StatementSound k os t
       unfolding repeated
-      repeated_fits os h body t control first last inside_body q = subst (StatementFits k os) (provided_some _ _ t q).1 (control, first, last, inside_body)
+      repeated_fits os h body t control from to first last inside_body q = subst (StatementSound k os) (provided_some _ _ t q).1 ((control.0, first.0, last.0, inside_body.0), (first.1, last.1, control.1, from, to, inside_body.1))
 
-      statements_tell : (Γ : List Region) (os : List Shape) → Here c Γ D k os → (ends : Bool) (x : syntax_statement.Statement) (ts r : Tokens) → IsStatement expr inner ends x ts r → (t : Statement) → statement c x Γ ≡ Some t → StatementFits k os t
-      statements_tell Γ os here ends x ts r g.empty t q = subst (StatementFits k os) (inside _ t (sym (statement_empty c Γ) ∙ q)) tt
+      statements_tell : (Γ : List Region) (os : List Shape) → Here c Γ D k os → (ends : Bool) (x : syntax_statement.Statement) (ts r : Tokens) → IsStatement expr inner ends x ts r → (t : Statement) → statement c x Γ ≡ Some t → StatementSound k os t
+      statements_tell Γ os here ends x ts r g.empty t q = subst (StatementSound k os) (inside _ t (sym (statement_empty c Γ) ∙ q)) (tt, tt)
       statements_tell Γ os here ends x ts r (g.assign {v = v} {at = at} {x = y} d d') t q =
           let place = then_some (target c Γ v) _ t (sym (statement_assign c Γ v at y) ∙ q) in
           let value = then_some (operand c Γ y).value _ t place.2 in
           let told = exprs_tell Γ os here y _ _ d' in
-          assigned_fits D k os place.0 value.0 (line_in c.text at.from) t (left_told D k os c Γ here (variable_operand c Γ v) place.0 (variables_tell Γ os here v _ _ d) place.1) (told.value value.0 value.1) value.2
+          assigned_fits D k os place.0 value.0 (line_in c.text at.from) (line_there c.text at.from here.lines) t (left_told D k os c Γ here (variable_operand c Γ v) place.0 (variables_tell Γ os here v _ _ d) place.1) (told.value value.0 value.1) value.2
       statements_tell Γ os here ends x ts r (g.procedure {at = at}) t q = call_fits Γ os here at [] t tt (sym (statement_call c Γ at []) ∙ q)
       statements_tell Γ os here ends x ts r (g.call {at = at} {xs = xs} d) t q = call_fits Γ os here at xs t (parameters_told Γ os here xs _ _ d) (sym (statement_call c Γ at xs) ∙ q)
       statements_tell Γ os here ends x ts r (g.compound {xs = xs} d) t q =
           let body = then_some (statements c Γ xs) _ t (sym (statement_compound c Γ xs) ∙ q) in
-          subst (StatementFits k os) (inside _ t body.2) (sequence_fits Γ os here xs _ _ d body.0 body.1)
+          subst (StatementSound k os) (inside _ t body.2) (sequence_fits Γ os here xs _ _ d body.0 body.1)
       statements_tell Γ os here ends x ts r (g.if_then {c = y} {x = z} {ends = e} d d') t q =
           let test = then_some (condition_at c Γ y) _ t (sym (statement_if c Γ y z) ∙ q) in
           let body = then_some (statement c z Γ) _ t test.2 in
-          subst (StatementFits k os) (inside _ t body.2) (condition_there Γ os here y _ _ d test.0 test.1, inner_tell Γ os here e z _ _ d' body.0 body.1)
+          subst (StatementSound k os) (inside _ t body.2) (let a = condition_there Γ os here y _ _ d test.0 test.1 in let b = inner_tell Γ os here e z _ _ d' body.0 body.1 in ((a.0, b.0), (a.1, b.1)))
       statements_tell Γ os here ends x ts r (g.if_else {c = y} {x = z} {y = w} d d' d'') t q =
           let test = then_some (condition_at c Γ y) _ t (sym (statement_if_else c Γ y z w) ∙ q) in
           let body = then_some (statement c z Γ) _ t test.2 in
           let other = then_some (statement c w Γ) _ t body.2 in
-          subst (StatementFits k os) (inside _ t other.2) (condition_there Γ os here y _ _ d test.0 test.1, inner_tell Γ os here false z _ _ d' body.0 body.1, inner_tell Γ os here ends w _ _ d'' other.0 other.1)
+          subst (StatementSound k os) (inside _ t other.2) (let a = condition_there Γ os here y _ _ d test.0 test.1 in let b = inner_tell Γ os here false z _ _ d' body.0 body.1 in let e = inner_tell Γ os here ends w _ _ d'' other.0 other.1 in ((a.0, b.0, e.0), (a.1, b.1, e.1)))
       statements_tell Γ os here ends x ts r (g.case {at = at} {x = y} {xs = xs} d d') t q =
           let index = then_some (index_at c Γ y) _ t (sym (statement_case c Γ at y xs) ∙ q) in
           let v = then_some (operand c Γ y).value ordinal_of index.0 index.1 in
           let told = exprs_tell Γ os here y _ _ d in
           let list = then_some (traverse (λ e. e Γ index.0.1) (map (element c) xs)) _ t index.2 in
-          subst (StatementFits k os) (provided_some (are_distinct list.0) _ t list.2).1
-          ((ordinal_told D k os v.0 index.0 (told.value v.0 v.1) v.2).1, elements_fit Γ os here index.0.1 xs _ _ d' list.0 (sym (elements_are c Γ index.0.1 xs) ∙ list.1))
+          subst (StatementSound k os) (provided_some (are_distinct list.0) _ t list.2).1
+          (let a = (ordinal_told D k os v.0 index.0 (told.value v.0 v.1) v.2).1 in let b = elements_fit Γ os here index.0.1 xs _ _ d' list.0 (sym (elements_are c Γ index.0.1 xs) ∙ list.1) in ((a.0, b.0), (a.1, b.1, line_there c.text at.from here.lines)))
       statements_tell Γ os here ends x ts r (g.while {c = y} {x = z} d d') t q =
           let test = then_some (condition_at c Γ y) _ t (sym (statement_while c Γ y z) ∙ q) in
           let body = then_some (statement c z Γ) _ t test.2 in
-          subst (StatementFits k os) (inside _ t body.2) (condition_there Γ os here y _ _ d test.0 test.1, inner_tell Γ os here ends z _ _ d' body.0 body.1)
+          subst (StatementSound k os) (inside _ t body.2) (let a = condition_there Γ os here y _ _ d test.0 test.1 in let b = inner_tell Γ os here ends z _ _ d' body.0 body.1 in ((a.0, b.0), (a.1, b.1)))
       statements_tell Γ os here ends x ts r (g.repeat {xs = xs} {c = y} d d') t q =
           let body = then_some (statements c Γ xs) _ t (sym (statement_repeat c Γ xs y) ∙ q) in
           let test = then_some (condition_at c Γ y) _ t body.2 in
-          subst (StatementFits k os) (inside _ t test.2) (sequence_fits Γ os here xs _ _ d body.0 body.1, condition_there Γ os here y _ _ d' test.0 test.1)
+          subst (StatementSound k os) (inside _ t test.2) (let a = sequence_fits Γ os here xs _ _ d body.0 body.1 in let b = condition_there Γ os here y _ _ d' test.0 test.1 in ((a.0, b.0), (a.1, b.1)))
       statements_tell Γ os here ends x ts r (g.for direction {name = name} {x = y} {y = z} {z = w} d d' d'') t q =
           let head = then_some (for_head c Γ name y direction z) _ t (sym (statement_for c Γ name y direction z w) ∙ q) in
           let control = then_some (denoted c Γ name >>= control_at) _ head.0 head.1 in
@@ -324,21 +372,23 @@ module _ (D : Table) (k : Scope) where
           let is = inside _ head.0 last.2 in
           let body = then_some (statement c w Γ) _ t head.2 in
           repeated_fits os head.0 body.0 t
-          (subst (λ h. ControlThere os h.variable) is (control_there os point.0 control.0 (denoted_stands c Γ D k os here name point.0 point.1) point.2))
-          (subst (λ h. ExprFits k os h.first NumberSort) is (bound_there Γ os here control.0.1 y _ _ d first.0 first.1))
-          (subst (λ h. ExprFits k os h.last NumberSort) is (bound_there Γ os here control.0.1 z _ _ d' last.0 last.1))
+          (subst (λ h. ControlKnown os (h.variable, h.type)) is (control_there os point.0 control.0 (denoted_stands c Γ D k os here name point.0 point.1) point.2))
+          (subst (λ h. IsLine h.first_line) is (line_there c.text (first_of_expr y) here.lines))
+          (subst (λ h. IsLine h.last_line) is (line_there c.text (first_of_expr z) here.lines))
+          (subst (λ h. ExprSound k os h.first NumberSort) is (bound_there Γ os here control.0.1 y _ _ d first.0 first.1))
+          (subst (λ h. ExprSound k os h.last NumberSort) is (bound_there Γ os here control.0.1 z _ _ d' last.0 last.1))
           (inner_tell Γ os here ends w _ _ d'' body.0 body.1) body.2
       statements_tell Γ os here ends x ts r (g.with {vs = vs} {x = y} d d') t q =
           let o = then_some (steps (open_next c) ([], Γ) vs) _ t (sym (statement_with c Γ vs y) ∙ q) in
-          let so = all_opened expr variables_tell vs _ _ d os ([], Γ) o.0 (record { inner = os; here = here; fits = refl }) o.1 in
+          let so = all_opened expr variables_tell vs _ _ d os ([], Γ) o.0 (record { inner = os; here = here; fits = (refl, tt) }) o.1 in
           let body = then_some (statement c y o.0.1) _ t o.2 in
-          subst (StatementFits k os) (inside _ t body.2) (so.inner, so.fits, inner_tell o.0.1 so.inner so.here ends y _ _ d' body.0 body.1)
+          subst (StatementSound k os) (inside _ t body.2) (let opened = so.fits in let b = inner_tell o.0.1 so.inner so.here ends y _ _ d' body.0 body.1 in ((so.inner, opened.0, b.0), (opened.1, b.1)))
 
     all_statements : (n : ℕ) → StatementTells (statement_within n)
     all_statements zero Γ os here ends x ts r d t q = absurd d
     all_statements (suc n) Γ os here ends x ts r d t q = statements_tell (expr_within n) (λ Γ os here x ts r d. expressions_tell c Γ D k os here n x ts r d) (λ Γ os here x ts r d. variables_within c Γ D k os here n x ts r d) (statement_within n) (all_statements n) Γ os here ends x ts r d t q
 
-    pub sequences_fit : (n : ℕ) (Γ : List Region) (os : List Shape) → Here c Γ D k os → (xs : List syntax_statement.Statement) (ts r : Tokens) → IsSequence (statement_within n) xs ts r → (ss : Statements) → statements c Γ xs ≡ Some ss → StatementsFit k os ss
+    pub sequences_fit : (n : ℕ) (Γ : List Region) (os : List Shape) → Here c Γ D k os → (xs : List syntax_statement.Statement) (ts r : Tokens) → IsSequence (statement_within n) xs ts r → (ss : Statements) → statements c Γ xs ≡ Some ss → StatementsSound k os ss
     sequences_fit n = sequence_fits (expr_within n) (λ Γ os here x ts r d. expressions_tell c Γ D k os here n x ts r d) (λ Γ os here x ts r d. variables_within c Γ D k os here n x ts r d) (statement_within n) (all_statements n)
 
 pub statements_tell_all : StatementsTell

@@ -47,7 +47,7 @@ abbrev mutual
   TypeKnown D b (OrdinalType o) = OrdinalKnown D o
   TypeKnown D b (PointerType n) = n < b
   TypeKnown D b NilType = ⊥
-  TypeKnown D b (SetType denoter packing base) = Unit {0}
+  TypeKnown D b (SetType denoter packing base) = IsTrue (is_integer base.low) × IsTrue (is_integer base.high)
   TypeKnown D b EmptySetType = ⊥
   TypeKnown D b (TextType n) = ⊥
   TypeKnown D b (ArrayType at packed index component) = (D.structures at ≡ Some (ArrayType at packed index component)) × OrdinalKnown D index × TypeKnown D b component
@@ -81,7 +81,7 @@ module _ (D E : Table) (x : Extends D E) (b c : ℕ) (le : b ≤ c) where
     type_more (OrdinalType o) k = ordinal_more D E x o k
     type_more (PointerType n) k = omega (arith, k, le)
     type_more NilType k = k
-    type_more (SetType denoter packing base) k = tt
+    type_more (SetType denoter packing base) k = k
     type_more EmptySetType k = k
     type_more (TextType n) k = k
     type_more (ArrayType at packed index component) k = (x.structures at (ArrayType at packed index component) k.0, ordinal_more D E x index k.1, type_more component k.2)

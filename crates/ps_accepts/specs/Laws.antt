@@ -1,4 +1,4 @@
--- What is accepted has what the lowering needs.
+-- What is accepted has what the lowering needs, and is formed.
 use Rattle.std.specs.Prelude.{◌≡◌, ℕ, List, Some}
 use Rattle.behavior.specs.Transcripts.{AreBytes}
 use Rattle.ps_text.specs.Lines.{IsSource}
@@ -9,9 +9,15 @@ use Rattle.ps_grammar.specs.Trees.{IsTreeOf}
 use Rattle.ps_tree.specs.Tree.{Program}
 use Rattle.ps_check.specs.Programs.{program}
 use Rattle.ps_lowers.specs.Fits.{ProgramFits}
+use Rattle.ps_accepts.specs.Formed.{IsFormed}
 
 -- The checked program of a text of bytes within the limits, of its tokens and of their tree.
 abbrev pub AcceptedFit : Type 0
 AcceptedFit =
     (text : List ℕ) (tokens : List Token) (tree : syntax.Program) (checked : Program)
     → AreBytes text → IsSource text → IsTokens text tokens → IsTreeOf text tokens tree → program text tree ≡ Some checked → ProgramFits checked
+
+abbrev pub AcceptedFormed : Type 0
+AcceptedFormed =
+    (text : List ℕ) (tokens : List Token) (tree : syntax.Program) (checked : Program)
+    → AreBytes text → IsSource text → IsTokens text tokens → IsTreeOf text tokens tree → program text tree ≡ Some checked → IsFormed checked

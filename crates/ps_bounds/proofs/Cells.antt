@@ -56,7 +56,7 @@ mutual
 
 -- ---- a frame
 
-words_both : (ks ls : List Kind) → words_of_all (ks ++ ls) ≡ words_of_all ks + words_of_all ls
+pub words_both : (ks ls : List Kind) → words_of_all (ks ++ ls) ≡ words_of_all ks + words_of_all ls
 words_both [] ls = omega arith
 words_both (k ∷ ks) ls = let e = words_both ks ls in omega (arith, e)
 

@@ -19,3 +19,5 @@ pub mod NarrowValues
 pub mod NarrowFirsts
 pub mod NarrowStatements
 pub mod Offsets
+pub mod Weighed
+pub mod WeighedStatements

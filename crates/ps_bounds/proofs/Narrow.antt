@@ -1,5 +1,5 @@
 -- Instructions whose offsets and widths are small, and places that lie within their blocks.
-use Rattle.std.proofs.Common.{◌≡◌, ℕ, zero, suc, ◌+◌, ◌*◌, ◌/◌, ◌<◌, ◌≤◌, Bool, true, false, if◌then◌else◌, nat_eq, nat_le, nat_lt, List, [], ◌∷◌, ◌++◌, length, ℤ, pos, ◌-ℤ◌, unsigned_abs, Option, Some, None, slice_get, get_or, refl, sym, ap, subst, arith, mul-le-mul_right}
+use Rattle.std.proofs.Common.{◌≡◌, ℕ, zero, suc, ◌+◌, ◌*◌, ◌<◌, ◌≤◌, Bool, true, false, if◌then◌else◌, List, [], ◌∷◌, ◌++◌, ℤ, ◌-ℤ◌, unsigned_abs, Option, Some, None, slice_get, get_or, refl, sym, ap, subst, arith, mul-le-mul_right}
 use Rattle.std.proofs.lemmas.Option.{none-some}
 use Rattle.ps_tree.specs.Types.{DataType}
 use Rattle.ps_tree.specs.Sizes.{value_count}
@@ -11,7 +11,7 @@ use Rattle.tac_code.specs.declared.code.Base.TheVariants as base
 use Rattle.tac_code.specs.declared.code.Instruction.{Instruction}
 use Rattle.tac_code.specs.declared.code.Instruction.TheVariants.{Offset, Index, Load, Store, LoadByte, StoreByte}
 use Rattle.ps_layout.specs.Shapes.{Shape, NumberShape, PointerShape, SetShape, ByteShape, ArrayShape, RecordShape, Shapes, no_shape, shape_before, shape_of, word_count, word_counts, byte_count, component_bytes, field_offset, field_shape, words_before, field_part, Part, Whole, Byte, component_part}
-use Rattle.ps_layout.specs.Frames.{Kind, Own, Reference, Closure, entries, entry_offset, input_offset, link_offset}
+use Rattle.ps_layout.specs.Frames.{Kind, Own, Reference, Closure, entries, entry_offset, input_offset}
 use Rattle.ps_code.specs.Fits.{shape_in, CountIs, BaseFits}
 use Rattle.ps_code.specs.Scopes.{Site, Scope, unless_known, routine_up, kind_at, is_outermost, hops, frame_code, frame_base, link_code, formal_code, site_code}
 use Rattle.ps_code.specs.Values.{known_steps, element_site, load_code, store_code, index_code, field_site, reference_code, entry_site, name_code, name_site}

@@ -1,5 +1,5 @@
 -- First values, transfers, and the pieces of `case` and `for` have small offsets.
-use Rattle.std.proofs.Common.{◌≡◌, ℕ, zero, suc, ◌+◌, ◌-◌, ◌*◌, ◌/◌, ◌%◌, ◌<◌, ◌≤◌, Bool, true, false, nat_le, nat_lt, nat_eq, if◌then◌else◌, List, [], ◌∷◌, ◌++◌, length, ℤ, pos, refl, arith}
+use Rattle.std.proofs.Common.{◌≡◌, ℕ, zero, suc, ◌+◌, ◌*◌, ◌/◌, ◌%◌, ◌<◌, ◌≤◌, Bool, true, false, nat_le, nat_lt, nat_eq, if◌then◌else◌, List, [], ◌∷◌, ◌++◌, ℤ, refl, arith}
 use Rattle.ps_tree.specs.declared.tree.Direction.{Direction}
 use Rattle.ps_tree.specs.Types.{DataType}
 use Rattle.ps_tree.specs.Sizes.{value_count}
@@ -10,7 +10,7 @@ use Rattle.tac_code.specs.declared.code.Instruction.{Instruction}
 use Rattle.tac_code.specs.declared.code.Instruction.TheVariants as i
 use Rattle.ps_layout.specs.Shapes.{Shape, NumberShape, PointerShape, SetShape, ByteShape, ArrayShape, RecordShape, Shapes, no_shape, shape_before, word_count, byte_count}
 use Rattle.ps_code.specs.Scopes.{Scope}
-use Rattle.ps_code.specs.Statements.{spread_code, zero_code, byte_word, bytes_code, first_code, fields_code, components_code, tests_code, turns_code, for_code, room_code}
+use Rattle.ps_code.specs.Statements.{spread_code, zero_code, byte_word, bytes_code, first_code, fields_code, components_code, tests_code, for_code, room_code}
 use Rattle.ps_bounds.proofs.ClosedFirsts.{part_small}
 use Rattle.ps_bounds.proofs.Narrow.{Narrow, at_narrow, both, either}
 

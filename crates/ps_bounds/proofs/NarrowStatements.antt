@@ -1,19 +1,18 @@
 -- The code of statements has small offsets.
-use Rattle.std.proofs.Common.{◌≡◌, ℕ, zero, suc, ◌+◌, ◌<◌, ◌≤◌, Bool, true, false, ◌||◌, List, [], ◌∷◌, ◌++◌, length, pos, sym, subst, arith}
+use Rattle.std.proofs.Common.{ℕ, suc, Bool, true, false, ◌||◌, List, [], ◌∷◌, ◌++◌, length, pos, sym, subst, arith}
 use Rattle.ps_tree.specs.Sizes.{value_count}
 use Rattle.ps_tree.specs.Tree.{Place, Expr, ReadVariable, ReadChar, ReadInteger, Width, DefaultWidth, GivenWidth, WriteParameter, WriteInteger, WriteChar, WriteBoolean, WriteText, Statement, Empty, Assign, AssignSet, AssignStructure, CallProcedure, CallFormalProcedure, Compound, If, IfElse, Case, While, Repeat, For, With, New, Pack, Unpack, Read, Readln, Write, Writeln, Statements, no_statement, statement_before, Elements, no_element, element_before, domain_at}
 use Rattle.ps_meaning.specs.Expressions.{index_of}
 use Rattle.tac_code.specs.declared.code.Base.TheVariants as base
-use Rattle.tac_code.specs.declared.code.Instruction.{Instruction}
 use Rattle.tac_code.specs.declared.code.Instruction.TheVariants as i
 use Rattle.ps_layout.specs.Shapes.{Shape, shape_of, component_bytes, Whole}
 use Rattle.ps_layout.specs.Frames.{entry_offset}
-use Rattle.ps_code.specs.Scopes.{even_from, odd_from, held, kept, beside, greatest, check_code, operand_of, operand_check, Scope, routine_up}
+use Rattle.ps_code.specs.Scopes.{even_from, odd_from, held, kept, beside, greatest, check_code, operand_of, Scope, routine_up}
 use Rattle.ps_code.specs.Calling.{places_call, expr_calls, structure_calls, width_calls, statement_calls}
 use Rattle.ps_code.specs.Values.{literal_of, finish, is_byte, is_byte_array, text_length, structure_bytes, arguments_end, place_temporary, place_site, place_code, front_code, structure_code, arguments_code}
 use Rattle.ps_code.specs.Statements.{expr_code, read_code, reads_code, width_code, write_code, writes_code, within_site, with_code, with_scope, with_depth, tests_code, body_depth, statement_code, statements_code, elements_code}
 use Rattle.ps_bounds.specs.Places.{ExprLies, RecordsLie, ReadLies, ReadsLie, WidthLies, WriteLies, WritesLie, StatementLies, StatementsLie, ElementsLie}
-use Rattle.ps_bounds.proofs.Narrow.{Narrow, at_narrow, both, three, four, five, six, unknown, component_most, SitesReach, Framed, link_narrow, formal_narrow, entry_most, store_narrow, site_narrow}
+use Rattle.ps_bounds.proofs.Narrow.{Narrow, both, three, four, five, six, unknown, component_most, SitesReach, Framed, link_narrow, formal_narrow, entry_most, store_narrow, site_narrow}
 use Rattle.ps_bounds.proofs.NarrowValues.{range_narrow, check_narrow, fitting_narrow, operand_check_narrow, set_check_narrow, finished, place_reach, place_most, place_narrow, front_narrow, set_narrow, structure_narrow, arguments_narrow}
 use Rattle.ps_bounds.proofs.NarrowFirsts.{first_narrow, tests_narrow, room_narrow, for_narrow, components_narrow}
 
@@ -59,7 +58,7 @@ module _ (k : Scope) (b : Framed k.program) (os : List Shape) (o : SitesReach k.
 
 -- ---- `with`
 
-with_narrow : (k : Scope) → Framed k.program → (os : List Shape) → SitesReach k.opened os → (places : List Place) (c : Bool) (d : ℕ) (os' : List Shape) → RecordsLie k os places os'
+pub with_narrow : (k : Scope) → Framed k.program → (os : List Shape) → SitesReach k.opened os → (places : List Place) (c : Bool) (d : ℕ) (os' : List Shape) → RecordsLie k os places os'
     → Narrow (with_code k places c d) × Framed (with_scope k places c d).program × SitesReach (with_scope k places c d).opened os'
 with_narrow k b os o [] c d os' f = (tt, b, subst (SitesReach k.opened) (sym f) o)
 with_narrow k b os o (p ∷ rest) c d os' f =
@@ -68,7 +67,7 @@ with_narrow k b os o (p ∷ rest) c d os' f =
     (both (place_code k p (held c d) 0) _ (place_narrow k b os o p (held c d) 0 (Whole f.0) f.1) u.0, u.1, u.2)
 
 -- what lies within the records that were opened does not hang on where they stand
-with_lies : (k : Scope) (places : List Place) (c : Bool) (d : ℕ) (os : List Shape) (s : Statement) → StatementLies k os s → StatementLies (with_scope k places c d) os s
+pub with_lies : (k : Scope) (places : List Place) (c : Bool) (d : ℕ) (os : List Shape) (s : Statement) → StatementLies k os s → StatementLies (with_scope k places c d) os s
 with_lies k [] c d os s f = f
 with_lies k (p ∷ rest) c d os s f = with_lies (within_site k (place_site k p (held c d))) rest c (suc (place_temporary p (held c d))) os s f
 

@@ -1,5 +1,5 @@
 -- The code of variables, expressions and actual parameters has small offsets, and their variables lie within their blocks.
-use Rattle.std.proofs.Common.{◌≡◌, ℕ, zero, suc, ◌+◌, ◌*◌, ◌<◌, ◌≤◌, ℤ, Bool, not, ◌&&◌, nat_eq, List, [], ◌∷◌, ◌++◌, Option, Some, None, sym, subst, arith}
+use Rattle.std.proofs.Common.{ℕ, zero, suc, ◌+◌, ◌*◌, ◌≤◌, ℤ, not, ◌&&◌, nat_eq, List, [], ◌∷◌, ◌++◌, Option, Some, None, subst, arith}
 use Rattle.ps_tree.specs.declared.tree.BooleanOperator.{BooleanOperator}
 use Rattle.ps_tree.specs.declared.tree.RequiredFunction.{RequiredFunction}
 use Rattle.ps_tree.specs.declared.tree.RequiredFunction.TheVariants.{Abs, Sqr, Odd, Ord, Chr, Succ, Pred}
@@ -7,15 +7,15 @@ use Rattle.ps_tree.specs.declared.tree.Range.{Range}
 use Rattle.ps_tree.specs.declared.tree.Range.TheVariants.{Any, Within}
 use Rattle.ps_tree.specs.declared.tree.SetRelation.{SetRelation}
 use Rattle.ps_tree.specs.declared.tree.SetRelation.TheVariants as sets
-use Rattle.ps_tree.specs.Tree.{Place, Variable, Selector, Element, Field, Target, Selectors, no_selector, selector_before, ArithmeticSteps, no_arithmetic_step, arithmetic_step_before, Operands, no_operand, operand_before, SetSteps, no_set_step, set_step_before, Expr, Number, Nil, Load, Plus, Minus, Not, Arithmetic, Logic, Compare, ComparePointers, CompareSets, CompareStrings, In, Apply, Eof, Eoln, Call, CallFormal, SetExpr, LoadSet, Constructor, Combine, Member, One, Several, Members, no_member, member_before, Structure, Literal, Contents, Argument, ByValue, BySet, ByCopy, ByVariable, ByRoutine, ByFormal, Arguments, no_argument, argument_before, domain_at}
+use Rattle.ps_tree.specs.Tree.{Place, Variable, Element, Field, Target, Selectors, no_selector, selector_before, ArithmeticSteps, no_arithmetic_step, arithmetic_step_before, Operands, no_operand, operand_before, SetSteps, no_set_step, set_step_before, Expr, Number, Nil, Load, Plus, Minus, Not, Arithmetic, Logic, Compare, ComparePointers, CompareSets, CompareStrings, In, Apply, Eof, Eoln, Call, CallFormal, SetExpr, LoadSet, Constructor, Combine, Member, One, Several, Members, no_member, member_before, Structure, Literal, Contents, Argument, ByValue, BySet, ByCopy, ByVariable, ByRoutine, ByFormal, Arguments, no_argument, argument_before, domain_at}
 use Rattle.ps_meaning.specs.Operators.{is_between}
 use Rattle.tac_code.specs.declared.code.Base.TheVariants as base
 use Rattle.tac_code.specs.declared.code.Instruction.{Instruction}
 use Rattle.tac_code.specs.declared.code.Instruction.TheVariants as i
 use Rattle.ps_layout.specs.Shapes.{Shape, shape_of, byte_count, field_offset, Part, Whole, component_part}
-use Rattle.ps_code.specs.Scopes.{even_from, odd_from, held, kept, beside, moved, least, greatest, is_any, range_code, check_code, fitting_code, operand_check, unless_known, Site, Scope, site_code, input_site}
+use Rattle.ps_code.specs.Scopes.{even_from, odd_from, held, kept, beside, moved, least, greatest, is_any, range_code, check_code, fitting_code, operand_check, unless_known, Site, Scope}
 use Rattle.ps_code.specs.Calling.{selectors_call, expr_calls, steps_call, operands_call, structure_calls, arguments_call}
-use Rattle.ps_code.specs.Values.{literal_of, negated, is_relation, is_truth, relation_code, finish, truth_finish, known_steps, element_site, selectors_site, is_byte, index_code, function_code, minus_code, argument_end, argument_scratch, arguments_words, arguments_end, name_code, name_site, place_site, holds_all, outside_bits, masked, joined_word, outside_code, set_check, clear_code, same_sets_code, sets_code, range_members, place_code, selectors_code, front_code, steps_code, operands_code, set_code, set_steps_code, members_code, member_code, structure_code, argument_code, arguments_code}
+use Rattle.ps_code.specs.Values.{literal_of, negated, is_relation, is_truth, relation_code, finish, truth_finish, known_steps, element_site, selectors_site, is_byte, index_code, function_code, minus_code, argument_end, argument_scratch, arguments_end, name_code, name_site, place_site, holds_all, outside_bits, masked, joined_word, outside_code, set_check, clear_code, sets_code, range_members, place_code, selectors_code, front_code, steps_code, operands_code, set_code, set_steps_code, members_code, member_code, structure_code, argument_code, arguments_code}
 use Rattle.ps_bounds.specs.Places.{PlaceLies, SelectorsLie, ExprLies, StepsLie, OperandsLie, SetLies, SetStepsLie, MemberLies, MembersLie, StructureLies, ArgumentLies, ArgumentsLie}
 use Rattle.ps_bounds.proofs.Narrow.{Narrow, at_narrow, both, three, four, either, unknown, part_bytes, component_most, field_part_in, known_in, Reach, SitesReach, element_reach, load_narrow, site_narrow, index_narrow, Framed, link_narrow, formal_narrow, name_narrow, name_reach}
 

@@ -1,18 +1,18 @@
 -- In a program within the limits each offset of a routine's code is small.
-use Rattle.std.proofs.Common.{◌≡◌, ℕ, zero, suc, ◌+◌, ◌*◌, ◌<◌, ◌≤◌, Bool, true, false, ◌&&◌, if◌then◌else◌, List, [], ◌∷◌, ◌++◌, length, get_or, slice_get, Option, Some, None, refl, ap, subst, arith, leb-true}
+use Rattle.std.proofs.Common.{◌≡◌, ℕ, zero, suc, ◌+◌, ◌<◌, ◌≤◌, Bool, true, false, ◌&&◌, if◌then◌else◌, List, [], ◌∷◌, ◌++◌, length, get_or, slice_get, Option, Some, None, refl, ap, subst, arith, leb-true}
 use Rattle.std.proofs.lemmas.Option.{none-some}
 use Rattle.ps_tree.specs.Types.{DataType, PointerType}
 use Rattle.ps_tree.specs.Sizes.{cells}
-use Rattle.ps_tree.specs.Counts.{is_within_limits, are_small, is_small, are_small_formals, is_small_formal, are_routines_within_limits, is_routine_within_limits, routine_cells, routine_nodes, routine_extent, formals_extent, formal_cells, result_extent, variables_extent}
-use Rattle.ps_tree.specs.Tree.{Formal, ValueFormal, VariableFormal, RoutineFormal, Formals, no_formal, formal_before, Routine, Program, no_routine, routine_at, domain_at}
+use Rattle.ps_tree.specs.Counts.{is_within_limits, are_small, is_small, are_small_formals, is_small_formal, are_routines_within_limits, is_routine_within_limits, routine_cells, routine_nodes, routine_extent, result_extent, variables_extent}
+use Rattle.ps_tree.specs.Tree.{Formal, ValueFormal, VariableFormal, RoutineFormal, Formals, no_formal, formal_before, Routine, Program, no_routine, routine_at}
 use Rattle.tac_code.specs.declared.code.Base.{Base}
 use Rattle.tac_code.specs.declared.code.Base.TheVariants as base
 use Rattle.tac_code.specs.declared.code.Instruction.{Instruction}
 use Rattle.tac_code.specs.declared.code.Instruction.TheVariants as i
-use Rattle.ps_layout.specs.Shapes.{Shape, NumberShape, PointerShape, SetShape, ByteShape, ArrayShape, RecordShape, shape_of, word_count, byte_count}
-use Rattle.ps_layout.specs.Frames.{Kind, Own, Reference, Closure, Kinds, no_kind, kind_before, kind_of, kinds_of, listed_kinds, result_kinds, variable_kinds, entries, kind_words, places_from, words_of_all, layout_of, entry_offset, input_offset, link_offset, is_program_block}
+use Rattle.ps_layout.specs.Shapes.{Shape, NumberShape, PointerShape, SetShape, ByteShape, ArrayShape, RecordShape, shape_of, byte_count}
+use Rattle.ps_layout.specs.Frames.{Kind, Own, Reference, Closure, Kinds, no_kind, kind_before, kind_of, kinds_of, listed_kinds, result_kinds, variable_kinds, entries, kind_words, places_from, words_of_all, entry_offset, input_offset, link_offset, is_program_block}
 use Rattle.ps_code.specs.Scopes.{Scope}
-use Rattle.ps_code.specs.Statements.{first_code, statements_code}
+use Rattle.ps_code.specs.Statements.{first_code}
 use Rattle.ps_code.specs.Routines.{own_code, parameter_code, parameter_words, parameter_total, parameters_code, variables_code, result_code, result_entries, count_kinds, input_code, begin_code, result_end, end_code, scope_of, routine_code}
 use Rattle.ps_bounds.specs.Forms.{IsSmall}
 use Rattle.ps_bounds.specs.Places.{StatementsLie}
@@ -87,7 +87,7 @@ record FramedRoutine (r : Routine) : Type 0 where
   kinds : AllShort (entries r)
   input : input_offset r ≤ 500000
 
-routine_limits : (r : Routine) → is_routine_within_limits r ≡ true → (routine_cells r ≤ 100000) × (routine_nodes r ≤ 4194304) × (are_small_formals r.formals ≡ true)
+pub routine_limits : (r : Routine) → is_routine_within_limits r ≡ true → (routine_cells r ≤ 100000) × (routine_nodes r ≤ 4194304) × (are_small_formals r.formals ≡ true)
 unfolding is_routine_within_limits
 routine_limits r e = (leb-true (routine_cells r) 100000 (right _ _ (left _ _ e)), leb-true (routine_nodes r) 4194304 (right _ _ e), right _ _ (left _ _ (left _ _ (left _ _ (left _ _ e)))))
 
@@ -119,7 +119,7 @@ domains_few [] e t = omega arith
 domains_few (type ∷ types) e zero = small_few type (left _ _ e)
 domains_few (type ∷ types) e (suc t) = domains_few types (right _ _ e) t
 
-program_framed : (program : Program) → is_within_limits program ≡ true → Framed program
+pub program_framed : (program : Program) → is_within_limits program ≡ true → Framed program
 unfolding is_within_limits
 program_framed program e =
     let routines = routines_framed program.routines (right _ _ e) in
@@ -216,7 +216,7 @@ module _ (D X : ℕ) (few : X < 2147483648) where
   code_small [] f u = tt
   code_small (v ∷ code) f u = (instruction_small v f.0 u.0, code_small code f.1 u.1)
 
-limits_at : (list : List Routine) (n : ℕ) → are_routines_within_limits list ≡ true → n < length list → is_routine_within_limits (get_or list n no_routine) ≡ true
+pub limits_at : (list : List Routine) (n : ℕ) → are_routines_within_limits list ≡ true → n < length list → is_routine_within_limits (get_or list n no_routine) ≡ true
 unfolding are_routines_within_limits
 limits_at [] n e l = absurd (omega (arith, l))
 limits_at (r ∷ list) zero e l = left _ _ e
@@ -230,7 +230,7 @@ scratch_few r e =
     let nodes = limits.1 in
     omega (arith, cells, nodes)
 
-routines_part : (program : Program) → is_within_limits program ≡ true → are_routines_within_limits program.routines ≡ true
+pub routines_part : (program : Program) → is_within_limits program ≡ true → are_routines_within_limits program.routines ≡ true
 unfolding is_within_limits
 routines_part program e = right _ _ e
 

@@ -22,7 +22,7 @@ argument_end_most (ByRoutine r up) t = omega arith
 argument_end_most (ByFormal up index) t = omega arith
 argument_end_most _ t = omega arith
 
-argument_node : (a : Argument) → 1 ≤ (argument_extent a).nodes
+pub argument_node : (a : Argument) → 1 ≤ (argument_extent a).nodes
 unfolding argument_extent
 argument_node (ByRoutine r up) = omega arith
 argument_node _ = omega arith
@@ -52,7 +52,7 @@ module _ (D : ℕ) where
       let e = arguments_end_most rest (argument_end a (held (arguments_call rest) d)) in
       all_both D 0 (argument_words a (held (arguments_call rest) d)) _ (argument_words_under a (held (arguments_call rest) d) (omega (arith, e, h))) (words_under rest (argument_end a (held (arguments_call rest) d)) h)
 
-scratch_most : (a : Argument) → (argument_scratch a ≤ 32 * (argument_extent a).nodes + 4 * (argument_extent a).taken) × (argument_scratch a % 4 ≡ 0)
+pub scratch_most : (a : Argument) → (argument_scratch a ≤ 32 * (argument_extent a).nodes + 4 * (argument_extent a).taken) × (argument_scratch a % 4 ≡ 0)
 unfolding argument_extent
 scratch_most (BySet e low high line) = omega arith
 scratch_most (ByCopy e type) = let c = words_cells type in omega (arith, c)

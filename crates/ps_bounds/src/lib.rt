@@ -2,7 +2,7 @@
 #![tactic(auto)]
 
 ghost use Rattle.ps_bounds.specs.Fields.{OffsetsAreSmall};
-ghost use Rattle.ps_bounds.specs.Laws.{CodeIsSound};
+ghost use Rattle.ps_bounds.specs.Laws.{CodeIsSound, WeightsAreSmall};
 ghost use Rattle.ps_bounds.specs.Sizes.{RoutinesAreBounded, ObjectsAreBounded};
 
 /// A routine's code takes at most 32 bytes, 4 for each of its cells and 64 for each of its nodes.
@@ -26,4 +26,10 @@ pub fn code_is_sound()
 /// 2,147,483,648.
 pub fn offsets_are_small()
     ensures { OffsetsAreSmall }
+{}
+
+/// While the code of a program within the limits is made, no number is larger than 1,000,000,000, where the tree is formed and the variables lie
+/// within their frames and objects: no temporary, no byte of the scratch block, no offset and no count of bytes.
+pub fn weights_are_small()
+    ensures { WeightsAreSmall }
 {}

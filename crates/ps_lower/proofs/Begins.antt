@@ -1,5 +1,5 @@
 -- How a routine begins.
-use Rattle.std.proofs.Common.{◌≡◌, ℕ, suc, ◌+◌, ◌*◌, ◌<◌, ◌≤◌, Bool, true, false, nat_eq, nat_le, pos, if◌then◌else◌, List, [], ◌∷◌, ◌++◌, length, drop, map, get_or, Option, Some, None, Result, OnOk, refl, ap, sym, subst, ◌∙◌, append_assoc, arith}
+use Rattle.std.proofs.Common.{◌≡◌, ℕ, suc, ◌+◌, ◌*◌, ◌<◌, ◌≤◌, Bool, true, false, nat_le, pos, if◌then◌else◌, List, [], ◌∷◌, ◌++◌, length, drop, map, get_or, Option, Some, None, Result, OnOk, refl, ap, sym, subst, ◌∙◌, append_assoc, arith}
 use Rattle.std.specs.Prelude.{option_map}
 use Rattle.std.proofs.Math.Seq.{drop-cons}
 use Rattle.std.proofs.lemmas.List.{drop_all, append-nil}
@@ -14,10 +14,11 @@ use Rattle.tac_code.specs.declared.code.Instruction.{Instruction}
 use Rattle.tac_code.specs.declared.code.Instruction.TheVariants.{Literal, Load, Return}
 use Rattle.ps_layout.specs.Shapes.{shape_of, word_count}
 use Rattle.ps_layout.specs.Frames.{Kind, Kinds, no_kind, kind_before, kind_words, words_of_all, places_from, result_kinds, listed_kinds, kinds_of, variable_kinds, is_program_block, entries, entry_offset, layout_of}
+use Rattle.ps_bounds.specs.Weights.{first_weight, firsts_weight}
 use Rattle.ps_code.specs.Scopes.{Scope}
 use Rattle.ps_code.specs.Statements.{first_code, statements_code}
 use Rattle.ps_code.specs.Routines.{result_code, parameter_code, parameter_words, parameters_code, variables_code, result_entries, count_kinds, parameter_total, begin_code, result_end, end_code}
-use Rattle.ps_lower.specs.Firsts.{firsts_code, result_at, parameters_at, head_code, words_in}
+use Rattle.ps_lower.specs.Firsts.{firsts_code, result_at, parameters_at, head_code}
 use Rattle.ps_lower.proofs.Appends.{and_then}
 use Rattle.ps_lower.proofs.Arms.{behind}
 
@@ -48,6 +49,29 @@ begun_next k t start first types i now next place after d h s e f = record {
 
 pub begun_all : (k : Scope) (t : ℕ) (start : List Instruction) (first : ℕ) (types : List Ty) (i : ℕ) (now : List Instruction) (place : ℕ) → length types ≤ i → Begun k t start first types i now place → now ≡ start ++ added k t first types
 begun_all k t start first types i now place h s = sym (append-nil now) ∙ ap (λ l. now ++ added k t place l) (sym (drop_all i types h)) ∙ s.left
+
+-- room for the first values of those that are left
+pub record Beginning (types : List Ty) (i place : ℕ) : Type 0 where
+  pub reach : firsts_weight place (map type_of (drop i types)) ≤ 2147483647
+  pub words : 4 * (place + words_of_all (variable_kinds (map type_of (drop i types)))) ≤ 2147483647
+
+pub beginning_start : (types : List Ty) (place : ℕ) → firsts_weight place (map type_of types) ≤ 2147483647 → 4 * (place + words_of_all (variable_kinds (map type_of types))) ≤ 2147483647 → Beginning types 0 place
+beginning_start types place l m = record { reach = l; words = m }
+
+beginning_at : (types : List Ty) (i place : ℕ) (d : Ty) → i < length types → d ≡ get_or types i d → Beginning types i place
+    → (firsts_weight place (map type_of (d ∷ drop (i + 1) types)) ≤ 2147483647) × (4 * (place + words_of_all (variable_kinds (map type_of (d ∷ drop (i + 1) types)))) ≤ 2147483647)
+beginning_at types i place d h is s =
+    let same : drop i types ≡ d ∷ drop (i + 1) types = (drop-cons types i d h ∙ (let j : suc i ≡ i + 1 = omega arith in ap (λ n. get_or types i d ∷ drop n types) j) ∙ ap (λ y. y ∷ drop (i + 1) types) (sym is)) in
+    (subst (λ l. firsts_weight place (map type_of l) ≤ 2147483647) same s.reach, subst (λ l. 4 * (place + words_of_all (variable_kinds (map type_of l))) ≤ 2147483647) same s.words)
+
+pub beginning_one : (types : List Ty) (i place : ℕ) (d : Ty) → i < length types → d ≡ get_or types i d → Beginning types i place → (4 * place + first_weight (shape_of (type_of d)) ≤ 2147483647) × (4 * (place + word_count (shape_of (type_of d))) ≤ 2147483647)
+beginning_one types i place d h is s = let a = beginning_at types i place d h is s in (omega (arith, a), omega (arith, a))
+
+pub beginning_next : (types : List Ty) (i place after : ℕ) (d : Ty) → i < length types → d ≡ get_or types i d → Beginning types i place → after ≡ place + word_count (shape_of (type_of d)) → Beginning types (i + 1) after
+beginning_next types i place after d h is s e =
+    let a = beginning_at types i place d h is s in
+    let w = ap (λ n. firsts_weight n (map type_of (drop (i + 1) types))) e in
+    record { reach = omega (arith, a, w); words = omega (arith, a, e) }
 
 -- ---- entries that stand one behind another
 

@@ -40,16 +40,19 @@ one_counted f rest = refl
 
 pub record Counted (formals : List Formal) (i count : ℕ) : Type 0 where
   pub sum : count + total (drop i formals) ≡ suc (total formals)
-  pub small : count ≤ 2147483647
 
 pub counted_start : (formals : List Formal) → Counted formals 0 1
-counted_start formals = record { sum = omega arith; small = omega arith }
+counted_start formals = record { sum = omega arith }
 
-pub counted_next : (formals : List Formal) (i count next : ℕ) (d : Formal) → i < length formals → Counted formals i count → next ≡ count + parameter_words (kind_at (get_or formals i d)) → next ≤ 2147483647 → Counted formals (i + 1) next
-counted_next formals i count next d h s e small =
+pub counted_next : (formals : List Formal) (i count next : ℕ) (d : Formal) → i < length formals → Counted formals i count → next ≡ count + parameter_words (kind_at (get_or formals i d)) → Counted formals (i + 1) next
+counted_next formals i count next d h s e =
     let split : total (drop i formals) ≡ parameter_words (kind_at (get_or formals i d)) + total (drop (suc i) formals) = ap total (drop-cons formals i d h) ∙ one_counted (get_or formals i d) (drop (suc i) formals) in
     let same : total (drop (i + 1) formals) ≡ total (drop (suc i) formals) = (let k : i + 1 ≡ suc i = omega arith in ap (λ j. total (drop j formals)) k) in
-    record { sum = omega (arith, s.sum, split, same, e); small = small }
+    record { sum = omega (arith, s.sum, split, same, e) }
+
+-- no more come than all
+pub counted_small : (formals : List Formal) (i count most : ℕ) → Counted formals i count → suc (total formals) ≤ most → count ≤ most
+counted_small formals i count most s l = let e = s.sum in omega (arith, e, l)
 
 pub counted_all : (formals : List Formal) (i count : ℕ) → length formals ≤ i → Counted formals i count → count ≡ suc (total formals)
 counted_all formals i count h s =
@@ -84,18 +87,20 @@ one_taken f rest = refl
 pub record Entered (k : Scope) (free : ℕ) (start : List Instruction) (first : ℕ) (formals : List Formal) (i : ℕ) (now : List Instruction) (t place : ℕ) : Type 0 where
   pub left : now ++ entered k free t place (drop i formals) ≡ start ++ entered k free 1 first formals
   pub sum : place + taken (drop i formals) ≡ first + taken formals
-  pub small : t ≤ 2147483647
+  pub count : t + total (drop i formals) ≡ suc (total formals)
 
 pub entered_start : (k : Scope) (free : ℕ) (start : List Instruction) (first : ℕ) (formals : List Formal) → Entered k free start first formals 0 start 1 first
-entered_start k free start first formals = record { left = refl; sum = refl; small = omega arith }
+entered_start k free start first formals = record { left = refl; sum = refl; count = omega arith }
 
-pub entered_next : (k : Scope) (free : ℕ) (start : List Instruction) (first : ℕ) (formals : List Formal) (i : ℕ) (now next : List Instruction) (t place after behind : ℕ) (d : Formal) → i < length formals → Entered k free start first formals i now t place → next ≡ now ++ parameter_code k (kind_at (get_or formals i d)) t (4 * place) free → behind ≡ place + kind_words (kind_at (get_or formals i d)) → after ≡ t + parameter_words (kind_at (get_or formals i d)) → after ≤ 2147483647 → Entered k free start first formals (i + 1) next after behind
-entered_next k free start first formals i now next t place after behind d h s e f g small =
+pub entered_next : (k : Scope) (free : ℕ) (start : List Instruction) (first : ℕ) (formals : List Formal) (i : ℕ) (now next : List Instruction) (t place after behind : ℕ) (d : Formal) → i < length formals → Entered k free start first formals i now t place → next ≡ now ++ parameter_code k (kind_at (get_or formals i d)) t (4 * place) free → behind ≡ place + kind_words (kind_at (get_or formals i d)) → after ≡ t + parameter_words (kind_at (get_or formals i d)) → Entered k free start first formals (i + 1) next after behind
+entered_next k free start first formals i now next t place after behind d h s e f g =
     let item : Formal = get_or formals i d in
     let rest : List Formal = drop (suc i) formals in
     let one : i + 1 ≡ suc i = omega arith in
     let split : taken (drop i formals) ≡ kind_words (kind_at item) + taken rest = ap taken (drop-cons formals i d h) ∙ one_taken item rest in
     let same : taken (drop (i + 1) formals) ≡ taken rest = ap (λ j. taken (drop j formals)) one in
+    let fewer : total (drop i formals) ≡ parameter_words (kind_at item) + total rest = ap total (drop-cons formals i d h) ∙ one_counted item rest in
+    let left : total (drop (i + 1) formals) ≡ total rest = ap (λ j. total (drop j formals)) one in
     record {
       left =
           ap (λ n. next ++ entered k free after behind (drop n formals)) one
@@ -106,8 +111,19 @@ entered_next k free start first formals i now next t place after behind d h s e 
           ∙ ap (λ l. now ++ entered k free t place l) (sym (drop-cons formals i d h))
           ∙ s.left;
       sum = omega (arith, s.sum, split, same, f);
-      small = small;
+      count = omega (arith, s.count, fewer, left, g);
     }
+
+-- no more come than all, and the next one's words lie before the end of all
+pub entered_small : (k : Scope) (free : ℕ) (start : List Instruction) (first : ℕ) (formals : List Formal) (i : ℕ) (now : List Instruction) (t place most : ℕ) → Entered k free start first formals i now t place → suc (total formals) ≤ most → t ≤ most
+entered_small k free start first formals i now t place most s l = let e = s.count in omega (arith, e, l)
+
+pub entered_room : (k : Scope) (free : ℕ) (start : List Instruction) (first : ℕ) (formals : List Formal) (i : ℕ) (now : List Instruction) (t place most : ℕ) (f : Formal) → i < length formals → f ≡ get_or formals i f → Entered k free start first formals i now t place → 4 * (first + taken formals) ≤ most → 4 * (place + kind_words (kind_at f)) ≤ most
+entered_room k free start first formals i now t place most f h is s l =
+    let split : taken (drop i formals) ≡ kind_words (kind_at (get_or formals i f)) + taken (drop (suc i) formals) = ap taken (drop-cons formals i f h) ∙ one_taken (get_or formals i f) (drop (suc i) formals) in
+    let same : kind_words (kind_at f) ≡ kind_words (kind_at (get_or formals i f)) = ap (λ y. kind_words (kind_at y)) is in
+    let e = s.sum in
+    omega (arith, e, split, same, l)
 
 pub entered_all : (k : Scope) (free : ℕ) (start : List Instruction) (first : ℕ) (formals : List Formal) (i : ℕ) (now : List Instruction) (t place : ℕ) → length formals ≤ i → Entered k free start first formals i now t place → now ≡ start ++ entered k free 1 first formals
 entered_all k free start first formals i now t place h s =

@@ -71,6 +71,14 @@ laid_words kinds none start p items i now place h s =
     (let e : place ≡ place + 0 = omega arith in e)
     ∙ ap (λ l. place + words_of_all l) (sym none) ∙ ap (λ l. place + words_of_all (kinds l)) (sym (drop_all i items h)) ∙ s.words
 
+-- the next entry lies before the end of all
+pub laid_room : {A : Type 0} (kinds : List A → List Kind) (kind : A → Kind) → ((x : A) (xs : List A) → kinds (x ∷ xs) ≡ kind x ∷ kinds xs) → (start : List Spot) (p : ℕ) (items : List A) (i : ℕ) (now : List Spot) (place most : ℕ) (d : A) → i < length items → d ≡ get_or items i d → Laid kinds start p items i now place → 4 * (p + words_of_all (kinds items)) ≤ most → 4 * (place + kind_words (kind d)) ≤ most
+laid_room kinds kind law start p items i now place most d h is s l =
+    let split : words_of_all (kinds (drop i items)) ≡ kind_words (kind (get_or items i d)) + words_of_all (kinds (drop (suc i) items)) = ap words_of_all (ap kinds (drop-cons items i d h) ∙ law (get_or items i d) (drop (suc i) items)) in
+    let same : kind_words (kind d) ≡ kind_words (kind (get_or items i d)) = ap (λ y. kind_words (kind y)) is in
+    let e = s.words in
+    omega (arith, e, split, same, l)
+
 abbrev pub kind_of_formal : Formal → Kind
 kind_of_formal f = kind_of (formal_of f)
 

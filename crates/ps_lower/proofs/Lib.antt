@@ -32,3 +32,5 @@ pub mod Looking
 pub mod Mapping
 pub mod Gathering
 pub mod Bounding
+pub mod Weighing
+pub mod Limits

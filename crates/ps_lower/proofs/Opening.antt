@@ -1,5 +1,5 @@
 -- `with`: records that are opened one after another.
-use Rattle.std.proofs.Common.{◌≡◌, ℕ, suc, ◌+◌, ◌-◌, ◌<◌, ◌≤◌, Bool, List, [], ◌∷◌, ◌++◌, length, map, drop, get_or, slice_get, Some, None, refl, sym, ap, ◌∙◌, append_assoc, arith}
+use Rattle.std.proofs.Common.{◌≡◌, ℕ, suc, ◌+◌, ◌-◌, ◌<◌, ◌≤◌, Bool, List, [], ◌∷◌, ◌++◌, length, map, drop, get_or, slice_get, Some, None, refl, sym, ap, subst, ◌∙◌, append_assoc, arith}
 use Rattle.std.specs.Prelude.{reverse}
 use Rattle.std.proofs.Math.Seq.{drop-cons}
 use Rattle.std.proofs.lemmas.List.{append-nil, drop_all, map-append, reverse-append, length-map, length-reverse, get_or-map, get_or-reverse}
@@ -11,6 +11,7 @@ use Rattle.tac_code.specs.declared.code.Instruction.{Instruction}
 use Rattle.ps_code.specs.Scopes.{Scope, Site as CodeSite, held}
 use Rattle.ps_code.specs.Values.{place_code, place_site, place_temporary}
 use Rattle.ps_code.specs.Statements.{within_site, with_code, with_scope, with_depth}
+use Rattle.ps_bounds.specs.Weights.{place_weight, with_weight}
 use Rattle.ps_lower.specs.declared.site.Site.{Site}
 use Rattle.ps_lower.specs.Levels.{site_of, within}
 
@@ -100,3 +101,38 @@ opening_scope k c d start items i now sites depth h o = ap (λ l. records_scope 
 
 pub opening_end : (k : Scope) (c : Bool) (d : ℕ) (start : List Instruction) (items : List Place) (i : ℕ) (now : List Instruction) (sites : List Site) (depth : ℕ) → length items ≤ i → Opening k c d start items i now sites depth → depth ≡ records_depth c items d
 opening_end k c d start items i now sites depth h o = ap (λ l. records_depth c l depth) (sym (drop_all i items h)) ∙ o.end
+
+-- ---- room for the records that are left
+
+pub record Widening (k : Scope) (c : Bool) (items : List Place) (i : ℕ) (sites : List Site) (depth : ℕ) : Type 0 where
+  pub room : depth + with_weight (within k sites) (map place_of (drop i items)) c depth ≤ 2147483647
+
+pub widening_start : (k : Scope) (c : Bool) (items : List Place) (sites : List Site) (d : ℕ) → within k sites ≡ k → d + with_weight k (map place_of items) c d ≤ 2147483647 → Widening k c items 0 sites d
+widening_start k c items sites d e l = record { room = subst (λ (y : Scope). d + with_weight y (map place_of items) c d ≤ 2147483647) (sym e) l }
+
+widening_at : (k : Scope) (c : Bool) (items : List Place) (i : ℕ) (sites : List Site) (depth : ℕ) (p : Place) → i < length items → p ≡ get_or items i p → Widening k c items i sites depth
+    → depth + with_weight (within k sites) (place_of p ∷ map place_of (drop (suc i) items)) c depth ≤ 2147483647
+widening_at k c items i sites depth p h e w =
+    subst (λ (y : Place). depth + with_weight (within k sites) (place_of y ∷ map place_of (drop (suc i) items)) c depth ≤ 2147483647) (sym e)
+    (subst (λ l. depth + with_weight (within k sites) (map place_of l) c depth ≤ 2147483647) (drop-cons items i p h) w.room)
+
+pub widening_one : (k : Scope) (c : Bool) (items : List Place) (i : ℕ) (sites : List Site) (depth n : ℕ) (p : Place) → i < length items → p ≡ get_or items i p → Widening k c items i sites depth → n ≤ depth + 1 → n + place_weight (within k sites) (place_of p) ≤ 2147483647
+widening_one k c items i sites depth n p h e w l = let r = widening_at k c items i sites depth p h e w in omega (arith, r, l)
+
+pub widening_next : (k : Scope) (c : Bool) (items : List Place) (i : ℕ) (sites more : List Site) (depth n m below : ℕ) (s : Site) (p : Place) → i < length items → p ≡ get_or items i p → Widening k c items i sites depth → n ≡ held c depth → site_of s ≡ place_site (within k sites) (place_of p) n → more ≡ sites ++ s ∷ [] → m ≡ place_temporary (place_of p) n → below ≡ m + 1 → n ≤ depth + 1 → m ≤ n + 1 → Widening k c items (i + 1) more below
+widening_next k c items i sites more depth n m below s p h e w is f g b x near next =
+    let r = widening_at k c items i sites depth p h e w in
+    let item : t.Place = place_of p in
+    let here : Scope = within k sites in
+    let j : suc i ≡ i + 1 = omega arith in
+    let further : within_site here (place_site here item (held c depth)) ≡ within k more =
+    sym (ap (within k) g ∙ further_in k sites s ∙ ap (within_site here) (f ∙ ap (place_site here item) is))
+    in
+    let deep : suc (place_temporary item (held c depth)) ≡ below = (let u : below ≡ suc m = omega (arith, x) in sym (u ∙ ap suc (b ∙ ap (λ y. place_temporary item y) is))) in
+    let left = with_weight (within_site here (place_site here item (held c depth))) (map place_of (drop (suc i) items)) c (suc (place_temporary item (held c depth))) in
+    let same : left ≡ with_weight (within k more) (map place_of (drop (i + 1) items)) c below =
+    ap (λ (y : Scope). with_weight y (map place_of (drop (suc i) items)) c (suc (place_temporary item (held c depth)))) further
+    ∙ ap (λ y. with_weight (within k more) (map place_of (drop (suc i) items)) c y) deep
+    ∙ ap (λ y. with_weight (within k more) (map place_of (drop y items)) c below) j
+    in
+    record { room = omega (arith, r, same, x, near, next) }

@@ -1,5 +1,5 @@
 -- A type's bytes are those of its shape's words.
-use Rattle.std.proofs.Common.{◌≡◌, ℕ, ◌-◌, ◌*◌, ◌/◌, ◌^◌, min, Bool, true, false, ◌&&◌, if◌then◌else◌, refl, ap, ◌∙◌, arith}
+use Rattle.std.proofs.Common.{◌≡◌, ℕ, ◌-◌, ◌*◌, ◌/◌, ◌^◌, ◌≤◌, min, Bool, true, false, ◌&&◌, if◌then◌else◌, refl, ap, ◌∙◌, arith}
 use Rattle.std.proofs.Math.Nat.{mul_left_comm}
 use Rattle.ps_tree.specs.Types.{DataType, OrdinalType, PointerType, NilType, SetType, EmptySetType, TextType, ArrayType, RecordType, field_list, DataTypes, no_type, type_before}
 use Rattle.ps_tree.specs.Sizes.{bytes, record_bytes, field_bytes, whole_words, value_count, fits_byte}
@@ -29,5 +29,5 @@ mutual
   words_of_fields no_type = refl
   words_of_fields (type_before type rest) = let a = words_in type in let b = words_of_fields rest in omega (arith, a, b)
 
-pub words_of_bytes : (t : DataType) (n : ℕ) → n ≡ min (bytes t) (2 ^ 32 - 1) → ¬ (n ≡ 4294967295) → n / 4 ≡ word_count (shape_of t)
+pub words_of_bytes : (t : DataType) (n : ℕ) → n ≡ min (bytes t) (2 ^ 32 - 1) → 4 * word_count (shape_of t) ≤ 2147483647 → n / 4 ≡ word_count (shape_of t)
 words_of_bytes t n e h = let a = words_in t in omega (arith, a, e, h)

@@ -1,5 +1,7 @@
 -- Where the entries of a frame stand.
 use Rattle.std.specs.Prelude.{◌≡◌, ℕ, ◌+◌, ◌*◌, Bool, true, false, List, [], ◌∷◌, map}
+use Rattle.ps_tree.specs.Checked.{Parts, program_in}
+use Rattle.ps_tree.specs.Counts.{is_within_limits}
 use Rattle.ps_tree.specs.Tree.{Routine}
 use Rattle.ps_layout.specs.Frames.{Kind, Reference, kind_words, words_of_all, entries}
 use Rattle.ps_lower.specs.declared.frame.Spot.{Spot}
@@ -34,3 +36,8 @@ contents_in t = record { spots = t.spots.items; words = t.words }
 -- the tables of all routines
 abbrev pub AreTables : List Table → List Routine → Type 0
 AreTables tables routines = map contents_in tables ≡ map contents_of routines
+
+-- the tables of a checked program, which keeps the limits
+pub record AreFrames (tables : List Table) (parts : Parts) : Type 0 where
+  pub are : AreTables tables (program_in parts).routines
+  pub limits : is_within_limits (program_in parts) ≡ true

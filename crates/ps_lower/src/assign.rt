@@ -1,6 +1,7 @@
 // The code of assignments.
 
-ghost use Rattle.std.specs.Prelude.{◌≡◌, ◌++◌, ◌≤◌, OnOk};
+ghost use Rattle.std.specs.Prelude.{◌≡◌, ◌++◌, ◌+◌, ◌≤◌, OnOk};
+ghost use Rattle.ps_bounds.specs.Weights.{statement_weight};
 ghost use Rattle.ps_code.specs.Statements.{statement_code};
 ghost use Rattle.ps_lower.specs.Levels.{scope_of};
 ghost use Rattle.ps_tree.specs.Tree as tree;
@@ -14,11 +15,11 @@ use crate::level::Level;
 use crate::out::Code;
 use crate::pieces::fitting;
 use crate::places::{address, is_byte, keep, place_temporary};
-use crate::refusal::LowerRefusal;
 use crate::sets::{check_set, keep_set};
 use crate::texts::structure_bytes;
 use crate::values::{place, set, structure, value};
 use ps_tree::tree::{Expr, Place, Range, SetExpr, Structure};
+use std::alloc::AllocError;
 
 /// An assignment to an ordinal or pointer variable.
 pub fn assign(
@@ -29,8 +30,8 @@ pub fn assign(
     e: &Expr,
     line: u16,
     d: u32,
-) -> Result<(), LowerRefusal>
-    requires { d ≤ DEEPEST }
+) -> Result<(), AllocError>
+    requires { d + statement_weight (scope_of k.now) (tree.Assign (place_of target.now) range (expr_of e.now) line) d ≤ DEEPEST }
     ensures { OnOk result (out.new ≡ out.old ++ statement_code (scope_of k.now) (tree.Assign (place_of target.now) range (expr_of e.now) line) d) }
 {
     let t = kept(expr_calls(e), d);
@@ -48,15 +49,15 @@ pub fn assign_structure(
     target: &Place,
     e: &Structure,
     d: u32,
-) -> Result<(), LowerRefusal>
-    requires { d ≤ DEEPEST }
+) -> Result<(), AllocError>
+    requires { d + statement_weight (scope_of k.now) (tree.AssignStructure (place_of target.now) (structure_of e.now)) d ≤ DEEPEST }
     ensures { OnOk result (out.new ≡ out.old ++ statement_code (scope_of k.now) (tree.AssignStructure (place_of target.now) (structure_of e.now)) d) }
 {
     let t = held(structure_calls(e), d);
     let from = even_above(place_temporary(target, t));
     let to = beside(from);
     let free = beside(to);
-    let bytes = structure_bytes(e)?;
+    let bytes = structure_bytes(e);
     let site = place(out, k, target, t, 0)?;
     structure(out, k, e, from, 0)?;
     address(out, to, site, bytes)?;
@@ -73,8 +74,8 @@ pub fn assign_set(
     e: &SetExpr,
     line: u16,
     d: u32,
-) -> Result<(), LowerRefusal>
-    requires { d ≤ DEEPEST }
+) -> Result<(), AllocError>
+    requires { d + statement_weight (scope_of k.now) (tree.AssignSet (place_of target.now) low.now high.now (set_of e.now) line) d ≤ DEEPEST }
     ensures { OnOk result (out.new ≡ out.old ++ statement_code (scope_of k.now) (tree.AssignSet (place_of target.now) low.now high.now (set_of e.now) line) d) }
 {
     let at = held(true, d);

@@ -2,8 +2,9 @@
 
 ghost use Rattle.std.specs.Prelude.{ℕ, ◌≡◌, ◌++◌, ◌+◌, ◌≤◌, ◌∷◌, [], OnOk, IfOk, if◌then◌else◌, suc, drop};
 ghost use Rattle.ps_code.specs.Calling.{argument_calls, arguments_call};
-ghost use Rattle.ps_code.specs.Scopes.{even_from, beside, link_code, formal_code, copy_code};
+ghost use Rattle.ps_code.specs.Scopes.{routine_up, even_from, beside, link_code, formal_code, copy_code};
 ghost use Rattle.ps_code.specs.Values.{argument_words, argument_end, argument_scratch, arguments_words, arguments_end};
+ghost use Rattle.ps_layout.specs.Frames.{entry_offset};
 ghost use Rattle.ps_layout.specs.Shapes.{shape_of, byte_count};
 ghost use Rattle.ps_lower.specs.Levels.{scope_of};
 ghost use Rattle.ps_tree.specs.View.{type_of, argument_of, arguments_of};
@@ -16,11 +17,10 @@ use crate::helpers::copy;
 use crate::level::Level;
 use crate::levels::{formal, link};
 use crate::out::Code;
-use crate::refusal::LowerRefusal;
 use crate::shapes::byte_count;
 use ps_tree::tree::Argument;
 use ps_tree::types::Ty;
-use std::alloc::Global;
+use std::alloc::{AllocError, Global};
 use tac_code::code::Base;
 
 /// Whether the code of an actual parameter calls.
@@ -89,60 +89,53 @@ pub fn argument_end(argument: &Argument, t: u32) -> u32
 
 /// The scratch that an actual parameter holds, behind x.
 #[tactic(auto, using(ps_tree::proofs::TreeLemmas::argument_of_Variable), unfolding(ps_tree::specs::View::argument_of))]
-fn argument_scratch(argument: &Argument) -> Result<u32, LowerRefusal>
-    ensures { IfOk result (λ n. n ≡ argument_scratch (argument_of argument.now)) }
+fn argument_scratch(argument: &Argument) -> u32
+    requires { argument_scratch (argument_of argument.now) ≤ 2147483647 }
+    ensures { result ≡ argument_scratch (argument_of argument.now) }
 {
     match argument {
-        Argument::Set { .. } => Ok(32),
+        Argument::Set { .. } => 32,
         Argument::Copy { ty, .. } => byte_count(ty),
         Argument::Value { .. }
         | Argument::Variable(_)
         | Argument::Routine { .. }
-        | Argument::Formal { .. } => Ok(0),
+        | Argument::Formal { .. } => 0,
     }
 }
 
 /// The end of the scratch that an actual parameter holds from x on.
-pub fn scratch_end(argument: &Argument, x: u32) -> Result<u32, LowerRefusal>
-    ensures { IfOk result (λ n. n ≡ x + argument_scratch (argument_of argument.now)) }
+pub fn scratch_end(argument: &Argument, x: u32) -> u32
+    requires { x + argument_scratch (argument_of argument.now) ≤ 2147483647 }
+    ensures { result ≡ x + argument_scratch (argument_of argument.now) }
 {
-    let bytes = argument_scratch(argument)?;
-    let Some(end) = x.checked_add(bytes) else {
-        return Err(LowerRefusal::TooLarge);
-    };
-    Ok(end)
+    x + argument_scratch(argument)
 }
 
 /// The first temporary behind the words of actual parameters.
-fn arguments_end(arguments: &[Argument], d: u32) -> Result<u32, LowerRefusal>
-    ensures { IfOk result (λ t. t ≡ arguments_end (arguments_of arguments.now) d) }
+fn arguments_end(arguments: &[Argument], d: u32) -> u32
+    requires { arguments_end (arguments_of arguments.now) d ≤ DEEPEST }
+    ensures { result ≡ arguments_end (arguments_of arguments.now) d }
 {
     let mut depth = d;
     let mut rest = arguments;
     for argument in arguments {
-        if DEEPEST < depth {
-            return Err(LowerRefusal::TooLarge);
-        }
         rest = tail(rest);
         depth = argument_end(argument, held(arguments_call(rest), depth));
     }
-    Ok(depth)
+    depth
 }
 
 /// The temporary of the static link, or of a formal's routine.
-pub fn link_temporary(arguments: &[Argument], d: u32) -> Result<u32, LowerRefusal>
-    ensures value { IfOk result (λ t. t ≡ even_from (arguments_end (arguments_of arguments.now) d)) }
-    ensures small { IfOk result (λ t. t ≤ DEEPEST + 1) }
+pub fn link_temporary(arguments: &[Argument], d: u32) -> u32
+    requires { arguments_end (arguments_of arguments.now) d ≤ DEEPEST }
+    ensures value { result ≡ even_from (arguments_end (arguments_of arguments.now) d) }
+    ensures small { result ≤ DEEPEST + 1 }
 {
-    let end = arguments_end(arguments, d)?;
-    if DEEPEST < end {
-        return Err(LowerRefusal::TooLarge);
-    }
-    Ok(even_from(end))
+    even_from(arguments_end(arguments, d))
 }
 
 /// Adds the temporaries of an actual parameter.
-fn add_words(list: &mut Vec<u32>, argument: &Argument, t: u32) -> Result<(), LowerRefusal>
+fn add_words(list: &mut Vec<u32>, argument: &Argument, t: u32) -> Result<(), AllocError>
     requires { t ≤ 4294960000 }
     ensures { OnOk result (list.new.items ≡ list.old.items ++ argument_words (argument_of argument.now) t) }
 {
@@ -154,7 +147,8 @@ fn add_words(list: &mut Vec<u32>, argument: &Argument, t: u32) -> Result<(), Low
 }
 
 /// The temporaries that a call hands over, the static link's first.
-fn words(alloc: Global, arguments: &[Argument], link: u32, d: u32) -> Result<Vec<u32>, LowerRefusal>
+fn words(alloc: Global, arguments: &[Argument], link: u32, d: u32) -> Result<Vec<u32>, AllocError>
+    requires { arguments_end (arguments_of arguments.now) d ≤ DEEPEST }
     ensures { IfOk result (λ list. list.items ≡ link ∷ arguments_words (arguments_of arguments.now) d) }
 {
     let mut list = Vec::new(alloc);
@@ -162,9 +156,6 @@ fn words(alloc: Global, arguments: &[Argument], link: u32, d: u32) -> Result<Vec
     let mut depth = d;
     let mut rest = arguments;
     for argument in arguments {
-        if DEEPEST < depth {
-            return Err(LowerRefusal::TooLarge);
-        }
         rest = tail(rest);
         let t = held(arguments_call(rest), depth);
         add_words(&mut list, argument, t)?;
@@ -183,10 +174,11 @@ pub fn call(
     line: u16,
     d: u32,
     to: u32,
-) -> Result<(), LowerRefusal>
+) -> Result<(), AllocError>
+    requires { arguments_end (arguments_of arguments.now) d ≤ DEEPEST }
     ensures { OnOk result (out.new ≡ out.old ++ (link_code (scope_of k.now) (even_from (arguments_end (arguments_of arguments.now) d)) up ++ i.Call to routine (even_from (arguments_end (arguments_of arguments.now) d) ∷ arguments_words (arguments_of arguments.now) d) line ∷ [])) }
 {
-    let t = link_temporary(arguments, d)?;
+    let t = link_temporary(arguments, d);
     link(out, k, t, up)?;
     let operands = words(out.alloc(), arguments, t, d)?;
     out.call(to, routine, &operands, line)
@@ -202,10 +194,12 @@ pub fn call_formal(
     line: u16,
     d: u32,
     to: u32,
-) -> Result<(), LowerRefusal>
+) -> Result<(), AllocError>
+    requires depth { arguments_end (arguments_of arguments.now) d ≤ DEEPEST }
+    requires reach { entry_offset (routine_up (scope_of k.now) up) index ≤ 2147483647 }
     ensures { OnOk result (out.new ≡ out.old ++ (formal_code (scope_of k.now) (even_from (arguments_end (arguments_of arguments.now) d)) up index ++ i.CallValue to (even_from (arguments_end (arguments_of arguments.now) d)) (beside (even_from (arguments_end (arguments_of arguments.now) d)) ∷ arguments_words (arguments_of arguments.now) d) line ∷ [])) }
 {
-    let t = link_temporary(arguments, d)?;
+    let t = link_temporary(arguments, d);
     formal(out, k, t, up, index)?;
     let operands = words(out.alloc(), arguments, beside(t), d)?;
     out.call_value(to, t, &operands, line)
@@ -218,7 +212,7 @@ pub fn routine_value(
     routine: u32,
     up: u32,
     t: u32,
-) -> Result<(), LowerRefusal>
+) -> Result<(), AllocError>
     requires { t ≤ 4294960000 }
     ensures { OnOk result (out.new ≡ out.old ++ i.RoutineValue t routine ∷ link_code (scope_of k.now) (beside t) up) }
 {
@@ -227,11 +221,12 @@ pub fn routine_value(
 }
 
 /// A structure whose address is in t is copied to scratch, and the copy's address goes to t.
-pub fn copied(out: &mut Code, k: &Level, ty: &Ty, t: u32, x: u32) -> Result<(), LowerRefusal>
-    requires { t ≤ 4294960000 }
+pub fn copied(out: &mut Code, k: &Level, ty: &Ty, t: u32, x: u32) -> Result<(), AllocError>
+    requires depth { t ≤ 4294960000 }
+    requires length { byte_count (shape_of (type_of ty.now)) ≤ 2147483647 }
     ensures { OnOk result (out.new ≡ out.old ++ i.Offset (beside t) base.Scratch x (byte_count (shape_of (type_of ty.now))) ∷ copy_code (scope_of k.now) (beside t) t (beside (beside t)) (byte_count (shape_of (type_of ty.now))) ++ i.Offset t base.Scratch x (byte_count (shape_of (type_of ty.now))) ∷ []) }
 {
-    let bytes = byte_count(ty)?;
+    let bytes = byte_count(ty);
     let to = beside(t);
     out.offset(to, Base::Scratch, x, bytes)?;
     copy(out, k, to, t, beside(to), bytes)?;

@@ -11,11 +11,11 @@ ghost use Rattle.tac_code.specs.declared.code.Operand.TheVariants as operand;
 ghost use Rattle.tac_code.specs.declared.code.Relation.TheVariants.{NotEqual};
 
 use crate::out::Code;
-use crate::refusal::LowerRefusal;
+use std::alloc::AllocError;
 use tac_code::code::{Operand, Relation};
 
 /// The test of a constant behind which so many others stand. The last has none.
-fn test(out: &mut Code, constant: &i32, others: u64, d: u32) -> Result<(), LowerRefusal>
+fn test(out: &mut Code, constant: &i32, others: u64, d: u32) -> Result<(), AllocError>
     ensures { OnOk result (out.new ≡ out.old ++ test_code constant.now others d) }
 {
     if others == 0 {
@@ -25,7 +25,7 @@ fn test(out: &mut Code, constant: &i32, others: u64, d: u32) -> Result<(), Lower
 }
 
 /// The tests of an element's constants but for the last one's, for which a room is left at the place that is answered.
-pub fn tests(out: &mut Code, constants: &[i32], d: u32) -> Result<usize, LowerRefusal>
+pub fn tests(out: &mut Code, constants: &[i32], d: u32) -> Result<usize, AllocError>
     ensures code { OnOk result (out.new ≡ (out.old ++ first_tests constants.now d) ++ i.End ∷ []) }
     ensures place { IfOk result (λ place. place ≡ length (out.old ++ first_tests constants.now d)) }
 {

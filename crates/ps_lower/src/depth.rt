@@ -3,7 +3,7 @@
 ghost use Rattle.std.specs.Prelude.{◌≡◌, ◌+◌, ◌≤◌, suc, true};
 ghost use Rattle.ps_code.specs.Scopes.{even_from, held, kept, beside};
 
-/// The largest depth at which code is made. Above it a program is too large.
+/// The most that a number of the code may be, a depth among them. What the tree weighs keeps it below.
 pub const DEEPEST: u32 = 0x7FFF_FFFF;
 
 /// The first even temporary from d on.

@@ -4,8 +4,7 @@ ghost use Rattle.std.specs.Prelude.{◌≡◌, ◌<◌, ◌∷◌, ◌++◌, len
 ghost use Rattle.tac_code.specs.declared.code.Instruction.{Instruction};
 ghost use Rattle.tac_code.specs.declared.code.Instruction.TheVariants as i;
 
-use crate::refusal::LowerRefusal;
-use std::alloc::Global;
+use std::alloc::{AllocError, Global};
 use tac_code::code::{Instruction, Operand, Operands, Relation};
 
 fn put(list: &mut Vec<Instruction>, place: usize, instruction: Instruction)
@@ -48,7 +47,7 @@ pub fn fill_with_branch(
 }
 
 /// The operands of a call.
-pub fn listed(alloc: Global, temporaries: &[u32]) -> Result<Operands, LowerRefusal>
+pub fn listed(alloc: Global, temporaries: &[u32]) -> Result<Operands, AllocError>
     ensures { IfOk result (λ list. list ≡ temporaries.now) }
 {
     let mut list = Operands::new(alloc);

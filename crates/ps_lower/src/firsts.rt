@@ -1,11 +1,13 @@
 // First values: as long as the text of a type, and not as its cells.
 
-ghost use Rattle.std.specs.Prelude.{◌≡◌, ◌++◌, ◌+◌, ◌*◌, ◌≤◌, ◌&&◌, [], ◌∷◌, if◌then◌else◌, map, OnOk, IfOk};
+ghost use Rattle.std.specs.Prelude.{◌≡◌, ◌++◌, ◌+◌, ◌*◌, ◌≤◌, ◌≤ℤ◌, ◌&&◌, pos, [], ◌∷◌, if◌then◌else◌, map, OnOk, IfOk};
+ghost use Rattle.ps_bounds.specs.Weights.{first_weight, fields_weight, firsts_weight};
 ghost use Rattle.ps_code.specs.Scopes.{beside, copy_code};
 ghost use Rattle.ps_code.specs.Statements.{bytes_below, byte_word, spread_code, zero_code, bytes_code, first_code};
+ghost use Rattle.ps_layout.specs.Frames.{variable_kinds, words_of_all};
 ghost use Rattle.ps_layout.specs.Shapes.{ByteShape, ArrayShape, RecordShape, shape_of, shapes_of, first_of, word_count, byte_count};
 ghost use Rattle.ps_lower.specs.Firsts.{firsts_code, whole_bytes, last_bytes, array_shape};
-ghost use Rattle.ps_lower.specs.FirstTasks.{weight, task_code, task_weight, IsDone, IsLeft, AreLeft};
+ghost use Rattle.ps_lower.specs.FirstTasks.{weight, task_code, task_weight, task_reach, IsDone, IsLeft, AreLeft};
 ghost use Rattle.ps_lower.specs.Levels.{scope_of};
 ghost use Rattle.ps_meaning.specs.Values.{first_ordinal};
 ghost use Rattle.ps_tree.specs.Sizes.{value_count, fits_byte};
@@ -20,10 +22,10 @@ use crate::helpers::copy;
 use crate::level::Level;
 use crate::numbers::narrow;
 use crate::out::Code;
-use crate::refusal::LowerRefusal;
 use crate::shapes::{byte_count, fits_byte};
 use crate::task::Task;
 use ps_tree::types::{Host, Ordinal, Ty, same_host};
+use std::alloc::AllocError;
 use tac_code::code::Base;
 
 fn first_ordinal(ordinal: Ordinal) -> i32
@@ -48,7 +50,7 @@ fn first_of(ty: &Ty) -> i32
 }
 
 /// A number to a word.
-fn number(out: &mut Code, base: Base, t: u32, offset: u32, value: i32) -> Result<(), LowerRefusal>
+fn number(out: &mut Code, base: Base, t: u32, offset: u32, value: i32) -> Result<(), AllocError>
     ensures { OnOk result (out.new ≡ out.old ++ i.Literal t value ∷ i.Store base offset t ∷ []) }
 {
     out.literal(t, value)?;
@@ -64,15 +66,14 @@ fn copies(
     offset: u32,
     n: u32,
     bytes: u32,
-) -> Result<(), LowerRefusal>
-    requires { t ≤ 4294960000 }
+) -> Result<(), AllocError>
+    requires depth { t ≤ 4294960000 }
+    requires reach { offset + n ≤ 2147483647 }
+    requires length { bytes ≤ 2147483647 }
     ensures { OnOk result (out.new ≡ out.old ++ i.Offset t base (offset + n) 0 ∷ i.Offset (beside t) base offset 0 ∷ copy_code (scope_of k.now) t (beside t) (beside (beside t)) bytes) }
 {
-    let Some(behind) = offset.checked_add(n) else {
-        return Err(LowerRefusal::TooLarge);
-    };
     let from = beside(t);
-    out.offset(t, base, behind, 0)?;
+    out.offset(t, base, offset + n, 0)?;
     out.offset(from, base, offset, 0)?;
     copy(out, k, t, from, beside(from), bytes)
 }
@@ -86,8 +87,10 @@ fn spread(
     offset: u32,
     n: u32,
     whole: u32,
-) -> Result<(), LowerRefusal>
-    requires { t ≤ 4294960000 }
+) -> Result<(), AllocError>
+    requires depth { t ≤ 4294960000 }
+    requires reach { offset + n ≤ 2147483647 }
+    requires length { whole ≤ 2147483647 }
     ensures { OnOk result (out.new ≡ out.old ++ spread_code (scope_of k.now) base t offset n whole) }
 {
     if whole <= n {
@@ -104,8 +107,10 @@ fn zero(
     t: u32,
     offset: u32,
     whole: u32,
-) -> Result<(), LowerRefusal>
-    requires { t ≤ 4294960000 }
+) -> Result<(), AllocError>
+    requires depth { t ≤ 4294960000 }
+    requires reach { offset + 32 ≤ 2147483647 }
+    requires length { whole ≤ 2147483647 }
     ensures { OnOk result (out.new ≡ out.old ++ zero_code (scope_of k.now) base t offset whole) }
 {
     number(out, base, t, offset, 0)?;
@@ -132,24 +137,24 @@ fn bytes_below(n: u32, byte: u32) -> u32
 }
 
 /// The byte of a number from 0 to 255.
-fn byte_of(number: i32) -> Result<u32, LowerRefusal>
-    ensures value { IfOk result (λ byte. byte ≡ natural number) }
-    ensures small { IfOk result (λ byte. byte ≤ 255) }
+fn byte_of(number: i32) -> u32
+    requires low { pos 0 ≤ℤ number }
+    requires high { number ≤ℤ pos 255 }
+    ensures value { result ≡ natural number }
+    ensures small { result ≤ 255 }
 {
-    let Ok(byte) = u8::try_from(number) else {
-        return Err(LowerRefusal::TooLarge);
-    };
-    Ok(u32::from(byte))
+    number as u32
 }
 
 /// A word of so many bytes of one value, up to four.
-fn byte_word(n: u32, first: i32) -> Result<i32, LowerRefusal>
+fn byte_word(n: u32, first: i32) -> i32
     requires some { 1 ≤ n }
     requires few { n ≤ 4 }
-    ensures { IfOk result (λ word. word ≡ byte_word n first) }
+    requires low { pos 0 ≤ℤ first }
+    requires high { first ≤ℤ pos 255 }
+    ensures { result ≡ byte_word n first }
 {
-    let byte = byte_of(first)?;
-    Ok(bytes_below(n, byte).cast_signed())
+    bytes_below(n, byte_of(first)).cast_signed()
 }
 
 /// The whole words of so many bytes of one value.
@@ -161,14 +166,17 @@ fn whole_bytes(
     offset: u32,
     count: u32,
     first: i32,
-) -> Result<(), LowerRefusal>
-    requires { t ≤ 4294960000 }
+) -> Result<(), AllocError>
+    requires depth { t ≤ 4294960000 }
+    requires reach { offset + count ≤ 2147483647 }
+    requires low { pos 0 ≤ℤ first }
+    requires high { first ≤ℤ pos 255 }
     ensures { OnOk result (out.new ≡ out.old ++ whole_bytes (scope_of k.now) base t offset count first) }
 {
     if count < 4 {
         return Ok(());
     }
-    let word = byte_word(4, first)?;
+    let word = byte_word(4, first);
     number(out, base, t, offset, word)?;
     spread(out, k, base, t, offset, 4, 4 * (count / 4))
 }
@@ -181,18 +189,18 @@ fn last_bytes(
     offset: u32,
     count: u32,
     first: i32,
-) -> Result<(), LowerRefusal>
+) -> Result<(), AllocError>
+    requires reach { offset + count ≤ 2147483647 }
+    requires low { pos 0 ≤ℤ first }
+    requires high { first ≤ℤ pos 255 }
     ensures { OnOk result (out.new ≡ out.old ++ last_bytes base t offset count first) }
 {
     let left = count % 4;
     if left == 0 {
         return Ok(());
     }
-    let Some(behind) = offset.checked_add(4 * (count / 4)) else {
-        return Err(LowerRefusal::TooLarge);
-    };
-    let word = byte_word(left, first)?;
-    number(out, base, t, behind, word)
+    let word = byte_word(left, first);
+    number(out, base, t, offset + 4 * (count / 4), word)
 }
 
 /// So many bytes of one value, filled up to whole words.
@@ -204,8 +212,9 @@ fn bytes(
     offset: u32,
     count: u32,
     first: i32,
-) -> Result<(), LowerRefusal>
-    requires { t ≤ 4294960000 }
+) -> Result<(), AllocError>
+    requires depth { t ≤ 4294960000 }
+    requires reach { offset + first_weight (ByteShape count first) ≤ 2147483647 }
     ensures { OnOk result (out.new ≡ out.old ++ bytes_code (scope_of k.now) base t offset count first) }
 {
     whole_bytes(out, k, base, t, offset, count, first)?;
@@ -221,22 +230,21 @@ fn byte_array(
     base: Base,
     t: u32,
     offset: u32,
-) -> Result<(), LowerRefusal>
-    requires { t ≤ 4294960000 }
+) -> Result<(), AllocError>
+    requires depth { t ≤ 4294960000 }
+    requires reach { offset + first_weight (ByteShape (value_count index) (first_of (type_of component.now))) ≤ 2147483647 }
     ensures { OnOk result (out.new ≡ out.old ++ bytes_code (scope_of k.now) base t offset (value_count index) (first_of (type_of component.now))) }
 {
-    let count = narrow(index.value_count())?;
+    let count = narrow(index.value_count());
     bytes(out, k, base, t, offset, count, first_of(component))
 }
 
 /// The bytes of an array whose components take so many each.
-fn array_bytes(index: Ordinal, each: u32) -> Result<u32, LowerRefusal>
-    ensures { IfOk result (λ n. n ≡ value_count index * each) }
+fn array_bytes(index: Ordinal, each: u32) -> u32
+    requires { value_count index * each ≤ 2147483647 }
+    ensures { result ≡ value_count index * each }
 {
-    let Some(whole) = index.value_count().checked_mul(u64::from(each)) else {
-        return Err(LowerRefusal::TooLarge);
-    };
-    narrow(whole)
+    narrow(index.value_count() * u64::from(each))
 }
 
 /// The first component of an array, and copies of it.
@@ -245,11 +253,15 @@ fn components<'a>(
     component: &'a Ty,
     index: Ordinal,
     offset: u32,
-) -> Result<(), LowerRefusal>
+) -> Result<(), AllocError>
+    requires { offset + first_weight (ArrayShape (value_count index) (shape_of (type_of component.now))) ≤ 2147483647 }
     ensures { OnOk result (IsLeft offset (ArrayShape (value_count index) (shape_of (type_of component.now))) tasks.old.items tasks.new.items) }
 {
-    let each = byte_count(component)?;
-    let whole = array_bytes(index, each)?;
+    if index.value_count() == 0 {
+        return Ok(());
+    }
+    let each = byte_count(component);
+    let whole = array_bytes(index, each);
     if whole == 0 {
         return Ok(());
     }
@@ -276,9 +288,10 @@ fn array<'a>(
     base: Base,
     t: u32,
     offset: u32,
-) -> Result<(), LowerRefusal>
-    requires { t ≤ 4294960000 }
-    ensures { OnOk result (IsDone (scope_of k.now) base t (first_code (scope_of k.now) base t offset (array_shape packed index (type_of component.now))) (weight (array_shape packed index (type_of component.now))) out.old out.new tasks.old.items tasks.new.items) }
+) -> Result<(), AllocError>
+    requires depth { t ≤ 4294960000 }
+    requires reach { offset + first_weight (array_shape packed index (type_of component.now)) ≤ 2147483647 }
+    ensures { OnOk result (IsDone (scope_of k.now) base t (first_code (scope_of k.now) base t offset (array_shape packed index (type_of component.now))) (weight (array_shape packed index (type_of component.now))) (offset + first_weight (array_shape packed index (type_of component.now))) out.old out.new tasks.old.items tasks.new.items) }
 {
     if packed && fits_byte(component) {
         byte_array(out, k, component, index, base, t, offset)
@@ -288,7 +301,7 @@ fn array<'a>(
 }
 
 /// The fields of a record.
-fn record<'a>(tasks: &mut Vec<Task<'a>>, types: &'a [Ty], offset: u32) -> Result<(), LowerRefusal>
+fn record<'a>(tasks: &mut Vec<Task<'a>>, types: &'a [Ty], offset: u32) -> Result<(), AllocError>
     ensures { OnOk result (IsLeft offset (RecordShape (shapes_of (types_of types.now))) tasks.old.items tasks.new.items) }
 {
     tasks.push(Task::FieldsLeft { types, offset })?;
@@ -305,9 +318,10 @@ fn begin<'a>(
     base: Base,
     t: u32,
     offset: u32,
-) -> Result<(), LowerRefusal>
-    requires { t ≤ 4294960000 }
-    ensures { OnOk result (IsDone (scope_of k.now) base t (first_code (scope_of k.now) base t offset (shape_of (type_of ty.now))) (weight (shape_of (type_of ty.now))) out.old out.new tasks.old.items tasks.new.items) }
+) -> Result<(), AllocError>
+    requires depth { t ≤ 4294960000 }
+    requires reach { offset + first_weight (shape_of (type_of ty.now)) ≤ 2147483647 }
+    ensures { OnOk result (IsDone (scope_of k.now) base t (first_code (scope_of k.now) base t offset (shape_of (type_of ty.now))) (weight (shape_of (type_of ty.now))) (offset + first_weight (shape_of (type_of ty.now))) out.old out.new tasks.old.items tasks.new.items) }
 {
     match ty {
         Ty::Simple(ordinal) => number(out, base, t, offset, first_ordinal(*ordinal)),
@@ -335,15 +349,14 @@ fn begin<'a>(
 }
 
 /// The next of the fields that are left, and those behind it.
-fn field<'a>(tasks: &mut Vec<Task<'a>>, types: &'a [Ty], offset: u32) -> Result<(), LowerRefusal>
+fn field<'a>(tasks: &mut Vec<Task<'a>>, types: &'a [Ty], offset: u32) -> Result<(), AllocError>
+    requires { offset + fields_weight (shapes_of (types_of types.now)) ≤ 2147483647 }
     ensures { OnOk result (AreLeft offset (shapes_of (types_of types.now)) tasks.old.items tasks.new.items) }
 {
     let Some((ty, rest)) = types.split_first() else {
         return Ok(());
     };
-    let Some(next) = offset.checked_add(byte_count(ty)?) else {
-        return Err(LowerRefusal::TooLarge);
-    };
+    let next = offset + byte_count(ty);
     tasks.push(Task::FieldsLeft {
         types: rest,
         offset: next,
@@ -360,9 +373,10 @@ fn step<'a>(
     task: Task<'a>,
     base: Base,
     t: u32,
-) -> Result<(), LowerRefusal>
-    requires { t ≤ 4294960000 }
-    ensures { OnOk result (IsDone (scope_of k.now) base t (task_code (scope_of k.now) base t task.entry) (task_weight task.entry) out.old out.new tasks.old.items tasks.new.items) }
+) -> Result<(), AllocError>
+    requires depth { t ≤ 4294960000 }
+    requires reach { task_reach task ≤ 2147483647 }
+    ensures { OnOk result (IsDone (scope_of k.now) base t (task_code (scope_of k.now) base t task.entry) (task_weight task.entry) (task_reach task.entry) out.old out.new tasks.old.items tasks.new.items) }
 {
     match task {
         Task::FirstValue { ty, offset } => begin(out, k, tasks, ty, base, t, offset),
@@ -384,8 +398,9 @@ fn first(
     base: Base,
     t: u32,
     offset: u32,
-) -> Result<(), LowerRefusal>
-    requires { t ≤ 4294960000 }
+) -> Result<(), AllocError>
+    requires depth { t ≤ 4294960000 }
+    requires reach { offset + first_weight (shape_of (type_of ty.now)) ≤ 2147483647 }
     ensures { OnOk result (out.new ≡ out.old ++ first_code (scope_of k.now) base t offset (shape_of (type_of ty.now))) }
 {
     let mut tasks = Vec::new(out.alloc());
@@ -403,27 +418,24 @@ pub fn first_object(
     ty: &Ty,
     object: u32,
     t: u32,
-) -> Result<(), LowerRefusal>
-    requires { t ≤ 4294960000 }
+) -> Result<(), AllocError>
+    requires depth { t ≤ 4294960000 }
+    requires reach { first_weight (shape_of (type_of ty.now)) ≤ 2147483647 }
     ensures { OnOk result (out.new ≡ out.old ++ first_code (scope_of k.now) (base.Temporary object) t 0 (shape_of (type_of ty.now))) }
 {
     first(out, k, ty, Base::Temporary(object), t, 0)
 }
 
 /// The first value of a variable at a word of the frame, and the word behind it.
-pub fn first_at(out: &mut Code, k: &Level, ty: &Ty, t: u32, place: u32) -> Result<u32, LowerRefusal>
-    requires { t ≤ DEEPEST }
+pub fn first_at(out: &mut Code, k: &Level, ty: &Ty, t: u32, place: u32) -> Result<u32, AllocError>
+    requires depth { t ≤ DEEPEST }
+    requires reach { 4 * place + first_weight (shape_of (type_of ty.now)) ≤ 2147483647 }
+    requires words { 4 * (place + word_count (shape_of (type_of ty.now))) ≤ 2147483647 }
     ensures code { OnOk result (out.new ≡ out.old ++ first_code (scope_of k.now) base.Frame t (4 * place) (shape_of (type_of ty.now))) }
     ensures next { IfOk result (λ next. next ≡ place + word_count (shape_of (type_of ty.now))) }
 {
-    let Some(offset) = place.checked_mul(4) else {
-        return Err(LowerRefusal::TooLarge);
-    };
-    let Some(next) = place.checked_add(words(ty)?) else {
-        return Err(LowerRefusal::TooLarge);
-    };
-    first(out, k, ty, Base::Frame, t, offset)?;
-    Ok(next)
+    first(out, k, ty, Base::Frame, t, 4 * place)?;
+    Ok(place + words(ty))
 }
 
 /// The first values of variables that stand one behind another, from a word of the frame on.
@@ -433,8 +445,10 @@ pub fn firsts(
     variables: &[Ty],
     t: u32,
     begin: u32,
-) -> Result<(), LowerRefusal>
-    requires { t ≤ DEEPEST }
+) -> Result<(), AllocError>
+    requires depth { t ≤ DEEPEST }
+    requires reach { firsts_weight begin (map type_of variables.now) ≤ 2147483647 }
+    requires words { 4 * (begin + words_of_all (variable_kinds (map type_of variables.now))) ≤ 2147483647 }
     ensures { OnOk result (out.new ≡ out.old ++ firsts_code (scope_of k.now) t begin (map type_of variables.now)) }
 {
     let mut place = begin;

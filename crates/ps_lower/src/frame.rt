@@ -1,10 +1,9 @@
 // The words of variables, and where the entries of a routine's frame stand.
 
-ghost use Rattle.std.specs.Prelude.{◌≡◌, IfOk};
-ghost use Rattle.ps_layout.specs.Shapes.{shape_of, word_count};
+ghost use Rattle.std.specs.Prelude.{◌≡◌, ◌≤◌};
+ghost use Rattle.ps_layout.specs.Shapes.{shape_of, word_count, byte_count};
 ghost use Rattle.ps_tree.specs.View.{type_of};
 
-use crate::refusal::LowerRefusal;
 use ps_tree::types::Ty;
 
 /// An entry of a frame: its offset in bytes, and whether it is the address of a variable.
@@ -22,12 +21,9 @@ pub struct Table {
 }
 
 /// The words of a variable.
-pub fn words(ty: &Ty) -> Result<u32, LowerRefusal>
-    ensures { IfOk result (λ n. n ≡ word_count (shape_of (type_of ty.now))) }
+pub fn words(ty: &Ty) -> u32
+    requires { byte_count (shape_of (type_of ty.now)) ≤ 2147483647 }
+    ensures { result ≡ word_count (shape_of (type_of ty.now)) }
 {
-    let bytes = ty.bytes();
-    if bytes == u32::MAX {
-        return Err(LowerRefusal::TooLarge);
-    }
-    Ok(bytes / 4)
+    ty.bytes() / 4
 }

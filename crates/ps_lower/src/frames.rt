@@ -1,19 +1,19 @@
 // The frames of a program's routines, laid out once.
 
-ghost use Rattle.std.specs.Prelude.{◌≡◌, ◌+◌, ◌++◌, ◌∷◌, [], map, option_map, slice_get, OnOk, IfOk};
+ghost use Rattle.std.specs.Prelude.{◌≡◌, ◌+◌, ◌*◌, ◌≤◌, ◌++◌, ◌∷◌, [], length, true, map, option_map, slice_get, OnOk, IfOk};
 ghost use Rattle.ps_layout.specs.Frames.{kind_of, result_kinds, listed_kinds, kinds_of, variable_kinds, kind_words, words_of_all, entries, entry_offset, layout_of};
 ghost use Rattle.ps_lower.specs.Levels.{is_reference_at};
 ghost use Rattle.ps_lower.specs.Tables.{spot, spot_at, spots_from, contents_of, contents_in, AreTables};
 ghost use Rattle.ps_tree.specs.Checked.{program_in};
+ghost use Rattle.ps_tree.specs.Counts.{are_routines_within_limits};
 ghost use Rattle.ps_tree.specs.Tree.{routine_at};
 ghost use Rattle.ps_tree.specs.View.{type_of, formal_of, formals_of, routine_of};
 
 use crate::frame::{Spot, Table, words};
-use crate::refusal::LowerRefusal;
 use ps_tree::program::Checked;
 use ps_tree::tree::{Formal, Routine};
 use ps_tree::types::Ty;
-use std::alloc::Global;
+use std::alloc::{AllocError, Global};
 use std::marker::Model;
 
 /// What no routine has.
@@ -23,47 +23,46 @@ const NOWHERE: Spot = Spot {
 };
 
 /// Adds an entry of so many words. The result is the place behind it.
-fn add(spots: &mut Vec<Spot>, place: u32, words: u32, reference: bool) -> Result<u32, LowerRefusal>
+fn add(spots: &mut Vec<Spot>, place: u32, words: u32, reference: bool) -> Result<u32, AllocError>
+    requires { 4 * (place + words) ≤ 2147483647 }
     ensures spots { OnOk result (spots.new.items ≡ spots.old.items ++ spot place reference ∷ []) }
     ensures place { IfOk result (λ n. n ≡ place + words) }
 {
-    let Some(end) = place.checked_add(words) else {
-        return Err(LowerRefusal::TooLarge);
-    };
-    let Some(offset) = place.checked_mul(4) else {
-        return Err(LowerRefusal::TooLarge);
-    };
+    let offset = 4 * place;
     spots.push(Spot { offset, reference })?;
-    Ok(end)
+    Ok(place + words)
 }
 
 fn add_result(
     spots: &mut Vec<Spot>,
     place: u32,
     result_type: &Option<Ty>,
-) -> Result<u32, LowerRefusal>
+) -> Result<u32, AllocError>
+    requires { 4 * (place + words_of_all (result_kinds (option_map type_of result_type.now))) ≤ 2147483647 }
     ensures spots { OnOk result (spots.new.items ≡ spots.old.items ++ spots_from place (result_kinds (option_map type_of result_type.now))) }
     ensures place { IfOk result (λ n. n ≡ place + words_of_all (result_kinds (option_map type_of result_type.now))) }
 {
     match result_type {
         None => Ok(place),
-        Some(ty) => add(spots, place, words(ty)?, false),
+        Some(ty) => add(spots, place, words(ty), false),
     }
 }
 
 #[tactic(auto, unfolding(ps_tree::specs::View::formal_of))]
-fn add_formal(spots: &mut Vec<Spot>, place: u32, formal: &Formal) -> Result<u32, LowerRefusal>
+fn add_formal(spots: &mut Vec<Spot>, place: u32, formal: &Formal) -> Result<u32, AllocError>
+    requires { 4 * (place + kind_words (kind_of (formal_of formal.now))) ≤ 2147483647 }
     ensures spots { OnOk result (spots.new.items ≡ spots.old.items ++ spot_at place (kind_of (formal_of formal.now)) ∷ []) }
     ensures place { IfOk result (λ n. n ≡ place + kind_words (kind_of (formal_of formal.now))) }
 {
     match formal {
-        Formal::Value(ty) => add(spots, place, words(ty)?, false),
+        Formal::Value(ty) => add(spots, place, words(ty), false),
         Formal::Variable(_) => add(spots, place, 1, true),
         Formal::Routine { .. } => add(spots, place, 2, false),
     }
 }
 
-fn add_formals(spots: &mut Vec<Spot>, place: u32, formals: &[Formal]) -> Result<u32, LowerRefusal>
+fn add_formals(spots: &mut Vec<Spot>, place: u32, formals: &[Formal]) -> Result<u32, AllocError>
+    requires { 4 * (place + words_of_all (listed_kinds (kinds_of (formals_of formals.now)))) ≤ 2147483647 }
     ensures spots { OnOk result (spots.new.items ≡ spots.old.items ++ spots_from place (listed_kinds (kinds_of (formals_of formals.now)))) }
     ensures place { IfOk result (λ n. n ≡ place + words_of_all (listed_kinds (kinds_of (formals_of formals.now)))) }
 {
@@ -74,19 +73,21 @@ fn add_formals(spots: &mut Vec<Spot>, place: u32, formals: &[Formal]) -> Result<
     Ok(end)
 }
 
-fn add_variables(spots: &mut Vec<Spot>, place: u32, variables: &[Ty]) -> Result<u32, LowerRefusal>
+fn add_variables(spots: &mut Vec<Spot>, place: u32, variables: &[Ty]) -> Result<u32, AllocError>
+    requires { 4 * (place + words_of_all (variable_kinds (map type_of variables.now))) ≤ 2147483647 }
     ensures spots { OnOk result (spots.new.items ≡ spots.old.items ++ spots_from place (variable_kinds (map type_of variables.now))) }
     ensures place { IfOk result (λ n. n ≡ place + words_of_all (variable_kinds (map type_of variables.now))) }
 {
     let mut end = place;
     for ty in variables {
-        end = add(spots, end, words(ty)?, false)?;
+        end = add(spots, end, words(ty), false)?;
     }
     Ok(end)
 }
 
 /// The entries of a routine.
-pub fn table(alloc: Global, routine: &Routine) -> Result<Table, LowerRefusal>
+pub fn table(alloc: Global, routine: &Routine) -> Result<Table, AllocError>
+    requires { 4 * (1 + words_of_all (entries (routine_of routine.now))) ≤ 2147483647 }
     ensures { IfOk result (λ table. contents_in table ≡ contents_of (routine_of routine.now)) }
 {
     let mut spots = Vec::new(alloc);
@@ -96,7 +97,8 @@ pub fn table(alloc: Global, routine: &Routine) -> Result<Table, LowerRefusal>
     Ok(Table { spots, words })
 }
 
-fn tables(alloc: Global, routines: &[Routine]) -> Result<Vec<Table>, LowerRefusal>
+fn tables(alloc: Global, routines: &[Routine]) -> Result<Vec<Table>, AllocError>
+    requires { are_routines_within_limits (map routine_of routines.now) ≡ true }
     ensures { IfOk result (λ list. AreTables list.items (map routine_of routines.now)) }
 {
     let mut list = Vec::new(alloc);
@@ -115,7 +117,7 @@ pub struct Frames<'a> {
 
 impl<'a> Model for Frames<'a> {
     ghost use Rattle.ps_tree.specs.Checked.{Parts, program_in};
-    ghost use Rattle.ps_lower.specs.Tables.{AreTables};
+    ghost use Rattle.ps_lower.specs.Tables.{AreFrames};
 
     ghost Value = { Parts };
 
@@ -128,16 +130,24 @@ impl<'a> Model for Frames<'a> {
 
     ghost view = { λ f. f.checked.now };
 
-    ghost invariant = { λ f. AreTables f.tables.items (program_in f.checked.now).routines };
+    ghost invariant = { λ f. AreFrames f.tables.items f.checked.now };
 }
 
 impl<'a> Frames<'a> {
     /// The frames of a program.
-    pub fn new(alloc: Global, checked: &'a Checked) -> Result<Frames<'a>, LowerRefusal>
+    pub fn new(alloc: Global, checked: &'a Checked) -> Result<Frames<'a>, AllocError>
         ensures { IfOk result (λ frames. frames ≡ checked.now) }
     {
         let tables = tables(alloc, checked.routines())?;
         Ok(Frames { checked, tables })
+    }
+
+    /// How many routines there are.
+    pub fn count(&self) -> u32
+        ensures value { result ≡ length (program_in self.now).routines }
+        ensures small { result ≤ 1048576 }
+    {
+        self.checked.routines().len() as u32
     }
 
     /// The routines, by their numbers.
@@ -170,7 +180,8 @@ impl<'a> Frames<'a> {
 
     /// The words up to the end of a routine's last entry; no routine has but its static link.
     pub fn words(&self, number: u32) -> u32
-        ensures { result ≡ (layout_of (routine_at (program_in self.now) number)).input }
+        ensures value { result ≡ (layout_of (routine_at (program_in self.now) number)).input }
+        ensures small { result ≤ 1000000 }
     {
         let Some(table) = self.tables.as_slice().get(number as usize) else {
             return 1;

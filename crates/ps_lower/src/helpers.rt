@@ -11,22 +11,20 @@ use crate::depth::beside;
 use crate::entries::run_time_number;
 use crate::level::Level;
 use crate::out::Code;
-use crate::refusal::LowerRefusal;
 use crate::texts::text_length;
 use ps_tree::tree::Structure;
+use std::alloc::AllocError;
 
 const COPY_WORDS: u32 = 0;
 
 const COMPARE_BYTES: u32 = 7;
 
 /// A number from 0 on.
-pub fn amount(out: &mut Code, n: u32, t: u32) -> Result<(), LowerRefusal>
+pub fn amount(out: &mut Code, n: u32, t: u32) -> Result<(), AllocError>
+    requires { n ≤ 2147483647 }
     ensures { OnOk result (out.new ≡ out.old ++ i.Literal t (pos n) ∷ []) }
 {
-    let Ok(number) = i32::try_from(n) else {
-        return Err(LowerRefusal::TooLarge);
-    };
-    out.literal(t, number)
+    out.literal(t, n as i32)
 }
 
 /// A call of a run-time routine.
@@ -36,10 +34,11 @@ pub fn help(
     number: u32,
     operands: &[u32],
     to: u32,
-) -> Result<(), LowerRefusal>
+) -> Result<(), AllocError>
+    requires { number ≤ 16 }
     ensures { (routine : RunTime) → number ≡ run_time_number routine → OnOk result (out.new ≡ out.old ++ helper (scope_of k.now) routine operands.now to ∷ []) }
 {
-    let number = run_time_number(k, number)?;
+    let number = run_time_number(k, number);
     out.call(to, number, operands, 1)
 }
 
@@ -51,7 +50,8 @@ pub fn copy(
     from: u32,
     t: u32,
     bytes: u32,
-) -> Result<(), LowerRefusal>
+) -> Result<(), AllocError>
+    requires { bytes ≤ 2147483647 }
     ensures { OnOk result (out.new ≡ out.old ++ copy_code (scope_of k.now) to from t bytes) }
 {
     amount(out, bytes, t)?;
@@ -66,11 +66,12 @@ pub fn compare_strings(
     left: u32,
     right: u32,
     to: u32,
-) -> Result<(), LowerRefusal>
-    requires { right ≤ 4294960000 }
+) -> Result<(), AllocError>
+    requires depth { right ≤ 4294960000 }
+    requires length { text_length (structure_of e.now) ≤ 2147483647 }
     ensures { OnOk result (out.new ≡ out.old ++ i.Literal (beside right) (pos (text_length (structure_of e.now))) ∷ helper (scope_of k.now) CompareBytes (left ∷ right ∷ beside right ∷ []) to ∷ []) }
 {
     let t = beside(right);
-    amount(out, text_length(e)?, t)?;
+    amount(out, text_length(e), t)?;
     help(out, k, COMPARE_BYTES, &[left, right, t], to)
 }

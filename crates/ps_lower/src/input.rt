@@ -1,6 +1,6 @@
 // What is asked of the input ahead of its use.
 
-ghost use Rattle.std.specs.Prelude.{◌≡◌, ◌++◌, ◌≤◌, ◌∷◌, [], pos, OnOk, IfOk};
+ghost use Rattle.std.specs.Prelude.{◌≡◌, ◌++◌, ◌≤◌, ◌∷◌, [], pos, OnOk};
 ghost use Rattle.ps_code.specs.Scopes.{even_from, input_site, site_code, helper, LookAhead};
 ghost use Rattle.ps_layout.specs.Frames.{layout_of};
 ghost use Rattle.ps_lower.specs.Levels.{scope_of, site_of};
@@ -13,44 +13,42 @@ use crate::helpers::help;
 use crate::level::Level;
 use crate::out::Code;
 use crate::places::address;
-use crate::refusal::LowerRefusal;
 use crate::site::Site;
+use std::alloc::AllocError;
 use tac_code::code::Base;
 
 const LOOK_AHEAD: u32 = 13;
 
 fn input_words(k: &Level) -> u32
-    ensures { result ≡ (layout_of (routine_at (program_in k.now.checked.now) 0)).input }
+    ensures value { result ≡ (layout_of (routine_at (program_in k.now.checked.now) 0)).input }
+    ensures small { result ≤ 1000000 }
 {
     k.checked.words(0)
 }
 
 /// Where the words stand that tell what of the input was taken ahead.
-pub fn input(k: &Level) -> Result<Site, LowerRefusal>
-    ensures { IfOk result (λ s. site_of s ≡ input_site (scope_of k.now)) }
+pub fn input(k: &Level) -> Site
+    ensures { site_of result ≡ input_site (scope_of k.now) }
 {
-    let Some(offset) = input_words(k).checked_mul(4) else {
-        return Err(LowerRefusal::TooLarge);
-    };
-    Ok(Site {
+    Site {
         base: Base::Program,
-        offset,
-    })
+        offset: 4 * input_words(k),
+    }
 }
 
 /// What stands next in the input: a character, the end of a line, or the end of all.
-pub fn look_ahead(out: &mut Code, k: &Level, d: u32) -> Result<(), LowerRefusal>
+pub fn look_ahead(out: &mut Code, k: &Level, d: u32) -> Result<(), AllocError>
     requires { d ≤ DEEPEST }
     ensures { OnOk result (out.new ≡ out.old ++ (site_code (even_from d) (input_site (scope_of k.now)) 8 ++ helper (scope_of k.now) LookAhead (even_from d ∷ []) d ∷ [])) }
 {
     let t = even_from(d);
-    let site = input(k)?;
+    let site = input(k);
     address(out, t, site, 8)?;
     help(out, k, LOOK_AHEAD, &[t], d)
 }
 
 /// The same, where the end of all is an error.
-pub fn look_on(out: &mut Code, k: &Level, line: u16, d: u32) -> Result<(), LowerRefusal>
+pub fn look_on(out: &mut Code, k: &Level, line: u16, d: u32) -> Result<(), AllocError>
     requires { d ≤ DEEPEST }
     ensures { OnOk result (out.new ≡ out.old ++ (site_code (even_from d) (input_site (scope_of k.now)) 8 ++ helper (scope_of k.now) LookAhead (even_from d ∷ []) d ∷ i.CheckRange d (pos 1) (pos 2) 9 line ∷ [])) }
 {

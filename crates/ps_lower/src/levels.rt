@@ -9,7 +9,7 @@ use crate::depth::beside;
 use crate::frame::Spot;
 use crate::level::Level;
 use crate::out::Code;
-use crate::refusal::LowerRefusal;
+use std::alloc::AllocError;
 use tac_code::code::Base;
 
 /// The frame so many levels up is the program block's.
@@ -20,7 +20,7 @@ fn is_outermost(k: &Level, up: u32) -> bool
 }
 
 /// From the frame whose address stands in a temporary, so many levels further up.
-fn hops(out: &mut Code, k: &Level, t: u32, count: u32) -> Result<(), LowerRefusal>
+fn hops(out: &mut Code, k: &Level, t: u32, count: u32) -> Result<(), AllocError>
     ensures { OnOk result (out.new ≡ out.old ++ hops (scope_of k.now) t 1 count) }
 {
     for _ in 0..count {
@@ -31,7 +31,7 @@ fn hops(out: &mut Code, k: &Level, t: u32, count: u32) -> Result<(), LowerRefusa
 
 /// What reaches the frame so many levels up, and the base from which its parts count then.
 #[tactic(auto, using(crate::proofs::Hopping::own_code, crate::proofs::Hopping::own_base, crate::proofs::Hopping::outer_code, crate::proofs::Hopping::outer_base, crate::proofs::Hopping::between_base))]
-pub fn frame(out: &mut Code, k: &Level, t: u32, up: u32) -> Result<Base, LowerRefusal>
+pub fn frame(out: &mut Code, k: &Level, t: u32, up: u32) -> Result<Base, AllocError>
     ensures code { OnOk result (out.new ≡ out.old ++ frame_code (scope_of k.now) t up) }
     ensures base { IfOk result (λ base. base ≡ frame_base (scope_of k.now) t up) }
 {
@@ -48,7 +48,7 @@ pub fn frame(out: &mut Code, k: &Level, t: u32, up: u32) -> Result<Base, LowerRe
 
 /// The address of the frame so many levels up.
 #[tactic(auto, using(crate::proofs::Hopping::own_link, crate::proofs::Hopping::outer_link, crate::proofs::Hopping::between_link))]
-pub fn link(out: &mut Code, k: &Level, t: u32, up: u32) -> Result<(), LowerRefusal>
+pub fn link(out: &mut Code, k: &Level, t: u32, up: u32) -> Result<(), AllocError>
     ensures { OnOk result (out.new ≡ out.old ++ link_code (scope_of k.now) t up) }
 {
     if up == 0 {
@@ -77,15 +77,13 @@ pub fn entry(k: &Level, up: u32, index: u32) -> Spot
 }
 
 /// The routine of a procedural or functional parameter, and its static link beside.
-pub fn formal(out: &mut Code, k: &Level, t: u32, up: u32, index: u32) -> Result<(), LowerRefusal>
-    requires { t ≤ 4294960000 }
+pub fn formal(out: &mut Code, k: &Level, t: u32, up: u32, index: u32) -> Result<(), AllocError>
+    requires depth { t ≤ 4294960000 }
+    requires reach { entry_offset (routine_up (scope_of k.now) up) index ≤ 2147483647 }
     ensures { OnOk result (out.new ≡ out.old ++ formal_code (scope_of k.now) t up index) }
 {
     let base = frame(out, k, t, up)?;
     let place = entry(k, up, index).offset;
-    let Some(behind) = place.checked_add(4) else {
-        return Err(LowerRefusal::TooLarge);
-    };
-    out.load(beside(t), base, behind)?;
+    out.load(beside(t), base, place + 4)?;
     out.load(t, base, place)
 }

@@ -28,7 +28,6 @@ mod pieces;
 mod places;
 mod procedures;
 mod reads;
-pub mod refusal;
 mod routines;
 mod sets;
 mod shapes;

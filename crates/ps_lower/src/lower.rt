@@ -1,23 +1,26 @@
 // The lowering of a program.
 
-ghost use Rattle.std.specs.Prelude.{◌≡◌, map, IfOk};
+ghost use Rattle.std.specs.Prelude.{◌≡◌, ◌≤◌, true, map, IfOk};
+ghost use Rattle.ps_bounds.specs.Weights.{AreLight};
 ghost use Rattle.ps_code.specs.Programs.{tac_of, object_bytes, code_of};
 ghost use Rattle.tac_rt.specs.Bodies.{run_time_routines};
 ghost use Rattle.ps_tree.specs.Checked.{program_in};
+ghost use Rattle.ps_tree.specs.Counts.{are_small};
 ghost use Rattle.ps_tree.specs.View.{type_of};
+ghost use Rattle.tac_code.specs.Sound.{IsSound};
 
 use crate::frame::words;
 use crate::frames::Frames;
-use crate::refusal::LowerRefusal;
 use crate::routines::tac_routine;
 use ps_tree::program::Checked;
 use ps_tree::types::Ty;
-use std::alloc::Global;
+use std::alloc::{AllocError, Global};
 use tac_code::code::{TacRaw, TacRoutine};
 use tac_code::tac::Tac;
 use tac_rt::routines;
 
-fn routines_of(alloc: Global, checked: &Frames) -> Result<Vec<TacRoutine>, LowerRefusal>
+fn routines_of(alloc: Global, checked: &Frames) -> Result<Vec<TacRoutine>, AllocError>
+    requires { AreLight (program_in checked.now) }
     ensures { IfOk result (λ list. list.items ≡ map (tac_of (program_in checked.now)) (program_in checked.now).routines) }
 {
     let mut list = Vec::new(alloc);
@@ -28,32 +31,33 @@ fn routines_of(alloc: Global, checked: &Frames) -> Result<Vec<TacRoutine>, Lower
 }
 
 /// The bytes of an object of a type.
-fn object_bytes(ty: &Ty) -> Result<u32, LowerRefusal>
-    ensures { IfOk result (λ n. n ≡ object_bytes (type_of ty.now)) }
+fn object_bytes(ty: &Ty) -> u32
+    requires { object_bytes (type_of ty.now) ≤ 2147483647 }
+    ensures { result ≡ object_bytes (type_of ty.now) }
 {
-    let Some(bytes) = words(ty)?.checked_mul(4) else {
-        return Err(LowerRefusal::TooLarge);
-    };
-    Ok(bytes)
+    4 * words(ty)
 }
 
-fn object_sizes(alloc: Global, domains: &[Ty]) -> Result<Vec<u32>, LowerRefusal>
+fn object_sizes(alloc: Global, domains: &[Ty]) -> Result<Vec<u32>, AllocError>
+    requires { are_small (map type_of domains.now) ≡ true }
     ensures { IfOk result (λ list. list.items ≡ map object_bytes (map type_of domains.now)) }
 {
     let mut list = Vec::new(alloc);
     for ty in domains {
-        list.push(object_bytes(ty)?)?;
+        list.push(object_bytes(ty))?;
     }
     Ok(list)
 }
 
-/// The three-address code of a program, with the run-time routines behind the program's own.
+/// The three-address code of a program, with the run-time routines behind the program's own. Its code must keep the
+/// invariant of three-address code, and no number may be too large for it.
 ///
 /// # Errors
 ///
-/// `OutOfMemory` where a growth was refused, and `TooLarge` where a number of the code is larger than its field, or the
-/// code doesn't keep its invariant, which is so of no checked program that is known.
-pub fn lower(alloc: Global, checked: &Checked) -> Result<Tac, LowerRefusal>
+/// A growth was refused.
+pub fn lower(alloc: Global, checked: &Checked) -> Result<Tac, AllocError>
+    requires sound { IsSound (code_of run_time_routines (program_in checked.now)) }
+    requires light { AreLight (program_in checked.now) }
     ensures { IfOk result (λ tac. tac ≡ code_of run_time_routines (program_in checked.now)) }
 {
     let frames = Frames::new(alloc, checked)?;
@@ -65,8 +69,5 @@ pub fn lower(alloc: Global, checked: &Checked) -> Result<Tac, LowerRefusal>
         run_time,
         objects,
     };
-    let Some(tac) = Tac::new(raw) else {
-        return Err(LowerRefusal::TooLarge);
-    };
-    Ok(tac)
+    Ok(Tac::new(raw).unwrap())
 }

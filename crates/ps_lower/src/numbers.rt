@@ -1,23 +1,20 @@
-// Numbers that must go into narrower fields.
+// Numbers that go into narrower fields.
 
-ghost use Rattle.std.specs.Prelude.{◌≡◌, max, IfOk};
-
-use crate::refusal::LowerRefusal;
+ghost use Rattle.std.specs.Prelude.{◌≡◌, ◌≤◌, max};
 
 /// A number of four bytes.
-pub fn narrow(number: u64) -> Result<u32, LowerRefusal>
-    ensures { IfOk result (λ n. n ≡ number) }
+pub fn narrow(number: u64) -> u32
+    requires { number ≤ 4294967295 }
+    ensures { result ≡ number }
 {
-    let Ok(n) = u32::try_from(number) else {
-        return Err(LowerRefusal::TooLarge);
-    };
-    Ok(n)
+    number as u32
 }
 
 /// The larger of two numbers.
-pub fn larger(a: u32, b: u64) -> Result<u32, LowerRefusal>
-    ensures { IfOk result (λ n. n ≡ max a b) }
+pub fn larger(a: u32, b: u64) -> u32
+    requires { b ≤ 4294967295 }
+    ensures { result ≡ max a b }
 {
-    let b = narrow(b)?;
-    if a < b { Ok(b) } else { Ok(a) }
+    let b = narrow(b);
+    if a < b { b } else { a }
 }

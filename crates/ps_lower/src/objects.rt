@@ -1,6 +1,7 @@
 // New objects.
 
-ghost use Rattle.std.specs.Prelude.{◌≡◌, ◌++◌, ◌∷◌, ◌≤◌, OnOk};
+ghost use Rattle.std.specs.Prelude.{◌≡◌, ◌++◌, ◌+◌, ◌∷◌, ◌≤◌, OnOk};
+ghost use Rattle.ps_bounds.specs.Weights.{first_weight, statement_weight};
 ghost use Rattle.ps_code.specs.Statements.{first_code, statement_code};
 ghost use Rattle.ps_layout.specs.Shapes.{shape_of};
 ghost use Rattle.ps_lower.specs.Levels.{scope_of};
@@ -15,10 +16,10 @@ use crate::firsts::first_object;
 use crate::level::Level;
 use crate::out::Code;
 use crate::places::{is_byte, keep};
-use crate::refusal::LowerRefusal;
 use crate::values::place;
 use ps_tree::tree::Place;
 use ps_tree::types::Ty;
+use std::alloc::AllocError;
 
 /// The first value of the object of a pointer type; a number that no pointer type has leads to a pointer.
 fn first_of_domain(
@@ -27,8 +28,9 @@ fn first_of_domain(
     pointer: u32,
     to: u32,
     t: u32,
-) -> Result<(), LowerRefusal>
-    requires { t ≤ 4294960000 }
+) -> Result<(), AllocError>
+    requires depth { t ≤ 4294960000 }
+    requires reach { first_weight (shape_of (domain_at (scope_of k.now).program pointer)) ≤ 2147483647 }
     ensures { OnOk result (out.new ≡ out.old ++ first_code (scope_of k.now) (base.Temporary to) t 0 (shape_of (domain_at (scope_of k.now).program pointer))) }
 {
     match k.checked.domains().get(pointer as usize) {
@@ -45,8 +47,9 @@ fn object(
     to: u32,
     t: u32,
     line: u16,
-) -> Result<(), LowerRefusal>
-    requires { t ≤ 4294960000 }
+) -> Result<(), AllocError>
+    requires depth { t ≤ 4294960000 }
+    requires reach { first_weight (shape_of (domain_at (scope_of k.now).program pointer)) ≤ 2147483647 }
     ensures { OnOk result (out.new ≡ out.old ++ i.New to pointer line ∷ first_code (scope_of k.now) (base.Temporary to) t 0 (shape_of (domain_at (scope_of k.now).program pointer))) }
 {
     out.new_object(to, pointer, line)?;
@@ -61,8 +64,8 @@ pub fn create(
     pointer: u32,
     line: u16,
     d: u32,
-) -> Result<(), LowerRefusal>
-    requires { d ≤ DEEPEST }
+) -> Result<(), AllocError>
+    requires { d + statement_weight (scope_of k.now) (tree.New (place_of target.now) pointer line) d ≤ DEEPEST }
     ensures { OnOk result (out.new ≡ out.old ++ statement_code (scope_of k.now) (tree.New (place_of target.now) pointer line) d) }
 {
     let at = held(true, d);

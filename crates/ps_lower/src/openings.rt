@@ -1,6 +1,7 @@
 // `with`: records are opened one after another, each within those before it.
 
-ghost use Rattle.std.specs.Prelude.{◌≡◌, ◌++◌, ◌≤◌, map, OnOk, IfOk};
+ghost use Rattle.std.specs.Prelude.{◌≡◌, ◌++◌, ◌+◌, ◌≤◌, map, OnOk, IfOk};
+ghost use Rattle.ps_bounds.specs.Weights.{place_weight, with_weight};
 ghost use Rattle.ps_code.specs.Statements.{with_code, with_scope, with_depth};
 ghost use Rattle.ps_code.specs.Values.{place_code, place_site};
 ghost use Rattle.ps_lower.specs.Levels.{scope_of, site_of, within};
@@ -10,10 +11,10 @@ use crate::depth::{DEEPEST, held};
 use crate::level::Level;
 use crate::out::Code;
 use crate::places::place_temporary;
-use crate::refusal::LowerRefusal;
 use crate::site::Site;
 use crate::values::place;
 use ps_tree::tree::Place;
+use std::alloc::AllocError;
 
 /// The records that are open, the innermost last, and the depth of what stands within them.
 #[derive(Drop)]
@@ -29,8 +30,8 @@ fn open(
     variable: &Place,
     sites: &[Site],
     t: u32,
-) -> Result<Site, LowerRefusal>
-    requires { t ≤ 4294950000 }
+) -> Result<Site, AllocError>
+    requires { t + place_weight (within (scope_of k.now) sites.now) (place_of variable.now) ≤ DEEPEST }
     ensures code { OnOk result (out.new ≡ out.old ++ place_code (within (scope_of k.now) sites.now) (place_of variable.now) t 0) }
     ensures site { IfOk result (λ s. site_of s ≡ place_site (within (scope_of k.now) sites.now) (place_of variable.now) t) }
 {
@@ -49,7 +50,8 @@ pub fn open_all(
     records: &[Place],
     calls: bool,
     d: u32,
-) -> Result<Opened, LowerRefusal>
+) -> Result<Opened, AllocError>
+    requires { d + with_weight (scope_of k.now) (map place_of records.now) calls d ≤ DEEPEST }
     ensures code { OnOk result (out.new ≡ out.old ++ with_code (scope_of k.now) (map place_of records.now) calls d) }
     ensures scope { IfOk result (λ o. within (scope_of k.now) o.sites.items ≡ with_scope (scope_of k.now) (map place_of records.now) calls d) }
     ensures depth { IfOk result (λ o. o.depth ≡ with_depth (map place_of records.now) calls d) }
@@ -57,9 +59,6 @@ pub fn open_all(
     let mut sites = Vec::from_slice(out.alloc(), k.opened)?;
     let mut depth = d;
     for variable in records {
-        if DEEPEST < depth {
-            return Err(LowerRefusal::TooLarge);
-        }
         let t = held(calls, depth);
         let site = open(out, k, variable, sites.as_slice(), t)?;
         sites.push(site)?;

@@ -1,9 +1,8 @@
 // The code of a routine as it is made.
 
 use crate::filling::{fill_with_branch, fill_with_jump, listed};
-use crate::refusal::LowerRefusal;
 use ps_tree::types::Ordinal;
-use std::alloc::Global;
+use std::alloc::{AllocError, Global};
 use std::marker::Model;
 use tac_code::code::{Base, BitOperator, Body, Constant, Instruction, Operand, Operator, Relation};
 
@@ -57,7 +56,7 @@ impl Code {
         self.list.len()
     }
 
-    fn push(&mut self, instruction: Instruction) -> Result<(), LowerRefusal>
+    fn push(&mut self, instruction: Instruction) -> Result<(), AllocError>
         ensures { OnOk result (self.new ≡ self.old ++ instruction ∷ []) }
     {
         self.list.push(instruction)?;
@@ -65,14 +64,14 @@ impl Code {
     }
 
     /// A number.
-    pub fn literal(&mut self, to: u32, value: i32) -> Result<(), LowerRefusal>
+    pub fn literal(&mut self, to: u32, value: i32) -> Result<(), AllocError>
         ensures { OnOk result (self.new ≡ self.old ++ i.Literal to value ∷ []) }
     {
         self.push(Instruction::Literal { to, value })
     }
 
     /// A value from one temporary to another.
-    pub fn copy(&mut self, to: u32, from: u32) -> Result<(), LowerRefusal>
+    pub fn copy(&mut self, to: u32, from: u32) -> Result<(), AllocError>
         ensures { OnOk result (self.new ≡ self.old ++ i.Copy to from ∷ []) }
     {
         self.push(Instruction::Copy { to, from })
@@ -87,7 +86,7 @@ impl Code {
         right: Operand,
         error: u8,
         line: u16,
-    ) -> Result<(), LowerRefusal>
+    ) -> Result<(), AllocError>
         ensures { OnOk result (self.new ≡ self.old ++ i.Arithmetic operator to left right error line ∷ []) }
     {
         self.push(Instruction::Arithmetic {
@@ -107,7 +106,7 @@ impl Code {
         to: u32,
         left: u32,
         right: Operand,
-    ) -> Result<(), LowerRefusal>
+    ) -> Result<(), AllocError>
         ensures { OnOk result (self.new ≡ self.old ++ i.Bits operator to left right ∷ []) }
     {
         self.push(Instruction::Bits {
@@ -125,7 +124,7 @@ impl Code {
         to: u32,
         left: u32,
         right: Operand,
-    ) -> Result<(), LowerRefusal>
+    ) -> Result<(), AllocError>
         ensures { OnOk result (self.new ≡ self.old ++ i.Compare relation to left right ∷ []) }
     {
         self.push(Instruction::Compare {
@@ -144,7 +143,7 @@ impl Code {
         high: i32,
         error: u8,
         line: u16,
-    ) -> Result<(), LowerRefusal>
+    ) -> Result<(), AllocError>
         ensures { OnOk result (self.new ≡ self.old ++ i.CheckRange value low high error line ∷ []) }
     {
         self.push(Instruction::CheckRange {
@@ -157,7 +156,7 @@ impl Code {
     }
 
     /// The test of a pointer against nil.
-    pub fn check_pointer(&mut self, pointer: u32, error: u8, line: u16) -> Result<(), LowerRefusal>
+    pub fn check_pointer(&mut self, pointer: u32, error: u8, line: u16) -> Result<(), AllocError>
         ensures { OnOk result (self.new ≡ self.old ++ i.CheckPointer pointer error line ∷ []) }
     {
         self.push(Instruction::CheckPointer {
@@ -176,7 +175,7 @@ impl Code {
         range: Ordinal,
         width: u32,
         line: u16,
-    ) -> Result<(), LowerRefusal>
+    ) -> Result<(), AllocError>
         ensures { OnOk result (self.new ≡ self.old ++ i.Index to base index range.low range.high width 5 line ∷ []) }
     {
         self.push(Instruction::Index {
@@ -192,7 +191,7 @@ impl Code {
     }
 
     /// The address of a constant.
-    pub fn text(&mut self, to: u32, bytes: Vec<u8>) -> Result<(), LowerRefusal>
+    pub fn text(&mut self, to: u32, bytes: Vec<u8>) -> Result<(), AllocError>
         ensures { OnOk result (self.new ≡ self.old ++ i.Text to bytes.items ∷ []) }
     {
         self.push(Instruction::Text {
@@ -202,13 +201,7 @@ impl Code {
     }
 
     /// An address so many bytes from a base.
-    pub fn offset(
-        &mut self,
-        to: u32,
-        base: Base,
-        bytes: u32,
-        extent: u32,
-    ) -> Result<(), LowerRefusal>
+    pub fn offset(&mut self, to: u32, base: Base, bytes: u32, extent: u32) -> Result<(), AllocError>
         ensures { OnOk result (self.new ≡ self.old ++ i.Offset to base bytes extent ∷ []) }
     {
         self.push(Instruction::Offset {
@@ -220,35 +213,35 @@ impl Code {
     }
 
     /// A word from memory.
-    pub fn load(&mut self, to: u32, base: Base, offset: u32) -> Result<(), LowerRefusal>
+    pub fn load(&mut self, to: u32, base: Base, offset: u32) -> Result<(), AllocError>
         ensures { OnOk result (self.new ≡ self.old ++ i.Load to base offset ∷ []) }
     {
         self.push(Instruction::Load { to, base, offset })
     }
 
     /// A byte from memory.
-    pub fn load_byte(&mut self, to: u32, base: Base, offset: u32) -> Result<(), LowerRefusal>
+    pub fn load_byte(&mut self, to: u32, base: Base, offset: u32) -> Result<(), AllocError>
         ensures { OnOk result (self.new ≡ self.old ++ i.LoadByte to base offset ∷ []) }
     {
         self.push(Instruction::LoadByte { to, base, offset })
     }
 
     /// A word to memory.
-    pub fn store(&mut self, base: Base, offset: u32, from: u32) -> Result<(), LowerRefusal>
+    pub fn store(&mut self, base: Base, offset: u32, from: u32) -> Result<(), AllocError>
         ensures { OnOk result (self.new ≡ self.old ++ i.Store base offset from ∷ []) }
     {
         self.push(Instruction::Store { base, offset, from })
     }
 
     /// A byte to memory.
-    pub fn store_byte(&mut self, base: Base, offset: u32, from: u32) -> Result<(), LowerRefusal>
+    pub fn store_byte(&mut self, base: Base, offset: u32, from: u32) -> Result<(), AllocError>
         ensures { OnOk result (self.new ≡ self.old ++ i.StoreByte base offset from ∷ []) }
     {
         self.push(Instruction::StoreByte { base, offset, from })
     }
 
     /// Passes so many instructions.
-    pub fn jump(&mut self, forward: u64) -> Result<(), LowerRefusal>
+    pub fn jump(&mut self, forward: u64) -> Result<(), AllocError>
         ensures { OnOk result (self.new ≡ self.old ++ i.Jump forward ∷ []) }
     {
         self.push(Instruction::Jump { forward })
@@ -261,7 +254,7 @@ impl Code {
         left: u32,
         right: Operand,
         forward: u64,
-    ) -> Result<(), LowerRefusal>
+    ) -> Result<(), AllocError>
         ensures { OnOk result (self.new ≡ self.old ++ i.Branch relation left right forward ∷ []) }
     {
         self.push(Instruction::Branch {
@@ -279,7 +272,7 @@ impl Code {
         left: u32,
         right: Operand,
         place: usize,
-    ) -> Result<(), LowerRefusal>
+    ) -> Result<(), AllocError>
         ensures { OnOk result (self.new ≡ self.old ++ i.BranchBack relation left right (length self.old - place) ∷ []) }
     {
         let back = self.list.len().saturating_sub(place) as u64;
@@ -292,28 +285,28 @@ impl Code {
     }
 
     /// An error.
-    pub fn trap(&mut self, error: u8, line: u16) -> Result<(), LowerRefusal>
+    pub fn trap(&mut self, error: u8, line: u16) -> Result<(), AllocError>
         ensures { OnOk result (self.new ≡ self.old ++ i.Trap error line ∷ []) }
     {
         self.push(Instruction::Trap { error, line })
     }
 
     /// A byte that is written.
-    pub fn put(&mut self, from: u32) -> Result<(), LowerRefusal>
+    pub fn put(&mut self, from: u32) -> Result<(), AllocError>
         ensures { OnOk result (self.new ≡ self.old ++ i.Put from ∷ []) }
     {
         self.push(Instruction::Put { from })
     }
 
     /// The return from a routine.
-    pub fn return_from(&mut self, from: u32) -> Result<(), LowerRefusal>
+    pub fn return_from(&mut self, from: u32) -> Result<(), AllocError>
         ensures { OnOk result (self.new ≡ self.old ++ i.Return from ∷ []) }
     {
         self.push(Instruction::Return { from })
     }
 
     /// The end of the program.
-    pub fn end(&mut self) -> Result<(), LowerRefusal>
+    pub fn end(&mut self) -> Result<(), AllocError>
         ensures { OnOk result (self.new ≡ self.old ++ i.End ∷ []) }
     {
         self.push(Instruction::End)
@@ -326,7 +319,7 @@ impl Code {
         routine: u32,
         operands: &[u32],
         line: u16,
-    ) -> Result<(), LowerRefusal>
+    ) -> Result<(), AllocError>
         ensures { OnOk result (self.new ≡ self.old ++ i.Call to routine operands.now line ∷ []) }
     {
         let operands = listed(self.alloc, operands)?;
@@ -345,7 +338,7 @@ impl Code {
         callee: u32,
         operands: &[u32],
         line: u16,
-    ) -> Result<(), LowerRefusal>
+    ) -> Result<(), AllocError>
         ensures { OnOk result (self.new ≡ self.old ++ i.CallValue to callee operands.now line ∷ []) }
     {
         let operands = listed(self.alloc, operands)?;
@@ -358,14 +351,14 @@ impl Code {
     }
 
     /// A routine as a value.
-    pub fn routine_value(&mut self, to: u32, routine: u32) -> Result<(), LowerRefusal>
+    pub fn routine_value(&mut self, to: u32, routine: u32) -> Result<(), AllocError>
         ensures { OnOk result (self.new ≡ self.old ++ i.RoutineValue to routine ∷ []) }
     {
         self.push(Instruction::RoutineValue { to, routine })
     }
 
     /// A new object.
-    pub fn new_object(&mut self, to: u32, object_type: u32, line: u16) -> Result<(), LowerRefusal>
+    pub fn new_object(&mut self, to: u32, object_type: u32, line: u16) -> Result<(), AllocError>
         ensures { OnOk result (self.new ≡ self.old ++ i.New to object_type line ∷ []) }
     {
         self.push(Instruction::New {
@@ -376,7 +369,7 @@ impl Code {
     }
 
     /// Room for a jump whose distance isn't known yet, and its place.
-    pub fn room(&mut self) -> Result<usize, LowerRefusal>
+    pub fn room(&mut self) -> Result<usize, AllocError>
         ensures place { IfOk result (λ place. place ≡ length self.old) }
         ensures room { OnOk result (self.new ≡ self.old ++ i.End ∷ []) }
     {

@@ -1,13 +1,16 @@
 // Pack and unpack.
 
-ghost use Rattle.std.specs.Prelude.{◌≡◌, ◌++◌, ◌∷◌, ◌≤◌, ◌*◌, ◌+ℤ◌, [], pos, false, Bool, OnOk, IfOk};
+ghost use Rattle.std.specs.Prelude.{◌≡◌, ◌++◌, ◌∷◌, ◌≤◌, ◌+◌, ◌-◌, ◌*◌, ◌+ℤ◌, [], pos, false, Bool, OnOk};
+ghost use Rattle.ps_bounds.specs.Weights.{excess, unless, part_weight, statement_weight};
 ghost use Rattle.ps_code.specs.Scopes.{RunTime, PackBytes, UnpackBytes, run_time_number, helper};
 ghost use Rattle.ps_code.specs.Values.{is_byte_array};
 ghost use Rattle.ps_code.specs.Statements.{components_code, room_code, statement_code};
 ghost use Rattle.ps_layout.specs.Shapes.{shape_of, component_bytes};
 ghost use Rattle.ps_lower.specs.Levels.{scope_of, site_of};
 ghost use Rattle.ps_meaning.specs.Expressions.{index_of};
+ghost use Rattle.ps_tree.specs.Sizes.{value_count};
 ghost use Rattle.ps_tree.specs.Tree as tree;
+ghost use Rattle.tac_code.specs.Numbers.{is_integer};
 ghost use Rattle.ps_tree.specs.View.{type_of, expr_of, place_of};
 ghost use Rattle.tac_code.specs.declared.code.Base.TheVariants as base;
 ghost use Rattle.tac_code.specs.declared.code.Instruction.TheVariants as i;
@@ -18,12 +21,12 @@ use crate::level::Level;
 use crate::numbers::narrow;
 use crate::out::Code;
 use crate::places::address;
-use crate::refusal::LowerRefusal;
 use crate::shapes::{component_bytes, index_of, is_byte_array};
 use crate::site::Site;
 use crate::values::{place, value};
 use ps_tree::tree::{Expr, Place};
 use ps_tree::types::{Ordinal, Ty};
+use std::alloc::AllocError;
 use tac_code::code::Base;
 
 const PACK_BYTES: u32 = 8;
@@ -38,22 +41,21 @@ fn component(
     t: u32,
     index: u32,
     line: u16,
-) -> Result<(), LowerRefusal>
+) -> Result<(), AllocError>
+    requires { component_bytes (shape_of (type_of ty.now)) ≤ 2147483647 }
     ensures { OnOk result (out.new ≡ out.old ++ i.Index t (site_of site).base index (index_of (type_of ty.now)).low (index_of (type_of ty.now)).high (component_bytes (shape_of (type_of ty.now))) 5 line ∷ i.Offset t (base.Temporary t) (site_of site).offset 0 ∷ []) }
 {
-    let width = component_bytes(ty)?;
+    let width = component_bytes(ty);
     out.index(t, site.base, index, index_of(ty), width, line)?;
     out.offset(t, Base::Temporary(t), site.offset, 0)
 }
 
 /// The lowest value of a range, and so much above it.
-fn above(range: Ordinal, more: u32) -> Result<i32, LowerRefusal>
-    ensures { IfOk result (λ n. n ≡ range.low +ℤ pos more) }
+fn above(range: Ordinal, more: u32) -> i32
+    requires { unless (is_integer (range.low +ℤ pos more)) ≤ 2147483647 }
+    ensures { result ≡ range.low +ℤ pos more }
 {
-    let Ok(n) = i32::try_from(i64::from(range.low) + i64::from(more)) else {
-        return Err(LowerRefusal::TooLarge);
-    };
-    Ok(n)
+    (i64::from(range.low) + i64::from(more)) as i32
 }
 
 /// The test of an index that lies at most so far above the lowest.
@@ -63,15 +65,17 @@ fn check_room(
     range: Ordinal,
     more: u32,
     line: u16,
-) -> Result<(), LowerRefusal>
+) -> Result<(), AllocError>
+    requires { unless (is_integer (range.low +ℤ pos more)) ≤ 2147483647 }
     ensures { OnOk result (out.new ≡ out.old ++ i.CheckRange t range.low (range.low +ℤ pos more) 5 line ∷ []) }
 {
-    let last = above(range, more)?;
+    let last = above(range, more);
     out.check_range(t, range.low, last, 5, line)
 }
 
 /// The test of the room that a part of so many components has in an array behind an index, or error 5.
-fn room(out: &mut Code, whole_ty: &Ty, part_ty: &Ty, t: u32, line: u16) -> Result<(), LowerRefusal>
+fn room(out: &mut Code, whole_ty: &Ty, part_ty: &Ty, t: u32, line: u16) -> Result<(), AllocError>
+    requires { unless (is_integer ((index_of (type_of whole_ty.now)).low +ℤ pos (value_count (index_of (type_of whole_ty.now)) - value_count (index_of (type_of part_ty.now))))) ≤ 2147483647 }
     ensures { OnOk result (out.new ≡ out.old ++ room_code (type_of whole_ty.now) (type_of part_ty.now) t line) }
 {
     let whole = index_of(whole_ty);
@@ -80,7 +84,7 @@ fn room(out: &mut Code, whole_ty: &Ty, part_ty: &Ty, t: u32, line: u16) -> Resul
     if count < part {
         return out.trap(5, line);
     }
-    let more = narrow(count - part)?;
+    let more = narrow(count - part);
     check_room(out, t, whole, more, line)
 }
 
@@ -93,29 +97,40 @@ fn bytes(
     b: u32,
     count: u32,
     t: u32,
-) -> Result<(), LowerRefusal>
+) -> Result<(), AllocError>
+    requires count { count ≤ 2147483647 }
+    requires number { number ≤ 16 }
     ensures { (routine : RunTime) → number ≡ run_time_number routine → OnOk result (out.new ≡ out.old ++ i.Literal t (pos count) ∷ helper (scope_of k.now) routine (b ∷ a ∷ t ∷ []) t ∷ []) }
 {
     amount(out, count, t)?;
     help(out, k, number, &[b, a, t], t)
 }
 
+/// The bytes of so many components. Where there are none, their type may be of any size.
+fn part_bytes(ty: &Ty, count: u32) -> u32
+    requires { count * component_bytes (shape_of (type_of ty.now)) ≤ 2147483647 }
+    ensures { result ≡ count * component_bytes (shape_of (type_of ty.now)) }
+{
+    if count == 0 {
+        return 0;
+    }
+    count * component_bytes(ty)
+}
+
 /// The same by words, where neither array is one of bytes.
 fn words(
     out: &mut Code,
     k: &Level,
+    ty: &Ty,
     a: u32,
     b: u32,
     count: u32,
-    width: u32,
     t: u32,
-) -> Result<(), LowerRefusal>
-    ensures { (packing : Bool) → OnOk result (out.new ≡ out.old ++ components_code (scope_of k.now) packing a b count false false width t) }
+) -> Result<(), AllocError>
+    requires { count * component_bytes (shape_of (type_of ty.now)) ≤ 2147483647 }
+    ensures { (packing : Bool) → OnOk result (out.new ≡ out.old ++ components_code (scope_of k.now) packing a b count false false (component_bytes (shape_of (type_of ty.now))) t) }
 {
-    let Some(bytes) = count.checked_mul(width) else {
-        return Err(LowerRefusal::TooLarge);
-    };
-    copy(out, k, b, a, t, bytes)
+    copy(out, k, b, a, t, part_bytes(ty, count))
 }
 
 /// The components of a part, from the address in a to the address in b.
@@ -128,7 +143,9 @@ fn components(
     a: u32,
     b: u32,
     t: u32,
-) -> Result<(), LowerRefusal>
+) -> Result<(), AllocError>
+    requires count { count ≤ 2147483647 }
+    requires bytes { count * component_bytes (shape_of (type_of from_ty.now)) ≤ 2147483647 }
     ensures { (packing : Bool) → OnOk result (out.new ≡ out.old ++ components_code (scope_of k.now) packing a b count (is_byte_array (shape_of (type_of from_ty.now))) (is_byte_array (shape_of (type_of to_ty.now))) (component_bytes (shape_of (type_of from_ty.now))) t) }
 {
     if is_byte_array(to_ty) {
@@ -137,8 +154,7 @@ fn components(
     if is_byte_array(from_ty) {
         return bytes(out, k, UNPACK_BYTES, a, b, count, t);
     }
-    let width = component_bytes(from_ty)?;
-    words(out, k, a, b, count, width, t)
+    words(out, k, from_ty, a, b, count, t)
 }
 
 /// `pack(from, index, to)`
@@ -152,14 +168,14 @@ pub fn pack(
     to: &Place,
     to_ty: &Ty,
     d: u32,
-) -> Result<(), LowerRefusal>
-    requires { d ≤ DEEPEST }
+) -> Result<(), AllocError>
+    requires { d + statement_weight (scope_of k.now) (tree.Pack (place_of from.now) (type_of from_ty.now) (expr_of index.now) line (place_of to.now) (type_of to_ty.now)) d ≤ DEEPEST }
     ensures { OnOk result (out.new ≡ out.old ++ statement_code (scope_of k.now) (tree.Pack (place_of from.now) (type_of from_ty.now) (expr_of index.now) line (place_of to.now) (type_of to_ty.now)) d) }
 {
     let a = held(true, d);
     let b = held(true, a + 1);
     let c = held(true, b + 1);
-    let count = narrow(index_of(to_ty).value_count())?;
+    let count = narrow(index_of(to_ty).value_count());
     let first = place(out, k, from, a, 0)?;
     value(out, k, index, b, 0)?;
     component(out, from_ty, first, a, b, line)?;
@@ -180,14 +196,14 @@ pub fn unpack(
     index: &Expr,
     line: u16,
     d: u32,
-) -> Result<(), LowerRefusal>
-    requires { d ≤ DEEPEST }
+) -> Result<(), AllocError>
+    requires { d + statement_weight (scope_of k.now) (tree.Unpack (place_of from.now) (type_of from_ty.now) (place_of to.now) (type_of to_ty.now) (expr_of index.now) line) d ≤ DEEPEST }
     ensures { OnOk result (out.new ≡ out.old ++ statement_code (scope_of k.now) (tree.Unpack (place_of from.now) (type_of from_ty.now) (place_of to.now) (type_of to_ty.now) (expr_of index.now) line) d) }
 {
     let a = held(true, d);
     let b = held(true, a + 1);
     let c = held(true, b + 1);
-    let count = narrow(index_of(from_ty).value_count())?;
+    let count = narrow(index_of(from_ty).value_count());
     let first = place(out, k, from, a, 0)?;
     address(out, a, first, 0)?;
     let second = place(out, k, to, b, 0)?;

@@ -16,10 +16,10 @@ use crate::frame::words;
 use crate::helpers::copy;
 use crate::level::Level;
 use crate::out::Code;
-use crate::refusal::LowerRefusal;
 use crate::shapes::byte_count;
 use ps_tree::tree::Formal;
 use ps_tree::types::Ty;
+use std::alloc::AllocError;
 use tac_code::code::Base;
 
 /// The words that a parameter comes in.
@@ -36,39 +36,35 @@ fn parameter_words(formal: &Formal) -> u32
 
 /// The words of a parameter's entry.
 #[tactic(auto, unfolding(ps_tree::specs::View::formal_of))]
-fn entry_words(formal: &Formal) -> Result<u32, LowerRefusal>
-    ensures { IfOk result (λ n. n ≡ kind_words (kind_of (formal_of formal.now))) }
+fn entry_words(formal: &Formal) -> u32
+    requires { 4 * kind_words (kind_of (formal_of formal.now)) ≤ 2147483647 }
+    ensures { result ≡ kind_words (kind_of (formal_of formal.now)) }
 {
     match formal {
         Formal::Value(ty) => words(ty),
-        Formal::Variable(_) => Ok(1),
-        Formal::Routine { .. } => Ok(2),
+        Formal::Variable(_) => 1,
+        Formal::Routine { .. } => 2,
     }
 }
 
 /// A number of temporaries, and the words of a parameter behind them.
-fn with_parameter(count: u32, formal: &Formal) -> Result<u32, LowerRefusal>
+fn with_parameter(count: u32, formal: &Formal) -> u32
     requires { count ≤ DEEPEST }
-    ensures value { IfOk result (λ n. n ≡ count + parameter_words (kind_of (formal_of formal.now))) }
-    ensures small { IfOk result (λ n. n ≤ DEEPEST) }
+    ensures { result ≡ count + parameter_words (kind_of (formal_of formal.now)) }
 {
-    let sum = count + parameter_words(formal);
-    if DEEPEST < sum {
-        return Err(LowerRefusal::TooLarge);
-    }
-    Ok(sum)
+    count + parameter_words(formal)
 }
 
 /// How many temporaries a routine's parameters come in, its static link's first.
-pub fn count_parameters(formals: &[Formal]) -> Result<u32, LowerRefusal>
-    ensures value { IfOk result (λ n. n ≡ suc (count_parameters (kinds_of (formals_of formals.now)))) }
-    ensures small { IfOk result (λ n. n ≤ DEEPEST) }
+pub fn count_parameters(formals: &[Formal]) -> u32
+    requires { suc (count_parameters (kinds_of (formals_of formals.now))) ≤ DEEPEST }
+    ensures { result ≡ suc (count_parameters (kinds_of (formals_of formals.now))) }
 {
     let mut count = 1;
     for formal in formals {
-        count = with_parameter(count, formal)?;
+        count = with_parameter(count, formal);
     }
-    Ok(count)
+    count
 }
 
 /// Whether a value parameter is a word, and not a structure or a set, whose address comes.
@@ -91,25 +87,20 @@ fn copied(
     t: u32,
     offset: u32,
     free: u32,
-) -> Result<(), LowerRefusal>
-    requires { free ≤ DEEPEST }
+) -> Result<(), AllocError>
+    requires depth { free ≤ DEEPEST }
+    requires length { byte_count (shape_of (type_of ty.now)) ≤ 2147483647 }
     ensures { OnOk result (out.new ≡ out.old ++ i.Offset free base.Frame offset (byte_count (shape_of (type_of ty.now))) ∷ copy_code (scope_of k.now) free t (beside free) (byte_count (shape_of (type_of ty.now)))) }
 {
-    let bytes = byte_count(ty)?;
+    let bytes = byte_count(ty);
     out.offset(free, Base::Frame, offset, bytes)?;
     copy(out, k, free, t, beside(free), bytes)
 }
 
 /// A value parameter.
-fn own(
-    out: &mut Code,
-    k: &Level,
-    ty: &Ty,
-    t: u32,
-    offset: u32,
-    free: u32,
-) -> Result<(), LowerRefusal>
-    requires { free ≤ DEEPEST }
+fn own(out: &mut Code, k: &Level, ty: &Ty, t: u32, offset: u32, free: u32) -> Result<(), AllocError>
+    requires depth { free ≤ DEEPEST }
+    requires length { byte_count (shape_of (type_of ty.now)) ≤ 2147483647 }
     ensures { OnOk result (out.new ≡ out.old ++ own_code (scope_of k.now) (shape_of (type_of ty.now)) t offset free) }
 {
     if is_word(ty) {
@@ -119,15 +110,13 @@ fn own(
 }
 
 /// A procedural or functional parameter: its routine, and its static link behind.
-fn closure(out: &mut Code, t: u32, offset: u32) -> Result<(), LowerRefusal>
-    requires { t ≤ DEEPEST }
+fn closure(out: &mut Code, t: u32, offset: u32) -> Result<(), AllocError>
+    requires depth { t ≤ DEEPEST }
+    requires reach { offset ≤ 2147483647 }
     ensures { OnOk result (out.new ≡ out.old ++ i.Store base.Frame offset t ∷ i.Store base.Frame (offset + 4) (suc t) ∷ []) }
 {
-    let Some(behind) = offset.checked_add(4) else {
-        return Err(LowerRefusal::TooLarge);
-    };
     out.store(Base::Frame, offset, t)?;
-    out.store(Base::Frame, behind, t + 1)
+    out.store(Base::Frame, offset + 4, t + 1)
 }
 
 /// A parameter in the temporary t, to an entry.
@@ -139,9 +128,11 @@ fn parameter(
     t: u32,
     offset: u32,
     free: u32,
-) -> Result<(), LowerRefusal>
+) -> Result<(), AllocError>
     requires temporary { t ≤ DEEPEST }
     requires free { free ≤ DEEPEST }
+    requires reach { offset ≤ 2147483647 }
+    requires words { 4 * kind_words (kind_of (formal_of formal.now)) ≤ 2147483647 }
     ensures { OnOk result (out.new ≡ out.old ++ parameter_code (scope_of k.now) (kind_of (formal_of formal.now)) t offset free) }
 {
     match formal {
@@ -159,20 +150,15 @@ fn parameter_at(
     t: u32,
     place: u32,
     free: u32,
-) -> Result<u32, LowerRefusal>
+) -> Result<u32, AllocError>
     requires temporary { t ≤ DEEPEST }
     requires free { free ≤ DEEPEST }
+    requires words { 4 * (place + kind_words (kind_of (formal_of formal.now))) ≤ 2147483647 }
     ensures code { OnOk result (out.new ≡ out.old ++ parameter_code (scope_of k.now) (kind_of (formal_of formal.now)) t (4 * place) free) }
     ensures next { IfOk result (λ next. next ≡ place + kind_words (kind_of (formal_of formal.now))) }
 {
-    let Some(offset) = place.checked_mul(4) else {
-        return Err(LowerRefusal::TooLarge);
-    };
-    let Some(next) = place.checked_add(entry_words(formal)?) else {
-        return Err(LowerRefusal::TooLarge);
-    };
-    parameter(out, k, formal, t, offset, free)?;
-    Ok(next)
+    parameter(out, k, formal, t, 4 * place, free)?;
+    Ok(place + entry_words(formal))
 }
 
 /// The parameters of a routine, to entries that stand one behind another from a word of the frame on, and the word behind them.
@@ -182,8 +168,10 @@ pub fn parameters(
     formals: &[Formal],
     begin: u32,
     free: u32,
-) -> Result<u32, LowerRefusal>
-    requires { free ≤ DEEPEST }
+) -> Result<u32, AllocError>
+    requires free { free ≤ DEEPEST }
+    requires total { suc (count_parameters (kinds_of (formals_of formals.now))) ≤ DEEPEST }
+    requires words { 4 * (begin + words_of_all (listed_kinds (kinds_of (formals_of formals.now)))) ≤ 2147483647 }
     ensures code { OnOk result (out.new ≡ out.old ++ parameters_at (scope_of k.now) (kinds_of (formals_of formals.now)) 1 begin free) }
     ensures next { IfOk result (λ next. next ≡ begin + words_of_all (listed_kinds (kinds_of (formals_of formals.now)))) }
 {
@@ -191,7 +179,7 @@ pub fn parameters(
     let mut place = begin;
     for formal in formals {
         place = parameter_at(out, k, formal, t, place, free)?;
-        t = with_parameter(t, formal)?;
+        t = with_parameter(t, formal);
     }
     Ok(place)
 }

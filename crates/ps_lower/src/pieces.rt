@@ -11,19 +11,19 @@ ghost use Rattle.tac_code.specs.declared.code.Operand.TheVariants as operand;
 use crate::depth::{DEEPEST, even_above};
 use crate::known::{is_any, is_between, is_relation, is_truth, left_in, relation_in, right_in};
 use crate::out::Code;
-use crate::refusal::LowerRefusal;
 use ps_tree::tree::{Expr, Range, RequiredFunction};
+use std::alloc::AllocError;
 use tac_code::code::{BitOperator, Operand, Operator, Relation};
 
 /// A number that stands in the tree.
-pub fn number(out: &mut Code, n: &i32, d: u32) -> Result<(), LowerRefusal>
+pub fn number(out: &mut Code, n: &i32, d: u32) -> Result<(), AllocError>
     ensures { OnOk result (out.new ≡ out.old ++ i.Literal d n.now ∷ []) }
 {
     out.literal(d, *n)
 }
 
 /// A value, moved to where it is wanted.
-pub fn moved(out: &mut Code, from: u32, to: u32) -> Result<(), LowerRefusal>
+pub fn moved(out: &mut Code, from: u32, to: u32) -> Result<(), AllocError>
     ensures { OnOk result (out.new ≡ out.old ++ moved from to) }
 {
     if from == to {
@@ -34,17 +34,16 @@ pub fn moved(out: &mut Code, from: u32, to: u32) -> Result<(), LowerRefusal>
 }
 
 /// The truth of the relation that an expression left, as a word.
-fn relation(out: &mut Code, e: &Expr, d: u32) -> Result<(), LowerRefusal>
+fn relation(out: &mut Code, e: &Expr, d: u32) -> Result<(), AllocError>
+    requires { d ≤ DEEPEST }
     ensures { OnOk result (out.new ≡ out.old ++ relation_code (expr_of e.now) d) }
 {
-    if DEEPEST < d {
-        return Err(LowerRefusal::TooLarge);
-    }
     out.compare(relation_in(e), d, left_in(e, d), right_in(e, d))
 }
 
 /// The word of an expression behind its front code.
-pub fn finish(out: &mut Code, e: &Expr, d: u32) -> Result<(), LowerRefusal>
+pub fn finish(out: &mut Code, e: &Expr, d: u32) -> Result<(), AllocError>
+    requires { d ≤ DEEPEST }
     ensures { OnOk result (out.new ≡ out.old ++ finish (expr_of e.now) d) }
 {
     if is_relation(e) {
@@ -55,7 +54,8 @@ pub fn finish(out: &mut Code, e: &Expr, d: u32) -> Result<(), LowerRefusal>
 }
 
 /// Its truth, as 0 or 1.
-pub fn truth_finish(out: &mut Code, e: &Expr, d: u32) -> Result<(), LowerRefusal>
+pub fn truth_finish(out: &mut Code, e: &Expr, d: u32) -> Result<(), AllocError>
+    requires { d ≤ DEEPEST }
     ensures { OnOk result (out.new ≡ out.old ++ truth_finish (expr_of e.now) d) }
 {
     if is_truth(e) && !is_relation(e) {
@@ -73,7 +73,7 @@ pub fn range(
     high: i32,
     error: u8,
     line: u16,
-) -> Result<(), LowerRefusal>
+) -> Result<(), AllocError>
     ensures { OnOk result (out.new ≡ out.old ++ range_code t low high error line) }
 {
     if is_any(low, high) {
@@ -92,7 +92,7 @@ pub fn check(
     high: i32,
     error: u8,
     line: u16,
-) -> Result<(), LowerRefusal>
+) -> Result<(), AllocError>
     ensures { OnOk result (out.new ≡ out.old ++ check_code known t low high error line) }
 {
     match known {
@@ -114,7 +114,7 @@ pub fn fitting(
     t: u32,
     range: Range,
     line: u16,
-) -> Result<(), LowerRefusal>
+) -> Result<(), AllocError>
     ensures { OnOk result (out.new ≡ out.old ++ fitting_code known t range line) }
 {
     match range {
@@ -132,7 +132,7 @@ pub fn operand_check(
     high: i32,
     error: u8,
     line: u16,
-) -> Result<(), LowerRefusal>
+) -> Result<(), AllocError>
     ensures { OnOk result (out.new ≡ out.old ++ operand_check known t low high error line) }
 {
     match known {
@@ -148,7 +148,7 @@ pub fn operand_check(
 }
 
 /// The absolute value of the number in d.
-fn absolute(out: &mut Code, d: u32, line: u16) -> Result<(), LowerRefusal>
+fn absolute(out: &mut Code, d: u32, line: u16) -> Result<(), AllocError>
     requires { d ≤ DEEPEST }
     ensures { OnOk result (out.new ≡ out.old ++ function_code Abs d line) }
 {
@@ -166,7 +166,7 @@ fn stepped(
     low: i32,
     high: i32,
     line: u16,
-) -> Result<(), LowerRefusal>
+) -> Result<(), AllocError>
     ensures { OnOk result (out.new ≡ out.old ++ (i.Arithmetic operator d d (operand.Number (pos 1)) 4 line ∷ range_code d low high 4 line)) }
 {
     out.arithmetic(operator, d, d, Operand::Number(1), 4, line)?;
@@ -179,7 +179,7 @@ pub fn function(
     function: RequiredFunction,
     d: u32,
     line: u16,
-) -> Result<(), LowerRefusal>
+) -> Result<(), AllocError>
     requires { d ≤ DEEPEST }
     ensures { OnOk result (out.new ≡ out.old ++ function_code function d line) }
 {

@@ -3,7 +3,8 @@
 ghost use Rattle.std.specs.Prelude.{◌≡◌, ◌++◌, ◌≤◌, ◌∷◌, [], ◌+◌, None, option_map, slice_get, false, OnOk, IfOk};
 ghost use Rattle.ps_code.specs.Scopes.{kind_at, frame_base, site_code};
 ghost use Rattle.ps_code.specs.Values.{field_site, reference_code, entry_site, name_code, name_site, place_temporary, element_site, index_code, is_byte_selector, is_byte_after, is_byte, load_code, store_code};
-ghost use Rattle.ps_layout.specs.Shapes.{shape_of, field_offset};
+ghost use Rattle.ps_bounds.specs.Weights.{name_reach};
+ghost use Rattle.ps_layout.specs.Shapes.{shape_of, component_bytes, field_offset};
 ghost use Rattle.ps_lower.specs.Levels.{scope_of, site_of};
 ghost use Rattle.ps_lower.specs.Sites.{site_behind, site_at};
 ghost use Rattle.ps_tree.specs.View.{type_of, base_of, selector_of, selectors_of, place_of};
@@ -14,11 +15,11 @@ use crate::depth::kept;
 use crate::level::Level;
 use crate::levels::{entry, frame};
 use crate::out::Code;
-use crate::refusal::LowerRefusal;
 use crate::shapes::{component_bytes, field_offset, index_of, is_byte_array};
 use crate::site::Site;
 use ps_tree::tree::{Place, PlaceBase, Selector};
 use ps_tree::types::Ty;
+use std::alloc::AllocError;
 use tac_code::code::Base;
 
 /// The temporary that may hold a variable's address.
@@ -65,7 +66,7 @@ fn reference(
     t: u32,
     up: u32,
     index: u32,
-) -> Result<Site, LowerRefusal>
+) -> Result<Site, AllocError>
     ensures code { OnOk result (base ≡ frame_base (scope_of k.now) t up → out.new ≡ out.old ++ reference_code (scope_of k.now) (kind_at (scope_of k.now) up index) t up index) }
     ensures site { IfOk result (λ s. base ≡ frame_base (scope_of k.now) t up → site_of s ≡ entry_site (scope_of k.now) (kind_at (scope_of k.now) up index) t up index) }
 {
@@ -98,20 +99,22 @@ fn opened(k: &Level, which: u32) -> Option<Site>
 }
 
 /// A field of a record that `with` opened.
-fn field(k: &Level, which: u32, ty: &Ty, number: u32) -> Result<Site, LowerRefusal>
-    ensures { IfOk result (λ s. site_of s ≡ field_site (scope_of k.now) (slice_get (scope_of k.now).opened which) (field_offset (shape_of (type_of ty.now)) number)) }
+fn field(k: &Level, which: u32, ty: &Ty, number: u32) -> Site
+    requires { (field_site (scope_of k.now) (slice_get (scope_of k.now).opened which) (field_offset (shape_of (type_of ty.now)) number)).offset ≤ 2147483647 }
+    ensures { site_of result ≡ field_site (scope_of k.now) (slice_get (scope_of k.now).opened which) (field_offset (shape_of (type_of ty.now)) number) }
 {
     let Some(record) = opened(k, which) else {
-        return Ok(Site {
+        return Site {
             base: Base::Frame,
             offset: 0,
-        });
+        };
     };
-    behind(record, field_offset(ty, number)?)
+    behind(record, field_offset(ty, number))
 }
 
 /// What a name denotes.
-pub fn name(out: &mut Code, k: &Level, name: &PlaceBase, t: u32) -> Result<Site, LowerRefusal>
+pub fn name(out: &mut Code, k: &Level, name: &PlaceBase, t: u32) -> Result<Site, AllocError>
+    requires { name_reach (scope_of k.now) (base_of name.now) ≤ 2147483647 }
     ensures code { OnOk result (out.new ≡ out.old ++ name_code (scope_of k.now) (base_of name.now) t) }
     ensures site { IfOk result (λ s. site_of s ≡ name_site (scope_of k.now) (base_of name.now) t) }
 {
@@ -120,21 +123,19 @@ pub fn name(out: &mut Code, k: &Level, name: &PlaceBase, t: u32) -> Result<Site,
             let base = frame(out, k, t, *up)?;
             reference(out, k, base, t, *up, *index)
         }
-        PlaceBase::Opened { which, ty, number } => field(k, *which, ty, *number),
+        PlaceBase::Opened { which, ty, number } => Ok(field(k, *which, ty, *number)),
     }
 }
 
 /// So many bytes further.
-pub fn behind(site: Site, bytes: u32) -> Result<Site, LowerRefusal>
-    ensures { IfOk result (λ s. site_of s ≡ site_behind (site_of site) bytes) }
+pub fn behind(site: Site, bytes: u32) -> Site
+    requires { site.offset + bytes ≤ 4294967295 }
+    ensures { site_of result ≡ site_behind (site_of site) bytes }
 {
-    let Some(offset) = site.offset.checked_add(bytes) else {
-        return Err(LowerRefusal::TooLarge);
-    };
-    Ok(Site {
+    Site {
         base: site.base,
-        offset,
-    })
+        offset: site.offset + bytes,
+    }
 }
 
 /// The component of an array whose index stands in a temporary.
@@ -145,11 +146,12 @@ pub fn indexed(
     t: u32,
     index: u32,
     line: u16,
-) -> Result<Site, LowerRefusal>
+) -> Result<Site, AllocError>
+    requires { component_bytes (shape_of (type_of ty.now)) ≤ 2147483647 }
     ensures code { OnOk result (out.new ≡ out.old ++ index_code None (type_of ty.now) (site_of site) t index line []) }
     ensures site { IfOk result (λ s. site_of s ≡ element_site None (site_of site) t) }
 {
-    let width = component_bytes(ty)?;
+    let width = component_bytes(ty);
     out.index(t, site.base, index, index_of(ty), width, line)?;
     Ok(Site {
         base: Base::Temporary(t),
@@ -158,7 +160,7 @@ pub fn indexed(
 }
 
 /// The object that a pointer points to.
-pub fn pointed(out: &mut Code, site: Site, t: u32, line: u16) -> Result<Site, LowerRefusal>
+pub fn pointed(out: &mut Code, site: Site, t: u32, line: u16) -> Result<Site, AllocError>
     ensures code { OnOk result (out.new ≡ out.old ++ i.Load t site.base site.offset ∷ i.CheckPointer t 6 line ∷ []) }
     ensures site { IfOk result (λ s. site_of s ≡ site_at t) }
 {
@@ -171,7 +173,7 @@ pub fn pointed(out: &mut Code, site: Site, t: u32, line: u16) -> Result<Site, Lo
 }
 
 /// What stands at a site, a byte or a word, as the word in d.
-pub fn fetch(out: &mut Code, byte: bool, d: u32, site: Site) -> Result<(), LowerRefusal>
+pub fn fetch(out: &mut Code, byte: bool, d: u32, site: Site) -> Result<(), AllocError>
     ensures { OnOk result (out.new ≡ out.old ++ load_code byte d (site_of site)) }
 {
     if byte {
@@ -182,7 +184,7 @@ pub fn fetch(out: &mut Code, byte: bool, d: u32, site: Site) -> Result<(), Lower
 }
 
 /// The word in t goes to a site, as a byte or a word.
-pub fn keep(out: &mut Code, byte: bool, site: Site, t: u32) -> Result<(), LowerRefusal>
+pub fn keep(out: &mut Code, byte: bool, site: Site, t: u32) -> Result<(), AllocError>
     ensures { OnOk result (out.new ≡ out.old ++ store_code byte (site_of site) t) }
 {
     if byte {
@@ -193,7 +195,7 @@ pub fn keep(out: &mut Code, byte: bool, site: Site, t: u32) -> Result<(), LowerR
 }
 
 /// The address of a site, from which so many bytes are meant.
-pub fn address(out: &mut Code, t: u32, site: Site, extent: u32) -> Result<(), LowerRefusal>
+pub fn address(out: &mut Code, t: u32, site: Site, extent: u32) -> Result<(), AllocError>
     ensures { OnOk result (out.new ≡ out.old ++ site_code t (site_of site) extent) }
 {
     out.offset(t, site.base, site.offset, extent)

@@ -1,17 +1,19 @@
 // Calls of procedures.
 
-ghost use Rattle.std.specs.Prelude.{◌≡◌, ◌++◌, OnOk};
+ghost use Rattle.std.specs.Prelude.{◌≡◌, ◌++◌, ◌+◌, ◌≤◌, OnOk};
+ghost use Rattle.ps_bounds.specs.Weights.{statement_weight};
 ghost use Rattle.ps_code.specs.Statements.{statement_code};
 ghost use Rattle.ps_lower.specs.Levels.{scope_of};
 ghost use Rattle.ps_tree.specs.Tree as tree;
 ghost use Rattle.ps_tree.specs.View.{arguments_of};
 
 use crate::calls::{call, call_formal, link_temporary};
+use crate::depth::DEEPEST;
 use crate::level::Level;
 use crate::out::Code;
-use crate::refusal::LowerRefusal;
 use crate::values::arguments;
 use ps_tree::tree::Argument;
+use std::alloc::AllocError;
 
 /// A call of a procedure that is declared in the block so many levels out.
 pub fn call_procedure(
@@ -22,10 +24,11 @@ pub fn call_procedure(
     up: u32,
     line: u16,
     d: u32,
-) -> Result<(), LowerRefusal>
+) -> Result<(), AllocError>
+    requires { d + statement_weight (scope_of k.now) (tree.CallProcedure routine up (arguments_of actual.now) line) d ≤ DEEPEST }
     ensures { OnOk result (out.new ≡ out.old ++ statement_code (scope_of k.now) (tree.CallProcedure routine up (arguments_of actual.now) line) d) }
 {
-    let t = link_temporary(actual, d)?;
+    let t = link_temporary(actual, d);
     arguments(out, k, actual, d, 0)?;
     call(out, k, actual, routine, up, line, d, t)
 }
@@ -39,10 +42,11 @@ pub fn call_formal_procedure(
     index: u32,
     line: u16,
     d: u32,
-) -> Result<(), LowerRefusal>
+) -> Result<(), AllocError>
+    requires { d + statement_weight (scope_of k.now) (tree.CallFormalProcedure up index (arguments_of actual.now) line) d ≤ DEEPEST }
     ensures { OnOk result (out.new ≡ out.old ++ statement_code (scope_of k.now) (tree.CallFormalProcedure up index (arguments_of actual.now) line) d) }
 {
-    let t = link_temporary(actual, d)?;
+    let t = link_temporary(actual, d);
     arguments(out, k, actual, d, 0)?;
     call_formal(out, k, actual, up, index, line, d, t)
 }

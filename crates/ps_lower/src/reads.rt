@@ -1,6 +1,7 @@
 // The code of read and readln.
 
-ghost use Rattle.std.specs.Prelude.{◌≡◌, ◌++◌, ◌≤◌, ◌∷◌, [], pos, map, OnOk};
+ghost use Rattle.std.specs.Prelude.{◌≡◌, ◌++◌, ◌+◌, ◌≤◌, ◌∷◌, [], pos, map, OnOk};
+ghost use Rattle.ps_bounds.specs.Weights.{read_weight, reads_weight, statement_weight};
 ghost use Rattle.ps_code.specs.Scopes.{even_from, beside, greatest, range_code, site_code, input_site, ReadCharacter, ReadNumber, ReadLine, helper};
 ghost use Rattle.ps_code.specs.Statements.{read_code, reads_code, statement_code};
 ghost use Rattle.ps_lower.specs.Levels.{scope_of};
@@ -17,9 +18,9 @@ use crate::level::Level;
 use crate::out::Code;
 use crate::pieces::range;
 use crate::places::{address, is_byte, keep};
-use crate::refusal::LowerRefusal;
 use crate::values::place;
 use ps_tree::tree::{Place, ReadVariable};
+use std::alloc::AllocError;
 use tac_code::code::Base;
 
 const READ_CHARACTER: u32 = 14;
@@ -29,15 +30,15 @@ const READ_NUMBER: u32 = 15;
 const READ_LINE: u32 = 16;
 
 /// The address of the words that tell what of the input was taken ahead.
-fn ahead(out: &mut Code, k: &Level, t: u32) -> Result<(), LowerRefusal>
+fn ahead(out: &mut Code, k: &Level, t: u32) -> Result<(), AllocError>
     ensures { OnOk result (out.new ≡ out.old ++ site_code t (input_site (scope_of k.now)) 8) }
 {
-    let site = input(k)?;
+    let site = input(k);
     address(out, t, site, 8)
 }
 
 /// The test of a variable's range.
-fn fits(out: &mut Code, t: u32, low: &i32, high: &i32, line: u16) -> Result<(), LowerRefusal>
+fn fits(out: &mut Code, t: u32, low: &i32, high: &i32, line: u16) -> Result<(), AllocError>
     ensures { OnOk result (out.new ≡ out.old ++ range_code t low.now high.now 4 line) }
 {
     range(out, t, *low, *high, 4, line)
@@ -51,7 +52,7 @@ fn take_character(
     low: &i32,
     high: &i32,
     line: u16,
-) -> Result<(), LowerRefusal>
+) -> Result<(), AllocError>
     ensures { OnOk result (out.new ≡ out.old ++ character_taken (scope_of k.now) low.now high.now line a) }
 {
     help(out, k, READ_CHARACTER, &[a], a)?;
@@ -60,7 +61,7 @@ fn take_character(
 }
 
 /// How the reading of a number went: error 9 at the end of the input, 10 if there is no number, 4 if it is too large.
-fn check_number(out: &mut Code, a: u32, line: u16) -> Result<(), LowerRefusal>
+fn check_number(out: &mut Code, a: u32, line: u16) -> Result<(), AllocError>
     ensures { OnOk result (out.new ≡ out.old ++ (i.CheckRange a (pos 0) (pos 2) 9 line ∷ i.CheckRange a (pos 0) (pos 1) 10 line ∷ i.CheckRange a (pos 0) (pos 0) 4 line ∷ [])) }
 {
     out.check_range(a, 0, 2, 9, line)?;
@@ -76,7 +77,7 @@ fn take_number(
     low: &i32,
     high: &i32,
     line: u16,
-) -> Result<(), LowerRefusal>
+) -> Result<(), AllocError>
     requires { a ≤ 4294960000 }
     ensures { OnOk result (out.new ≡ out.old ++ number_taken (scope_of k.now) low.now high.now line a) }
 {
@@ -96,8 +97,8 @@ fn read_character(
     high: &i32,
     line: u16,
     d: u32,
-) -> Result<(), LowerRefusal>
-    requires { d ≤ DEEPEST }
+) -> Result<(), AllocError>
+    requires { d + read_weight (scope_of k.now) (tree.ReadChar (place_of target.now) low.now high.now line) ≤ DEEPEST }
     ensures { OnOk result (out.new ≡ out.old ++ read_code (scope_of k.now) (tree.ReadChar (place_of target.now) low.now high.now line) d) }
 {
     let t = held(true, d);
@@ -116,8 +117,8 @@ fn read_number(
     high: &i32,
     line: u16,
     d: u32,
-) -> Result<(), LowerRefusal>
-    requires { d ≤ DEEPEST }
+) -> Result<(), AllocError>
+    requires { d + read_weight (scope_of k.now) (tree.ReadInteger (place_of target.now) low.now high.now line) ≤ DEEPEST }
     ensures { OnOk result (out.new ≡ out.old ++ read_code (scope_of k.now) (tree.ReadInteger (place_of target.now) low.now high.now line) d) }
 {
     let t = held(true, d);
@@ -129,8 +130,8 @@ fn read_number(
 }
 
 #[tactic(auto, unfolding(ps_tree::specs::View::read_of))]
-fn read(out: &mut Code, k: &Level, variable: &ReadVariable, d: u32) -> Result<(), LowerRefusal>
-    requires { d ≤ DEEPEST }
+fn read(out: &mut Code, k: &Level, variable: &ReadVariable, d: u32) -> Result<(), AllocError>
+    requires { d + read_weight (scope_of k.now) (read_of variable.now) ≤ DEEPEST }
     ensures { OnOk result (out.new ≡ out.old ++ read_code (scope_of k.now) (read_of variable.now) d) }
 {
     match variable {
@@ -155,8 +156,8 @@ pub fn reads(
     k: &Level,
     variables: &[ReadVariable],
     d: u32,
-) -> Result<(), LowerRefusal>
-    requires { d ≤ DEEPEST }
+) -> Result<(), AllocError>
+    requires { d + reads_weight (scope_of k.now) (map read_of variables.now) ≤ DEEPEST }
     ensures { OnOk result (out.new ≡ out.old ++ reads_code (scope_of k.now) (map read_of variables.now) d) }
 {
     for variable in variables {
@@ -166,7 +167,7 @@ pub fn reads(
 }
 
 /// The rest of the line, or error 9 at the end of the input.
-fn take_line(out: &mut Code, k: &Level, a: u32, line: u16) -> Result<(), LowerRefusal>
+fn take_line(out: &mut Code, k: &Level, a: u32, line: u16) -> Result<(), AllocError>
     ensures { OnOk result (out.new ≡ out.old ++ line_taken (scope_of k.now) line a) }
 {
     help(out, k, READ_LINE, &[a], a)?;
@@ -180,8 +181,8 @@ pub fn readln(
     variables: &[ReadVariable],
     line: u16,
     d: u32,
-) -> Result<(), LowerRefusal>
-    requires { d ≤ DEEPEST }
+) -> Result<(), AllocError>
+    requires { d + reads_weight (scope_of k.now) (map read_of variables.now) ≤ DEEPEST }
     ensures { OnOk result (out.new ≡ out.old ++ statement_code (scope_of k.now) (tree.Readln (map read_of variables.now) line) d) }
 {
     let a = even_from(d);

@@ -1,6 +1,7 @@
 // The code of routines.
 
 ghost use Rattle.std.specs.Prelude.{◌≡◌, ◌++◌, ◌+◌, ◌*◌, ◌≤◌, [], ◌∷◌, pos, OnOk, IfOk, option_map};
+ghost use Rattle.ps_bounds.specs.Weights.{statements_weight, result_weight, begin_weight, routine_weight};
 ghost use Rattle.ps_code.specs.Programs.{tac_of};
 ghost use Rattle.ps_code.specs.Routines.{input_code, parameter_total, begin_code, result_end, end_code, routine_code, scope_of as scope_in};
 ghost use Rattle.ps_code.specs.Statements.{statements_code};
@@ -20,15 +21,14 @@ use crate::level::Level;
 use crate::numbers::{larger, narrow};
 use crate::out::Code;
 use crate::parameters::{count_parameters, parameters};
-use crate::refusal::LowerRefusal;
 use crate::statements::statements;
 use ps_tree::tree::Routine;
 use ps_tree::types::Ty;
-use std::alloc::Global;
+use std::alloc::{AllocError, Global};
 use tac_code::code::{Base, Body, TacRoutine};
 
-/// A frame of more words has no code.
-const MOST_WORDS: u32 = 1_000_000_000;
+/// No frame has more words.
+const MOST_WORDS: u32 = 250_000_000;
 
 /// Where the body of a routine is made.
 fn level<'a>(checked: &'a Frames<'a>, routine: &'a Routine) -> Level<'a>
@@ -50,14 +50,12 @@ fn is_program_block(routine: &Routine) -> bool
 }
 
 /// The words of a routine's static link and entries.
-fn words_in(alloc: Global, routine: &Routine) -> Result<u32, LowerRefusal>
+fn words_in(alloc: Global, routine: &Routine) -> Result<u32, AllocError>
+    requires { words_in (routine_of routine.now) ≤ MOST_WORDS }
     ensures exact { IfOk result (λ n. n ≡ words_in (routine_of routine.now)) }
     ensures small { IfOk result (λ n. n ≤ MOST_WORDS) }
 {
     let words = table(alloc, routine)?.words;
-    if MOST_WORDS < words {
-        return Err(LowerRefusal::TooLarge);
-    }
     Ok(words)
 }
 
@@ -75,18 +73,19 @@ fn frame_bytes(routine: &Routine, words: u32) -> u32
 }
 
 /// How many temporaries the parameters of a routine come in.
-fn parameter_total(routine: &Routine) -> Result<u32, LowerRefusal>
-    ensures exact { IfOk result (λ n. n ≡ parameter_total (routine_of routine.now)) }
-    ensures small { IfOk result (λ n. n ≤ DEEPEST) }
+fn parameter_total(routine: &Routine) -> u32
+    requires { begin_weight (routine_of routine.now) ≤ DEEPEST }
+    ensures exact { result ≡ parameter_total (routine_of routine.now) }
+    ensures small { result ≤ DEEPEST }
 {
     if is_program_block(routine) {
-        return Ok(0);
+        return 0;
     }
     count_parameters(routine.formals.as_slice())
 }
 
 /// Nothing was taken ahead of the input, and no line was begun.
-fn input(out: &mut Code, routine: &Routine, words: u32, t: u32) -> Result<(), LowerRefusal>
+fn input(out: &mut Code, routine: &Routine, words: u32, t: u32) -> Result<(), AllocError>
     requires small { words ≤ MOST_WORDS }
     requires exact { words ≡ words_in (routine_of routine.now) }
     ensures { OnOk result (out.new ≡ out.old ++ input_code (routine_of routine.now) t) }
@@ -99,7 +98,7 @@ fn input(out: &mut Code, routine: &Routine, words: u32, t: u32) -> Result<(), Lo
 }
 
 /// The input's words of the program block, or the static link.
-fn head(out: &mut Code, routine: &Routine, words: u32, t: u32) -> Result<(), LowerRefusal>
+fn head(out: &mut Code, routine: &Routine, words: u32, t: u32) -> Result<(), AllocError>
     requires small { words ≤ MOST_WORDS }
     requires exact { words ≡ words_in (routine_of routine.now) }
     ensures { OnOk result (out.new ≡ out.old ++ head_code (routine_of routine.now) t) }
@@ -116,8 +115,10 @@ fn first_result(
     k: &Level,
     result_type: &Option<Ty>,
     t: u32,
-) -> Result<u32, LowerRefusal>
-    requires { t ≤ DEEPEST }
+) -> Result<u32, AllocError>
+    requires depth { t ≤ DEEPEST }
+    requires reach { result_weight (option_map type_of result_type.now) ≤ DEEPEST }
+    requires words { 4 * (1 + words_of_all (result_kinds (option_map type_of result_type.now))) ≤ DEEPEST }
     ensures code { OnOk result (out.new ≡ out.old ++ result_at (scope_of k.now) (option_map type_of result_type.now) t 1) }
     ensures next { IfOk result (λ next. next ≡ 1 + words_of_all (result_kinds (option_map type_of result_type.now))) }
 {
@@ -128,17 +129,12 @@ fn first_result(
 }
 
 /// What a routine does before its statements.
-fn begin(
-    out: &mut Code,
-    k: &Level,
-    routine: &Routine,
-    words: u32,
-    t: u32,
-) -> Result<(), LowerRefusal>
+fn begin(out: &mut Code, k: &Level, routine: &Routine, words: u32, t: u32) -> Result<(), AllocError>
     requires small { words ≤ MOST_WORDS }
     requires exact { words ≡ words_in (routine_of routine.now) }
     requires free { t ≤ DEEPEST }
     requires total { t ≡ parameter_total (routine_of routine.now) }
+    requires light { begin_weight (routine_of routine.now) ≤ DEEPEST }
     ensures { OnOk result (out.new ≡ out.old ++ begin_code (scope_of k.now) (routine_of routine.now)) }
 {
     head(out, routine, words, t)?;
@@ -148,7 +144,7 @@ fn begin(
 }
 
 /// The return of 0.
-fn give_nothing(out: &mut Code) -> Result<(), LowerRefusal>
+fn give_nothing(out: &mut Code) -> Result<(), AllocError>
     ensures { OnOk result (out.new ≡ out.old ++ i.Literal 0 (pos 0) ∷ i.Return 0 ∷ []) }
 {
     out.literal(0, 0)?;
@@ -156,7 +152,7 @@ fn give_nothing(out: &mut Code) -> Result<(), LowerRefusal>
 }
 
 /// The return of a result, which is the first entry.
-fn give_result(out: &mut Code) -> Result<(), LowerRefusal>
+fn give_result(out: &mut Code) -> Result<(), AllocError>
     ensures { OnOk result (out.new ≡ out.old ++ i.Load 0 base.Frame 4 ∷ i.Return 0 ∷ []) }
 {
     out.load(0, Base::Frame, 4)?;
@@ -164,7 +160,7 @@ fn give_result(out: &mut Code) -> Result<(), LowerRefusal>
 }
 
 /// The return of a function's result, or of 0.
-fn give_back(out: &mut Code, routine: &Routine) -> Result<(), LowerRefusal>
+fn give_back(out: &mut Code, routine: &Routine) -> Result<(), AllocError>
     ensures { OnOk result (out.new ≡ out.old ++ result_end (routine_of routine.now) (routine_of routine.now).result) }
 {
     match &routine.result {
@@ -174,7 +170,7 @@ fn give_back(out: &mut Code, routine: &Routine) -> Result<(), LowerRefusal>
 }
 
 /// The return of a routine, or the end of the program.
-fn finish(out: &mut Code, routine: &Routine) -> Result<(), LowerRefusal>
+fn finish(out: &mut Code, routine: &Routine) -> Result<(), AllocError>
     ensures { OnOk result (out.new ≡ out.old ++ end_code (routine_of routine.now)) }
 {
     if is_program_block(routine) {
@@ -184,17 +180,13 @@ fn finish(out: &mut Code, routine: &Routine) -> Result<(), LowerRefusal>
 }
 
 /// The code of a routine.
-fn block(
-    out: &mut Code,
-    k: &Level,
-    routine: &Routine,
-    words: u32,
-    t: u32,
-) -> Result<(), LowerRefusal>
+fn block(out: &mut Code, k: &Level, routine: &Routine, words: u32, t: u32) -> Result<(), AllocError>
     requires small { words ≤ MOST_WORDS }
     requires exact { words ≡ words_in (routine_of routine.now) }
     requires free { t ≤ DEEPEST }
     requires total { t ≡ parameter_total (routine_of routine.now) }
+    requires light { begin_weight (routine_of routine.now) ≤ DEEPEST }
+    requires body { statements_weight (scope_of k.now) (routine_of routine.now).body 0 ≤ DEEPEST }
     ensures { OnOk result (out.new ≡ out.old ++ (begin_code (scope_of k.now) (routine_of routine.now) ++ statements_code (scope_of k.now) (routine_of routine.now).body 0 ++ end_code (routine_of routine.now))) }
 {
     begin(out, k, routine, words, t)?;
@@ -209,11 +201,13 @@ fn body(
     routine: &Routine,
     words: u32,
     t: u32,
-) -> Result<Body, LowerRefusal>
+) -> Result<Body, AllocError>
     requires small { words ≤ MOST_WORDS }
     requires exact { words ≡ words_in (routine_of routine.now) }
     requires free { t ≤ DEEPEST }
     requires total { t ≡ parameter_total (routine_of routine.now) }
+    requires light { begin_weight (routine_of routine.now) ≤ DEEPEST }
+    requires body { statements_weight (scope_in (program_in checked.now) (routine_of routine.now)) (routine_of routine.now).body 0 ≤ DEEPEST }
     ensures { IfOk result (λ body. body ≡ routine_code (program_in checked.now) (routine_of routine.now)) }
 {
     let k = level(checked, routine);
@@ -227,14 +221,15 @@ pub fn tac_routine(
     alloc: Global,
     checked: &Frames,
     routine: &Routine,
-) -> Result<TacRoutine, LowerRefusal>
+) -> Result<TacRoutine, AllocError>
+    requires { routine_weight (program_in checked.now) (routine_of routine.now) ≤ 1000000000 }
     ensures { IfOk result (λ made. made ≡ tac_of (program_in checked.now) (routine_of routine.now)) }
 {
     let words = words_in(alloc, routine)?;
-    let parameters = parameter_total(routine)?;
+    let parameters = parameter_total(routine);
     let body = body(alloc, checked, routine, words, parameters)?;
-    let temporaries = larger(parameters, temporaries_in(body.as_slice()))?;
-    let scratch = narrow(scratch_in(body.as_slice()))?;
+    let temporaries = larger(parameters, temporaries_in(body.as_slice()));
+    let scratch = narrow(scratch_in(body.as_slice()));
     Ok(TacRoutine {
         parameters,
         temporaries,

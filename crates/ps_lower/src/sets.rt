@@ -1,6 +1,6 @@
 // Sets, each of which stands in the scratch block from a byte on, and what is made of them there.
 
-ghost use Rattle.std.specs.Prelude.{◌≡◌, ◌++◌, ◌+◌, ◌≤◌, ◌∷◌, [], pos, suc, OnOk, IfOk};
+ghost use Rattle.std.specs.Prelude.{◌≡◌, ◌++◌, ◌+◌, ◌≤◌, ◌∷◌, [], pos, suc, OnOk};
 ghost use Rattle.ps_code.specs.Scopes.{even_from, moved, helper, AddRange, IsIncluded, IsMember, run_time_number};
 ghost use Rattle.ps_code.specs.Values.{set_routine, holds_all, outside_bits, masked, joined_word, outside_code, set_check, included_code, same_sets_code, sets_code, range_members};
 ghost use Rattle.ps_lower.specs.Levels.{scope_of, site_of};
@@ -16,9 +16,9 @@ use crate::level::Level;
 use crate::out::Code;
 use crate::pieces::moved;
 use crate::places::address;
-use crate::refusal::LowerRefusal;
 use crate::site::Site;
 use ps_tree::tree::{SetOperator, SetRelation};
+use std::alloc::AllocError;
 use tac_code::code::{Base, BitOperator, Operand, Relation};
 
 const ADD_RANGE: u32 = 1;
@@ -34,22 +34,18 @@ const IS_INCLUDED: u32 = 5;
 const IS_MEMBER: u32 = 6;
 
 /// What lies behind the set from x on.
-pub fn above(x: u32) -> Result<u32, LowerRefusal>
-    ensures { IfOk result (λ n. n ≡ x + 32) }
+pub fn above(x: u32) -> u32
+    requires { x ≤ DEEPEST }
+    ensures { result ≡ x + 32 }
 {
-    let Some(end) = x.checked_add(32) else {
-        return Err(LowerRefusal::TooLarge);
-    };
-    Ok(end)
+    x + 32
 }
 
 /// No members in the set from x on.
-pub fn clear(out: &mut Code, t: u32, x: u32) -> Result<(), LowerRefusal>
+pub fn clear(out: &mut Code, t: u32, x: u32) -> Result<(), AllocError>
+    requires { x ≤ DEEPEST }
     ensures { OnOk result (out.new ≡ out.old ++ cleared_code t x) }
 {
-    if DEEPEST < x {
-        return Err(LowerRefusal::TooLarge);
-    }
     out.literal(t, 0)?;
     out.store(Base::Scratch, x, t)?;
     out.store(Base::Scratch, x + 4, t)?;
@@ -62,7 +58,7 @@ pub fn clear(out: &mut Code, t: u32, x: u32) -> Result<(), LowerRefusal>
 }
 
 /// The words of a set at a site, as the set from x on.
-pub fn copied_set(out: &mut Code, k: &Level, site: Site, d: u32, x: u32) -> Result<(), LowerRefusal>
+pub fn copied_set(out: &mut Code, k: &Level, site: Site, d: u32, x: u32) -> Result<(), AllocError>
     requires { d ≤ DEEPEST }
     ensures { OnOk result (out.new ≡ out.old ++ copied_code (scope_of k.now) (site_of site) (even_from (suc d)) x) }
 {
@@ -74,10 +70,11 @@ pub fn copied_set(out: &mut Code, k: &Level, site: Site, d: u32, x: u32) -> Resu
 }
 
 /// The addresses of the set from x on and of the one behind it.
-fn offsets(out: &mut Code, first: u32, second: u32, x: u32) -> Result<(), LowerRefusal>
+fn offsets(out: &mut Code, first: u32, second: u32, x: u32) -> Result<(), AllocError>
+    requires { x ≤ DEEPEST }
     ensures { OnOk result (out.new ≡ out.old ++ offsets_code first second x) }
 {
-    let behind = above(x)?;
+    let behind = above(x);
     out.offset(first, Base::Scratch, x, 32)?;
     out.offset(second, Base::Scratch, behind, 32)
 }
@@ -99,8 +96,9 @@ pub fn combined(
     operator: SetOperator,
     d: u32,
     x: u32,
-) -> Result<(), LowerRefusal>
-    requires { d ≤ DEEPEST }
+) -> Result<(), AllocError>
+    requires depth { d ≤ DEEPEST }
+    requires place { x ≤ DEEPEST }
     ensures { OnOk result (out.new ≡ out.old ++ combined_code (scope_of k.now) operator (even_from d) x) }
 {
     let t = even_from(d);
@@ -116,7 +114,7 @@ fn is_included(
     first: u32,
     second: u32,
     to: u32,
-) -> Result<(), LowerRefusal>
+) -> Result<(), AllocError>
     ensures { OnOk result (out.new ≡ out.old ++ helper (scope_of k.now) IsIncluded (first ∷ second ∷ []) to ∷ []) }
 {
     help(out, k, IS_INCLUDED, &[first, second], to)
@@ -130,7 +128,8 @@ fn included(
     second: u32,
     to: u32,
     x: u32,
-) -> Result<(), LowerRefusal>
+) -> Result<(), AllocError>
+    requires { x ≤ DEEPEST }
     ensures { OnOk result (out.new ≡ out.old ++ included_code (scope_of k.now) first second to x) }
 {
     offsets(out, first, second, x)?;
@@ -138,8 +137,9 @@ fn included(
 }
 
 /// Whether the set behind the one from x on lies in that one.
-fn includes(out: &mut Code, k: &Level, t: u32, x: u32) -> Result<(), LowerRefusal>
-    requires { t ≤ 4294960000 }
+fn includes(out: &mut Code, k: &Level, t: u32, x: u32) -> Result<(), AllocError>
+    requires depth { t ≤ 4294960000 }
+    requires place { x ≤ DEEPEST }
     ensures { OnOk result (out.new ≡ out.old ++ includes_code (scope_of k.now) t x) }
 {
     let second = beside(t);
@@ -148,8 +148,9 @@ fn includes(out: &mut Code, k: &Level, t: u32, x: u32) -> Result<(), LowerRefusa
 }
 
 /// Whether the set from x on is the one behind it.
-fn same_sets(out: &mut Code, k: &Level, t: u32, x: u32) -> Result<(), LowerRefusal>
-    requires { t ≤ 4294960000 }
+fn same_sets(out: &mut Code, k: &Level, t: u32, x: u32) -> Result<(), AllocError>
+    requires depth { t ≤ 4294960000 }
+    requires place { x ≤ DEEPEST }
     ensures { OnOk result (out.new ≡ out.old ++ same_sets_code (scope_of k.now) t x) }
 {
     let both = next(t);
@@ -158,8 +159,9 @@ fn same_sets(out: &mut Code, k: &Level, t: u32, x: u32) -> Result<(), LowerRefus
     out.bits(BitOperator::And, t, t, Operand::Temporary(both))
 }
 
-fn other_sets(out: &mut Code, k: &Level, t: u32, x: u32) -> Result<(), LowerRefusal>
-    requires { t ≤ 4294960000 }
+fn other_sets(out: &mut Code, k: &Level, t: u32, x: u32) -> Result<(), AllocError>
+    requires depth { t ≤ 4294960000 }
+    requires place { x ≤ DEEPEST }
     ensures { OnOk result (out.new ≡ out.old ++ (same_sets_code (scope_of k.now) t x ++ i.Compare Equal t t (operand.Number (pos 0)) ∷ [])) }
 {
     same_sets(out, k, t, x)?;
@@ -167,14 +169,9 @@ fn other_sets(out: &mut Code, k: &Level, t: u32, x: u32) -> Result<(), LowerRefu
 }
 
 /// The truth of a relation between the set from x on and the one behind it.
-fn truth(
-    out: &mut Code,
-    k: &Level,
-    relation: SetRelation,
-    t: u32,
-    x: u32,
-) -> Result<(), LowerRefusal>
-    requires { t ≤ 4294960000 }
+fn truth(out: &mut Code, k: &Level, relation: SetRelation, t: u32, x: u32) -> Result<(), AllocError>
+    requires depth { t ≤ 4294960000 }
+    requires place { x ≤ DEEPEST }
     ensures { OnOk result (out.new ≡ out.old ++ sets_code (scope_of k.now) relation t x) }
 {
     match relation {
@@ -193,8 +190,9 @@ pub fn compare_sets(
     t: u32,
     x: u32,
     d: u32,
-) -> Result<(), LowerRefusal>
-    requires { t ≤ 4294960000 }
+) -> Result<(), AllocError>
+    requires depth { t ≤ 4294960000 }
+    requires place { x ≤ DEEPEST }
     ensures { OnOk result (out.new ≡ out.old ++ (sets_code (scope_of k.now) relation t x ++ moved t d)) }
 {
     truth(out, k, relation, t, x)?;
@@ -209,7 +207,7 @@ pub fn is_member(
     t: u32,
     x: u32,
     to: u32,
-) -> Result<(), LowerRefusal>
+) -> Result<(), AllocError>
     ensures { OnOk result (out.new ≡ out.old ++ i.Offset t base.Scratch x 32 ∷ helper (scope_of k.now) IsMember (member ∷ t ∷ []) to ∷ []) }
 {
     out.offset(t, Base::Scratch, x, 32)?;
@@ -224,7 +222,7 @@ fn add_range(
     first: u32,
     last: u32,
     to: u32,
-) -> Result<(), LowerRefusal>
+) -> Result<(), AllocError>
     ensures { OnOk result (out.new ≡ out.old ++ helper (scope_of k.now) AddRange (set ∷ first ∷ last ∷ []) to ∷ []) }
 {
     help(out, k, ADD_RANGE, &[set, first, last], to)
@@ -237,7 +235,7 @@ pub fn add_member(
     member: u32,
     x: u32,
     line: u16,
-) -> Result<(), LowerRefusal>
+) -> Result<(), AllocError>
     requires { member ≤ 4294960000 }
     ensures { OnOk result (out.new ≡ out.old ++ one_member (scope_of k.now) member x line) }
 {
@@ -255,7 +253,7 @@ pub fn add_members(
     last: u32,
     x: u32,
     line: u16,
-) -> Result<(), LowerRefusal>
+) -> Result<(), AllocError>
     requires { last ≤ 4294960000 }
     ensures { OnOk result (out.new ≡ out.old ++ range_members (scope_of k.now) first last x line) }
 {
@@ -311,7 +309,7 @@ fn outside_bits(low: &i32, high: &i32, word: u32) -> u32
 }
 
 /// Some bits of a word.
-fn masked(out: &mut Code, t: u32, mask: u32) -> Result<(), LowerRefusal>
+fn masked(out: &mut Code, t: u32, mask: u32) -> Result<(), AllocError>
     ensures { OnOk result (out.new ≡ out.old ++ masked t mask) }
 {
     if mask == u32::MAX {
@@ -321,7 +319,7 @@ fn masked(out: &mut Code, t: u32, mask: u32) -> Result<(), LowerRefusal>
 }
 
 /// Those bits of the word at x of the scratch block join what t holds.
-fn joined_word(out: &mut Code, t: u32, x: u32, mask: u32) -> Result<(), LowerRefusal>
+fn joined_word(out: &mut Code, t: u32, x: u32, mask: u32) -> Result<(), AllocError>
     requires { t ≤ 4294960000 }
     ensures { OnOk result (out.new ≡ out.old ++ joined_word t x mask) }
 {
@@ -335,7 +333,7 @@ fn joined_word(out: &mut Code, t: u32, x: u32, mask: u32) -> Result<(), LowerRef
 }
 
 /// What the set from x on holds outside of the bounds of a base.
-fn outside(out: &mut Code, low: &i32, high: &i32, t: u32, x: u32) -> Result<(), LowerRefusal>
+fn outside(out: &mut Code, low: &i32, high: &i32, t: u32, x: u32) -> Result<(), AllocError>
     requires depth { t ≤ 4294960000 }
     requires place { x ≤ DEEPEST }
     ensures { OnOk result (out.new ≡ out.old ++ outside_code low.now high.now t x 8) }
@@ -354,15 +352,13 @@ pub fn check_set(
     low: &i32,
     high: &i32,
     line: u16,
-) -> Result<(), LowerRefusal>
-    requires { t ≤ 4294960000 }
+) -> Result<(), AllocError>
+    requires depth { t ≤ 4294960000 }
+    requires place { x ≤ DEEPEST }
     ensures { OnOk result (out.new ≡ out.old ++ set_check t x low.now high.now line) }
 {
     if holds_all(low, high) {
         return Ok(());
-    }
-    if DEEPEST < x {
-        return Err(LowerRefusal::TooLarge);
     }
     out.literal(t, 0)?;
     outside(out, low, high, t, x)?;
@@ -378,8 +374,9 @@ pub fn hand_set(
     low: &i32,
     high: &i32,
     line: u16,
-) -> Result<(), LowerRefusal>
-    requires { t ≤ 4294950000 }
+) -> Result<(), AllocError>
+    requires depth { t ≤ 4294950000 }
+    requires place { x ≤ DEEPEST }
     ensures { OnOk result (out.new ≡ out.old ++ (set_check (even_from t) x low.now high.now line ++ i.Offset t base.Scratch x 32 ∷ [])) }
 {
     check_set(out, even_from(t), x, low, high, line)?;
@@ -387,7 +384,7 @@ pub fn hand_set(
 }
 
 /// The set at the beginning of the scratch block goes to a site.
-pub fn keep_set(out: &mut Code, k: &Level, site: Site, t: u32) -> Result<(), LowerRefusal>
+pub fn keep_set(out: &mut Code, k: &Level, site: Site, t: u32) -> Result<(), AllocError>
     requires { t ≤ 4294960000 }
     ensures { OnOk result (out.new ≡ out.old ++ kept_code (scope_of k.now) (site_of site) t) }
 {

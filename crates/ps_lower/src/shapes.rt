@@ -1,26 +1,23 @@
 // How the variables of a type lie in memory.
 
-ghost use Rattle.std.specs.Prelude.{◌≡◌, ◌*◌, IfOk};
+ghost use Rattle.std.specs.Prelude.{◌≡◌, ◌≤◌};
 ghost use Rattle.ps_code.specs.Values.{literal_of, steps_before, known_steps, is_byte_array};
-ghost use Rattle.ps_layout.specs.Shapes.{shape_of, shapes_of, byte_count, component_bytes, words_before, field_offset};
+ghost use Rattle.ps_layout.specs.Shapes.{shape_of, byte_count, component_bytes, field_offset};
 ghost use Rattle.ps_meaning.specs.Expressions.{index_of};
+ghost use Rattle.ps_bounds.specs.Weights.{steps_reach};
 ghost use Rattle.ps_tree.specs.Sizes.{fits_byte};
-ghost use Rattle.ps_tree.specs.View.{type_of, types_of, expr_of};
+ghost use Rattle.ps_tree.specs.View.{type_of, expr_of};
 
 use crate::known::{is_between, literal};
-use crate::refusal::LowerRefusal;
 use ps_tree::tree::Expr;
 use ps_tree::types::{Host, Ordinal, Ty};
 
 /// The bytes of a variable.
-pub fn byte_count(ty: &Ty) -> Result<u32, LowerRefusal>
-    ensures { IfOk result (λ n. n ≡ byte_count (shape_of (type_of ty.now))) }
+pub fn byte_count(ty: &Ty) -> u32
+    requires { byte_count (shape_of (type_of ty.now)) ≤ 2147483647 }
+    ensures { result ≡ byte_count (shape_of (type_of ty.now)) }
 {
-    let bytes = ty.bytes();
-    if bytes == u32::MAX {
-        return Err(LowerRefusal::TooLarge);
-    }
-    Ok(bytes)
+    ty.bytes()
 }
 
 /// Whether all values of a type lie in 0..255.
@@ -52,23 +49,24 @@ pub fn is_byte_array(ty: &Ty) -> bool
 
 /// The bytes that each component of an array takes.
 #[tactic(auto, unfolding(ps_tree::specs::TypeView::type_of))]
-pub fn component_bytes(ty: &Ty) -> Result<u32, LowerRefusal>
-    ensures { IfOk result (λ n. n ≡ component_bytes (shape_of (type_of ty.now))) }
+pub fn component_bytes(ty: &Ty) -> u32
+    requires { component_bytes (shape_of (type_of ty.now)) ≤ 2147483647 }
+    ensures { result ≡ component_bytes (shape_of (type_of ty.now)) }
 {
     match ty {
-        Ty::Text { .. } => Ok(1),
+        Ty::Text { .. } => 1,
         Ty::Array {
             packed,
             component,
             ..
         } => {
             if *packed && fits_byte(component.ty()) {
-                Ok(1)
+                1
             } else {
                 byte_count(component.ty())
             }
         }
-        _ => Ok(0),
+        _ => 0,
     }
 }
 
@@ -89,56 +87,38 @@ pub fn index_of(ty: &Ty) -> Ordinal
 }
 
 /// The bytes before a component whose index is known and lies in its range.
-fn steps_before(ty: &Ty, index: i32) -> Result<Option<u32>, LowerRefusal>
-    ensures { IfOk result (λ steps. steps ≡ steps_before (type_of ty.now) index) }
+fn steps_before(ty: &Ty, index: i32) -> Option<u32>
+    requires width { component_bytes (shape_of (type_of ty.now)) ≤ 2147483647 }
+    requires reach { steps_reach (steps_before (type_of ty.now) index) ≤ 2147483647 }
+    ensures { result ≡ steps_before (type_of ty.now) index }
 {
     let range = index_of(ty);
     if !is_between(range.low, index, range.high) {
-        return Ok(None);
+        return None;
     }
-    let width = component_bytes(ty)?;
-    let Some(bytes) = index.abs_diff(range.low).checked_mul(width) else {
-        return Err(LowerRefusal::TooLarge);
-    };
-    Ok(Some(bytes))
+    Some(index.abs_diff(range.low) * component_bytes(ty))
 }
 
 /// The same of an index that may not be known.
-pub fn known_steps(ty: &Ty, index: &Expr) -> Result<Option<u32>, LowerRefusal>
-    ensures { IfOk result (λ steps. steps ≡ known_steps (type_of ty.now) (literal_of (expr_of index.now))) }
+pub fn known_steps(ty: &Ty, index: &Expr) -> Option<u32>
+    requires width { component_bytes (shape_of (type_of ty.now)) ≤ 2147483647 }
+    requires reach { steps_reach (known_steps (type_of ty.now) (literal_of (expr_of index.now))) ≤ 2147483647 }
+    ensures { result ≡ known_steps (type_of ty.now) (literal_of (expr_of index.now)) }
 {
     match literal(index) {
-        None => Ok(None),
+        None => None,
         Some(number) => steps_before(ty, number),
     }
 }
 
-/// The bytes of so many of these variables that stand one behind another, the first of them first.
-fn bytes_before(types: &[Ty], number: u32) -> Result<u32, LowerRefusal>
-    ensures { IfOk result (λ n. n ≡ 4 * words_before (shapes_of (types_of types.now)) number) }
-{
-    let mut left = number;
-    let mut total: u32 = 0;
-    for ty in types {
-        if left == 0 {
-            return Ok(total);
-        }
-        left -= 1;
-        let Some(sum) = total.checked_add(byte_count(ty)?) else {
-            return Err(LowerRefusal::TooLarge);
-        };
-        total = sum;
-    }
-    Ok(total)
-}
-
 /// Where a field of a record begins, in bytes.
-#[tactic(auto, unfolding(ps_tree::specs::TypeView::type_of))]
-pub fn field_offset(ty: &Ty, number: u32) -> Result<u32, LowerRefusal>
-    ensures { IfOk result (λ n. n ≡ field_offset (shape_of (type_of ty.now)) number) }
+#[tactic(auto, using(crate::proofs::Shaped::offset_told), unfolding(ps_tree::specs::TypeView::type_of))]
+pub fn field_offset(ty: &Ty, number: u32) -> u32
+    requires { field_offset (shape_of (type_of ty.now)) number ≤ 2147483647 }
+    ensures { result ≡ field_offset (shape_of (type_of ty.now)) number }
 {
     match ty {
-        Ty::Record { fields, .. } => bytes_before(fields.types(), number),
-        _ => Ok(0),
+        Ty::Record { fields, .. } => fields.offset(number),
+        _ => 0,
     }
 }

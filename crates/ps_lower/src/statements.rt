@@ -1,6 +1,7 @@
 // The code of statements. The scratch block holds nothing from one to the next.
 
-ghost use Rattle.std.specs.Prelude.{◌≡◌, ◌++◌, ◌≤◌, ◌∷◌, [], length, map, OnOk, IfOk};
+ghost use Rattle.std.specs.Prelude.{◌≡◌, ◌++◌, ◌+◌, ◌≤◌, ◌∷◌, [], length, map, OnOk, IfOk};
+ghost use Rattle.ps_bounds.specs.Weights.{statement_weight, statements_weight, elements_weight};
 ghost use Rattle.ps_code.specs.Statements.{statement_code, statements_code};
 ghost use Rattle.ps_lower.specs.Cases.{element_code, open_elements, ends_from};
 ghost use Rattle.ps_lower.specs.Levels.{scope_of, then_code};
@@ -21,20 +22,19 @@ use crate::out::Code;
 use crate::packing::{pack, unpack};
 use crate::procedures::{call_formal_procedure, call_procedure};
 use crate::reads::{readln, reads};
-use crate::refusal::LowerRefusal;
 use crate::turns::{Control, control_of, end_turn, open_turns, past_relation, turns_of};
 use crate::values::{front, value};
 use crate::writes::{writeln, writes};
 use ps_tree::tree::{CaseElement, Expr, Place, Statement};
+use std::alloc::AllocError;
 
 /// The code of a statement.
 #[cycle(statements)]
-pub fn statement(out: &mut Code, k: &Level, action: &Statement, d: u32) -> Result<(), LowerRefusal>
+#[tactic(auto, unfolding(ps_tree::specs::View::statement_of))]
+pub fn statement(out: &mut Code, k: &Level, action: &Statement, d: u32) -> Result<(), AllocError>
+    requires { d + statement_weight (scope_of k.now) (statement_of action.now) d ≤ DEEPEST }
     ensures { OnOk result (out.new ≡ out.old ++ statement_code (scope_of k.now) (statement_of action.now) d) }
 {
-    if DEEPEST < d {
-        return Err(LowerRefusal::TooLarge);
-    }
     match action {
         Statement::Empty => Ok(()),
         Statement::Assign {
@@ -134,7 +134,8 @@ pub fn statements(
     k: &Level,
     statements: &[Statement],
     d: u32,
-) -> Result<(), LowerRefusal>
+) -> Result<(), AllocError>
+    requires { d + statements_weight (scope_of k.now) (statements_of statements.now) d ≤ DEEPEST }
     ensures { OnOk result (out.new ≡ out.old ++ statements_code (scope_of k.now) (statements_of statements.now) d) }
 {
     for one in statements {
@@ -150,8 +151,8 @@ fn act_if(
     body: &Statement,
     condition: &Expr,
     d: u32,
-) -> Result<(), LowerRefusal>
-    requires { d ≤ DEEPEST }
+) -> Result<(), AllocError>
+    requires { d + statement_weight (scope_of k.now) (tree.If (expr_of condition.now) (statement_of body.now)) d ≤ DEEPEST }
     ensures { OnOk result (out.new ≡ out.old ++ statement_code (scope_of k.now) (tree.If (expr_of condition.now) (statement_of body.now)) d) }
 {
     front(out, k, condition, d, 0)?;
@@ -175,8 +176,8 @@ fn then_part(
     body: &Statement,
     condition: &Expr,
     d: u32,
-) -> Result<usize, LowerRefusal>
-    requires { d ≤ DEEPEST }
+) -> Result<usize, AllocError>
+    requires { d + statement_weight (scope_of k.now) (tree.If (expr_of condition.now) (statement_of body.now)) d ≤ DEEPEST }
     ensures code { OnOk result (out.new ≡ (out.old ++ then_code (scope_of k.now) (expr_of condition.now) (statement_of body.now) d) ++ i.End ∷ []) }
     ensures place { IfOk result (λ place. place ≡ length (out.old ++ then_code (scope_of k.now) (expr_of condition.now) (statement_of body.now) d)) }
 {
@@ -201,8 +202,8 @@ fn act_while(
     body: &Statement,
     condition: &Expr,
     d: u32,
-) -> Result<(), LowerRefusal>
-    requires { d ≤ DEEPEST }
+) -> Result<(), AllocError>
+    requires { d + statement_weight (scope_of k.now) (tree.While (expr_of condition.now) (statement_of body.now)) d ≤ DEEPEST }
     ensures { OnOk result (out.new ≡ out.old ++ statement_code (scope_of k.now) (tree.While (expr_of condition.now) (statement_of body.now)) d) }
 {
     let to_test = out.room()?;
@@ -226,8 +227,8 @@ fn act_repeat(
     body: &[Statement],
     condition: &Expr,
     d: u32,
-) -> Result<(), LowerRefusal>
-    requires { d ≤ DEEPEST }
+) -> Result<(), AllocError>
+    requires { d + statement_weight (scope_of k.now) (tree.Repeat (statements_of body.now) (expr_of condition.now)) d ≤ DEEPEST }
     ensures { OnOk result (out.new ≡ out.old ++ statement_code (scope_of k.now) (tree.Repeat (statements_of body.now) (expr_of condition.now)) d) }
 {
     let begin = out.place();
@@ -251,8 +252,8 @@ fn act_for(
     from: &Expr,
     to: &Expr,
     d: u32,
-) -> Result<(), LowerRefusal>
-    requires { d ≤ DEEPEST }
+) -> Result<(), AllocError>
+    requires { d + statement_weight (scope_of k.now) (tree.For control.variable control.low control.high (expr_of from.now) control.from_line control.direction (expr_of to.now) control.to_line (statement_of body.now)) d ≤ DEEPEST }
     ensures { OnOk result (out.new ≡ out.old ++ statement_code (scope_of k.now) (tree.For control.variable control.low control.high (expr_of from.now) control.from_line control.direction (expr_of to.now) control.to_line (statement_of body.now)) d) }
 {
     let turns = turns_of(k, control.variable, to, statement_calls(body), d);
@@ -271,8 +272,8 @@ fn act_element(
     k: &Level,
     element: &CaseElement,
     d: u32,
-) -> Result<usize, LowerRefusal>
-    requires { d ≤ DEEPEST }
+) -> Result<usize, AllocError>
+    requires { d + statement_weight (scope_of k.now) (statement_of (out-CaseElement element.now).body) d ≤ DEEPEST }
     ensures code { OnOk result (out.new ≡ (out.old ++ element_code (scope_of k.now) (out-CaseElement element.now).constants.items (statement_of (out-CaseElement element.now).body) d) ++ i.End ∷ []) }
     ensures place { IfOk result (λ place. place ≡ length (out.old ++ element_code (scope_of k.now) (out-CaseElement element.now).constants.items (statement_of (out-CaseElement element.now).body) d)) }
 {
@@ -290,8 +291,8 @@ fn act_elements(
     k: &Level,
     elements: &[CaseElement],
     d: u32,
-) -> Result<Vec<usize>, LowerRefusal>
-    requires { d ≤ DEEPEST }
+) -> Result<Vec<usize>, AllocError>
+    requires { d + elements_weight (scope_of k.now) (elements_of elements.now) d ≤ DEEPEST }
     ensures code { OnOk result (out.new ≡ out.old ++ open_elements (scope_of k.now) (elements_of elements.now) d) }
     ensures ends { IfOk result (λ ends. ends.items ≡ ends_from (scope_of k.now) (elements_of elements.now) d (length out.old)) }
 {
@@ -311,8 +312,8 @@ fn act_case(
     index: &Expr,
     line: u16,
     d: u32,
-) -> Result<(), LowerRefusal>
-    requires { d ≤ DEEPEST }
+) -> Result<(), AllocError>
+    requires { d + statement_weight (scope_of k.now) (tree.Case (expr_of index.now) (elements_of elements.now) line) d ≤ DEEPEST }
     ensures { OnOk result (out.new ≡ out.old ++ statement_code (scope_of k.now) (tree.Case (expr_of index.now) (elements_of elements.now) line) d) }
 {
     value(out, k, index, d, 0)?;
@@ -330,7 +331,8 @@ fn act_with(
     body: &Statement,
     places: &[Place],
     d: u32,
-) -> Result<(), LowerRefusal>
+) -> Result<(), AllocError>
+    requires { d + statement_weight (scope_of k.now) (tree.With (map place_of places.now) (statement_of body.now)) d ≤ DEEPEST }
     ensures { OnOk result (out.new ≡ out.old ++ statement_code (scope_of k.now) (tree.With (map place_of places.now) (statement_of body.now)) d) }
 {
     let calls = with_calls(body, places);

@@ -11,16 +11,15 @@ ghost use Rattle.ps_tree.specs.View.{type_of, structure_of};
 ghost use Rattle.tac_code.specs.declared.code.Instruction.TheVariants as i;
 
 use crate::out::Code;
-use crate::refusal::LowerRefusal;
 use crate::shapes::byte_count;
 use ps_tree::tree::Structure;
 use ps_tree::types::Ty;
-use std::alloc::Global;
+use std::alloc::{AllocError, Global};
 use tac_code::code::{Operand, Relation};
 
 /// Characters with zeros behind them, up to whole words.
 #[tactic(auto, using(crate::proofs::Strings::filled_is))]
-fn filled(alloc: Global, characters: &[u8]) -> Result<Vec<u8>, LowerRefusal>
+fn filled(alloc: Global, characters: &[u8]) -> Result<Vec<u8>, AllocError>
     ensures { IfOk result (λ bytes. bytes.items ≡ filled characters.now) }
 {
     let mut bytes = Vec::from_slice(alloc, characters)?;
@@ -30,7 +29,7 @@ fn filled(alloc: Global, characters: &[u8]) -> Result<Vec<u8>, LowerRefusal>
 }
 
 /// The address of a string.
-pub fn text(out: &mut Code, characters: &[u8], d: u32) -> Result<(), LowerRefusal>
+pub fn text(out: &mut Code, characters: &[u8], d: u32) -> Result<(), AllocError>
     ensures { OnOk result (out.new ≡ out.old ++ i.Text d (filled characters.now) ∷ []) }
 {
     let bytes = filled(out.alloc(), characters)?;
@@ -38,52 +37,38 @@ pub fn text(out: &mut Code, characters: &[u8], d: u32) -> Result<(), LowerRefusa
 }
 
 /// The number of characters of the strings of a type.
-fn contents_length(ty: &Ty) -> Result<u32, LowerRefusal>
-    ensures value { (p : Place) → IfOk result (λ n. n ≡ text_length (tree.Contents p (type_of ty.now))) }
-    ensures small { IfOk result (λ n. n ≤ 2147483647) }
+fn contents_length(ty: &Ty) -> u32
+    ensures { (p : Place) → result ≡ text_length (tree.Contents p (type_of ty.now)) }
 {
-    let length = ty.string_length().unwrap_or(0);
-    if 0x7FFF_FFFF < length {
-        return Err(LowerRefusal::TooLarge);
-    }
-    Ok(length)
+    ty.string_length().unwrap_or(0)
 }
 
 /// The number of a string's characters.
 #[tactic(auto, using(ps_tree::proofs::TreeLemmas::structure_of_Contents), unfolding(ps_tree::specs::View::structure_of))]
-pub fn text_length(e: &Structure) -> Result<u32, LowerRefusal>
-    ensures value { IfOk result (λ n. n ≡ text_length (structure_of e.now)) }
-    ensures small { IfOk result (λ n. n ≤ 2147483647) }
+pub fn text_length(e: &Structure) -> u32
+    requires { text_length (structure_of e.now) ≤ 2147483647 }
+    ensures { result ≡ text_length (structure_of e.now) }
 {
     match e {
-        Structure::Literal(characters) => match i32::try_from(characters.len()) {
-            Ok(length) => Ok(length as u32),
-            Err(_) => Err(LowerRefusal::TooLarge),
-        },
+        Structure::Literal(characters) => characters.len() as u32,
         Structure::Contents { ty, .. } => contents_length(ty),
     }
 }
 
 /// The bytes of so many characters, filled up to whole words.
-fn filled_length(length: usize) -> Result<u32, LowerRefusal>
-    ensures { IfOk result (λ n. n ≡ 4 * ((length + 3) / 4)) }
+fn filled_length(length: usize) -> u32
+    requires { 4 * ((length + 3) / 4) ≤ 2147483647 }
+    ensures { result ≡ 4 * ((length + 3) / 4) }
 {
-    let Some(above) = length.checked_add(3) else {
-        return Err(LowerRefusal::TooLarge);
-    };
-    let Ok(words) = u32::try_from(above / 4) else {
-        return Err(LowerRefusal::TooLarge);
-    };
-    let Some(bytes) = words.checked_mul(4) else {
-        return Err(LowerRefusal::TooLarge);
-    };
-    Ok(bytes)
+    let words = (length + 3) / 4;
+    4 * words as u32
 }
 
 /// The bytes of a structure's words.
 #[tactic(auto, using(ps_tree::proofs::TreeLemmas::structure_of_Contents, crate::proofs::Strings::filled_length), unfolding(ps_tree::specs::View::structure_of))]
-pub fn structure_bytes(e: &Structure) -> Result<u32, LowerRefusal>
-    ensures { IfOk result (λ n. n ≡ structure_bytes (structure_of e.now)) }
+pub fn structure_bytes(e: &Structure) -> u32
+    requires { structure_bytes (structure_of e.now) ≤ 2147483647 }
+    ensures { result ≡ structure_bytes (structure_of e.now) }
 {
     match e {
         Structure::Literal(characters) => filled_length(characters.len()),
@@ -92,7 +77,7 @@ pub fn structure_bytes(e: &Structure) -> Result<u32, LowerRefusal>
 }
 
 /// A number from 0 on.
-pub fn count(out: &mut Code, n: u32, d: u32) -> Result<(), LowerRefusal>
+pub fn count(out: &mut Code, n: u32, d: u32) -> Result<(), AllocError>
     requires { n ≤ 2147483647 }
     ensures { OnOk result (out.new ≡ out.old ++ i.Literal d (pos n) ∷ []) }
 {
@@ -100,7 +85,7 @@ pub fn count(out: &mut Code, n: u32, d: u32) -> Result<(), LowerRefusal>
 }
 
 /// The address and the length of the string that tells a truth value.
-pub fn truth_text(out: &mut Code, truth: u32, to: u32, count: u32) -> Result<(), LowerRefusal>
+pub fn truth_text(out: &mut Code, truth: u32, to: u32, count: u32) -> Result<(), AllocError>
     ensures { (k : Scope) → OnOk result (out.new ≡ out.old ++ truth_text k truth to count) }
 {
     out.branch(Relation::Equal, truth, Operand::Number(0), 3)?;

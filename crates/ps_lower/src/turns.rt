@@ -1,6 +1,7 @@
 // The turns of `for` statements.
 
 ghost use Rattle.std.specs.Prelude.{◌≡◌, ◌++◌, ◌+◌, ◌-◌, ◌≤◌, ◌∷◌, [], length, Bool, OnOk, IfOk};
+ghost use Rattle.ps_bounds.specs.Weights.{expr_weight};
 ghost use Rattle.ps_code.specs.Scopes.{check_code, operand_check};
 ghost use Rattle.ps_code.specs.Statements.{past_relation, step_number};
 ghost use Rattle.ps_lower.specs.Levels.{scope_of};
@@ -17,9 +18,9 @@ use crate::known::{literal, operand};
 use crate::level::Level;
 use crate::out::Code;
 use crate::pieces::{check, operand_check};
-use crate::refusal::LowerRefusal;
 use crate::values::{unless_known, value};
 use ps_tree::tree::{Direction, Expr};
+use std::alloc::AllocError;
 use tac_code::code::{Base, BitOperator, Operand, Relation};
 
 /// The control variable of a `for` statement: its entry, its values, and its direction; and the lines of both bounds.
@@ -95,7 +96,10 @@ pub fn control_of(
 /// Where a loop keeps what it needs, whose body calls or not.
 pub fn turns_of(k: &Level, variable: u32, to: &Expr, calls: bool, d: u32) -> Turns
     requires { d ≤ DEEPEST }
-    ensures { result ≡ turns_of (scope_of k.now) variable (expr_of to.now) calls d }
+    ensures value { result ≡ turns_of (scope_of k.now) variable (expr_of to.now) calls d }
+    ensures first { result.first ≤ d + 1 }
+    ensures last { result.last ≤ d + 3 }
+    ensures depth { result.depth ≤ d + 4 }
 {
     let offset = own_entry(k, variable).offset;
     let known = literal(to);
@@ -113,13 +117,9 @@ pub fn turns_of(k: &Level, variable: u32, to: &Expr, calls: bool, d: u32) -> Tur
 }
 
 /// The values of both bounds.
-fn bounds(
-    out: &mut Code,
-    k: &Level,
-    from: &Expr,
-    to: &Expr,
-    turns: Turns,
-) -> Result<(), LowerRefusal>
+fn bounds(out: &mut Code, k: &Level, from: &Expr, to: &Expr, turns: Turns) -> Result<(), AllocError>
+    requires first { turns.first + expr_weight (scope_of k.now) (expr_of from.now) ≤ DEEPEST }
+    requires last { turns.last + expr_weight (scope_of k.now) (expr_of to.now) ≤ DEEPEST }
     ensures { OnOk result (out.new ≡ out.old ++ bounds_code (scope_of k.now) (expr_of from.now) (expr_of to.now) turns) }
 {
     value(out, k, from, turns.first, 0)?;
@@ -133,7 +133,7 @@ fn checks(
     from: &Expr,
     to: &Expr,
     turns: Turns,
-) -> Result<(), LowerRefusal>
+) -> Result<(), AllocError>
     ensures { OnOk result (out.new ≡ out.old ++ checks_code control (expr_of from.now) (expr_of to.now) turns) }
 {
     let (low, high) = (control.low, control.high);
@@ -150,7 +150,7 @@ fn checks(
 }
 
 /// The variable's first value, the way past the step into the first turn, and the step, which begins at the place that is answered.
-fn first_turn(out: &mut Code, direction: Direction, turns: Turns) -> Result<usize, LowerRefusal>
+fn first_turn(out: &mut Code, direction: Direction, turns: Turns) -> Result<usize, AllocError>
     ensures code { OnOk result (out.new ≡ out.old ++ first_turn_code direction turns) }
     ensures place { IfOk result (λ begin. begin ≡ length out.old + 2) }
 {
@@ -176,7 +176,9 @@ pub fn open_turns(
     from: &Expr,
     to: &Expr,
     turns: Turns,
-) -> Result<Places, LowerRefusal>
+) -> Result<Places, AllocError>
+    requires first { turns.first + expr_weight (scope_of k.now) (expr_of from.now) ≤ DEEPEST }
+    requires last { turns.last + expr_weight (scope_of k.now) (expr_of to.now) ≤ DEEPEST }
     ensures code { OnOk result (out.new ≡ (out.old ++ bounds_code (scope_of k.now) (expr_of from.now) (expr_of to.now) turns) ++ i.End ∷ opening_code control (expr_of from.now) (expr_of to.now) turns) }
     ensures past { IfOk result (λ places. places.past ≡ length (out.old ++ bounds_code (scope_of k.now) (expr_of from.now) (expr_of to.now) turns)) }
     ensures begin { IfOk result (λ places. places.begin + 2 ≡ length out.new) }
@@ -189,7 +191,7 @@ pub fn open_turns(
 }
 
 /// The end of a turn: back to the step at a place, unless the variable has its last value.
-pub fn end_turn(out: &mut Code, turns: Turns, begin: usize) -> Result<(), LowerRefusal>
+pub fn end_turn(out: &mut Code, turns: Turns, begin: usize) -> Result<(), AllocError>
     ensures { OnOk result (out.new ≡ out.old ++ (i.Load turns.step base.Frame turns.offset ∷ i.BranchBack NotEqual turns.step turns.limit ((length out.old + 1) - begin) ∷ [])) }
 {
     out.load(turns.step, Base::Frame, turns.offset)?;

@@ -1,9 +1,11 @@
 // The code of expressions and of variables, whose indices are expressions. Code at depth d leaves its word in temporary d
 // and writes no temporary below.
 
-ghost use Rattle.std.specs.Prelude.{◌≡◌, ◌++◌, ◌≤◌, suc, OnOk, IfOk};
+ghost use Rattle.std.specs.Prelude.{◌≡◌, ◌++◌, ◌+◌, ◌≤◌, suc, OnOk, IfOk};
+ghost use Rattle.ps_bounds.specs.Weights.{steps_reach, selectors_reach, place_weight, selectors_weight, expr_weight, steps_weight, operands_weight, set_weight, set_steps_weight, member_weight, members_weight, structure_weight, argument_weight, arguments_weight};
 ghost use Rattle.ps_code.specs.Scopes.{even_from, unless_known};
-ghost use Rattle.ps_code.specs.Values.{literal_of, negated, minus_code, front_code, steps_code, operands_code, place_code, place_site, selectors_code, selectors_site, structure_code, argument_code, arguments_code, set_code, set_steps_code, members_code, member_code};
+ghost use Rattle.ps_layout.specs.Shapes.{shape_of, component_bytes};
+ghost use Rattle.ps_code.specs.Values.{literal_of, negated, known_steps, minus_code, front_code, steps_code, operands_code, place_code, place_site, selectors_code, selectors_site, structure_code, argument_code, arguments_code, set_code, set_steps_code, members_code, member_code};
 ghost use Rattle.ps_code.specs.Statements.{expr_code};
 ghost use Rattle.ps_lower.specs.Levels.{scope_of, site_of};
 ghost use Rattle.ps_lower.specs.Sites.{selector_code, selector_site};
@@ -23,7 +25,6 @@ use crate::levels::formal;
 use crate::out::Code;
 use crate::pieces::{finish, fitting, function, moved, number, truth_finish};
 use crate::places::{address, behind, fetch, indexed, is_byte, name, place_temporary, pointed};
-use crate::refusal::LowerRefusal;
 use crate::sets::{
     above, add_member, add_members, clear, combined, compare_sets, copied_set, hand_set, is_member,
 };
@@ -35,16 +36,16 @@ use ps_tree::tree::{
     Structure,
 };
 use ps_tree::types::Ty;
+use std::alloc::AllocError;
 use tac_code::code::{Operand, Operator};
 
 /// The front code of an expression.
 #[cycle(values)]
-pub fn front(out: &mut Code, k: &Level, e: &Expr, d: u32, x: u32) -> Result<(), LowerRefusal>
+#[tactic(auto, using(ps_tree::proofs::TreeLemmas::expr_of_Load), unfolding(ps_tree::specs::View::expr_of))]
+pub fn front(out: &mut Code, k: &Level, e: &Expr, d: u32, x: u32) -> Result<(), AllocError>
+    requires { d + x + expr_weight (scope_of k.now) (expr_of e.now) ≤ DEEPEST }
     ensures { OnOk result (out.new ≡ out.old ++ front_code (scope_of k.now) (expr_of e.now) d x) }
 {
-    if DEEPEST < d {
-        return Err(LowerRefusal::TooLarge);
-    }
     match e {
         Expr::Number(n) => number(out, n, d),
         Expr::Nil => out.literal(d, 0),
@@ -118,7 +119,7 @@ pub fn front(out: &mut Code, k: &Level, e: &Expr, d: u32, x: u32) -> Result<(), 
             right,
         } => {
             let t = even_from(d);
-            let behind = above(x)?;
+            let behind = above(x);
             set(out, k, left, t, x)?;
             set(out, k, right, t, behind)?;
             compare_sets(out, k, *relation, t, x, d)
@@ -135,7 +136,8 @@ pub fn front(out: &mut Code, k: &Level, e: &Expr, d: u32, x: u32) -> Result<(), 
 
 /// The word of an expression.
 #[cycle(values)]
-pub fn value(out: &mut Code, k: &Level, e: &Expr, d: u32, x: u32) -> Result<(), LowerRefusal>
+pub fn value(out: &mut Code, k: &Level, e: &Expr, d: u32, x: u32) -> Result<(), AllocError>
+    requires { d + x + expr_weight (scope_of k.now) (expr_of e.now) ≤ DEEPEST }
     ensures { OnOk result (out.new ≡ out.old ++ expr_code (scope_of k.now) (expr_of e.now) d x) }
 {
     front(out, k, e, d, x)?;
@@ -144,7 +146,8 @@ pub fn value(out: &mut Code, k: &Level, e: &Expr, d: u32, x: u32) -> Result<(), 
 
 /// The word of an expression, unless the expression is a number.
 #[cycle(values)]
-pub fn unless_known(out: &mut Code, k: &Level, e: &Expr, d: u32, x: u32) -> Result<(), LowerRefusal>
+pub fn unless_known(out: &mut Code, k: &Level, e: &Expr, d: u32, x: u32) -> Result<(), AllocError>
+    requires { d + x + expr_weight (scope_of k.now) (expr_of e.now) ≤ DEEPEST }
     ensures { OnOk result (out.new ≡ out.old ++ unless_known (literal_of (expr_of e.now)) (expr_code (scope_of k.now) (expr_of e.now) d x)) }
 {
     match literal(e) {
@@ -161,8 +164,8 @@ fn minus(
     line: u16,
     d: u32,
     x: u32,
-) -> Result<(), LowerRefusal>
-    requires { d ≤ DEEPEST }
+) -> Result<(), AllocError>
+    requires { d + 8 + x + expr_weight (scope_of k.now) (expr_of operand.now) ≤ DEEPEST }
     ensures { OnOk result (out.new ≡ out.old ++ minus_code (negated (expr_of operand.now)) d (even_from (suc d)) line (expr_code (scope_of k.now) (expr_of operand.now) (even_from (suc d)) x)) }
 {
     match negated(operand) {
@@ -184,8 +187,8 @@ fn go_on(
     steps: &[ArithmeticStep],
     a: u32,
     x: u32,
-) -> Result<(), LowerRefusal>
-    requires { a ≤ 4294960000 }
+) -> Result<(), AllocError>
+    requires { a + x + steps_weight (scope_of k.now) (arithmetic_of steps.now) ≤ DEEPEST + 1 }
     ensures { OnOk result (out.new ≡ out.old ++ steps_code (scope_of k.now) (arithmetic_of steps.now) a x) }
 {
     let t = even_above(a);
@@ -206,8 +209,8 @@ fn go_on_with(
     operands: &[Expr],
     a: u32,
     x: u32,
-) -> Result<(), LowerRefusal>
-    requires { a ≤ 4294960000 }
+) -> Result<(), AllocError>
+    requires { a + x + operands_weight (scope_of k.now) (operands_of operands.now) ≤ DEEPEST + 1 }
     ensures { OnOk result (out.new ≡ out.old ++ operands_code (scope_of k.now) operator (operands_of operands.now) a x) }
 {
     let t = even_above(a);
@@ -221,8 +224,8 @@ fn go_on_with(
 
 /// A variable: the code that reaches it, and where it stands then.
 #[cycle(values)]
-pub fn place(out: &mut Code, k: &Level, place: &Place, d: u32, x: u32) -> Result<Site, LowerRefusal>
-    requires { d ≤ 4294950000 }
+pub fn place(out: &mut Code, k: &Level, place: &Place, d: u32, x: u32) -> Result<Site, AllocError>
+    requires { d + x + place_weight (scope_of k.now) (place_of place.now) ≤ DEEPEST }
     ensures code { OnOk result (out.new ≡ out.old ++ place_code (scope_of k.now) (place_of place.now) d x) }
     ensures site { IfOk result (λ s. site_of s ≡ place_site (scope_of k.now) (place_of place.now) d) }
 {
@@ -240,8 +243,9 @@ fn along(
     site: Site,
     t: u32,
     x: u32,
-) -> Result<Site, LowerRefusal>
-    requires { t ≤ 4294960000 }
+) -> Result<Site, AllocError>
+    requires depth { t + x + selectors_weight (scope_of k.now) (selectors_of selectors.now) ≤ DEEPEST }
+    requires reach { site.offset + selectors_reach (selectors_of selectors.now) ≤ DEEPEST }
     ensures code { OnOk result (out.new ≡ out.old ++ selectors_code (scope_of k.now) (selectors_of selectors.now) (site_of site) t x) }
     ensures site { IfOk result (λ s. site_of s ≡ selectors_site (selectors_of selectors.now) (site_of site) t) }
 {
@@ -261,8 +265,9 @@ fn select(
     site: Site,
     t: u32,
     x: u32,
-) -> Result<Site, LowerRefusal>
-    requires { t ≤ 4294960000 }
+) -> Result<Site, AllocError>
+    requires depth { t + x + selectors_weight (scope_of k.now) (tree.selector_before (selector_of selector.now) tree.no_selector) ≤ DEEPEST }
+    requires reach { site.offset + selectors_reach (tree.selector_before (selector_of selector.now) tree.no_selector) ≤ DEEPEST }
     ensures code { OnOk result (out.new ≡ out.old ++ selector_code (scope_of k.now) (selector_of selector.now) (site_of site) t x) }
     ensures site { IfOk result (λ s. site_of s ≡ selector_site (selector_of selector.now) (site_of site) t) }
 {
@@ -277,7 +282,7 @@ fn select(
             line.number,
             x,
         ),
-        Selector::Field { ty, number } => behind(site, field_offset(ty, *number)?),
+        Selector::Field { ty, number } => Ok(behind(site, field_offset(ty, *number))),
         Selector::Target { line, .. } => pointed(out, site, t, line.number),
     }
 }
@@ -293,13 +298,15 @@ fn element(
     t: u32,
     line: u16,
     x: u32,
-) -> Result<Site, LowerRefusal>
-    requires { t ≤ 4294960000 }
+) -> Result<Site, AllocError>
+    requires depth { t + 8 + x + expr_weight (scope_of k.now) (expr_of index.now) ≤ DEEPEST }
+    requires width { component_bytes (shape_of (type_of ty.now)) ≤ DEEPEST }
+    requires reach { site.offset + steps_reach (known_steps (type_of ty.now) (literal_of (expr_of index.now))) ≤ DEEPEST }
     ensures code { OnOk result (out.new ≡ out.old ++ selector_code (scope_of k.now) (tree.Element (type_of ty.now) (expr_of index.now) line) (site_of site) t x) }
     ensures site { IfOk result (λ s. site_of s ≡ selector_site (tree.Element (type_of ty.now) (expr_of index.now) line) (site_of site) t) }
 {
-    match known_steps(ty, index)? {
-        Some(steps) => behind(site, steps),
+    match known_steps(ty, index) {
+        Some(steps) => Ok(behind(site, steps)),
         None => {
             let at = even_above(t);
             value(out, k, index, at, x)?;
@@ -310,12 +317,11 @@ fn element(
 
 /// A set, which stands in the scratch block from x on.
 #[cycle(values)]
-pub fn set(out: &mut Code, k: &Level, e: &SetExpr, d: u32, x: u32) -> Result<(), LowerRefusal>
+#[tactic(auto, using(ps_tree::proofs::TreeLemmas::set_of_Load, ps_tree::proofs::TreeLemmas::set_of_Constructor), unfolding(ps_tree::specs::View::set_of))]
+pub fn set(out: &mut Code, k: &Level, e: &SetExpr, d: u32, x: u32) -> Result<(), AllocError>
+    requires { d + x + set_weight (scope_of k.now) (set_of e.now) ≤ DEEPEST }
     ensures { OnOk result (out.new ≡ out.old ++ set_code (scope_of k.now) (set_of e.now) d x) }
 {
-    if DEEPEST < d {
-        return Err(LowerRefusal::TooLarge);
-    }
     match e {
         SetExpr::Load(variable) => {
             let site = place(out, k, variable, d, x)?;
@@ -334,11 +340,11 @@ pub fn set(out: &mut Code, k: &Level, e: &SetExpr, d: u32, x: u32) -> Result<(),
 
 /// The operators behind the first set, and their operands. The set so far stands from x on.
 #[cycle(values)]
-fn combine(out: &mut Code, k: &Level, steps: &[SetStep], d: u32, x: u32) -> Result<(), LowerRefusal>
-    requires { d ≤ DEEPEST }
+fn combine(out: &mut Code, k: &Level, steps: &[SetStep], d: u32, x: u32) -> Result<(), AllocError>
+    requires { d + x + set_steps_weight (scope_of k.now) (set_steps_of steps.now) ≤ DEEPEST }
     ensures { OnOk result (out.new ≡ out.old ++ set_steps_code (scope_of k.now) (set_steps_of steps.now) d x) }
 {
-    let behind = above(x)?;
+    let behind = above(x);
     for step in steps {
         set(out, k, &step.operand, d, behind)?;
         combined(out, k, step.operator, d, x)?;
@@ -348,8 +354,8 @@ fn combine(out: &mut Code, k: &Level, steps: &[SetStep], d: u32, x: u32) -> Resu
 
 /// The members of a constructor go into the set from x on.
 #[cycle(values)]
-fn members(out: &mut Code, k: &Level, list: &[Member], d: u32, x: u32) -> Result<(), LowerRefusal>
-    requires { d ≤ DEEPEST }
+fn members(out: &mut Code, k: &Level, list: &[Member], d: u32, x: u32) -> Result<(), AllocError>
+    requires { d + x + members_weight (scope_of k.now) (members_of list.now) ≤ DEEPEST }
     ensures { OnOk result (out.new ≡ out.old ++ members_code (scope_of k.now) (members_of list.now) d x) }
 {
     for one in list {
@@ -361,11 +367,11 @@ fn members(out: &mut Code, k: &Level, list: &[Member], d: u32, x: u32) -> Result
 /// A member, or those from one to another, whose values are worked out behind the set.
 #[cycle(values)]
 #[tactic(auto, unfolding(ps_tree::specs::View::member_of))]
-fn member(out: &mut Code, k: &Level, one: &Member, d: u32, x: u32) -> Result<(), LowerRefusal>
-    requires { d ≤ DEEPEST }
+fn member(out: &mut Code, k: &Level, one: &Member, d: u32, x: u32) -> Result<(), AllocError>
+    requires { d + x + member_weight (scope_of k.now) (member_of one.now) ≤ DEEPEST }
     ensures { OnOk result (out.new ≡ out.old ++ member_code (scope_of k.now) (member_of one.now) d x) }
 {
-    let behind = above(x)?;
+    let behind = above(x);
     match one {
         Member::One { value: e, line } => {
             let t = even_from(d);
@@ -385,14 +391,8 @@ fn member(out: &mut Code, k: &Level, one: &Member, d: u32, x: u32) -> Result<(),
 /// The address of a structure.
 #[cycle(values)]
 #[tactic(auto, using(ps_tree::proofs::TreeLemmas::structure_of_Contents), unfolding(ps_tree::specs::View::structure_of))]
-pub fn structure(
-    out: &mut Code,
-    k: &Level,
-    e: &Structure,
-    d: u32,
-    x: u32,
-) -> Result<(), LowerRefusal>
-    requires { d ≤ 4294950000 }
+pub fn structure(out: &mut Code, k: &Level, e: &Structure, d: u32, x: u32) -> Result<(), AllocError>
+    requires { d + x + structure_weight (scope_of k.now) (structure_of e.now) ≤ DEEPEST }
     ensures { OnOk result (out.new ≡ out.old ++ structure_code (scope_of k.now) (structure_of e.now) d x) }
 {
     match e {
@@ -402,7 +402,7 @@ pub fn structure(
             ty,
         } => {
             let site = place(out, k, variable, d, x)?;
-            address(out, d, site, byte_count(ty)?)
+            address(out, d, site, byte_count(ty))
         }
     }
 }
@@ -416,8 +416,8 @@ fn argument(
     argument: &Argument,
     t: u32,
     x: u32,
-) -> Result<(), LowerRefusal>
-    requires { t ≤ 4294950000 }
+) -> Result<(), AllocError>
+    requires { t + x + argument_weight (scope_of k.now) (argument_of argument.now) ≤ DEEPEST }
     ensures { OnOk result (out.new ≡ out.old ++ argument_code (scope_of k.now) (argument_of argument.now) t x) }
 {
     match argument {
@@ -459,21 +459,19 @@ pub fn arguments(
     arguments: &[Argument],
     d: u32,
     x: u32,
-) -> Result<(), LowerRefusal>
+) -> Result<(), AllocError>
+    requires { d + x + arguments_weight (scope_of k.now) (arguments_of arguments.now) ≤ DEEPEST }
     ensures { OnOk result (out.new ≡ out.old ++ arguments_code (scope_of k.now) (arguments_of arguments.now) d x) }
 {
     let mut depth = d;
     let mut scratch = x;
     let mut rest = arguments;
     for one in arguments {
-        if DEEPEST < depth {
-            return Err(LowerRefusal::TooLarge);
-        }
         rest = tail(rest);
         let t = held(arguments_call(rest), depth);
         argument(out, k, one, t, scratch)?;
         depth = argument_end(one, t);
-        scratch = scratch_end(one, scratch)?;
+        scratch = scratch_end(one, scratch);
     }
     Ok(())
 }

@@ -1,6 +1,7 @@
 // The code of write and writeln.
 
-ghost use Rattle.std.specs.Prelude.{◌≡◌, ◌++◌, ◌≤◌, ◌∷◌, [], pos, map, OnOk};
+ghost use Rattle.std.specs.Prelude.{◌≡◌, ◌++◌, ◌+◌, ◌≤◌, ◌∷◌, [], pos, map, OnOk};
+ghost use Rattle.ps_bounds.specs.Weights.{width_weight, write_weight, writes_weight};
 ghost use Rattle.ps_code.specs.Scopes.{even_from};
 ghost use Rattle.ps_code.specs.Statements.{width_code, write_code, writes_code};
 ghost use Rattle.ps_lower.specs.Levels.{scope_of};
@@ -15,10 +16,10 @@ use crate::known::literal;
 use crate::level::Level;
 use crate::out::Code;
 use crate::pieces::check;
-use crate::refusal::LowerRefusal;
 use crate::texts::{count, text_length, truth_text};
 use crate::values::{structure, value};
 use ps_tree::tree::{Expr, Structure, Width, WriteParameter};
+use std::alloc::AllocError;
 
 const WRITE_NUMBER: u32 = 10;
 
@@ -28,8 +29,9 @@ const WRITE_STRING: u32 = 12;
 
 /// The width of a parameter, or its default.
 #[tactic(auto, unfolding(ps_tree::specs::View::width_of))]
-fn width(out: &mut Code, k: &Level, width: &Width, default: u32, t: u32) -> Result<(), LowerRefusal>
-    requires { default ≤ 2147483647 }
+fn width(out: &mut Code, k: &Level, width: &Width, default: u32, t: u32) -> Result<(), AllocError>
+    requires default { default ≤ 2147483647 }
+    requires depth { t + width_weight (scope_of k.now) (width_of width.now) ≤ DEEPEST }
     ensures { OnOk result (out.new ≡ out.old ++ width_code (scope_of k.now) (width_of width.now) default t) }
 {
     match width {
@@ -48,8 +50,8 @@ fn write_number(
     e: &Expr,
     given: &Width,
     d: u32,
-) -> Result<(), LowerRefusal>
-    requires { d ≤ DEEPEST }
+) -> Result<(), AllocError>
+    requires { d + write_weight (scope_of k.now) (tree.WriteInteger (expr_of e.now) (width_of given.now)) ≤ DEEPEST }
     ensures { OnOk result (out.new ≡ out.old ++ write_code (scope_of k.now) (tree.WriteInteger (expr_of e.now) (width_of given.now)) d) }
 {
     let t = held(width_calls(given), d);
@@ -66,8 +68,8 @@ fn write_character(
     e: &Expr,
     given: &Width,
     d: u32,
-) -> Result<(), LowerRefusal>
-    requires { d ≤ DEEPEST }
+) -> Result<(), AllocError>
+    requires { d + write_weight (scope_of k.now) (tree.WriteChar (expr_of e.now) (width_of given.now)) ≤ DEEPEST }
     ensures { OnOk result (out.new ≡ out.old ++ write_code (scope_of k.now) (tree.WriteChar (expr_of e.now) (width_of given.now)) d) }
 {
     let t = held(width_calls(given), d);
@@ -78,14 +80,8 @@ fn write_character(
 }
 
 /// A truth value and its width, the string of that value, and the call that writes it.
-fn write_truth(
-    out: &mut Code,
-    k: &Level,
-    e: &Expr,
-    given: &Width,
-    d: u32,
-) -> Result<(), LowerRefusal>
-    requires { d ≤ DEEPEST }
+fn write_truth(out: &mut Code, k: &Level, e: &Expr, given: &Width, d: u32) -> Result<(), AllocError>
+    requires { d + write_weight (scope_of k.now) (tree.WriteBoolean (expr_of e.now) (width_of given.now)) ≤ DEEPEST }
     ensures { OnOk result (out.new ≡ out.old ++ write_code (scope_of k.now) (tree.WriteBoolean (expr_of e.now) (width_of given.now)) d) }
 {
     let t = held(width_calls(given), d);
@@ -105,14 +101,14 @@ fn write_string(
     e: &Structure,
     given: &Width,
     d: u32,
-) -> Result<(), LowerRefusal>
-    requires { d ≤ DEEPEST }
+) -> Result<(), AllocError>
+    requires { d + write_weight (scope_of k.now) (tree.WriteText (structure_of e.now) (width_of given.now)) ≤ DEEPEST }
     ensures { OnOk result (out.new ≡ out.old ++ write_code (scope_of k.now) (tree.WriteText (structure_of e.now) (width_of given.now)) d) }
 {
     let t = held(width_calls(given), d);
     let w = even_above(t);
     let size = beside(w);
-    let length = text_length(e)?;
+    let length = text_length(e);
     structure(out, k, e, t, 0)?;
     width(out, k, given, length, w)?;
     count(out, length, size)?;
@@ -120,8 +116,8 @@ fn write_string(
 }
 
 #[tactic(auto, unfolding(ps_tree::specs::View::write_of))]
-fn write(out: &mut Code, k: &Level, parameter: &WriteParameter, d: u32) -> Result<(), LowerRefusal>
-    requires { d ≤ DEEPEST }
+fn write(out: &mut Code, k: &Level, parameter: &WriteParameter, d: u32) -> Result<(), AllocError>
+    requires { d + write_weight (scope_of k.now) (write_of parameter.now) ≤ DEEPEST }
     ensures { OnOk result (out.new ≡ out.old ++ write_code (scope_of k.now) (write_of parameter.now) d) }
 {
     match parameter {
@@ -138,8 +134,8 @@ pub fn writes(
     k: &Level,
     parameters: &[WriteParameter],
     d: u32,
-) -> Result<(), LowerRefusal>
-    requires { d ≤ DEEPEST }
+) -> Result<(), AllocError>
+    requires { d + writes_weight (scope_of k.now) (map write_of parameters.now) ≤ DEEPEST }
     ensures { OnOk result (out.new ≡ out.old ++ writes_code (scope_of k.now) (map write_of parameters.now) d) }
 {
     for parameter in parameters {
@@ -154,8 +150,8 @@ pub fn writeln(
     k: &Level,
     parameters: &[WriteParameter],
     d: u32,
-) -> Result<(), LowerRefusal>
-    requires { d ≤ DEEPEST }
+) -> Result<(), AllocError>
+    requires { d + writes_weight (scope_of k.now) (map write_of parameters.now) ≤ DEEPEST }
     ensures { OnOk result (out.new ≡ out.old ++ (writes_code (scope_of k.now) (map write_of parameters.now) d ++ i.Literal (even_from d) (pos 10) ∷ i.Put (even_from d) ∷ [])) }
 {
     writes(out, k, parameters, d)?;

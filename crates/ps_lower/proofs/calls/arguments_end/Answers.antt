@@ -1,8 +1,9 @@
-use Rattle.std.proofs.Common.{ap, ◌∙◌}
+use Rattle.std.proofs.Common.{ap, ◌∙◌, arith}
 use Rattle.ps_tree.specs.View.{argument_of}
 use Rattle.ps_code.specs.Scopes.{held}
 use Rattle.ps_code.specs.Values.{argument_end}
 use Rattle.ps_lower.proofs.Actuals.{slot, ended_start, ended_next, ended_all}
+use Rattle.ps_lower.proofs.Weighing.{ending_one}
 use Rattle.ps_lower.proofs.calls.arguments_end.Goals as goal
 
 pub loop-argument-init : goal.loop-argument-init
@@ -17,3 +18,18 @@ loop-argument-preserved c =
 
 pub returns : goal.returns
 returns c = ended_all _ _ _ _ _ c.loop-argument-test.false c.loop-argument.invariant
+
+pub held-requires : goal.held-requires
+held-requires c =
+    let e = c.loop-argument.invariant.left in
+    let r = c.requires in
+    let l = ending_one c.args.arguments.now c.loop-argument.argument-index c.loop-argument.depth 2147483647 (omega (arith, e, r)) in
+    omega (arith, l)
+
+pub argument_end-depth-requires : goal.argument_end-depth-requires
+argument_end-depth-requires c =
+    let e = c.loop-argument.invariant.left in
+    let r = c.requires in
+    let h = c.held.ensures.small in
+    let l = ending_one c.args.arguments.now c.loop-argument.argument-index c.loop-argument.depth 2147483647 (omega (arith, e, r)) in
+    omega (arith, l, h)

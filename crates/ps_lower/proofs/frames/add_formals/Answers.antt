@@ -1,7 +1,7 @@
 use Rattle.std.proofs.Common.{[], ◌∷◌, ◌++◌, ◌+◌, ap, ◌∙◌}
 use Rattle.ps_layout.specs.Frames.{kind_words}
 use Rattle.ps_lower.specs.Tables.{spot_at}
-use Rattle.ps_lower.proofs.Laying.{laid_start, laid_next, laid_spots, laid_words, kinds_of_formals, kind_of_formal, first_formal, no_formals}
+use Rattle.ps_lower.proofs.Laying.{laid_start, laid_next, laid_spots, laid_words, laid_room, kinds_of_formals, kind_of_formal, first_formal, no_formals}
 use Rattle.ps_lower.proofs.frames.add_formals.Goals as goal
 
 pub loop-formal-init : goal.loop-formal-init
@@ -15,3 +15,6 @@ returns-clause-spots c = laid_spots kinds_of_formals no_formals _ _ _ _ _ _ c.lo
 
 pub returns-clause-place : goal.returns-clause-place
 returns-clause-place c = laid_words kinds_of_formals no_formals _ _ _ _ _ _ c.loop-formal-test.false c.loop-formal.invariant
+
+pub add_formal-requires : goal.add_formal-requires
+add_formal-requires c = laid_room kinds_of_formals kind_of_formal first_formal _ _ _ _ _ _ 2147483647 c.formal-item.result c.loop-formal-test.true c.formal-item.is c.loop-formal.invariant c.requires

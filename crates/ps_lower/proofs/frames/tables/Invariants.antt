@@ -1,4 +1,3 @@
-use Rattle.ps_tree.specs.View.{routine_of}
 use Rattle.ps_lower.proofs.Laying.{Tabled}
 use Rattle.ps_lower.proofs.frames.tables.Given as goal
 

@@ -1,8 +1,9 @@
-use Rattle.std.proofs.Common.{◌≡◌, ◌++◌, OnOk, ap, sym, subst, ◌∙◌, get_or, map}
+use Rattle.std.proofs.Common.{◌≡◌, ◌++◌, OnOk, ap, sym, subst, ◌∙◌, get_or, map, arith}
 use Rattle.ps_tree.specs.Types.{DataType, PointerType}
 use Rattle.ps_tree.specs.View.{type_of}
 use Rattle.tac_code.specs.declared.code.Base.TheVariants as base
 use Rattle.ps_layout.specs.Shapes.{shape_of}
+use Rattle.ps_bounds.specs.Weights.{first_weight}
 use Rattle.ps_code.specs.Statements.{first_code}
 use Rattle.ps_lower.specs.Levels.{scope_of}
 use Rattle.ps_lower.proofs.Packed.{typed, untyped, pointer_type}
@@ -19,3 +20,6 @@ returns-in-None c =
     subst (λ (type : DataType). OnOk c.first_object-in-None.result (c.first_object-in-None.new.out ≡ c.args.out.now ++ first_code (scope_of c.args.k.now) (base.Temporary c.args.to) c.args.t 0 (shape_of type)))
     (pointer_type 0 ∙ untyped c.domains.result.now c.args.pointer c.in-None.ensures.lookup.3 ∙ ap (λ l. get_or (map type_of l) c.args.pointer (PointerType 0)) c.domains.ensures.domains)
     c.first_object-in-None.ensures
+
+pub first_object-requires-in-None-clause-reach : goal.first_object-requires-in-None-clause-reach
+first_object-requires-in-None-clause-reach c = let e = ap (λ (type : DataType). first_weight (shape_of type)) (pointer_type 0) in omega (arith, e)

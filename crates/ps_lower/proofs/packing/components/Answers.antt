@@ -11,4 +11,4 @@ pub returns-then-is_byte_array-2 : goal.returns-then-is_byte_array-2
 returns-then-is_byte_array-2 c packing = unpacked_told (scope_of c.args.k.now) packing c.args.a c.args.b c.args.count _ _ _ c.args.t c.bytes-then-is_byte_array-2.result c.bytes-then-is_byte_array-2.new.out c.args.out.now c.if-is_byte_array.ensures c.if-is_byte_array-2.ensures (c.bytes-then-is_byte_array-2.ensures UnpackBytes refl)
 
 pub returns : goal.returns
-returns c packing = words_told (scope_of c.args.k.now) packing c.args.a c.args.b c.args.count _ _ _ _ c.args.t c.words.result c.words.new.out c.args.out.now c.if-is_byte_array.ensures c.if-is_byte_array-2.ensures c.in_ok-width.ensures (c.words.ensures packing)
+returns c packing = words_told (scope_of c.args.k.now) packing c.args.a c.args.b c.args.count _ _ _ _ c.args.t c.words.result c.words.new.out c.args.out.now c.if-is_byte_array.ensures c.if-is_byte_array-2.ensures refl (c.words.ensures packing)

@@ -4,4 +4,4 @@ use Rattle.ps_lower.specs.Levels.{scope_of}
 use Rattle.ps_lower.proofs.packing.words.Goals as goal
 
 pub returns : goal.returns
-returns c packing = subst (λ n. OnOk c.copy.result (c.copy.new.out ≡ c.args.out.now ++ copy_code (scope_of c.args.k.now) c.args.b c.args.a c.args.t n)) c.in-Some.ensures.1 c.copy.ensures
+returns c packing = subst (λ n. OnOk c.copy.result (c.copy.new.out ≡ c.args.out.now ++ copy_code (scope_of c.args.k.now) c.args.b c.args.a c.args.t n)) c.part_bytes.ensures c.copy.ensures

@@ -1,4 +1,6 @@
-use Rattle.std.proofs.Common.{[], ◌∷◌, ◌++◌, length, map, ap, ◌∙◌}
+use Rattle.std.proofs.Common.{rules, arith, [], ◌∷◌, ◌++◌, length, map, ap, ◌∙◌}
+use borrow.Author.Rules.{get_or_read}
+use Rattle.ps_tree.specs.declared.tree.Statement.TheFolds.{the_lemmas}
 use Rattle.ps_tree.specs.View.{expr_of, place_of, statement_of, elements_of}
 use Rattle.ps_tree.specs.declared.tree.CaseElement.{out-CaseElement}
 use Rattle.ps_code.specs.Statements.{statement_code}
@@ -17,6 +19,8 @@ use Rattle.ps_lower.proofs.Loops.{for_is, loop_made}
 use Rattle.ps_lower.proofs.Elements.{case_is, element_made, element_end, one_element, opened_start, opened_next, opened_all, ends_all, case_made}
 use Rattle.ps_tree.specs.Tree as tree
 use Rattle.tac_code.specs.declared.code.Instruction.TheVariants as i
+use Rattle.ps_bounds.specs.Weights.{statement_weight}
+use Rattle.ps_lower.proofs.Weighing.{statement_in, element_in, body_room}
 use Rattle.ps_lower.proofs.statements.+statements.Goals as goal
 
 pub statements-loop-one-init : goal.statements-loop-one-init
@@ -72,7 +76,7 @@ act_for-returns t c =
     loop_made (scope_of c.args.k.now) c.args.control (expr_of c.args.from.now) (expr_of c.args.to.now) c.turns_of-turns.result (statement_of c.args.body.now) c.args.out.now c.open_turns.new.out c.statement.new.out c.end_turn.new.out c.set_branch.new.self c.in_ok-places.places.past c.in_ok-places.places.begin c.past_relation-relation.result
     c.in_ok-places.ensures.code c.in_ok-places.ensures.past c.in_ok-places.ensures.begin c.in_ok-statement.ensures c.in_ok-end_turn.ensures c.past_relation-relation.ensures c.set_branch.ensures
     ∙ ap (λ (y : Turns). c.args.out.now ++ loop_code (scope_of c.args.k.now) c.args.control (expr_of c.args.from.now) (expr_of c.args.to.now) y (statement_of c.args.body.now))
-    (c.turns_of-turns.ensures ∙ ap (λ calls. turns_of (scope_of c.args.k.now) c.args.control.variable (expr_of c.args.to.now) calls c.args.d) c.statement_calls.ensures)
+    (c.turns_of-turns.ensures.value ∙ ap (λ calls. turns_of (scope_of c.args.k.now) c.args.control.variable (expr_of c.args.to.now) calls c.args.d) c.statement_calls.ensures)
 
 pub act_element-returns-clause-code : goal.act_element-returns-clause-code
 act_element-returns-clause-code t c = element_made (scope_of c.args.k.now) _ _ _ (statement_of (out-CaseElement c.args.element.now).body) c.args.d _ c.args.out.now _ _ _ _ c.deref.ensures.value c.deref-2.ensures.value c.in_ok-last.ensures.code c.in_ok-last.ensures.place c.in_ok-statement.ensures c.in_ok-end.ensures.room c.close_tests.ensures
@@ -133,3 +137,42 @@ statement-returns-in-Read t c = act (scope_of c.args.k.now) c.args.action.now _ 
 
 pub statement-returns-in-Readln : goal.statement-returns-in-Readln
 statement-returns-in-Readln t c = act (scope_of c.args.k.now) c.args.action.now _ c.args.d c.readln.result c.readln.new.out c.args.out.now (readln_is _ _ _ _ c.in-Readln.is c.deref-in-Readln.ensures.value) c.readln.ensures
+
+-- ---- room for what is called
+
+pub act_elements-act_element-requires : goal.act_elements-act_element-requires
+act_elements-act_element-requires t c =
+    let l = element_in (scope_of c.args.k.now) c.args.d c.args.elements.now c.loop-element.element-index c.element-item.result c.loop-element-test.true c.element-item.is in
+    let r = c.requires in
+    (search (rules, the_lemmas, get_or_read), omega (arith, l, r))
+
+pub act_with-statement-requires : goal.act_with-statement-requires
+act_with-statement-requires t c = (
+  search (rules, the_lemmas, get_or_read),
+  body_room (scope_of c.args.k.now) (map place_of c.args.places.now) (statement_of c.args.body.now) c.with_calls-calls.result c.args.d c.in_ok-opened.opened.depth (within (scope_of c.args.k.now) c.as_slice.result.now)
+      c.with_calls-calls.ensures (ap (within (scope_of c.args.k.now)) c.as_slice.ensures.value ∙ c.in_ok-opened.ensures.scope) c.in_ok-opened.ensures.depth c.requires,
+)
+
+pub statement-statements-requires : goal.statement-statements-requires
+statement-statements-requires t c =
+    let e = ap (λ (y : tree.Statement). statement_weight (scope_of c.args.k.now) y c.args.d) (compound_is _ _ _ c.in-Compound.is c.deref.ensures.value) in
+    let r = c.requires in
+    (search (rules, the_lemmas, get_or_read), omega (arith, e, r))
+
+pub statement-act_case-requires : goal.statement-act_case-requires
+statement-act_case-requires t c =
+    let e = ap (λ (y : tree.Statement). statement_weight (scope_of c.args.k.now) y c.args.d) (case_is _ _ _ _ _ c.in-Case.is c.deref-in-Case.ensures.value) in
+    let r = c.requires in
+    (search (rules, the_lemmas, get_or_read), omega (arith, e, r))
+
+pub statement-act_repeat-requires : goal.statement-act_repeat-requires
+statement-act_repeat-requires t c =
+    let e = ap (λ (y : tree.Statement). statement_weight (scope_of c.args.k.now) y c.args.d) (repeat_is _ _ _ _ c.in-Repeat.is c.deref-in-Repeat.ensures.value) in
+    let r = c.requires in
+    (search (rules, the_lemmas, get_or_read), omega (arith, e, r))
+
+pub statements-statement-requires : goal.statements-statement-requires
+statements-statement-requires t c =
+    let l = statement_in (scope_of c.args.k.now) c.args.d c.args.statements.now c.loop-one.one-index c.one-item.result c.loop-one-test.true c.one-item.is in
+    let r = c.requires in
+    (search (rules, the_lemmas, get_or_read), omega (arith, l, r))

@@ -1,12 +1,14 @@
-use Rattle.std.proofs.Common.{◌≡◌, ◌+◌, [], ◌∷◌, ◌++◌, pos, OnOk, sym, ap, subst, ◌∙◌, ⊎_elim}
+use Rattle.std.proofs.Common.{rules, arith, ◌≡◌, ◌+◌, [], ◌∷◌, ◌++◌, pos, OnOk, sym, ap, subst, ◌∙◌, ⊎_elim}
+use borrow.Author.Rules.{get_or_read}
+use Rattle.ps_tree.specs.declared.tree.Argument.TheFolds.{the_lemmas}
 use Rattle.ps_tree.specs.declared.tree.Expr.{Expr}
 use Rattle.ps_tree.specs.declared.tree.Structure.{Structure}
 use Rattle.ps_tree.specs.declared.tree.SetStep.{out-SetStep}
-use Rattle.ps_tree.specs.View.{selector_of, place_of, expr_of, arithmetic_of, operands_of, structure_of, argument_of, set_of, member_of, members_of}
+use Rattle.ps_tree.specs.View.{selector_of, place_of, expr_of, arithmetic_of, operands_of, structure_of, argument_of, arguments_of, set_of, member_of, members_of}
 use Rattle.tac_code.specs.declared.code.Instruction.TheVariants as i
 use Rattle.ps_code.specs.Scopes.{kept, held, beside, unless_known, helper, CompareBytes}
 use Rattle.ps_code.specs.Statements.{expr_code}
-use Rattle.ps_code.specs.Values.{literal_of, truth_finish, is_byte, text_length, structure_code, argument_code, argument_end, argument_scratch, set_code, member_code}
+use Rattle.ps_code.specs.Values.{literal_of, truth_finish, is_byte, text_length, structure_code, argument_code, argument_end, argument_scratch, arguments_end, set_code, member_code}
 use Rattle.ps_lower.specs.Levels.{scope_of, site_of}
 use Rattle.ps_lower.specs.Sites.{selector_code, selector_site}
 use Rattle.ps_lower.proofs.Selecting.{led_start, led_next, led_code, led_site}
@@ -18,6 +20,8 @@ use Rattle.ps_lower.proofs.Handing.{contents_made, compare_strings_is, strings_m
 use Rattle.ps_lower.proofs.Looking.{eof_is, eoln_is}
 use Rattle.ps_lower.proofs.Appends.{and_then, added_start, added_next, added_all}
 use Rattle.ps_lower.proofs.Chains.{steps_added, steps_nothing, steps_further, step_added, step_told, operands_added, operands_nothing, operands_further, operand_added, operand_told}
+use Rattle.ps_lower.proofs.Weighing.{step_in, operand_in, set_step_in, member_in, sum_room, truth_room, leads_start, leads_depth, leads_reach, leads_next, handing_start, handing_one, handing_next, arguments_far, variable_room, contents_room}
+use Rattle.ps_bounds.specs.Weights.{expr_weight, steps_weight, operands_weight, set_weight}
 use Rattle.ps_lower.proofs.values.+values.Goals as goal
 
 pub front-returns-in-Number : goal.front-returns-in-Number
@@ -104,24 +108,26 @@ go_on_with-loop-operand-preserved t c =
 -- ---- variables
 
 pub along-loop-selector-init : goal.along-loop-selector-init
-along-loop-selector-init t c = led_start (scope_of c.args.k.now) c.args.t c.args.x _ _ _
+along-loop-selector-init t c = (led_start (scope_of c.args.k.now) c.args.t c.args.x _ _ _, leads_start (scope_of c.args.k.now) c.args.t c.args.x c.args.selectors.now c.args.site.offset c.requires.depth c.requires.reach)
 
 pub along-loop-selector-preserved : goal.along-loop-selector-preserved
-along-loop-selector-preserved t c =
-    led_next (scope_of c.args.k.now) c.args.t c.args.x _ _ _ _ _ _ _ _ c.selector-item.result c.loop-selector-test.true c.loop-selector.invariant
-    (c.in_ok-site.ensures.code ∙ ap (λ s. c.loop-selector.out ++ selector_code (scope_of c.args.k.now) (selector_of s) (site_of c.loop-selector.site) c.args.t c.args.x) c.selector-item.is)
-    (c.in_ok-site.ensures.site ∙ ap (λ s. selector_site (selector_of s) (site_of c.loop-selector.site) c.args.t) c.selector-item.is)
+along-loop-selector-preserved t c = (
+  led_next (scope_of c.args.k.now) c.args.t c.args.x _ _ _ _ _ _ _ _ c.selector-item.result c.loop-selector-test.true c.loop-selector.invariant.0
+      (c.in_ok-site.ensures.code ∙ ap (λ s. c.loop-selector.out ++ selector_code (scope_of c.args.k.now) (selector_of s) (site_of c.loop-selector.site) c.args.t c.args.x) c.selector-item.is)
+      (c.in_ok-site.ensures.site ∙ ap (λ s. selector_site (selector_of s) (site_of c.loop-selector.site) c.args.t) c.selector-item.is),
+  leads_next (scope_of c.args.k.now) c.args.t c.args.x c.args.selectors.now c.loop-selector.selector-index (site_of c.loop-selector.site) (site_of c.in_ok-site.site) c.selector-item.result c.loop-selector-test.true c.selector-item.is c.loop-selector.invariant.1 c.in_ok-site.ensures.site,
+)
 
 pub along-returns-clause-code : goal.along-returns-clause-code
-along-returns-clause-code t c = led_code (scope_of c.args.k.now) c.args.t c.args.x _ _ _ _ _ _ c.loop-selector-test.false c.loop-selector.invariant
+along-returns-clause-code t c = led_code (scope_of c.args.k.now) c.args.t c.args.x _ _ _ _ _ _ c.loop-selector-test.false c.loop-selector.invariant.0
 
 pub along-returns-clause-site : goal.along-returns-clause-site
-along-returns-clause-site t c = led_site (scope_of c.args.k.now) c.args.t c.args.x _ _ _ _ _ _ c.loop-selector-test.false c.loop-selector.invariant
+along-returns-clause-site t c = led_site (scope_of c.args.k.now) c.args.t c.args.x _ _ _ _ _ _ c.loop-selector-test.false c.loop-selector.invariant.0
 
 -- ---- structures and calls
 
-pub structure-returns-in_ok-byte_count-in-Contents : goal.structure-returns-in_ok-byte_count-in-Contents
-structure-returns-in_ok-byte_count-in-Contents t c = contents_made (scope_of c.args.k.now) c.args.e.now c.in-Contents.variable c.in-Contents.ty c.deref-in-Contents.result.now c.in_ok-byte_count-in-Contents.field-0 c.args.d c.args.x (site_of c.in_ok-site-in-Contents.site) c.address.result c.address.new.out c.place.new.out c.args.out.now c.in-Contents.is c.deref-in-Contents.ensures c.in_ok-byte_count-in-Contents.ensures c.in_ok-site-in-Contents.ensures.code c.in_ok-site-in-Contents.ensures.site c.address.ensures
+pub structure-returns-in_ok-site-in-Contents : goal.structure-returns-in_ok-site-in-Contents
+structure-returns-in_ok-site-in-Contents t c = contents_made (scope_of c.args.k.now) c.args.e.now c.in-Contents.variable c.in-Contents.ty c.deref-in-Contents.result.now c.byte_count.result c.args.d c.args.x (site_of c.in_ok-site-in-Contents.site) c.address.result c.address.new.out c.place.new.out c.args.out.now c.in-Contents.is c.deref-in-Contents.ensures c.byte_count.ensures c.in_ok-site-in-Contents.ensures.code c.in_ok-site-in-Contents.ensures.site c.address.ensures
 
 pub front-returns-in_ok-structure-in-CompareStrings-2 : goal.front-returns-in_ok-structure-in-CompareStrings-2
 front-returns-in_ok-structure-in-CompareStrings-2 t c =
@@ -151,18 +157,20 @@ pub front-returns-in-Eoln : goal.front-returns-in-Eoln
 front-returns-in-Eoln t c = arm (scope_of c.args.k.now) c.args.e.now _ c.args.d c.args.x c.look_on.result c.look_on.new.out c.args.out.now (eoln_is _ _ c.in-Eoln.is) c.look_on.ensures
 
 pub arguments-loop-one-init : goal.arguments-loop-one-init
-arguments-loop-one-init t c = handed_start (scope_of c.args.k.now) _ _ _ _
+arguments-loop-one-init t c = (handed_start (scope_of c.args.k.now) _ _ _ _, handing_start (scope_of c.args.k.now) c.args.arguments.now c.args.d c.args.x c.requires)
 
 pub arguments-loop-one-preserved : goal.arguments-loop-one-preserved
-arguments-loop-one-preserved t c =
-    handed_next (scope_of c.args.k.now) _ _ _ _ _ _ _ _ _ _ _ _ _ _ c.one-item.result c.loop-one-test.true c.loop-one.invariant c.tail-rest.ensures
-    (c.held-t.ensures.value ∙ ap (λ b. held b c.loop-one.depth) c.arguments_call.ensures)
-    (c.in_ok-argument.ensures ∙ ap (λ y. c.loop-one.out ++ argument_code (scope_of c.args.k.now) (argument_of y) c.held-t.result c.loop-one.scratch) c.one-item.is)
-    (c.argument_end-depth.ensures.value ∙ ap (λ y. argument_end (argument_of y) c.held-t.result) c.one-item.is)
-    (c.in_ok-scratch.ensures ∙ ap (λ y. c.loop-one.scratch + argument_scratch (argument_of y)) c.one-item.is)
+arguments-loop-one-preserved t c = (
+  handed_next (scope_of c.args.k.now) _ _ _ _ _ _ _ _ _ _ _ _ _ _ c.one-item.result c.loop-one-test.true c.loop-one.invariant.0 c.tail-rest.ensures
+      (c.held-t.ensures.value ∙ ap (λ b. held b c.loop-one.depth) c.arguments_call.ensures)
+      (c.in_ok-argument.ensures ∙ ap (λ y. c.loop-one.out ++ argument_code (scope_of c.args.k.now) (argument_of y) c.held-t.result c.loop-one.scratch) c.one-item.is)
+      (c.argument_end-depth.ensures.value ∙ ap (λ y. argument_end (argument_of y) c.held-t.result) c.one-item.is)
+      (c.scratch_end-scratch.ensures ∙ ap (λ y. c.loop-one.scratch + argument_scratch (argument_of y)) c.one-item.is),
+  handing_next (scope_of c.args.k.now) c.args.arguments.now c.loop-one.one-index c.loop-one.depth c.loop-one.scratch c.held-t.result c.argument_end-depth.result c.scratch_end-scratch.result c.one-item.result c.loop-one-test.true c.one-item.is c.loop-one.invariant.1 c.held-t.ensures.small c.argument_end-depth.ensures.small c.scratch_end-scratch.ensures,
+)
 
 pub arguments-returns : goal.arguments-returns
-arguments-returns t c = handed_all (scope_of c.args.k.now) _ _ _ _ _ _ _ _ _ c.loop-one-test.false c.loop-one.invariant
+arguments-returns t c = handed_all (scope_of c.args.k.now) _ _ _ _ _ _ _ _ _ c.loop-one-test.false c.loop-one.invariant.0
 
 pub argument-returns-in_ok-site-in-Variable : goal.argument-returns-in_ok-site-in-Variable
 argument-returns-in_ok-site-in-Variable t c = variable_handed (scope_of c.args.k.now) c.args.argument.now _ c.args.t c.args.x (site_of c.in_ok-site-in-Variable.site) c.address.result c.address.new.out c.place.new.out c.args.out.now c.in-Variable.is c.in_ok-site-in-Variable.ensures.code c.in_ok-site-in-Variable.ensures.site c.address.ensures
@@ -176,8 +184,8 @@ pub front-returns-in_ok-set-in-CompareSets-2 : goal.front-returns-in_ok-set-in-C
 front-returns-in_ok-set-in-CompareSets-2 t c =
     arm (scope_of c.args.k.now) c.args.e.now _ c.args.d c.args.x c.compare_sets.result c.compare_sets.new.out c.args.out.now
     (compare_sets_is c.args.e.now c.in-CompareSets.relation c.in-CompareSets.left c.deref-in-CompareSets.result.now c.in-CompareSets.right c.deref-in-CompareSets-2.result.now c.in-CompareSets.is c.deref-in-CompareSets.ensures c.deref-in-CompareSets-2.ensures)
-    (compared_made (scope_of c.args.k.now) c.in-CompareSets.relation (set_of c.deref-in-CompareSets.result.now) (set_of c.deref-in-CompareSets-2.result.now) c.args.d c.args.x c.even_from-t.result c.in_ok-behind-in-CompareSets.behind c.compare_sets.result c.compare_sets.new.out c.set-in-CompareSets.new.out c.set.new.out c.args.out.now
-    c.even_from-t.ensures.value c.in_ok-behind-in-CompareSets.ensures c.in_ok-set-in-CompareSets.ensures c.in_ok-set-in-CompareSets-2.ensures c.compare_sets.ensures)
+    (compared_made (scope_of c.args.k.now) c.in-CompareSets.relation (set_of c.deref-in-CompareSets.result.now) (set_of c.deref-in-CompareSets-2.result.now) c.args.d c.args.x c.even_from-t.result c.above-behind.result c.compare_sets.result c.compare_sets.new.out c.set-in-CompareSets.new.out c.set.new.out c.args.out.now
+    c.even_from-t.ensures.value c.above-behind.ensures c.in_ok-set-in-CompareSets.ensures c.in_ok-set-in-CompareSets-2.ensures c.compare_sets.ensures)
 
 pub front-returns-in_ok-set-in-In : goal.front-returns-in_ok-set-in-In
 front-returns-in_ok-set-in-In t c =
@@ -207,7 +215,7 @@ combine-loop-step-init t c = added_start (set_steps_added (scope_of c.args.k.now
 pub combine-loop-step-preserved : goal.combine-loop-step-preserved
 combine-loop-step-preserved t c =
     added_next (set_steps_added (scope_of c.args.k.now) c.args.d c.args.x) (set_step_added (scope_of c.args.k.now) c.args.d c.args.x) (set_steps_further (scope_of c.args.k.now) c.args.d c.args.x) _ _ _ _ _ c.step-item.result c.loop-step-test.true c.loop-step.invariant
-    (and_then _ _ _ _ _ (c.in_ok-set.ensures ∙ ap (λ n. c.loop-step.out ++ set_code (scope_of c.args.k.now) (set_of (out-SetStep c.step-item.result).operand) c.args.d n) c.in_ok-behind.ensures) c.in_ok-combined.ensures
+    (and_then _ _ _ _ _ (c.in_ok-set.ensures ∙ ap (λ n. c.loop-step.out ++ set_code (scope_of c.args.k.now) (set_of (out-SetStep c.step-item.result).operand) c.args.d n) c.above-behind.ensures) c.in_ok-combined.ensures
     ∙ ap (λ s. c.loop-step.out ++ set_step_added (scope_of c.args.k.now) c.args.d c.args.x s) c.step-item.is)
 
 pub combine-returns : goal.combine-returns
@@ -226,10 +234,149 @@ members-returns t c = added_all (members_added (scope_of c.args.k.now) c.args.d 
 
 pub member-returns-in_ok-value-in-One : goal.member-returns-in_ok-value-in-One
 member-returns-in_ok-value-in-One t c =
-    one_made (scope_of c.args.k.now) c.args.one.now _ _ c.args.d c.args.x c.even_from-t.result c.in_ok-behind.behind c.add_member.result c.add_member.new.out c.value.new.out c.args.out.now
-    c.in-One.is c.even_from-t.ensures.value c.in_ok-behind.ensures c.in_ok-value-in-One.ensures c.add_member.ensures
+    one_made (scope_of c.args.k.now) c.args.one.now _ _ c.args.d c.args.x c.even_from-t.result c.above-behind.result c.add_member.result c.add_member.new.out c.value.new.out c.args.out.now
+    c.in-One.is c.even_from-t.ensures.value c.above-behind.ensures c.in_ok-value-in-One.ensures c.add_member.ensures
 
 pub member-returns-in_ok-value-in-Range-2 : goal.member-returns-in_ok-value-in-Range-2
 member-returns-in_ok-value-in-Range-2 t c =
-    several_made (scope_of c.args.k.now) c.args.one.now _ _ _ c.args.d c.args.x c.held-first.result c.even_above-last.result c.in_ok-behind.behind c.add_members.result c.add_members.new.out c.value-in-Range-2.new.out c.value-in-Range.new.out c.args.out.now
-    c.in-Range.is (c.held-first.ensures.value ∙ ap (λ b. held b c.args.d) c.expr_calls.ensures) c.even_above-last.ensures.value c.in_ok-behind.ensures c.in_ok-value-in-Range.ensures c.in_ok-value-in-Range-2.ensures c.add_members.ensures
+    several_made (scope_of c.args.k.now) c.args.one.now _ _ _ c.args.d c.args.x c.held-first.result c.even_above-last.result c.above-behind.result c.add_members.result c.add_members.new.out c.value-in-Range-2.new.out c.value-in-Range.new.out c.args.out.now
+    c.in-Range.is (c.held-first.ensures.value ∙ ap (λ b. held b c.args.d) c.expr_calls.ensures) c.even_above-last.ensures.value c.above-behind.ensures c.in_ok-value-in-Range.ensures c.in_ok-value-in-Range-2.ensures c.add_members.ensures
+
+-- ---- room for what is called
+
+pub along-select-requires : goal.along-select-requires
+along-select-requires t c = (search (rules, the_lemmas, get_or_read), (leads_depth (scope_of c.args.k.now) c.args.t c.args.x c.args.selectors.now c.loop-selector.selector-index (site_of c.loop-selector.site) c.selector-item.result c.loop-selector-test.true c.selector-item.is c.loop-selector.invariant.1, leads_reach (scope_of c.args.k.now) c.args.t c.args.x c.args.selectors.now c.loop-selector.selector-index (site_of c.loop-selector.site) c.selector-item.result c.loop-selector-test.true c.selector-item.is c.loop-selector.invariant.1))
+
+pub argument-place-requires : goal.argument-place-requires
+argument-place-requires t c =
+    let e = variable_room (scope_of c.args.k.now) c.args.argument.now _ c.in-Variable.is in
+    let r = c.requires in
+    (search (rules, the_lemmas, get_or_read), omega (arith, e, r))
+
+pub arguments-argument-requires : goal.arguments-argument-requires
+arguments-argument-requires t c = (search (rules, the_lemmas, get_or_read), (handing_one (scope_of c.args.k.now) c.args.arguments.now c.loop-one.one-index c.loop-one.depth c.loop-one.scratch c.held-t.result c.one-item.result c.loop-one-test.true c.one-item.is c.loop-one.invariant.1 c.held-t.ensures.small).0)
+
+pub arguments-scratch_end-scratch-requires : goal.arguments-scratch_end-scratch-requires
+arguments-scratch_end-scratch-requires t c = (handing_one (scope_of c.args.k.now) c.args.arguments.now c.loop-one.one-index c.loop-one.depth c.loop-one.scratch c.held-t.result c.one-item.result c.loop-one-test.true c.one-item.is c.loop-one.invariant.1 c.held-t.ensures.small).1
+
+pub combine-set-requires : goal.combine-set-requires
+combine-set-requires t c =
+    let l = set_step_in (scope_of c.args.k.now) c.args.steps.now c.loop-step.step-index c.step-item.result c.loop-step-test.true c.step-item.is in
+    let b = c.above-behind.ensures in
+    let r = c.requires in
+    (search (rules, the_lemmas, get_or_read), omega (arith, l, b, r))
+
+pub front-place-requires : goal.front-place-requires
+front-place-requires t c =
+    let e = ap (expr_weight (scope_of c.args.k.now)) (load_is _ _ _ c.in-Load.is c.deref.ensures) in
+    let r = c.requires in
+    (search (rules, the_lemmas, get_or_read), omega (arith, e, r))
+
+pub front-value-requires-in-Arithmetic : goal.front-value-requires-in-Arithmetic
+front-value-requires-in-Arithmetic t c =
+    let e = ap (expr_weight (scope_of c.args.k.now)) (arithmetic_is c.args.e.now c.in-Arithmetic.first c.in-Arithmetic.steps c.deref-in-Arithmetic-2.result.now c.deref-in-Arithmetic.result.now c.in-Arithmetic.is c.deref-in-Arithmetic-2.ensures c.deref-in-Arithmetic.ensures.value) in
+    let s = sum_room (arithmetic_of c.deref-in-Arithmetic.result.now) c.args.d c.kept-sum.result (c.kept-sum.ensures.value ∙ ap (λ b. kept b c.args.d) c.steps_call.ensures) in
+    let r = c.requires in
+    (search (rules, the_lemmas, get_or_read), omega (arith, e, s, r))
+
+pub front-go_on-requires : goal.front-go_on-requires
+front-go_on-requires t c =
+    let e = ap (expr_weight (scope_of c.args.k.now)) (arithmetic_is c.args.e.now c.in-Arithmetic.first c.in-Arithmetic.steps c.deref-in-Arithmetic-2.result.now c.deref-in-Arithmetic.result.now c.in-Arithmetic.is c.deref-in-Arithmetic-2.ensures c.deref-in-Arithmetic.ensures.value) in
+    let s = c.kept-sum.ensures.small in
+    let w = ap (λ l. steps_weight (scope_of c.args.k.now) (arithmetic_of l)) (c.deref-in-Arithmetic-3.ensures.value ∙ sym c.deref-in-Arithmetic.ensures.value) in
+    let r = c.requires in
+    (search (rules, the_lemmas, get_or_read), omega (arith, e, s, w, r))
+
+pub front-front-requires-in-Logic : goal.front-front-requires-in-Logic
+front-front-requires-in-Logic t c =
+    let e = ap (expr_weight (scope_of c.args.k.now)) (logic_is c.args.e.now c.in-Logic.operator c.in-Logic.first c.in-Logic.rest c.deref-in-Logic-2.result.now c.deref-in-Logic.result.now c.in-Logic.is c.deref-in-Logic-2.ensures c.deref-in-Logic.ensures.value) in
+    let s = truth_room (operands_of c.deref-in-Logic.result.now) c.args.d c.kept-truth.result (c.kept-truth.ensures.value ∙ ap (λ b. kept b c.args.d) c.operands_call.ensures) in
+    let r = c.requires in
+    (search (rules, the_lemmas, get_or_read), omega (arith, e, s, r))
+
+pub front-go_on_with-requires : goal.front-go_on_with-requires
+front-go_on_with-requires t c =
+    let e = ap (expr_weight (scope_of c.args.k.now)) (logic_is c.args.e.now c.in-Logic.operator c.in-Logic.first c.in-Logic.rest c.deref-in-Logic-2.result.now c.deref-in-Logic.result.now c.in-Logic.is c.deref-in-Logic-2.ensures c.deref-in-Logic.ensures.value) in
+    let s = c.kept-truth.ensures.small in
+    let w = ap (λ l. operands_weight (scope_of c.args.k.now) (operands_of l)) (c.deref-in-Logic-4.ensures.value ∙ sym c.deref-in-Logic.ensures.value) in
+    let r = c.requires in
+    (search (rules, the_lemmas, get_or_read), omega (arith, e, s, w, r))
+
+pub front-arguments-requires : goal.front-arguments-requires
+front-arguments-requires t c =
+    let e = ap (expr_weight (scope_of c.args.k.now)) (call_is c.args.e.now c.in-Call.routine c.in-Call.up c.in-Call.actual c.in-Call.line c.deref-in-Call.result.now c.in-Call.is c.deref-in-Call.ensures.value) in
+    let r = c.requires in
+    (search (rules, the_lemmas, get_or_read), omega (arith, e, r))
+
+pub front-call-requires : goal.front-call-requires
+front-call-requires t c =
+    let e = ap (expr_weight (scope_of c.args.k.now)) (call_is c.args.e.now c.in-Call.routine c.in-Call.up c.in-Call.actual c.in-Call.line c.deref-in-Call.result.now c.in-Call.is c.deref-in-Call.ensures.value) in
+    let a = arguments_far (scope_of c.args.k.now) (arguments_of c.deref-in-Call.result.now) c.args.d in
+    let w = ap (λ l. arguments_end (arguments_of l) c.args.d) (c.deref-in-Call-2.ensures.value ∙ sym c.deref-in-Call.ensures.value) in
+    let r = c.requires in
+    omega (arith, e, a, w, r)
+
+pub front-arguments-requires-in-CallFormal : goal.front-arguments-requires-in-CallFormal
+front-arguments-requires-in-CallFormal t c =
+    let e = ap (expr_weight (scope_of c.args.k.now)) (call_formal_is c.args.e.now c.in-CallFormal.up c.in-CallFormal.index c.in-CallFormal.actual c.in-CallFormal.line c.deref-in-CallFormal.result.now c.in-CallFormal.is c.deref-in-CallFormal.ensures.value) in
+    let r = c.requires in
+    (search (rules, the_lemmas, get_or_read), omega (arith, e, r))
+
+pub front-call_formal-requires-clause-depth : goal.front-call_formal-requires-clause-depth
+front-call_formal-requires-clause-depth t c =
+    let e = ap (expr_weight (scope_of c.args.k.now)) (call_formal_is c.args.e.now c.in-CallFormal.up c.in-CallFormal.index c.in-CallFormal.actual c.in-CallFormal.line c.deref-in-CallFormal.result.now c.in-CallFormal.is c.deref-in-CallFormal.ensures.value) in
+    let a = arguments_far (scope_of c.args.k.now) (arguments_of c.deref-in-CallFormal.result.now) c.args.d in
+    let w = ap (λ l. arguments_end (arguments_of l) c.args.d) (c.deref-in-CallFormal-2.ensures.value ∙ sym c.deref-in-CallFormal.ensures.value) in
+    let r = c.requires in
+    omega (arith, e, a, w, r)
+
+pub go_on-unless_known-requires : goal.go_on-unless_known-requires
+go_on-unless_known-requires t c =
+    let l = step_in (scope_of c.args.k.now) c.args.steps.now c.loop-step.step-index c.step-item.result c.loop-step-test.true c.step-item.is in
+    let h = c.even_above-t.ensures.small in
+    let r = c.requires in
+    (search (rules, the_lemmas, get_or_read), omega (arith, l, h, r))
+
+pub go_on_with-front-requires : goal.go_on_with-front-requires
+go_on_with-front-requires t c =
+    let l = operand_in (scope_of c.args.k.now) c.args.operands.now c.loop-operand.operand-index c.operand-item.result c.loop-operand-test.true c.operand-item.is in
+    let h = c.even_above-t.ensures.small in
+    let r = c.requires in
+    (search (rules, the_lemmas, get_or_read), omega (arith, l, h, r))
+
+pub go_on_with-truth_finish-requires : goal.go_on_with-truth_finish-requires
+go_on_with-truth_finish-requires t c =
+    let l = operand_in (scope_of c.args.k.now) c.args.operands.now c.loop-operand.operand-index c.operand-item.result c.loop-operand-test.true c.operand-item.is in
+    let h = c.even_above-t.ensures.small in
+    let r = c.requires in
+    omega (arith, l, h, r)
+
+pub members-member-requires : goal.members-member-requires
+members-member-requires t c =
+    let l = member_in (scope_of c.args.k.now) c.args.list.now c.loop-one.one-index c.one-item.result c.loop-one-test.true c.one-item.is in
+    let r = c.requires in
+    (search (rules, the_lemmas, get_or_read), omega (arith, l, r))
+
+pub set-place-requires : goal.set-place-requires
+set-place-requires t c =
+    let e = ap (set_weight (scope_of c.args.k.now)) (load_set_is _ _ _ c.in-Load.is c.deref.ensures) in
+    let r = c.requires in
+    (search (rules, the_lemmas, get_or_read), omega (arith, e, r))
+
+pub set-members-requires : goal.set-members-requires
+set-members-requires t c =
+    let e = ap (set_weight (scope_of c.args.k.now)) (constructor_is _ _ _ c.in-Constructor.is c.deref-in-Constructor.ensures.value) in
+    let r = c.requires in
+    (search (rules, the_lemmas, get_or_read), omega (arith, e, r))
+
+pub set-combine-requires : goal.set-combine-requires
+set-combine-requires t c =
+    let e = ap (set_weight (scope_of c.args.k.now)) (combine_is _ _ _ _ _ c.in-Combine.is c.deref-in-Combine.ensures c.deref-in-Combine-2.ensures.value) in
+    let r = c.requires in
+    (search (rules, the_lemmas, get_or_read), omega (arith, e, r))
+
+pub structure-place-requires : goal.structure-place-requires
+structure-place-requires t c =
+    let e = contents_room (scope_of c.args.k.now) c.args.e.now _ _ c.deref-in-Contents.result.now c.in-Contents.is c.deref-in-Contents.ensures in
+    let r = c.requires in
+    (search (rules, the_lemmas, get_or_read), omega (arith, e, r))

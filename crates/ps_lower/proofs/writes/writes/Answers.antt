@@ -1,9 +1,10 @@
-use Rattle.std.proofs.Common.{◌++◌, refl, ap, ◌∙◌}
+use Rattle.std.proofs.Common.{◌++◌, refl, ap, ◌∙◌, arith}
 use Rattle.ps_tree.specs.View.{write_of}
 use Rattle.ps_code.specs.Statements.{write_code}
 use Rattle.ps_lower.specs.Levels.{scope_of}
 use Rattle.ps_lower.proofs.Appends.{added_start, added_next, added_all}
 use Rattle.ps_lower.proofs.Rows.{writes_added, writes_further}
+use Rattle.ps_lower.proofs.Weighing.{write_in}
 use Rattle.ps_lower.proofs.writes.writes.Goals as goal
 
 pub loop-parameter-init : goal.loop-parameter-init
@@ -14,3 +15,6 @@ loop-parameter-preserved c = added_next (writes_added (scope_of c.args.k.now) c.
 
 pub returns : goal.returns
 returns c = added_all (writes_added (scope_of c.args.k.now) c.args.d) refl _ _ _ _ c.loop-parameter-test.false c.loop-parameter.invariant
+
+pub write-requires : goal.write-requires
+write-requires c = let l = write_in (scope_of c.args.k.now) c.args.parameters.now c.loop-parameter.parameter-index c.parameter-item.result c.loop-parameter-test.true c.parameter-item.is in let r = c.requires in omega (arith, l, r)
