@@ -5,6 +5,7 @@ mod Costs
 mod Rows
 mod Written
 mod Passing
+mod Joined
 mod Homes
 mod Texts
 mod Few

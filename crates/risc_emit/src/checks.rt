@@ -1,10 +1,7 @@
 // Checks of ranges and pointers, and the addresses of components.
 
-ghost use Rattle.std.specs.Prelude.{◌≡◌, ◌++◌, [], ◌∷◌, OnOk};
-ghost use Rattle.risc_word.specs.declared.instr.Operation.TheVariants as op;
-ghost use Rattle.risc_word.specs.declared.instr.Operand.TheVariants.{Content};
+ghost use Rattle.std.specs.Prelude.{◌≡◌, ◌++◌, [], ◌∷◌, OnOk, IfOk};
 ghost use Rattle.risc_word.specs.declared.instr.Condition.TheVariants as on;
-ghost use Rattle.risc_word.specs.declared.instr.Instr.TheVariants as word;
 ghost use Rattle.risc_related.specs.Context.{home};
 ghost use Rattle.risc_steps.specs.Pieces as piece;
 ghost use Rattle.risc_steps.specs.Forms as form;
@@ -12,32 +9,53 @@ ghost use Rattle.risc_emit.specs.Frames.{context_of};
 
 use crate::frame::Frame;
 use crate::memory::put_base_address;
+use crate::numbers::put_exact;
 use crate::operands::{bring, fetch, natural_right, number_right, save, target};
 use crate::pieces::{Piece, Pieces};
 use crate::words::{computed, constant, r12, r15};
 use risc_word::{Condition, Operand as Right, Operation, Register};
 use tac_code::code::{Base, OutOfMemory};
 
-fn is_short(low: i32, high: i32) -> bool
-    ensures { result ≡ form.is_short low high }
-{
-    low == 0 && 0 <= high && high < 65535
-}
-
-// R15 takes what a register holds less a number, with the flags.
-fn put_less(
+// How far what a register holds lies above the lowest number of a range, modulo 2^32: gives the register.
+fn put_above(
     frame: &Frame<'_>,
     pieces: &mut Pieces,
     register: Register,
-    value: i32,
-) -> Result<(), OutOfMemory>
-    ensures { OnOk result (pieces.new ≡ pieces.old ++ form.less_number (context_of frame.now) frame.now.number register value) }
+    low: i32,
+) -> Result<Register, OutOfMemory>
+    ensures words { OnOk result (pieces.new ≡ pieces.old ++ form.above (context_of frame.now) frame.now.number register low) }
+    ensures register { IfOk result (λ q. q ≡ form.above_register (context_of frame.now) frame.now.number register low) }
 {
-    let number = number_right(frame, pieces, value)?;
-    pieces.plain(computed(Operation::Sub, r15(), register, number))
+    if low == 0 {
+        return Ok(register);
+    }
+    let lowest = number_right(frame, pieces, low)?;
+    pieces.plain(computed(Operation::Sub, r12(), register, lowest))?;
+    Ok(r12())
 }
 
-// Outside a range that begins with 0 there is no borrow, of negative numbers either.
+// The comparison has no sign: what lies below the lowest number of a range is large.
+fn put_at_most(
+    frame: &Frame<'_>,
+    pieces: &mut Pieces,
+    register: Register,
+    most: u32,
+    error: u8,
+    line: u16,
+) -> Result<(), OutOfMemory>
+    ensures { OnOk result (pieces.new ≡ pieces.old ++ form.at_most (context_of frame.now) frame.now.number register most error line) }
+{
+    let _ = frame;
+    if most < 65535 {
+        pieces.plain(computed(Operation::Sub, r15(), register, constant(most as i32 + 1)))?;
+        return pieces.push(Piece::Fails(Condition::CarryClear, error, line));
+    }
+    put_exact(pieces, r15(), most)?;
+    pieces.plain(computed(Operation::Sub, r15(), r15(), Right::Content(register)))?;
+    pieces.push(Piece::Fails(Condition::CarrySet, error, line))
+}
+
+// A number in its range, which may be empty: gives the register that holds how far it lies above the lowest one.
 fn put_range(
     frame: &Frame<'_>,
     pieces: &mut Pieces,
@@ -46,17 +64,17 @@ fn put_range(
     high: i32,
     error: u8,
     line: u16,
-) -> Result<(), OutOfMemory>
-    ensures { OnOk result (pieces.new ≡ pieces.old ++ form.range_code (context_of frame.now) frame.now.number register low high error line) }
+) -> Result<Register, OutOfMemory>
+    ensures words { OnOk result (pieces.new ≡ pieces.old ++ form.range_code (context_of frame.now) frame.now.number register low high error line) }
+    ensures register { IfOk result (λ q. q ≡ form.above_register (context_of frame.now) frame.now.number register low) }
 {
-    if is_short(low, high) {
-        pieces.plain(computed(Operation::Sub, r15(), register, constant(high + 1)))?;
-        return pieces.push(Piece::Fails(Condition::CarryClear, error, line));
+    if high < low {
+        pieces.push(Piece::Fails(Condition::Always, error, line))?;
+        return Ok(if low == 0 { register } else { r12() });
     }
-    put_less(frame, pieces, register, low)?;
-    pieces.push(Piece::Fails(Condition::Less, error, line))?;
-    put_less(frame, pieces, register, high)?;
-    pieces.push(Piece::Fails(Condition::Greater, error, line))
+    let above = put_above(frame, pieces, register, low)?;
+    put_at_most(frame, pieces, above, high.abs_diff(low), error, line)?;
+    Ok(above)
 }
 
 pub(crate) fn put_check(
@@ -71,7 +89,8 @@ pub(crate) fn put_check(
     ensures { OnOk result (pieces.new ≡ pieces.old ++ form.check_form (context_of frame.now) frame.now.number value low high error line) }
 {
     let register = fetch(frame, pieces, r12(), value)?;
-    put_range(frame, pieces, register, low, high, error, line)
+    put_range(frame, pieces, register, low, high, error, line)?;
+    Ok(())
 }
 
 pub(crate) fn put_pointer_check(
@@ -87,39 +106,58 @@ pub(crate) fn put_pointer_check(
     pieces.push(Piece::Fails(Condition::Equal, error, line))
 }
 
-// R12 takes the index less the lowest one, times the width.
-fn put_steps(
+// A count of steps times their width: gives the register.
+fn put_scaled(
     frame: &Frame<'_>,
     pieces: &mut Pieces,
-    index: Register,
-    low: i32,
+    steps: Register,
     width: u32,
-) -> Result<(), OutOfMemory>
-    ensures { OnOk result (pieces.new ≡ pieces.old ++ form.steps_code (context_of frame.now) frame.now.number index low width) }
+) -> Result<Register, OutOfMemory>
+    ensures words { OnOk result (pieces.new ≡ pieces.old ++ form.scaled (context_of frame.now) frame.now.number steps width) }
+    ensures register { IfOk result (λ q. q ≡ form.scaled_register (context_of frame.now) frame.now.number steps width) }
 {
-    let lowest = number_right(frame, pieces, low)?;
-    pieces.plain(computed(Operation::Sub, r12(), index, lowest))?;
+    if width == 1 {
+        return Ok(steps);
+    }
     let factor = natural_right(frame, pieces, width)?;
-    pieces.plain(computed(Operation::Mul, r12(), r12(), factor))
+    pieces.plain(computed(Operation::Mul, r12(), steps, factor))?;
+    Ok(r12())
 }
 
-// The address R12 bytes behind a base.
+// The address so far behind a base as a register tells.
 fn put_component(
     frame: &Frame<'_>,
     pieces: &mut Pieces,
     to: u32,
     base: Base,
+    distance: Register,
 ) -> Result<(), OutOfMemory>
-    ensures { OnOk result (pieces.new ≡ pieces.old ++ (form.base_address (context_of frame.now) frame.now.number base ++ (piece.Plain (word.Operate op.Add (form.target (context_of frame.now) frame.now.number (home (context_of frame.now) frame.now.number to)) 15 (Content 12)) ∷ form.save (context_of frame.now) frame.now.number (home (context_of frame.now) frame.now.number to)))) }
+    ensures { OnOk result (pieces.new ≡ pieces.old ++ form.component (context_of frame.now) frame.now.number to base distance) }
 {
-    put_base_address(frame, pieces, base)?;
-    pieces.plain(computed(
+    let address = put_base_address(frame, pieces, base)?;
+    let sum = computed(
         Operation::Add,
         target(frame, to),
-        r15(),
-        Right::Content(r12()),
-    ))?;
+        address,
+        Right::Content(distance),
+    );
+    pieces.plain(sum)?;
     save(frame, pieces, to)
+}
+
+// The address so many steps behind a base as a register tells.
+fn put_steps(
+    frame: &Frame<'_>,
+    pieces: &mut Pieces,
+    to: u32,
+    base: Base,
+    steps: Register,
+    width: u32,
+) -> Result<(), OutOfMemory>
+    ensures { OnOk result (pieces.new ≡ pieces.old ++ form.steps_form (context_of frame.now) frame.now.number to base steps width) }
+{
+    let distance = put_scaled(frame, pieces, steps, width)?;
+    put_component(frame, pieces, to, base, distance)
 }
 
 /// The address of a component.
@@ -138,7 +176,6 @@ pub(crate) fn put_index(
     ensures { OnOk result (pieces.new ≡ pieces.old ++ form.index_form (context_of frame.now) frame.now.number to base index low high width error line) }
 {
     let register = fetch(frame, pieces, r12(), index)?;
-    put_range(frame, pieces, register, low, high, error, line)?;
-    put_steps(frame, pieces, register, low, width)?;
-    put_component(frame, pieces, to, base)
+    let steps = put_range(frame, pieces, register, low, high, error, line)?;
+    put_steps(frame, pieces, to, base, steps, width)
 }

@@ -7,8 +7,8 @@ ghost use Rattle.risc_emit.specs.Frames.{context_of};
 ghost use Rattle.risc_emit.specs.Meant.{label_of};
 
 use crate::frame::Frame;
-use crate::numbers::{is_near, put_constant, put_natural};
-use crate::operands::{bring, fetch, save, target};
+use crate::numbers::{is_near, put_constant};
+use crate::operands::{fetch, save, target};
 use crate::pieces::{Label, Piece, Pieces};
 use crate::words::{computed, constant, loaded, r12, r13, r14, r15, stored};
 use risc_word::{Operand as Right, Operation, Register, Width};
@@ -123,22 +123,40 @@ pub(crate) fn put_offset(
     save(frame, pieces, to)
 }
 
-/// R15 takes the address of a base.
+// R15 takes the address so many bytes behind what a register holds.
+fn put_sum(
+    frame: &Frame<'_>,
+    pieces: &mut Pieces,
+    register: Register,
+    bytes: u64,
+) -> Result<(), OutOfMemory>
+    ensures { OnOk result (pieces.new ≡ pieces.old ++ form.sum (context_of frame.now) frame.now.number register bytes) }
+{
+    let _ = frame;
+    if bytes < 65536 {
+        return pieces.plain(computed(Operation::Add, r15(), register, constant(bytes as i32)));
+    }
+    put_constant(pieces, r15(), bytes)?;
+    pieces.plain(computed(Operation::Add, r15(), register, Right::Content(r15())))
+}
+
+/// The address of a base, where it stands or in R15: gives the register.
 pub(crate) fn put_base_address(
     frame: &Frame<'_>,
     pieces: &mut Pieces,
     base: Base,
-) -> Result<(), OutOfMemory>
-    ensures { OnOk result (pieces.new ≡ pieces.old ++ form.base_address (context_of frame.now) frame.now.number base) }
+) -> Result<Register, OutOfMemory>
+    ensures words { OnOk result (pieces.new ≡ pieces.old ++ form.base_address (context_of frame.now) frame.now.number base) }
+    ensures register { IfOk result (λ q. q ≡ form.address_register (context_of frame.now) frame.now.number base) }
 {
     let (register, offset) = match base {
         Base::Frame => (r14(), frame.frame_at()),
         Base::Scratch => (r14(), frame.scratch_at()),
         Base::Program => (r13(), frame.program_at()),
-        Base::Temporary(temporary) => return bring(frame, pieces, r15(), temporary),
+        Base::Temporary(temporary) => return fetch(frame, pieces, r15(), temporary),
     };
-    put_natural(pieces, r15(), offset)?;
-    pieces.plain(computed(Operation::Add, r15(), register, Right::Content(r15())))
+    put_sum(frame, pieces, register, offset)?;
+    Ok(r15())
 }
 
 /// The address of a label.

@@ -90,7 +90,13 @@ module _ (c : Context) (r : ℕ) where
   base_address_bare base.Frame = refl
   base_address_bare base.Scratch = refl
   base_address_bare base.Program = refl
-  base_address_bare (base.Temporary t) = bring_bare 15 (home c r t)
+  base_address_bare (base.Temporary t) = fetch_bare 15 (home c r t)
+
+  address_register_bare : (a : Base) → form.address_register b r a ≡ form.address_register c r a
+  address_register_bare base.Frame = refl
+  address_register_bare base.Scratch = refl
+  address_register_bare base.Program = refl
+  address_register_bare (base.Temporary t) = fetched_bare 15 (home c r t)
 
   divisor_bare : (o : Operand) → form.divisor b r o ≡ form.divisor c r o
   divisor_bare (operand.Temporary t) = bring_bare 15 (home c r t)
@@ -147,7 +153,7 @@ module _ (c : Context) (r : ℕ) where
   form_bare k (Offset t a n extent) =
       rw (target_bare (home c r t)) (rw (save_bare (home c r t)) (rw (address_bare (form.target c r (home c r t)) a n) refl))
   form_bare k (Index t a i low high width error line) =
-      rw (fetch_bare 12 (home c r i)) (rw (fetched_bare 12 (home c r i)) (rw (base_address_bare a) (rw (target_bare (home c r t)) (rw (save_bare (home c r t)) refl))))
+      rw (fetch_bare 12 (home c r i)) (rw (fetched_bare 12 (home c r i)) (rw (base_address_bare a) (rw (address_register_bare a) (rw (target_bare (home c r t)) (rw (save_bare (home c r t)) refl)))))
   form_bare k (RoutineValue t q) = label_bare t _
   form_bare k (Load t a n) = load_bare _ t a n
   form_bare k (Store a n u) = store_bare _ a n u

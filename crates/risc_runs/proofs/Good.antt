@@ -1,8 +1,6 @@
 -- The numbers and lines in the pieces of sound code lie in their ranges.
-use Rattle.std.proofs.Common.{ℕ, zero, suc, Bool, true, false, cond, nat_lt, List, [], ◌∷◌, ◌++◌, ℤ, pos, arith}
-use Rattle.risc_word.specs.declared.instr.Operation.TheVariants as op
-use Rattle.risc_word.specs.declared.instr.Operand.TheVariants.{Content}
-use Rattle.risc_word.specs.declared.instr.Instr.TheVariants as word
+use Rattle.std.proofs.Common.{ℕ, zero, suc, Bool, true, false, cond, nat_eq, nat_lt, List, [], ◌∷◌, ◌++◌, ℤ, pos, arith}
+use Rattle.std.specs.Prelude.{int_lt}
 use Rattle.risc_word.specs.declared.instr.Width.{Width}
 use Rattle.tac_code.specs.declared.code.Operator.{Operator}
 use Rattle.tac_code.specs.declared.code.Operator.TheVariants.{Add, Subtract, Multiply, Divide, Modulo}
@@ -14,13 +12,14 @@ use Rattle.tac_code.specs.declared.code.Instruction.{Instruction}
 use Rattle.tac_code.specs.declared.code.Instruction.TheVariants.{Literal, Copy, Arithmetic, Bits, Compare, CheckRange, CheckPointer, Text, Offset, Index, RoutineValue, Load, Store, LoadByte, StoreByte, Jump, JumpBack, Branch, BranchBack, Call, CallValue, Return, Trap, Take, Put, New, End}
 use Rattle.tac_code.specs.declared.code.TacRoutine.{TacRoutine}
 use Rattle.tac_code.specs.declared.check.Limits.{Limits}
+use Rattle.tac_code.specs.Numbers.{is_zero, steps_above}
 use Rattle.tac_code.specs.Sound.{IsErrorNumber, IsLine, IsSoundAt}
 use Rattle.risc_alloc.specs.declared.homes.Home.{Home}
 use Rattle.risc_alloc.specs.declared.homes.Home.TheVariants.{Slot, Reg}
 use Rattle.risc_related.specs.Context.{Context, home, is_program, slot_at}
-use Rattle.risc_steps.specs.Pieces.{Piece, Plain, Fails, Enters, Joins, EntersAt}
+use Rattle.risc_steps.specs.Pieces.{Piece, Fails, Enters, Joins, EntersAt}
 use Rattle.risc_steps.specs.Forms as form
-use Rattle.risc_steps.specs.Forms.{is_near, is_small, is_short, is_divisor}
+use Rattle.risc_steps.specs.Forms.{is_near, is_small, is_divisor}
 use Rattle.risc_runs.specs.Emits.{start_form}
 
 -- what a piece's row asks
@@ -120,14 +119,14 @@ module _ (c : Context) (r : ℕ) where
   quotient_good : (a : ℕ) → AreGood (form.quotient c r a)
   quotient_good a = good_append (form.fetch c r 12 (home c r a)) _ (fetch_good 12 (home c r a)) (tt, (tt, (tt, (tt, (tt, tt)))))
 
-  far_good : (n q : ℕ) → AreGood (form.number 15 (pos n) ++ Plain (word.Operate op.Add 15 q (Content 15)) ∷ [])
-  far_good n q = good_append (form.number 15 (pos n)) (Plain (word.Operate op.Add 15 q (Content 15)) ∷ []) (number_good 15 (pos n)) (tt, tt)
+  sum_good : (q n : ℕ) → AreGood (form.sum c r q n)
+  sum_good q n = by_test (nat_lt n 65536) _ _ (tt, tt) (tt, (tt, (tt, tt)))
 
   base_address_good : (a : Base) → AreGood (form.base_address c r a)
-  base_address_good base.Frame = far_good (c.frame_at r) 14
-  base_address_good base.Scratch = far_good (c.scratch_at r) 14
-  base_address_good base.Program = far_good (c.frame_at 0) 13
-  base_address_good (base.Temporary t) = bring_good 15 (home c r t)
+  base_address_good base.Frame = sum_good 14 (c.frame_at r)
+  base_address_good base.Scratch = sum_good 14 (c.scratch_at r)
+  base_address_good base.Program = sum_good 13 (c.frame_at 0)
+  base_address_good (base.Temporary t) = fetch_good 15 (home c r t)
 
   least_good : (a : ℕ) → AreGood (form.quotient_by_least c r a)
   least_good a =
@@ -153,21 +152,25 @@ module _ (c : Context) (r : ℕ) where
   arithmetic_good Divide t a o error line e l = divide_good t a o error line e l
   arithmetic_good Modulo t a o error line e l = modulo_good t a o line l
 
-  less_good : (a : ℕ) (z : ℤ) → AreGood (form.less_number c r a z)
-  less_good a z = good_append (form.right c r (operand.Number z)) _ (right_good (operand.Number z)) (tt, tt)
+  above_good : (a : ℕ) (low : ℤ) → AreGood (form.above c r a low)
+  above_good a low =
+      by_test (is_zero low) _ _ tt (good_append (form.right c r (operand.Number low)) _ (right_good (operand.Number low)) (tt, tt))
 
-  range_good : (a : ℕ) (low high : ℤ) (error line : ℕ) → IsErrorNumber error → IsLine line → AreGood (form.range_code c r a low high error line)
-  range_good a low high error line e l =
-      by_test (is_short low high) _ _ (tt, ((e, l), tt)) (good_append (form.less_number c r a low) _ (less_good a low) ((e, l), good_append (form.less_number c r a high) _ (less_good a high) ((e, l), tt)))
+  at_most_good : (q n error line : ℕ) → IsErrorNumber error → IsLine line → AreGood (form.at_most c r q n error line)
+  at_most_good q n error line e l = by_test (nat_lt n 65535) _ _ (tt, ((e, l), tt)) (tt, (tt, (tt, ((e, l), tt))))
 
-  steps_good : (i : ℕ) (low : ℤ) (width : ℕ) → AreGood (form.steps_code c r i low width)
-  steps_good i low width =
-      good_append (form.right c r (operand.Number low)) _ (right_good (operand.Number low)) (tt, good_append (form.right c r (operand.Number (pos width))) _ (right_good (operand.Number (pos width))) (tt, tt))
-
-  index_good : (t : ℕ) (a : Base) (i : ℕ) (low high : ℤ) (width error line : ℕ) → IsErrorNumber error → IsLine line → AreGood (form.index_form c r t a i low high width error line)
-  index_good t a i low high width error line e l =
+  check_good : (i : ℕ) (low high : ℤ) (error line : ℕ) → IsErrorNumber error → IsLine line → AreGood (form.check_form c r i low high error line)
+  check_good i low high error line e l =
       let at = form.fetched c r 12 (home c r i) in
-      good_append (form.fetch c r 12 (home c r i)) _ (fetch_good 12 (home c r i)) (good_append (form.range_code c r at low high error line) _ (range_good at low high error line e l) (good_append (form.steps_code c r at low width) _ (steps_good at low width) (good_append (form.base_address c r a) _ (base_address_good a) (tt, save_good (home c r t)))))
+      good_append (form.fetch c r 12 (home c r i)) _ (fetch_good 12 (home c r i)) (by_test (int_lt high low) _ _ ((e, l), tt) (good_append (form.above c r at low) _ (above_good at low) (at_most_good (form.above_register c r at low) (steps_above low high) error line e l)))
+
+  scaled_good : (q width : ℕ) → AreGood (form.scaled c r q width)
+  scaled_good q width =
+      by_test (nat_eq width 1) _ _ tt (good_append (form.right c r (operand.Number (pos width))) _ (right_good (operand.Number (pos width))) (tt, tt))
+
+  steps_good : (t : ℕ) (a : Base) (q width : ℕ) → AreGood (form.steps_form c r t a q width)
+  steps_good t a q width =
+      good_append (form.scaled c r q width) _ (scaled_good q width) (good_append (form.base_address c r a) _ (base_address_good a) (tt, save_good (home c r t)))
 
   pass_good : (j : ℕ) (us : List ℕ) → AreGood (form.pass c r j us)
   pass_good j [] = tt
@@ -190,13 +193,14 @@ module _ (c : Context) (r : ℕ) where
   form_good limits k (Bits operator t a o) h = both_good a o _ (tt, save_good (home c r t))
   form_good limits k (Compare relation t a o) h = both_good a o _ (tt, (tt, (tt, (tt, (tt, save_good (home c r t))))))
   form_good limits k (CheckRange a low high error line) h =
-      good_append (form.fetch c r 12 (home c r a)) _ (fetch_good 12 (home c r a)) (range_good _ low high error line h.3 h.4)
+      check_good a low high error line h.3 h.4
   form_good limits k (CheckPointer a error line) h =
       good_append (form.bring c r 12 (home c r a)) _ (bring_good 12 (home c r a)) ((h.1, h.2), tt)
   form_good limits k (Text t bytes) h = (tt, (tt, save_good (home c r t)))
   form_good limits k (Offset t a n extent) h =
       good_append (form.address c r (form.target c r (home c r t)) a n) _ (address_good _ a n) (save_good (home c r t))
-  form_good limits k (Index t a i low high width error line) h = index_good t a i low high width error line h.5 h.6
+  form_good limits k (Index t a i low high width error line) h =
+      good_append (form.check_form c r i low high error line) _ (check_good i low high error line h.5 h.6) (steps_good t a (form.above_register c r (form.fetched c r 12 (home c r i)) low) width)
   form_good limits k (RoutineValue t q) h = (tt, (tt, save_good (home c r t)))
   form_good limits k (Load t a n) h = load_form_good _ t a n
   form_good limits k (Store a n u) h = store_form_good _ a n u

@@ -1,6 +1,6 @@
 -- Ranges and pointers checked by their words.
-use Rattle.std.proofs.Common.{◌≡◌, ◌≢◌, ℕ, zero, suc, ◌+◌, ◌<◌, ◌≤◌, ◌⊎◌, inl, inr, Bool, true, false, cond, not, ◌&&◌, nat_eq, nat_lt, List, [], ◌∷◌, ◌++◌, length, take, Option, Some, None, ℤ, pos, negsuc, refl, sym, ap, ◌∙◌, subst, arith, append_assoc}
-use Rattle.std.specs.Prelude.{int_lt}
+use Rattle.std.proofs.Common.{◌≡◌, ◌≢◌, ℕ, zero, suc, ◌+◌, ◌<◌, ◌≤◌, inr, Bool, true, false, cond, not, ◌&&◌, nat_eq, nat_lt, List, [], ◌∷◌, ◌++◌, length, take, Option, Some, None, ℤ, pos, negsuc, ◌-ℤ◌, refl, sym, ap, ◌∙◌, subst, arith, append_assoc}
+use Rattle.std.specs.Prelude.{int_lt, ◌≤ℤ◌, ◌<ℤ◌}
 use Rattle.std.proofs.lemmas.Int.{ints}
 use Rattle.std.proofs.lemmas.Bool.{ltb-true}
 use Rattle.risc_word.specs.declared.instr.Operation.TheVariants as op
@@ -9,185 +9,252 @@ use Rattle.risc_word.specs.declared.instr.Condition.TheVariants as on
 use Rattle.risc_word.specs.declared.instr.Instr.TheVariants as word
 use Rattle.risc_machine.specs.Step as machine
 use Rattle.risc_machine.specs.Step.{word_of_int}
-use Rattle.risc_view.specs.View.{View, Shows, after, at_view}
+use Rattle.risc_view.specs.View.{View, Shows, operand_view, after, at_view, holds_view}
 use Rattle.risc_view.specs.Runs.{To, Way, same_tape}
+use Rattle.risc_view.specs.Numbers.{difference_of}
 use Rattle.tac_code.specs.declared.code.Operand.TheVariants as operand
-use Rattle.tac_code.specs.declared.code.Relation.TheVariants.{Greater}
 use Rattle.tac_code.specs.declared.code.Value.{Value}
 use Rattle.tac_code.specs.declared.code.Value.TheVariants.{Number}
 use Rattle.tac_code.specs.declared.code.Instruction.TheVariants.{CheckRange, CheckPointer}
-use Rattle.tac_code.specs.Numbers.{word_of, is_in_range}
+use Rattle.tac_code.specs.Numbers.{is_zero, word_of, natural, steps_above, is_in_range}
 use Rattle.tac_code.specs.Meaning.{fetch, open_calls, State, checks, onward, pointer_of, is_nil}
 use Rattle.risc_related.specs.Context.{Context, home, Places, Passes, IsNumber}
 use Rattle.risc_related.specs.Related.{Machine, Related}
 use Rattle.risc_related.specs.Changes.{Near}
-use Rattle.risc_related.proofs.Basics.{update_other}
+use Rattle.risc_related.proofs.Basics.{update_same, update_other}
 use Rattle.risc_related.specs.Walk.{walk}
-use Rattle.risc_view.proofs.Runs.{to_join}
+use Rattle.risc_view.proofs.Runs.{to_join, way_here, way_of, way_to}
 use Rattle.risc_steps.specs.Pieces as piece
 use Rattle.risc_steps.specs.Pieces.{Piece, Plain, Left}
 use Rattle.risc_steps.specs.Forms as form
-use Rattle.risc_steps.specs.Forms.{fetched, right, right_operand, bring, less_number, is_short, natural, range_code}
+use Rattle.risc_steps.specs.Forms.{exact, fetched, right, right_operand, bring, above, above_register, at_most, range_code}
 use Rattle.risc_steps.specs.Follows.{machine_of, Built, Belongs, Stops, Follows}
 use Rattle.risc_steps.proofs.Basics.{left_after, left_next, is_read, passes, among_first, integer_is}
-use Rattle.risc_steps.proofs.Runs.{step_to, fetched_not, right_run}
-use Rattle.risc_steps.proofs.Comes.{failing, framed, left_whole, fetched_is, come_to, stop_to, fails_not, fails_walked, walk_near, goes_end}
+use Rattle.risc_steps.proofs.Runs.{step_to, exact_run, fetched_not, right_run}
+use Rattle.risc_steps.proofs.Comes.{failing, framed, left_whole, fetched_is, come_to, stop_to, stop_way, fails_not, fails_walked, walk_near, goes_end}
 use Rattle.risc_steps.proofs.Operands.{code, one_run, brought_run}
-use Rattle.risc_steps.proofs.Compares.{Differs, differs, compared_flags, pointer_word, points, object_high}
+use Rattle.risc_steps.proofs.Compares.{not_not, pointer_word, points, object_high}
 use Rattle.risc_steps.proofs.Calls.{follows_way, follows_to}
 
--- from 0 to n: the word lies below n + 1
-short_range : (n : ℕ) (x : ℤ) → n < 65535 → IsNumber x → nat_lt (word_of x) (suc n) ≡ is_in_range (pos 0) (pos n) x
-short_range n (pos m) lt is = go m (word_is m is)
-  where
-    word_is : (m : ℕ) → IsNumber (pos m) → word_of (pos m) ≡ m
-    word_is m is = omega (arith, ints, is)
+is_less : (x y : ℕ) → x < y → nat_lt x y ≡ true
+is_less x y h = grind arith
 
-    go : (m : ℕ) → word_of (pos m) ≡ m → nat_lt (word_of (pos m)) (suc n) ≡ not (nat_lt m 0) && not (nat_lt n m)
-    go m e = ap (λ z. nat_lt z (suc n)) e ∙ less m
-      where
-        less : (m : ℕ) → nat_lt m (suc n) ≡ not (nat_lt m 0) && not (nat_lt n m)
-        less m = grind arith
-short_range n (negsuc m) lt is = no _ _ (large m is)
-  where
-    large : (m : ℕ) → IsNumber (negsuc m) → suc n ≤ word_of (negsuc m)
-    large m is = omega (arith, ints, is, lt)
+is_not_less : (x y : ℕ) → y ≤ x → nat_lt x y ≡ false
+is_not_less x y h = grind arith
 
-    no : (x y : ℕ) → y ≤ x → nat_lt x y ≡ false
-    no x y h = grind arith
+-- how far a number lies above another one
+natural_is : (z : ℤ) → pos 0 ≤ℤ z → pos (natural z) ≡ z
+natural_is (pos n) h = refl
+natural_is (negsuc n) h = omega (arith, ints, h)
+
+pub steps_are : (low high : ℤ) → low ≤ℤ high → pos (steps_above low high) ≡ high -ℤ low
+steps_are low high h = natural_is (high -ℤ low) (omega (arith, ints, h))
+
+pub not_below : (low x : ℤ) → int_lt x low ≡ false → low ≤ℤ x
+not_below low x e = grind (arith, ints)
+
+below : (low x : ℤ) → int_lt x low ≡ true → x <ℤ low
+below low x e = grind (arith, ints)
+
+-- above the highest number are more steps than the range has, and below the lowest one too, without a sign
+span_test : (low high x : ℤ) → IsNumber low → IsNumber high → IsNumber x → int_lt high low ≡ false → nat_lt (steps_above low high) (difference_of (word_of x) (word_of low)) ≡ not (is_in_range low high x)
+span_test low high x hl hh hx e = go (steps_above low high) (steps_are low high (not_below low high e)) (int_lt x low) (int_lt high x) refl refl
+  where
+    go : (n : ℕ) → pos n ≡ high -ℤ low → (a b : Bool) → int_lt x low ≡ a → int_lt high x ≡ b → nat_lt n (difference_of (word_of x) (word_of low)) ≡ not (not a && not b)
+    go n is true b ea eb = let h = below low x ea in is_less n _ (omega (arith, ints, is, h, hl, hh, hx))
+    go n is false true ea eb =
+        let g = not_below low x ea in
+        let h = below x high eb in
+        is_less n _ (omega (arith, ints, is, g, h, hl, hh, hx))
+    go n is false false ea eb =
+        let g = not_below low x ea in
+        let h = not_below x high eb in
+        is_not_less n _ (omega (arith, ints, is, g, h, hl, hh, hx))
+
+-- an empty range
+none_within : (low high x : ℤ) → int_lt high low ≡ true → is_in_range low high x ≡ false
+none_within low high x e = go (int_lt x low) (int_lt high x) refl refl
+  where
+    go : (a b : Bool) → int_lt x low ≡ a → int_lt high x ≡ b → not a && not b ≡ false
+    go true b ea eb = refl
+    go false true ea eb = refl
+    go false false ea eb =
+        let f = below low high e in
+        let g = not_below low x ea in
+        let h = not_below x high eb in
+        absurd (omega (arith, ints, f, g, h))
+
+pub narrow_difference : (x y : ℕ) → difference_of x y < 4294967296
+narrow_difference x y = omega arith
+
+not_true : (x : Bool) → not x ≡ true → x ≡ false
+not_true true e = absurd (cc e)
+not_true false e = refl
+
+not_false : (x : Bool) → not x ≡ false → x ≡ true
+not_false true e = refl
+not_false false e = absurd (cc e)
 
 module _ (c : Context) (words : List ℕ) (b : Built c words) (p : Places) (s : State) (f : ℕ) (m0 : Machine) (related : Related c p s m0 f) where
-  -- a range that was checked: the run goes on behind the check, or it stops
-  pub record Checked (error line : ℕ) (ps : List Piece) (next : ℕ) (inside : Bool) (m : machine.State) (v : View) : Type 0 where
-    pub goes : inside ≡ true → (w : View) × (t : To words c.size m same_tape w) × ((q : ℕ) → q ≢ 15 → w.registers q ≡ v.registers q) × ((x : ℕ) → w.words x ≡ v.words x) × Left c words w.place ps next
-    pub stops : inside ≡ false → Stops c words s m (failing c s error line)
+  e14_of : (v : View) → Near m0 (machine_of v) → v.registers 14 ≡ f
+  e14_of v near = near.registers 14 (omega arith) (omega arith) ∙ related.stack
 
-  -- the difference of a register and a number in R15, and its flags
-  less_run : (a : ℕ) (x z : ℤ) (ps : List Piece) (next : ℕ) (m : machine.State) (v : View) → Shows words c.size m v → a ≢ 15 → v.registers 14 ≡ f → IsNumber x → IsNumber z → v.registers a ≡ word_of x → Left c words v.place (less_number c s.current.routine a z ++ ps) next → (w : View) × (t : To words c.size m same_tape w) × Differs x z w × ((q : ℕ) → q ≢ 15 → w.registers q ≡ v.registers q) × ((y : ℕ) → w.words y ≡ v.words y) × Left c words w.place ps next
-  less_run a x z ps next m v sh n15 e14 hx hz ex l =
-      let r = s.current.routine in
-      let fr = framed c words b p s m0 f related in
-      let o = operand.Number z in
-      let i = word.Operate op.Sub 15 a (right_operand c r o) in
-      let l0 = subst (λ q. Left c words v.place q next) (append_assoc (right c r o) (Plain i ∷ []) ps) l in
-      let g = right_run c words b.stood b.laid b.placed r f fr o (Plain i ∷ ps) next m v sh e14 hz l0 in
-      let v1 = g.view in
-      let l1 = left_after c words v.place v1.place next (right c r o) (Plain i ∷ ps) l0 g.place in
-      let t2 = step_to c words b.stood i g.way.to v1 g.way.shows l1.stands.0 tt in
-      let v2 = after i v1 in
-      let d = differs 15 a (right_operand c r o) x z v1 hx hz (g.moved.registers a n15 ∙ ex) g.value in
-      (v2, way_to_to g.way t2, d, λ q ne. update_other v1.registers 15 _ q ne ∙ g.moved.registers q ne, g.moved.words, left_next c words v1.place next (Plain i) ps l1)
+  walks : (v w : View) → Near m0 (machine_of v) → w.registers 14 ≡ v.registers 14 → ((y : ℕ) → w.words y ≡ v.words y) → walk c.line c.size 16 w.words (w.registers 14) ≡ take 16 (open_calls (length c.code.program) s.current s.callers)
+  walks v w near same mem =
+      walk_near c words b p s m0 f w related (same ∙ near.registers 14 (omega arith) (omega arith)) (λ y. mem y ∙ near.words y)
+
+  -- ---- how far a number lies above the lowest one
+
+  record Above (a : ℕ) (low x : ℤ) (ps : List Piece) (next : ℕ) (m : machine.State) (v : View) : Type 0 where
+    view : View
+    way : Way words c.size m same_tape view
+    value : view.registers (above_register c s.current.routine a low) ≡ difference_of (word_of x) (word_of low)
+    near : Near (machine_of v) (machine_of view)
+    left : Left c words view.place ps next
+
+  zero_steps : (low x : ℤ) → is_zero low ≡ true → IsNumber x → difference_of (word_of x) (word_of low) ≡ word_of x
+  zero_steps (pos zero) x e hx = omega (arith, ints, hx)
+  zero_steps (pos (suc n)) x e hx = absurd (cc e)
+  zero_steps (negsuc n) x e hx = absurd (cc e)
+
+  above_run : (a : ℕ) (low x : ℤ) (ps : List Piece) (next : ℕ) (m : machine.State) (v : View) → Shows words c.size m v → a ≢ 15 → v.registers 14 ≡ f → IsNumber low → IsNumber x → v.registers a ≡ word_of x → Left c words v.place (above c s.current.routine a low ++ ps) next → Above a low x ps next m v
+  above_run a low x ps next m v sh n15 e14 hl hx ex l = go (is_zero low) refl l
     where
-      way_to_to : {n : machine.State} {v1 v2 : View} (g : Way words c.size n same_tape v1) → To words c.size g.to same_tape v2 → To words c.size n same_tape v2
-      way_to_to g t =
-          record { to = t.to; shows = t.shows; runs = λ k q. let x = t.runs k q in let y = g.runs x.0 q in (y.0, omega (arith, x.1, y.1), y.2 ∙ x.2) }
+      go : (none : Bool) → is_zero low ≡ none → Left c words v.place (cond none [] (right c s.current.routine (operand.Number low) ++ (Plain (word.Operate op.Sub 12 a (right_operand c s.current.routine (operand.Number low))) ∷ [])) ++ ps) next → Above a low x ps next m v
+      go true e l =
+          record {
+            view = v;
+            way = way_here words c.size m v sh;
+            value = ap (λ t. v.registers (cond t a 12)) e ∙ ex ∙ sym (zero_steps low x e hx);
+            near = record { registers = λ q n12 n15. refl; words = λ y. refl };
+            left = l;
+          }
+      go false e l =
+          let r = s.current.routine in
+          let fr = framed c words b p s m0 f related in
+          let o = operand.Number low in
+          let i = word.Operate op.Sub 12 a (right_operand c r o) in
+          let l0 = subst (λ q. Left c words v.place q next) (append_assoc (right c r o) (Plain i ∷ []) ps) l in
+          let g = right_run c words b.stood b.laid b.placed r f fr o (Plain i ∷ ps) next m v sh e14 hl l0 in
+          let v1 = g.view in
+          let l1 = left_after c words v.place v1.place next (right c r o) (Plain i ∷ ps) l0 g.place in
+          let t2 = step_to c words b.stood i g.way.to v1 g.way.shows l1.stands.0 tt in
+          let v2 = after i v1 in
+          record {
+            view = v2;
+            way = way_of words c.size m same_tape v2 (way_to words c.size m same_tape same_tape v1 v2 g.way t2);
+            value = ap (λ t. v2.registers (cond t a 12)) e ∙ update_same v1.registers 12 _ ∙ ap (λ y. difference_of y (operand_view v1 (right_operand c r o))) (g.moved.registers a n15 ∙ ex) ∙ ap (difference_of (word_of x)) g.value;
+            near = record { registers = λ q n12 n15'. update_other v1.registers 12 _ q n12 ∙ g.moved.registers q n15'; words = g.moved.words };
+            left = left_next c words v1.place next (Plain i) ps l1;
+          }
 
-  pub range_run : (a : ℕ) (low high x : ℤ) (error line : ℕ) (ps : List Piece) (next : ℕ) (m : machine.State) (v : View) → Shows words c.size m v → a ≢ 15 → Near m0 (machine_of v) → IsNumber low → IsNumber high → IsNumber x → v.registers a ≡ word_of x → Left c words v.place (range_code c s.current.routine a low high error line ++ ps) next → Checked error line ps next (is_in_range low high x) m v
-  range_run a low high x error line ps next m v sh n15 near hl hh hx ex l = go (is_short low high) refl l
+  -- ---- a comparison without a sign
+
+  -- the run goes on behind it, or it stops
+  record Compared (error line : ℕ) (ps : List Piece) (next : ℕ) (inside : Bool) (m : machine.State) (v : View) : Type 0 where
+    goes : inside ≡ true → (w : View) × (t : To words c.size m same_tape w) × ((q : ℕ) → q ≢ 15 → w.registers q ≡ v.registers q) × ((y : ℕ) → w.words y ≡ v.words y) × Left c words w.place ps next
+    stops : inside ≡ false → Stops c words s m (failing c s error line)
+
+  -- behind a subtraction into R15
+  borrowed : (condition : _) (error line : ℕ) (ps : List Piece) (next : ℕ) (inside : Bool) (m : machine.State) (v w : View) (t : To words c.size m same_tape w) → Near m0 (machine_of v) → ((q : ℕ) → q ≢ 15 → w.registers q ≡ v.registers q) → ((y : ℕ) → w.words y ≡ v.words y) → Left c words w.place (piece.Fails condition error line ∷ ps) next → holds_view w condition ≡ not inside → Compared error line ps next inside m v
+  borrowed condition error line ps next inside m v w t near regs mem l holds =
+      record {
+        goes = λ e.
+            let t2 = fails_not c words b condition error line ps next t.to w t.shows l (holds ∙ ap not e) in
+            let w2 = at_view (w.place + 1) w in
+            (w2, to_join words c.size m same_tape same_tape w w2 t t2, regs, mem, left_next c words w.place next _ ps l);
+        stops = λ e. stop_to c words b s m (failing c s error line) w t (fails_walked c words b s condition error line ps next t.to w (walks v w near (regs 14 (omega arith)) mem) t.shows l (holds ∙ ap not e));
+      }
+
+  at_most_run : (q n d error line : ℕ) (ps : List Piece) (next : ℕ) (m : machine.State) (v : View) → Shows words c.size m v → q ≢ 15 → v.registers q ≡ d → n < 4294967296 → Near m0 (machine_of v) → Left c words v.place (at_most c s.current.routine q n error line ++ ps) next → Compared error line ps next (not (nat_lt n d)) m v
+  at_most_run q n d error line ps next m v sh n15 eq ln near l = go (nat_lt n 65535) refl l
     where
-      e14 : v.registers 14 ≡ f
-      e14 = near.registers 14 (omega arith) (omega arith) ∙ related.stack
-
-      walks : (w : View) → ((q : ℕ) → q ≢ 15 → w.registers q ≡ v.registers q) → ((y : ℕ) → w.words y ≡ v.words y) → walk c.line c.size 16 w.words (w.registers 14) ≡ take 16 (open_calls (length c.code.program) s.current s.callers)
-      walks w regs mem =
-          walk_near c words b p s m0 f w related (regs 14 (omega arith) ∙ near.registers 14 (omega arith) (omega arith)) (λ y. mem y ∙ near.words y)
-
-      short : (low high : ℤ) → is_short low high ≡ true → (n : ℕ) × (low ≡ pos 0) × (high ≡ pos n) × (n < 65535)
-      short (pos zero) (pos n) e = (n, refl, refl, ltb-true n 65535 e)
-      short (pos zero) (negsuc n) e = absurd (cc e)
-      short (pos (suc k)) high e = absurd (cc e)
-      short (negsuc k) high e = absurd (cc e)
-
-      and_true : (x y : Bool) → x && y ≡ true → (x ≡ true) × (y ≡ true)
-      and_true true y e = (refl, e)
-      and_true false y e = absurd (cc e)
-
-      not_true : (x : Bool) → not x ≡ true → x ≡ false
-      not_true true e = absurd (cc e)
-      not_true false e = refl
-
-      and_false : (x y : Bool) → not x && not y ≡ false → (x ≡ true) ⊎ ((x ≡ false) × (y ≡ true))
-      and_false true y e = inl refl
-      and_false false true e = inr (refl, refl)
-      and_false false false e = absurd (cc e)
-
-      go : (t : Bool) → is_short low high ≡ t → Left c words v.place (cond t (Plain (word.Operate op.Sub 15 a (instr_operand.Constant (pos (suc (natural high))))) ∷ piece.Fails on.CarryClear error line ∷ []) (less_number c s.current.routine a low ++ (piece.Fails on.Less error line ∷ (less_number c s.current.routine a high ++ piece.Fails on.Greater error line ∷ []))) ++ ps) next → Checked error line ps next (is_in_range low high x) m v
-      go true is l =
-          let k = short low high is in
-          let n = k.0 in
-          let i = word.Operate op.Sub 15 a (instr_operand.Constant (pos (suc (natural high)))) in
+      go : (few : Bool) → nat_lt n 65535 ≡ few → Left c words v.place (cond few (Plain (word.Operate op.Sub 15 q (instr_operand.Constant (pos (suc n)))) ∷ piece.Fails on.CarryClear error line ∷ []) (exact 15 n ++ (Plain (word.Operate op.Sub 15 15 (instr_operand.Content q)) ∷ piece.Fails on.CarrySet error line ∷ [])) ++ ps) next → Compared error line ps next (not (nat_lt n d)) m v
+      go true e l =
+          let i = word.Operate op.Sub 15 q (instr_operand.Constant (pos (suc n))) in
           let t1 = step_to c words b.stood i m v sh l.stands.0 tt in
           let v1 = after i v in
           let l1 = left_next c words v.place next (Plain i) _ l in
-          let bound : natural high ≡ n = ap natural k.2 in
-          let carry : v1.carry ≡ is_in_range low high x = ap (λ q. nat_lt q (word_of_int (pos (suc (natural high))) + 0)) ex ∙ ap (λ q. nat_lt (word_of x) (word_of_int (pos (suc q)) + 0)) bound ∙ ap (nat_lt (word_of x)) (immediate n k.3) ∙ short_range n x k.3 hx ∙ ap (λ q. is_in_range q (pos n) x) (sym k.1) ∙ ap (λ q. is_in_range low q x) (sym k.2) in
-          let regs : (q : ℕ) → q ≢ 15 → v1.registers q ≡ v.registers q = λ q ne. update_other v.registers 15 _ q ne in
-          record {
-            goes = λ e.
-                let t2 = fails_not c words b on.CarryClear error line ps next t1.to v1 t1.shows l1 (ap not (carry ∙ e)) in
-                (at_view (v1.place + 1) v1, to_join words c.size m same_tape same_tape v1 (at_view (v1.place + 1) v1) t1 t2, regs, λ y. refl, left_next c words v1.place next _ ps l1);
-            stops = λ e. stop_to c words b s m (failing c s error line) v1 t1 (fails_walked c words b s on.CarryClear error line ps next t1.to v1 (walks v1 regs (λ y. refl)) t1.shows l1 (ap not (carry ∙ e)));
-          }
+          borrowed on.CarryClear error line ps next _ m v v1 t1 near (λ x ne. update_other v.registers 15 _ x ne) (λ y. refl) l1 (ap (λ x. not (nat_lt x (word_of_int (pos (suc n)) + 0))) eq ∙ ap (λ x. not (nat_lt d x)) (immediate n (ltb-true n 65535 e)) ∙ ap not (not_less n d))
         where
           immediate : (n : ℕ) → n < 65535 → word_of_int (pos (suc n)) + 0 ≡ suc n
           immediate n lt = omega (arith, ints, lt)
-      go false is l =
-          let r = s.current.routine in
-          let lo = less_number c r a low in
-          let hi = less_number c r a high in
-          let second = hi ++ (piece.Fails on.Greater error line ∷ ps) in
-          let l0 = subst (λ q. Left c words v.place q next) (assoc lo (piece.Fails on.Less error line) hi (piece.Fails on.Greater error line) ps) l in
-          let g = less_run a x low (piece.Fails on.Less error line ∷ second) next m v sh n15 e14 hx hl ex l0 in
-          let v1 = g.0 in
-          let t1 = g.1 in
-          let l1 = g.5 in
-          let v2 = at_view (v1.place + 1) v1 in
-          let l2 = left_next c words v1.place next _ second l1 in
-          let low_passes : int_lt x low ≡ false → To words c.size t1.to same_tape v2 = λ e. fails_not c words b on.Less error line second next t1.to v1 t1.shows l1 (g.2.less ∙ e) in
+
+          not_less : (n d : ℕ) → nat_lt d (suc n) ≡ not (nat_lt n d)
+          not_less n d = grind arith
+      go false e l =
+          let i = word.Operate op.Sub 15 15 (instr_operand.Content q) in
+          let rest = piece.Fails on.CarrySet error line ∷ ps in
+          let l0 = subst (λ x. Left c words v.place x next) (append_assoc (exact 15 n) (Plain i ∷ piece.Fails on.CarrySet error line ∷ []) ps) l in
+          let g = exact_run c words b.stood 15 n (Plain i ∷ rest) next m v sh ln l0 in
+          let v1 = g.view in
+          let l1 = left_after c words v.place v1.place next (exact 15 n) (Plain i ∷ rest) l0 g.place in
+          let t2 = step_to c words b.stood i g.to.to v1 g.to.shows l1.stands.0 tt in
+          let v2 = after i v1 in
+          let t = to_join words c.size m same_tape same_tape v1 v2 g.to t2 in
+          borrowed on.CarrySet error line ps next _ m v v2 t near (λ x ne. update_other v1.registers 15 _ x ne ∙ g.moved.registers x ne) g.moved.words (left_next c words v1.place next (Plain i) rest l1) (ap (λ x. nat_lt x (v1.registers q + 0)) g.value ∙ ap (nat_lt n) (plus_zero _ _ (g.moved.registers q n15 ∙ eq)) ∙ sym (not_not (nat_lt n d)))
+        where
+          plus_zero : (x y : ℕ) → x ≡ y → x + 0 ≡ y
+          plus_zero x y e = omega (arith, e)
+
+  -- ---- a range
+
+  -- a range that was checked: the run goes on behind the check, or it stops
+  pub record Checked (a : ℕ) (low x : ℤ) (error line : ℕ) (ps : List Piece) (next : ℕ) (inside : Bool) (m : machine.State) (v : View) : Type 0 where
+    pub goes : inside ≡ true → (w : View) × (t : To words c.size m same_tape w) × Near (machine_of v) (machine_of w) × (w.registers (above_register c s.current.routine a low) ≡ difference_of (word_of x) (word_of low)) × Left c words w.place ps next
+    pub stops : inside ≡ false → Stops c words s m (failing c s error line)
+
+  pub above_not : (a : ℕ) (low : ℤ) → a ≢ 15 → above_register c s.current.routine a low ≢ 15
+  above_not a low ne = go (is_zero low)
+    where
+      go : (t : Bool) → cond t a 12 ≢ 15
+      go true = ne
+      go false = omega arith
+
+  pub range_run : (a : ℕ) (low high x : ℤ) (error line : ℕ) (ps : List Piece) (next : ℕ) (m : machine.State) (v : View) → Shows words c.size m v → a ≢ 15 → Near m0 (machine_of v) → IsNumber low → IsNumber high → IsNumber x → v.registers a ≡ word_of x → Left c words v.place (range_code c s.current.routine a low high error line ++ ps) next → Checked a low x error line ps next (is_in_range low high x) m v
+  range_run a low high x error line ps next m v sh n15 near hl hh hx ex l = go (int_lt high low) refl l
+    where
+      go : (empty : Bool) → int_lt high low ≡ empty → Left c words v.place (cond empty (piece.Fails on.Always error line ∷ []) (above c s.current.routine a low ++ at_most c s.current.routine (above_register c s.current.routine a low) (steps_above low high) error line) ++ ps) next → Checked a low x error line ps next (is_in_range low high x) m v
+      go true e l =
           record {
-            goes = λ e.
-                let ab = and_true (not (int_lt x low)) (not (int_lt high x)) e in
-                let t2 = low_passes (not_true _ ab.0) in
-                let h = less_run a x high (piece.Fails on.Greater error line ∷ ps) next t2.to v2 t2.shows n15 (g.3 14 (omega arith) ∙ e14) hx hh (g.3 a n15 ∙ ex) l2 in
-                let v3 = h.0 in
-                let t3 = h.1 in
-                let t4 = fails_not c words b on.Greater error line ps next t3.to v3 t3.shows h.5 (compared_flags Greater x high v3 h.2 ∙ not_true _ ab.1) in
-                let v4 = at_view (v3.place + 1) v3 in
-                (v4, to_join words c.size m same_tape same_tape v1 v4 t1 (to_join words c.size t1.to same_tape same_tape v2 v4 t2 (to_join words c.size t2.to same_tape same_tape v3 v4 t3 t4)), λ q ne. h.3 q ne ∙ g.3 q ne, λ y. h.4 y ∙ g.4 y, left_next c words v3.place next _ ps h.5);
-            stops = λ e. out (and_false (int_lt x low) (int_lt high x) e) g;
+            goes = λ ins. absurd (differ (sym ins ∙ none_within low high x e));
+            stops = λ ins. fails_walked c words b s on.Always error line ps next m v (walks v v near refl (λ y. refl)) sh l refl;
           }
         where
-          out : (int_lt x low ≡ true) ⊎ ((int_lt x low ≡ false) × (int_lt high x ≡ true)) → (g : (w : View) × (t : To words c.size m same_tape w) × Differs x low w × ((q : ℕ) → q ≢ 15 → w.registers q ≡ v.registers q) × ((y : ℕ) → w.words y ≡ v.words y) × Left c words w.place (piece.Fails on.Less error line ∷ (less_number c s.current.routine a high ++ (piece.Fails on.Greater error line ∷ ps))) next) → Stops c words s m (failing c s error line)
-          out (inl e) g =
-              stop_to c words b s m (failing c s error line) g.0 g.1 (fails_walked c words b s on.Less error line _ next g.1.to g.0 (walks g.0 g.3 g.4) g.1.shows g.5 (g.2.less ∙ e))
-          out (inr e) g =
-              let v1 = g.0 in
-              let t1 = g.1 in
-              let v2 = at_view (v1.place + 1) v1 in
-              let t2 = fails_not c words b on.Less error line _ next t1.to v1 t1.shows g.5 (g.2.less ∙ e.0) in
-              let l2 = left_next c words v1.place next _ _ g.5 in
-              let h = less_run a x high (piece.Fails on.Greater error line ∷ ps) next t2.to v2 t2.shows n15 (g.3 14 (omega arith) ∙ e14) hx hh (g.3 a n15 ∙ ex) l2 in
-              let e' = failing c s error line in
-              stop_to c words b s m e' v1 t1 (stop_to c words b s t1.to e' v2 t2 (stop_to c words b s t2.to e' h.0 h.1 (fails_walked c words b s on.Greater error line ps next h.1.to h.0 (walks h.0 (λ q ne. h.3 q ne ∙ g.3 q ne) (λ y. h.4 y ∙ g.4 y)) h.1.shows h.5 (compared_flags Greater x high h.0 h.2 ∙ e.1))))
-
-          assoc : (xs : List Piece) (q : Piece) (ys : List Piece) (z : Piece) (us : List Piece) → (xs ++ (q ∷ (ys ++ z ∷ []))) ++ us ≡ xs ++ (q ∷ (ys ++ (z ∷ us)))
-          assoc [] q [] z us = refl
-          assoc [] q (y ∷ ys) z us = ap (λ l. q ∷ y ∷ l) (tail ys)
-            where
-              tail : (ys : List Piece) → (ys ++ z ∷ []) ++ us ≡ ys ++ (z ∷ us)
-              tail ys = append_assoc ys (z ∷ []) us
-          assoc (x ∷ xs) q ys z us = ap (λ l. x ∷ l) (assoc xs q ys z us)
+          differ : true ≡ false → ⊥
+          differ e = absurd (cc e)
+      go false e l =
+          let r = s.current.routine in
+          let q = above_register c r a low in
+          let n = steps_above low high in
+          let test = at_most c r q n error line in
+          let l0 = subst (λ y. Left c words v.place y next) (append_assoc (above c r a low) test ps) l in
+          let g = above_run a low x (test ++ ps) next m v sh n15 (e14_of v near) hl hx ex l0 in
+          let v1 = g.view in
+          let near1 : Near m0 (machine_of v1) = record { registers = λ y n12 n15'. g.near.registers y n12 n15' ∙ near.registers y n12 n15'; words = λ y. g.near.words y ∙ near.words y } in
+          let is = steps_are low high (not_below low high e) in
+          let k = at_most_run q n (difference_of (word_of x) (word_of low)) error line ps next g.way.to v1 g.way.shows (above_not a low n15) g.value (narrow n is) near1 g.left in
+          let test_is : not (nat_lt n (difference_of (word_of x) (word_of low))) ≡ is_in_range low high x = ap not (span_test low high x hl hh hx e) ∙ not_not (is_in_range low high x) in
+          record {
+            goes = λ ins.
+                let h = k.goes (test_is ∙ ins) in
+                (h.0, way_to words c.size m same_tape same_tape v1 h.0 g.way h.1, record { registers = λ y n12 n15'. h.2 y n15' ∙ g.near.registers y n12 n15'; words = λ y. h.3 y ∙ g.near.words y }, h.2 q (above_not a low n15) ∙ g.value, h.4);
+            stops = λ ins. stop_way c words b s m (failing c s error line) v1 g.way (k.stops (test_is ∙ ins));
+          }
+        where
+          narrow : (n : ℕ) → pos n ≡ high -ℤ low → n < 4294967296
+          narrow n is = omega (arith, ints, is, hl, hh)
 
 module _ (c : Context) (words : List ℕ) (b : Built c words) (p : Places) (s : State) (f : ℕ) (m : machine.State) (v : View) (sh : Shows words c.size m v) (be : Belongs c words p s v f) where
   -- the run goes on where a check was passed
-  goes_behind : (error line : ℕ) (inside : Bool) (v1 : View) (n : machine.State) → Near (machine_of v) (machine_of v1) → Passes c s.current.routine s.current.place (suc s.current.place) → Checked c words b p s f (machine_of v) be.related error line [] (c.site s.current.routine (suc s.current.place)) inside n v1 → (t : Bool) → inside ≡ t → Follows c words (checks c.code t error line s) s n
-  goes_behind error line inside v1 n near ps k true e =
+  goes_behind : (a : ℕ) (low x : ℤ) (error line : ℕ) (inside : Bool) (v1 : View) (n : machine.State) → Near (machine_of v) (machine_of v1) → Passes c s.current.routine s.current.place (suc s.current.place) → Checked c words b p s f (machine_of v) be.related a low x error line [] (c.site s.current.routine (suc s.current.place)) inside n v1 → (t : Bool) → inside ≡ t → Follows c words (checks c.code t error line s) s n
+  goes_behind a low x error line inside v1 n near ps k true e =
       let g = k.goes e in
-      come_to c words b s (record s { current = onward s.current }) n same_tape g.0 g.1 refl (goes_end c words b p s (machine_of v) f (suc s.current.place) g.1.to g.0 be.related be.input ps g.1.shows (record { registers = λ q n12 n15. g.2 q n15 ∙ near.registers q n12 n15; words = λ x. g.3 x ∙ near.words x }) (at_end g.0.place g.4))
+      come_to c words b s (record s { current = onward s.current }) n same_tape g.0 g.1 refl (goes_end c words b p s (machine_of v) f (suc s.current.place) g.1.to g.0 be.related be.input ps g.1.shows (record { registers = λ q n12 n15. g.2.registers q n12 n15 ∙ near.registers q n12 n15; words = λ x. g.2.words x ∙ near.words x }) (at_end g.0.place g.4))
     where
       at_end : (w : ℕ) → Left c words w [] (c.site s.current.routine (suc s.current.place)) → w ≡ c.site s.current.routine (suc s.current.place)
       at_end w l = let e = l.ends in omega (arith, e)
-  goes_behind error line inside v1 n near ps k false e = inr (k.stops e)
+  goes_behind a low x error line inside v1 n near ps k false e = inr (k.stops e)
 
   pub check_range_follows : (a : ℕ) (low high : ℤ) (error line : ℕ) (x : ℤ) → fetch c.code s.current.routine s.current.place ≡ Some (CheckRange a low high error line) → s.current.temporaries a ≡ Some (Number x) → Follows c words (checks c.code (is_in_range low high x) error line s) s m
   check_range_follows a low high error line x here ea =
@@ -205,7 +272,7 @@ module _ (c : Context) (words : List ℕ) (b : Built c words) (p : Places) (s : 
       let near : Near (machine_of v) (machine_of v1) = record { registers = λ q n12 n15. g.moved.registers q n12; words = g.moved.words } in
       let n15 = fetched_not c words b.stood b.laid b.placed r f (framed c words b p s (machine_of v) f be.related) 12 a 15 (omega arith) (omega arith) in
       let z = range_run c words b p s f (machine_of v) be.related d low high x error line [] _ g.way.to v1 g.way.shows n15 near (integer_is low so.sound.1) (integer_is high so.sound.2) g.good g.value (left_whole c words v1.place _ rc l1) in
-      follows_way c words b s m v1 g.way (checks c.code (is_in_range low high x) error line s) (goes_behind error line (is_in_range low high x) v1 g.way.to near (passes c r k i here (suc k) refl (among_first (suc k) [])) z (is_in_range low high x) refl)
+      follows_way c words b s m v1 g.way (checks c.code (is_in_range low high x) error line s) (goes_behind d low x error line (is_in_range low high x) v1 g.way.to near (passes c r k i here (suc k) refl (among_first (suc k) [])) z (is_in_range low high x) refl)
 
   pub check_pointer_follows : (a error line : ℕ) (x : Value) (q : Option ℕ) → fetch c.code s.current.routine s.current.place ≡ Some (CheckPointer a error line) → s.current.temporaries a ≡ Some x → pointer_of (Some x) ≡ Some q → Follows c words (checks c.code (not (is_nil q)) error line s) s m
   check_pointer_follows a error line x q here ea eq =

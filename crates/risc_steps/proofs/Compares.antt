@@ -88,7 +88,7 @@ at_most (negsuc a) (negsuc b) = go a b
     go : (a b : ℕ) → nat_lt b a || nat_eq a b ≡ not (nat_lt a b)
     go a b = grind arith
 
-not_not : (t : Bool) → not (not t) ≡ t
+pub not_not : (t : Bool) → not (not t) ≡ t
 not_not true = refl
 not_not false = refl
 

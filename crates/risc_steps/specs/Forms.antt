@@ -1,6 +1,6 @@
 -- The words of each instruction of three-address code. R14 is the frame of the innermost activation and R13 that of the program block;
 -- R12 and R15 are scratch registers, and operands in other registers are used where they stand.
-use Rattle.std.specs.Prelude.{ℕ, zero, suc, ◌+◌, ◌-◌, ◌*◌, ◌/◌, ◌%◌, Bool, false, ◌&&◌, nat_lt, if◌then◌else◌, List, [], ◌∷◌, ◌++◌, length, ℤ, pos, negsuc}
+use Rattle.std.specs.Prelude.{ℕ, zero, suc, ◌+◌, ◌-◌, ◌*◌, ◌/◌, ◌%◌, Bool, false, ◌&&◌, nat_eq, nat_lt, int_lt, if◌then◌else◌, List, [], ◌∷◌, ◌++◌, length, ℤ, pos, negsuc}
 use Rattle.risc_word.specs.declared.instr.Operation.{Operation}
 use Rattle.risc_word.specs.declared.instr.Operation.TheVariants as op
 use Rattle.risc_word.specs.declared.instr.Operand as machine
@@ -24,7 +24,7 @@ use Rattle.tac_code.specs.declared.code.Base.TheVariants as base
 use Rattle.tac_code.specs.declared.code.Instruction.{Instruction}
 use Rattle.tac_code.specs.declared.code.Instruction.TheVariants.{Literal, Copy, Arithmetic, Bits, Compare, CheckRange, CheckPointer, Text, Offset, Index, RoutineValue, Load, Store, LoadByte, StoreByte, Jump, JumpBack, Branch, BranchBack, Call, CallValue, Return, Trap, Take, Put, New, End}
 use Rattle.tac_code.specs.declared.code.TacRoutine.{TacRoutine}
-use Rattle.tac_code.specs.Numbers.{word_of}
+use Rattle.tac_code.specs.Numbers.{is_zero, word_of, steps_above}
 use Rattle.risc_alloc.specs.declared.homes.Home.{Home}
 use Rattle.risc_alloc.specs.declared.homes.Home.TheVariants.{Slot, Reg}
 use Rattle.risc_related.specs.Context.{Context, home, is_program, slot_at}
@@ -99,15 +99,6 @@ is_divisor (operand.Number (negsuc n)) = false
 abbrev pub rounded : List Piece
 rounded =
     skip on.Plus 3 ∷ Plain (word.MoveHigh 15) ∷ skip on.Equal 1 ∷ Plain (word.Operate op.Add 12 12 (Constant (pos 1))) ∷ []
-
--- from 0 to an immediate: no borrow is outside, of negative numbers too
-abbrev pub is_short : ℤ → ℤ → Bool
-is_short (pos zero) (pos n) = nat_lt n 65535
-is_short low high = false
-
-abbrev pub natural : ℤ → ℕ
-natural (pos n) = n
-natural (negsuc n) = 0
 
 -- the device page is FFFFC0H
 abbrev pub device : ℕ → Piece
@@ -267,36 +258,70 @@ module _ (c : Context) (r : ℕ) where
 
   -- ---- ranges
 
-  -- R15 less a number
-  abbrev pub less_number : ℕ → ℤ → List Piece
-  less_number a z =
-      right (operand.Number z) ++ (Plain (word.Operate op.Sub 15 a (right_operand (operand.Number z))) ∷ [])
+  -- how far what register a holds lies above the lowest number of a range, modulo 2^32: in R12, or where it stands if the lowest is 0
+  abbrev pub above : ℕ → ℤ → List Piece
+  above a low =
+      if is_zero low then []
+      else right (operand.Number low) ++ (Plain (word.Operate op.Sub 12 a (right_operand (operand.Number low))) ∷ [])
 
-  -- whether what register a holds lies in a range; R15 is scratch
+  abbrev pub above_register : ℕ → ℤ → ℕ
+  above_register a low = if is_zero low then a else 12
+
+  -- whether register q holds at most n, without a sign: what lies below the lowest number of a range is large. R15 is scratch
+  abbrev pub at_most : ℕ → ℕ → ℕ → ℕ → List Piece
+  at_most q n error line =
+      if nat_lt n 65535 then Plain (word.Operate op.Sub 15 q (Constant (pos (suc n)))) ∷ Fails on.CarryClear error line ∷ []
+      else exact 15 n ++ (Plain (word.Operate op.Sub 15 15 (Content q)) ∷ Fails on.CarrySet error line ∷ [])
+
+  -- whether what register a holds lies in a range, which may be empty
   abbrev pub range_code : ℕ → ℤ → ℤ → ℕ → ℕ → List Piece
   range_code a low high error line =
-      if is_short low high then Plain (word.Operate op.Sub 15 a (Constant (pos (suc (natural high))))) ∷ Fails on.CarryClear error line ∷ []
-      else less_number a low ++ (Fails on.Less error line ∷ (less_number a high ++ Fails on.Greater error line ∷ []))
+      if int_lt high low then Fails on.Always error line ∷ []
+      else above a low ++ at_most (above_register a low) (steps_above low high) error line
 
   abbrev pub check_form : ℕ → ℤ → ℤ → ℕ → ℕ → List Piece
   check_form a low high error line =
       fetch 12 (home c r a) ++ range_code (fetched 12 (home c r a)) low high error line
 
-  -- R12 takes the index less the lowest one, times the width
-  abbrev pub steps_code : ℕ → ℤ → ℕ → List Piece
-  steps_code i low width =
-      right (operand.Number low) ++ (Plain (word.Operate op.Sub 12 i (right_operand (operand.Number low))) ∷ (right (operand.Number (pos width)) ++ Plain (word.Operate op.Mul 12 12 (right_operand (operand.Number (pos width)))) ∷ []))
+  -- what register q holds times a width, in R12, or where it stands if the width is 1
+  abbrev pub scaled : ℕ → ℕ → List Piece
+  scaled q width =
+      if nat_eq width 1 then []
+      else right (operand.Number (pos width)) ++ (Plain (word.Operate op.Mul 12 q (right_operand (operand.Number (pos width)))) ∷ [])
 
-  -- R15 takes the address of a base
+  abbrev pub scaled_register : ℕ → ℕ → ℕ
+  scaled_register q width = if nat_eq width 1 then q else 12
+
+  -- the address n bytes behind what register q holds, in R15
+  abbrev pub sum : ℕ → ℕ → List Piece
+  sum q n =
+      if nat_lt n 65536 then Plain (word.Operate op.Add 15 q (Constant (pos n))) ∷ []
+      else constant 15 n ++ (Plain (word.Operate op.Add 15 q (Content 15)) ∷ [])
+
+  -- the address of a base: in R15, or in the register where it stands
   abbrev pub base_address : Base → List Piece
-  base_address base.Frame = number 15 (pos (c.frame_at r)) ++ Plain (word.Operate op.Add 15 14 (Content 15)) ∷ []
-  base_address base.Scratch = number 15 (pos (c.scratch_at r)) ++ Plain (word.Operate op.Add 15 14 (Content 15)) ∷ []
-  base_address base.Program = number 15 (pos (c.frame_at 0)) ++ Plain (word.Operate op.Add 15 13 (Content 15)) ∷ []
-  base_address (base.Temporary t) = bring 15 (home c r t)
+  base_address base.Frame = sum 14 (c.frame_at r)
+  base_address base.Scratch = sum 14 (c.scratch_at r)
+  base_address base.Program = sum 13 (c.frame_at 0)
+  base_address (base.Temporary t) = fetch 15 (home c r t)
+
+  abbrev pub address_register : Base → ℕ
+  address_register base.Frame = 15
+  address_register base.Scratch = 15
+  address_register base.Program = 15
+  address_register (base.Temporary t) = fetched 15 (home c r t)
+
+  -- the address that lies what register q holds behind a base
+  abbrev pub component : ℕ → Base → ℕ → List Piece
+  component t a q =
+      base_address a ++ (Plain (word.Operate op.Add (target (home c r t)) (address_register a) (Content q)) ∷ save (home c r t))
+
+  abbrev pub steps_form : ℕ → Base → ℕ → ℕ → List Piece
+  steps_form t a q width = scaled q width ++ component t a (scaled_register q width)
 
   abbrev pub index_form : ℕ → Base → ℕ → ℤ → ℤ → ℕ → ℕ → ℕ → List Piece
   index_form t a i low high width error line =
-      fetch 12 (home c r i) ++ (range_code (fetched 12 (home c r i)) low high error line ++ (steps_code (fetched 12 (home c r i)) low width ++ (base_address a ++ (Plain (word.Operate op.Add (target (home c r t)) 15 (Content 12)) ∷ save (home c r t)))))
+      check_form i low high error line ++ steps_form t a (above_register (fetched 12 (home c r i)) low) width
 
   -- ---- devices, calls, objects
 
