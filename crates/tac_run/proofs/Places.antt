@@ -1,10 +1,74 @@
 -- A change of a block, by its place in the list.
-use Rattle.std.proofs.Common.{◌≡◌, ℕ, zero, suc, ◌<◌, ◌≤◌, Bool, true, false, nat_eq, if◌then◌else◌, List, [], ◌∷◌, length, get_or, set, slice_get, Option, Some, None, refl, sym, ap, subst, ◌∙◌, arith}
+use Rattle.std.proofs.Common.{◌≡◌, ◌≢◌, ℕ, zero, suc, add-one, add-zero, ◌+◌, ◌<◌, ◌≤◌, Bool, true, false, nat_eq, if◌then◌else◌, List, [], ◌∷◌, length, get_or, set, drop, slice_get, Option, Some, None, refl, sym, ap, subst, ◌∙◌, arith}
+use Rattle.std.proofs.Math.Seq.{drop-cons}
+use Rattle.std.proofs.lemmas.List.{drop_all}
+use Rattle.std.proofs.lemmas.Bool.{eq-eqb, ne_eqb}
 use Rattle.std.proofs.lemmas.Option.{slice_get_read}
 use Rattle.tac_code.specs.declared.code.Block.{Block}
 use Rattle.tac_code.specs.declared.code.Block.TheVariants.{Frame, Scratch, Object}
-use Rattle.tac_code.specs.Memory.{Words, Living, Memory, behind, instead, changed, behind_object, instead_object, changed_object, with_frames, with_scratch, with_objects, changed_in}
+use Rattle.tac_code.specs.Memory.{Words, Living, Memory, behind, instead, changed, behind_object, instead_object, changed_object, with_frames, with_scratch, with_objects, changed_in, living}
 use Rattle.tac_run.specs.Runner.{one_on, place_of_block}
+
+-- ---- a search from the front
+
+-- a place, counted from so many blocks before
+abbrev pub counted_on : ℕ → Option ℕ → Option ℕ
+counted_on k None = None
+counted_on k (Some i) = Some (k + i)
+
+search_at : (bs : List Living) (number i : ℕ) (b : Living) → i < length bs → b ≡ get_or bs i b → place_of_block (drop i bs) number ≡ (if nat_eq b.number number then Some 0 else one_on (place_of_block (drop (i + 1) bs) number))
+search_at bs number i b lt at =
+    ap (λ (xs : List Living). place_of_block xs number) (drop-cons bs i b lt)
+    ∙ (ap (λ (x : Living). if nat_eq x.number number then Some 0 else one_on (place_of_block (drop (suc i) bs) number)) (sym at)
+    ∙ ap (λ (k : ℕ). if nat_eq b.number number then Some 0 else one_on (place_of_block (drop k bs) number)) (sym (add-one i)))
+
+counted_further : (i : ℕ) (o : Option ℕ) → counted_on (i + 1) o ≡ counted_on i (one_on o)
+counted_further i None = refl
+counted_further i (Some k) = ap Some (omega arith)
+
+pub found_here : (bs : List Living) (number i : ℕ) (b : Living) → i < length bs → b ≡ get_or bs i b → b.number ≡ number → counted_on i (place_of_block (drop i bs) number) ≡ Some i
+found_here bs number i b lt at is =
+    ap (counted_on i) (search_at bs number i b lt at ∙ ap (λ (t : Bool). if t then Some 0 else one_on (place_of_block (drop (i + 1) bs) number)) (eq-eqb b.number number is))
+    ∙ ap Some (add-zero i)
+
+pub found_behind : (bs : List Living) (number i : ℕ) (b : Living) → i < length bs → b ≡ get_or bs i b → b.number ≢ number → counted_on (i + 1) (place_of_block (drop (i + 1) bs) number) ≡ counted_on i (place_of_block (drop i bs) number)
+found_behind bs number i b lt at other =
+    counted_further i (place_of_block (drop (i + 1) bs) number)
+    ∙ sym (ap (counted_on i) (search_at bs number i b lt at ∙ ap (λ (t : Bool). if t then Some 0 else one_on (place_of_block (drop (i + 1) bs) number)) (ne_eqb b.number number other)))
+
+pub found_nowhere : (bs : List Living) (number i : ℕ) → length bs ≤ i → counted_on i (place_of_block (drop i bs) number) ≡ None
+found_nowhere bs number i le =
+    ap (λ (xs : List Living). counted_on i (place_of_block xs number)) (drop_all i bs le)
+
+-- ---- what is found there
+
+rest_none : (o : Option ℕ) → one_on o ≡ None → o ≡ None
+rest_none None f = refl
+rest_none (Some i) f = absurd (cc)
+
+living_none : (bs : List Living) (number : ℕ) → place_of_block bs number ≡ None → living bs number ≡ None
+living_none [] number e = refl
+living_none (b ∷ bs) number e = split (nat_eq b.number number) e (λ f. living_none bs number f)
+  where
+    split : (t : Bool) → (if t then Some 0 else one_on (place_of_block bs number)) ≡ None → (place_of_block bs number ≡ None → living bs number ≡ None) → (if t then Some b.words else living bs number) ≡ None
+    split true f h = absurd (cc)
+    split false f h = h (rest_none (place_of_block bs number) f)
+
+one_less : (o : Option ℕ) (j : ℕ) → one_on o ≡ Some j → (k : ℕ) × (j ≡ suc k) × (o ≡ Some k)
+one_less None j f = absurd (cc)
+one_less (Some k) j f = (k, cc, refl)
+
+living_at : (bs : List Living) (number i : ℕ) (c : Living) → place_of_block bs number ≡ Some i → slice_get bs i ≡ Some c → living bs number ≡ Some c.words
+living_at [] number i c e at = absurd (cc)
+living_at (b ∷ bs) number i c e at = split (nat_eq b.number number) i e at (λ j f g. living_at bs number j c f g)
+  where
+    later : (j : ℕ) → slice_get (b ∷ bs) j ≡ Some c → ((k : ℕ) × (j ≡ suc k) × (place_of_block bs number ≡ Some k)) → ((k : ℕ) → place_of_block bs number ≡ Some k → slice_get bs k ≡ Some c → living bs number ≡ Some c.words) → living bs number ≡ Some c.words
+    later j g p h = h p.0 p.2 (ap (λ (n : ℕ). slice_get (b ∷ bs) n) (sym p.1) ∙ g)
+
+    split : (t : Bool) (j : ℕ) → (if t then Some 0 else one_on (place_of_block bs number)) ≡ Some j → slice_get (b ∷ bs) j ≡ Some c → ((k : ℕ) → place_of_block bs number ≡ Some k → slice_get bs k ≡ Some c → living bs number ≡ Some c.words) → (if t then Some b.words else living bs number) ≡ Some c.words
+    split true j f g h =
+        let zero_is : 0 ≡ j = cc in let here : slice_get (b ∷ bs) 0 ≡ Some c = ap (λ (n : ℕ). slice_get (b ∷ bs) n) zero_is ∙ g in let same : b ≡ c = cc in ap (λ (x : Living). Some x.words) same
+    split false j f g h = later j g (one_less (place_of_block bs number) j f) h
 
 -- the list with other words at a place
 abbrev pub placed : List Living → ℕ → ℕ → Option Words → Option (List Living)
@@ -19,10 +83,6 @@ pub changed_none : (bs : List Living) (number : ℕ) (change : Words → Option 
 changed_none [] number change e = refl
 changed_none (b ∷ bs) number change e = split (nat_eq b.number number) e (λ f. changed_none bs number change f)
   where
-    rest_none : (o : Option ℕ) → one_on o ≡ None → o ≡ None
-    rest_none None f = refl
-    rest_none (Some i) f = absurd (cc)
-
     split : (t : Bool) → (if t then Some 0 else one_on (place_of_block bs number)) ≡ None → (place_of_block bs number ≡ None → changed bs number change ≡ None) → (if t then instead b bs (change b.words) else behind b (changed bs number change)) ≡ None
     split true f h = absurd (cc)
     split false f h = ap (behind b) (h (rest_none (place_of_block bs number) f))
@@ -39,10 +99,6 @@ pub changed_at : (bs : List Living) (number : ℕ) (change : Words → Option Wo
 changed_at [] number change i c e at = absurd (cc)
 changed_at (b ∷ bs) number change i c e at = split (nat_eq b.number number) i e at (λ j f g. changed_at bs number change j c f g)
   where
-    one_less : (o : Option ℕ) (j : ℕ) → one_on o ≡ Some j → (k : ℕ) × (j ≡ suc k) × (o ≡ Some k)
-    one_less None j f = absurd (cc)
-    one_less (Some k) j f = (k, cc, refl)
-
     later : (j : ℕ) → slice_get (b ∷ bs) j ≡ Some c → ((k : ℕ) × (j ≡ suc k) × (place_of_block bs number ≡ Some k)) → ((k : ℕ) → place_of_block bs number ≡ Some k → slice_get bs k ≡ Some c → changed bs number change ≡ placed bs k c.number (change c.words)) → behind b (changed bs number change) ≡ placed (b ∷ bs) j c.number (change c.words)
     later j g p h =
         let here : slice_get bs p.0 ≡ Some c = ap (λ (n : ℕ). slice_get (b ∷ bs) n) (sym p.1) ∙ g in ap (behind b) (h p.0 p.2 here) ∙ (behind_placed b bs p.0 c.number (change c.words) ∙ ap (λ (n : ℕ). placed (b ∷ bs) n c.number (change c.words)) (sym p.1))
@@ -82,6 +138,14 @@ object_if bs i true words o e = ap (placed_object bs i) e
 object_if bs i false words o e = ap (placed_object bs i) e
 
 -- ---- as the runner finds them: the list behind the value, and the slice that was searched
+
+pub living_found : (self items seen : List Living) (number i : ℕ) (c : Living) → items ≡ self → seen ≡ items → Some i ≡ place_of_block seen number → i < length seen → c ≡ get_or items i c → living self number ≡ Some c.words
+living_found self items seen number i c view same found within at =
+    let place : place_of_block items number ≡ Some i = sym (found ∙ ap (λ (xs : List Living). place_of_block xs number) same) in let inside : i < length items = subst (λ (xs : List Living). i < length xs) same within in let here : slice_get items i ≡ Some c = slice_get_read items (length items) i c refl inside at in ap (λ (xs : List Living). living xs number) (sym view) ∙ living_at items number i c place here
+
+pub living_missed : (self items seen : List Living) (number : ℕ) → items ≡ self → seen ≡ items → None ≡ place_of_block seen number → living self number ≡ None
+living_missed self items seen number view same none =
+    ap (λ (xs : List Living). living xs number) (sym view) ∙ living_none items number (sym (none ∙ ap (λ (xs : List Living). place_of_block xs number) same))
 
 pub stored_at : (self items seen : List Living) (number : ℕ) (change : Words → Option Words) (i : ℕ) (c : Living) (t : Bool) (words : Words) → items ≡ self → seen ≡ items → Some i ≡ place_of_block seen number → i < length seen → c ≡ get_or items i c → change c.words ≡ (if t then Some words else None) → changed self number change ≡ (if t then Some (set items i (record { number = c.number; words = words })) else None)
 stored_at self items seen number change i c t words view same found within at e =

@@ -56,55 +56,24 @@ impl Living {
     }
 }
 
-fn load_in(blocks: &[Living], number: u64, offset: usize) -> Option<Value>
-    ensures { result ≡ value_in (living blocks.now number) offset }
-{
-    match blocks {
-        [] => None,
-        [first, rest @ ..] => {
-            if first.number == number {
-                first.words.word_at(offset)
-            } else {
-                load_in(rest, number, offset)
-            }
-        }
-    }
-}
-
-fn load_byte_in(blocks: &[Living], number: u64, offset: usize) -> Option<u8>
-    ensures { result ≡ byte_value_in (living blocks.now number) offset }
-{
-    match blocks {
-        [] => None,
-        [first, rest @ ..] => {
-            if first.number == number {
-                first.words.byte_at(offset)
-            } else {
-                load_byte_in(rest, number, offset)
-            }
-        }
-    }
-}
-
 // The place of a block in the list.
 fn find_place(blocks: &[Living], number: u64) -> Option<usize>
     ensures place { result ≡ place_of_block blocks.now number }
     ensures within { IfSome result (λ i. i < length blocks.now) }
 {
-    match blocks {
-        [] => None,
-        [first, rest @ ..] => {
-            if first.number == number {
-                Some(0)
-            } else {
-                let place = find_place(rest, number)?;
-                Some(place + 1)
-            }
+    let mut place = 0;
+    while place < blocks.len() {
+        let block = &blocks[place];
+        if block.number == number {
+            return Some(place);
         }
+        place += 1;
     }
+    None
 }
 
 impl Blocks {
+    /// No block.
     pub fn new(alloc: Global) -> Blocks
         ensures { result ≡ [] }
     {
@@ -130,18 +99,33 @@ impl Blocks {
         }
     }
 
+    /// The value at an offset in bytes of a block: none where the block is not open, or was not written there.
     pub fn load(&self, number: u64, offset: usize) -> Option<Value>
         ensures { result ≡ value_in (living self.now number) offset }
     {
-        load_in(self.list.as_slice(), number, offset)
+        match find_place(self.list.as_slice(), number) {
+            None => None,
+            Some(i) => {
+                let block = &self.list[i];
+                block.words.word_at(offset)
+            }
+        }
     }
 
+    /// The byte at an offset of a block: none where the block is not open, or its word there holds no number.
     pub fn load_byte(&self, number: u64, offset: usize) -> Option<u8>
         ensures { result ≡ byte_value_in (living self.now number) offset }
     {
-        load_byte_in(self.list.as_slice(), number, offset)
+        match find_place(self.list.as_slice(), number) {
+            None => None,
+            Some(i) => {
+                let block = &self.list[i];
+                block.words.byte_at(offset)
+            }
+        }
     }
 
+    /// Writes a word at an offset in bytes of a block, and tells whether there is such a word; else nothing is changed.
     pub fn store(&mut self, number: u64, offset: usize, value: Value) -> bool
         ensures { changed self.old number (λ words. with_word words offset value) ≡ (if result then Some self.new else None) }
     {
@@ -151,6 +135,7 @@ impl Blocks {
         }
     }
 
+    /// Writes a byte at an offset of a block, and tells whether its word there holds a number; else nothing is changed.
     pub fn store_byte(&mut self, number: u64, offset: usize, byte: u8) -> bool
         ensures { changed self.old number (λ words. with_byte_at words offset byte) ≡ (if result then Some self.new else None) }
     {

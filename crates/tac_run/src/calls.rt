@@ -1,7 +1,7 @@
 // Calls, under the budget of the stack.
 
 use crate::effect::Ending;
-use crate::machine::{Activation, Machine};
+use crate::machine::{Activation, Call, Machine};
 use crate::temporaries::gather;
 use std::alloc::Global;
 use tac_code::code::OutOfMemory;
@@ -36,13 +36,15 @@ pub(crate) fn frame_cost(tac: &Tac, frames: &[u32], routine: u32) -> u32
 fn fits(tac: &Tac, frames: &[u32], left: u64, activations: &[Activation]) -> bool
     ensures { result ≡ nat_le (open_bytes tac.now (λ r. slice_index frames.now r) (map activation_of activations.now)) left }
 {
-    match activations {
-        [] => true,
-        [first, rest @ ..] => {
-            let cost = u64::from(frame_cost(tac, frames, first.routine));
-            cost <= left && fits(tac, frames, left - cost, rest)
+    let mut left = left;
+    for activation in activations {
+        let cost = u64::from(frame_cost(tac, frames, activation.routine));
+        if cost > left {
+            return false;
         }
+        left -= cost;
     }
+    true
 }
 
 // Whether entering a routine would pass the budget of the stack.
@@ -71,14 +73,12 @@ impl<'a> Machine<'a> {
         alloc: Global,
         tac: &Tac,
         budget: Budget,
-        to: u32,
-        routine: u32,
+        call: Call,
         operands: &[u32],
-        line: u16,
     ) -> Result<Option<Ending>, OutOfMemory>
         requires place { self.old.current.place + 1 < 2 ^ 64 }
         requires count { self.old.count + 1 < 2 ^ 64 }
-        ensures led { IfOk result (λ over. calls tac.now (λ r. slice_index budget.entry.frames.now r) (λ t. slice_index budget.entry.objects.now t) budget.entry.stack budget.entry.heap to routine operands.now line (state_of self.old) ≡ led (length tac.now.program) over (state_of self.new)) }
+        ensures led { IfOk result (λ over. calls tac.now (λ r. slice_index budget.entry.frames.now r) (λ t. slice_index budget.entry.objects.now t) budget.entry.stack budget.entry.heap call.to call.routine operands.now call.line (state_of self.old) ≡ led (length tac.now.program) over (state_of self.new)) }
         ensures kept { IfOk result (λ over. OnSome over (KeepsShown (state_of self.old) (state_of self.new))) }
         ensures count { IfOk result (λ over. self.new.count ≤ self.old.count + 1) }
         ensures heap { IfOk result (λ over. self.new.heap ≡ self.old.heap) }
@@ -87,7 +87,7 @@ impl<'a> Machine<'a> {
         if !gather(&mut values, &self.current.temporaries, operands)? {
             return Ok(Some(Ending::Stuck));
         }
-        let number = routine as usize;
+        let number = call.routine as usize;
         if number >= tac.program().len() + tac.run_time().len() {
             return Ok(Some(Ending::Stuck));
         }
@@ -95,10 +95,16 @@ impl<'a> Machine<'a> {
         if values.as_slice().len() != called.parameters as usize {
             return Ok(Some(Ending::Stuck));
         }
-        if is_full(tac, budget, routine, &self.current, self.callers.as_slice()) {
+        if is_full(
+            tac,
+            budget,
+            call.routine,
+            &self.current,
+            self.callers.as_slice(),
+        ) {
             return Ok(Some(Ending::OutOfStack { line: called.line }));
         }
-        self.enter(alloc, called, routine, values.as_slice(), to, line)?;
+        self.enter(alloc, called, call, values.as_slice())?;
         Ok(None)
     }
 }

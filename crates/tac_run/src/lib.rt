@@ -1,4 +1,4 @@
-// A slow runner of three-address code, for tests. Its contract is the code's meaning.
+//! The reference interpreter of three-address code, for tests. Its contract is the meaning of the code.
 #![tactic(auto)]
 
 mod blocks;

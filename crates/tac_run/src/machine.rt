@@ -22,6 +22,14 @@ pub struct Activation {
     pub line: u16,
 }
 
+/// A call: the temporary of the caller that its result goes to, the routine, and the line that it stands in.
+#[derive(Clone, Copy)]
+pub struct Call {
+    pub to: u32,
+    pub routine: u32,
+    pub line: u16,
+}
+
 /// The state of a run; the innermost caller comes first.
 #[derive(Drop)]
 pub struct Machine<'a> {
@@ -212,40 +220,37 @@ impl<'a> Machine<'a> {
         &mut self,
         alloc: Global,
         called: &TacRoutine,
-        routine: u32,
+        call: Call,
         values: &[Value],
-        to: u32,
-        line: u16,
     ) -> Result<(), OutOfMemory>
         requires place { self.old.current.place + 1 < 2 ^ 64 }
         requires count { self.old.count + 1 < 2 ^ 64 }
-        ensures state { OnOk result (state_of self.new ≡ with_activation called.now routine values.now to line (state_of self.old)) }
+        ensures state { OnOk result (state_of self.new ≡ with_activation called.now call.routine values.now call.to call.line (state_of self.old)) }
         ensures count { OnOk result (self.new.count ≡ self.old.count + 1) }
         ensures heap { OnOk result (self.new.heap ≡ self.old.heap) }
     {
-        let entered = new_activation(alloc, routine, self.count, values, to, line)?;
+        let entered = new_activation(alloc, self.count, call, values)?;
         self.add_blocks(alloc, called)?;
         self.switch(entered)
     }
 }
 
+/// The activation of a call, at its routine's first instruction: the first temporaries hold these values.
 pub(crate) fn new_activation(
     alloc: Global,
-    routine: u32,
     number: u64,
+    call: Call,
     values: &[Value],
-    result_to: u32,
-    line: u16,
 ) -> Result<Activation, OutOfMemory>
-    ensures { IfOk result (λ a. activation_of a ≡ first_of routine number values.now result_to line) }
+    ensures { IfOk result (λ a. activation_of a ≡ first_of call.routine number values.now call.to call.line) }
 {
     let temporaries = Temporaries::holding(alloc, values)?;
     Ok(Activation {
-        routine,
+        routine: call.routine,
         place: 0,
         number,
         temporaries,
-        result: result_to,
-        line,
+        result: call.to,
+        line: call.line,
     })
 }

@@ -39,31 +39,33 @@ impl Model for Memory {
     ghost view = { λ m. record { frames = m.frames; scratch = m.scratch; objects = m.objects } };
 }
 
-ghost use Rattle.std.specs.Prelude.{◌≡◌, if◌then◌else◌, slice_get, [], ◌∷◌, ◌++◌, length, Some, None, OnOk};
+ghost use Rattle.std.specs.Prelude.{◌≡◌, ◌+◌, ◌*◌, ◌/◌, if◌then◌else◌, slice_get, [], ◌∷◌, ◌++◌, length, Some, None, OnOk};
+ghost use Rattle.tac_code.specs.Numbers.{number_of};
 ghost use Rattle.tac_code.specs.Memory.{known, with_word, with_byte_at, constant_words, changed_object, value_in, byte_value_in, constant_at};
 ghost use Rattle.tac_code.specs.Memory.{load, load_byte, store, store_byte};
 ghost use Rattle.tac_code.specs.Meaning.{text_at, without_first};
 
-fn constant_word(bytes: &[u8], index: usize) -> Option<Value>
-    ensures { result ≡ known (slice_get (constant_words bytes.now) index) }
+// The number whose word four bytes make, the lowest first.
+fn number_of_bytes(a: u8, b: u8, c: u8, d: u8) -> Value
+    ensures { result ≡ Value.Number (number_of (a + 256 * b + 65536 * c + 16777216 * d)) }
 {
-    match bytes {
-        [a, b, c, d, rest @ ..] => {
-            if index == 0 {
-                let word = u32::from(*a)
-                    + 256 * u32::from(*b)
-                    + 65536 * u32::from(*c)
-                    + 16777216 * u32::from(*d);
-                Some(Value::Number(word.cast_signed()))
-            } else {
-                constant_word(rest, index - 1)
-            }
-        }
+    let word = u32::from(a) + 256 * u32::from(b) + 65536 * u32::from(c) + 16777216 * u32::from(d);
+    Value::Number(word.cast_signed())
+}
+
+// The word that holds the byte at an offset of a constant.
+fn constant_word(bytes: &[u8], offset: usize) -> Option<Value>
+    ensures { result ≡ known (slice_get (constant_words bytes.now) (offset / 4)) }
+{
+    let start = (offset / 4 * 4).min(bytes.len());
+    match &bytes[start..] {
+        [a, b, c, d, ..] => Some(number_of_bytes(*a, *b, *c, *d)),
         _ => None,
     }
 }
 
 impl Objects {
+    /// No object.
     pub fn new(alloc: Global) -> Objects
         ensures { result ≡ [] }
     {
@@ -72,6 +74,7 @@ impl Objects {
         }
     }
 
+    /// How many objects there are.
     pub fn len(&self) -> usize
         ensures { result ≡ length self.now }
     {
@@ -86,6 +89,7 @@ impl Objects {
         Ok(())
     }
 
+    /// The value at an offset in bytes of an object: none where there is no such object, or it was not written there.
     pub fn load(&self, number: usize, offset: usize) -> Option<Value>
         ensures { result ≡ value_in (slice_get self.now number) offset }
     {
@@ -95,6 +99,7 @@ impl Objects {
         }
     }
 
+    /// The byte at an offset of an object: none where there is no such object, or its word there holds no number.
     pub fn load_byte(&self, number: usize, offset: usize) -> Option<u8>
         ensures { result ≡ byte_value_in (slice_get self.now number) offset }
     {
@@ -104,6 +109,7 @@ impl Objects {
         }
     }
 
+    /// Writes a word at an offset in bytes of an object, and tells whether there is such a word; else nothing is changed.
     pub fn store(&mut self, number: usize, offset: usize, value: Value) -> bool
         ensures { changed_object self.old number (λ words. with_word words offset value) ≡ (if result then Some self.new else None) }
     {
@@ -114,6 +120,7 @@ impl Objects {
         }
     }
 
+    /// Writes a byte at an offset of an object, and tells whether its word there holds a number; else nothing is changed.
     pub fn store_byte(&mut self, number: usize, offset: usize, byte: u8) -> bool
         ensures { changed_object self.old number (λ words. with_byte_at words offset byte) ≡ (if result then Some self.new else None) }
     {
@@ -131,7 +138,7 @@ fn load_constant(tac: &Tac, routine: u32, place: u64, offset: usize) -> Option<V
     match text_at(tac, routine, place) {
         Some(constant) => {
             if offset % 4 == 0 {
-                constant_word(constant.as_slice(), offset / 4)
+                constant_word(constant.as_slice(), offset)
             } else {
                 None
             }
@@ -144,7 +151,7 @@ fn load_constant_byte(tac: &Tac, routine: u32, place: u64, offset: usize) -> Opt
     ensures { result ≡ byte_value_in (constant_at (text_at tac.now routine place)) offset }
 {
     match text_at(tac, routine, place) {
-        Some(constant) => match constant_word(constant.as_slice(), offset / 4) {
+        Some(constant) => match constant_word(constant.as_slice(), offset) {
             Some(Value::Number(z)) => Some(byte_of_number(z, offset % 4)),
             _ => None,
         },
@@ -206,6 +213,7 @@ impl Memory {
         }
     }
 
+    /// The byte at an address: none where its word holds no number.
     pub fn load_byte(&self, tac: &Tac, block: Block, offset: usize) -> Option<u8>
         ensures { result ≡ load_byte (text_at tac.now) self.now block offset }
     {

@@ -2,7 +2,7 @@
 
 use crate::calls::{Budget, frame_cost};
 use crate::effect::Ending;
-use crate::machine::{Activation, Machine, new_activation};
+use crate::machine::{Activation, Call, Machine, new_activation};
 use crate::memory::Memory;
 use std::alloc::Global;
 use tac_code::code::OutOfMemory;
@@ -57,16 +57,22 @@ fn add_open_calls(
 ) -> Result<(), OutOfMemory>
     ensures { OnOk result (lines.new.items ≡ lines.old.items ++ open_calls program (activation_of current.now) (map activation_of callers.now)) }
 {
-    match callers {
-        [] => Ok(()),
-        [caller, rest @ ..] => {
-            if (current.routine as usize) < program {
-                lines.push(current.line)?;
-            }
-            add_open_calls(lines, program, caller, rest)
+    let mut called = current;
+    for caller in callers {
+        if (called.routine as usize) < program {
+            lines.push(called.line)?;
         }
+        called = caller;
     }
+    Ok(())
 }
+
+// The call of the program block; nothing waits for its result.
+const PROGRAM_BLOCK: Call = Call {
+    to: 0,
+    routine: 0,
+    line: 0,
+};
 
 // The machine in the program block, which takes no operands.
 fn start<'a>(
@@ -89,7 +95,7 @@ fn start<'a>(
         return Ok(Err(Ending::OutOfStack { line: block.line }));
     }
     let mut machine = Machine {
-        current: new_activation(alloc, 0, 0, &[], 0, 0)?,
+        current: new_activation(alloc, 0, PROGRAM_BLOCK, &[])?,
         callers: Vec::new(alloc),
         memory: Memory::new(alloc),
         count: 0,

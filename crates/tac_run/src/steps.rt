@@ -11,7 +11,7 @@ use crate::effect::{
     index_address, offset_address, output, pointer_check, range_check, related, word_write,
 };
 use crate::instructions::{fetch, operands_in};
-use crate::machine::Machine;
+use crate::machine::{Call, Machine};
 use std::alloc::Global;
 use tac_code::code::{Base, Block, Instruction, Operand, OutOfMemory, Relation, Value};
 use tac_code::tac::Tac;
@@ -320,7 +320,7 @@ impl<'a> Machine<'a> {
             Effect::Write(block, offset, value) => Ok(self.write(block, offset, value)),
             Effect::WriteByte(block, offset, byte) => Ok(self.write_byte(block, offset, byte)),
             Effect::Enter { to, routine, line } => {
-                self.call(alloc, tac, budget, to, routine, operands, line)
+                self.call(alloc, tac, budget, Call { to, routine, line }, operands)
             }
             Effect::Leave(value) => self.leave(value),
             Effect::TakeByte(to) => {

@@ -24,6 +24,7 @@ ghost use Rattle.tac_code.specs.Meaning.{put, values_of};
 ghost use Rattle.tac_run.specs.Effect.{reads, values_after};
 
 impl Temporaries {
+    /// No temporary was written.
     pub fn new(alloc: Global) -> Temporaries
         ensures { result ≡ [] }
     {
@@ -32,6 +33,7 @@ impl Temporaries {
         }
     }
 
+    /// What a temporary holds: none where it was never written.
     pub fn get(&self, temporary: u32) -> Option<Value>
         ensures { result ≡ reads self.now temporary }
     {
@@ -81,14 +83,11 @@ pub(crate) fn gather(
 ) -> Result<bool, OutOfMemory>
     ensures { IfOk result (λ all. values_after values.old.items (values_of (reads from.now) operands.now) ≡ (if all then Some values.new.items else None)) }
 {
-    match operands {
-        [] => Ok(true),
-        [first, rest @ ..] => match from.get(*first) {
-            Some(value) => {
-                values.push(value)?;
-                gather(values, from, rest)
-            }
-            None => Ok(false),
-        },
+    for operand in operands {
+        let Some(value) = from.get(*operand) else {
+            return Ok(false);
+        };
+        values.push(value)?;
     }
+    Ok(true)
 }

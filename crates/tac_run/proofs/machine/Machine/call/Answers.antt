@@ -12,8 +12,8 @@ returns-then-is_full-clause-led c =
     let wanted : Option (List Value) = values_of (reads c.args.self.now.current.temporaries) c.args.operands.now in
     let given : wanted ≡ Some values = sym (values_after_none wanted) ∙ (ap (λ (xs : List Value). values_after xs wanted) (sym c.new-values.ensures.items) ∙ (c.in_ok-gather.ensures ∙ ap (λ (b : Bool). if b then Some values else None) c.if-not-branch.false)) in
     let same : length values ≡ c.routine-called.result.now.parameters = ap length (sym c.as_slice.ensures.value) ∙ c.if-as_slice-called.false in
-    let full = ap (λ (xs : List Activation). is_full c.args.tac.now (λ r. slice_index c.args.budget.frames.now r) (λ t. slice_index c.args.budget.objects.now t) c.args.budget.stack c.args.budget.heap c.args.routine (onward (activation_of c.args.self.now.current) ∷ map activation_of xs)) (sym c.as_slice-2.ensures.value) ∙ (sym c.is_full.ensures ∙ c.if-is_full.true) in
-    call_decided c.args.tac.now (λ r. slice_index c.args.budget.frames.now r) (λ t. slice_index c.args.budget.objects.now t) c.args.budget.stack c.args.budget.heap c.args.to c.args.routine c.args.operands.now c.args.line (state_of c.args.self.now) values c.routine-called.result.now true given c.routine-called.ensures same full
+    let full = ap (λ (xs : List Activation). is_full c.args.tac.now (λ r. slice_index c.args.budget.frames.now r) (λ t. slice_index c.args.budget.objects.now t) c.args.budget.stack c.args.budget.heap c.args.call.routine (onward (activation_of c.args.self.now.current) ∷ map activation_of xs)) (sym c.as_slice-2.ensures.value) ∙ (sym c.is_full.ensures ∙ c.if-is_full.true) in
+    call_decided c.args.tac.now (λ r. slice_index c.args.budget.frames.now r) (λ t. slice_index c.args.budget.objects.now t) c.args.budget.stack c.args.budget.heap c.args.call.to c.args.call.routine c.args.operands.now c.args.call.line (state_of c.args.self.now) values c.routine-called.result.now true given c.routine-called.ensures same full
 
 pub returns-clause-led : goal.returns-clause-led
 returns-clause-led c =
@@ -21,6 +21,6 @@ returns-clause-led c =
     let wanted : Option (List Value) = values_of (reads c.args.self.now.current.temporaries) c.args.operands.now in
     let given : wanted ≡ Some values = sym (values_after_none wanted) ∙ (ap (λ (xs : List Value). values_after xs wanted) (sym c.new-values.ensures.items) ∙ (c.in_ok-gather.ensures ∙ ap (λ (b : Bool). if b then Some values else None) c.if-not-branch.false)) in
     let same : length values ≡ c.routine-called.result.now.parameters = ap length (sym c.as_slice.ensures.value) ∙ c.if-as_slice-called.false in
-    let full = ap (λ (xs : List Activation). is_full c.args.tac.now (λ r. slice_index c.args.budget.frames.now r) (λ t. slice_index c.args.budget.objects.now t) c.args.budget.stack c.args.budget.heap c.args.routine (onward (activation_of c.args.self.now.current) ∷ map activation_of xs)) (sym c.as_slice-2.ensures.value) ∙ (sym c.is_full.ensures ∙ c.if-is_full.false) in
-    call_decided c.args.tac.now (λ r. slice_index c.args.budget.frames.now r) (λ t. slice_index c.args.budget.objects.now t) c.args.budget.stack c.args.budget.heap c.args.to c.args.routine c.args.operands.now c.args.line (state_of c.args.self.now) values c.routine-called.result.now false given c.routine-called.ensures same full
-    ∙ ap Goes (ap (λ (vs : List Value). with_activation c.routine-called.result.now c.args.routine vs c.args.to c.args.line (state_of c.args.self.now)) (sym c.as_slice-3.ensures.value) ∙ sym c.in_ok-enter.ensures.state)
+    let full = ap (λ (xs : List Activation). is_full c.args.tac.now (λ r. slice_index c.args.budget.frames.now r) (λ t. slice_index c.args.budget.objects.now t) c.args.budget.stack c.args.budget.heap c.args.call.routine (onward (activation_of c.args.self.now.current) ∷ map activation_of xs)) (sym c.as_slice-2.ensures.value) ∙ (sym c.is_full.ensures ∙ c.if-is_full.false) in
+    call_decided c.args.tac.now (λ r. slice_index c.args.budget.frames.now r) (λ t. slice_index c.args.budget.objects.now t) c.args.budget.stack c.args.budget.heap c.args.call.to c.args.call.routine c.args.operands.now c.args.call.line (state_of c.args.self.now) values c.routine-called.result.now false given c.routine-called.ensures same full
+    ∙ ap Goes (ap (λ (vs : List Value). with_activation c.routine-called.result.now c.args.call.routine vs c.args.call.to c.args.call.line (state_of c.args.self.now)) (sym c.as_slice-3.ensures.value) ∙ sym c.in_ok-enter.ensures.state)
