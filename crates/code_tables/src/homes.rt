@@ -1,0 +1,74 @@
+//! Homes for the temporaries of three-address code.
+
+use crate::job::Job;
+use crate::programs::code;
+use crate::texts::number;
+use risc_alloc::homes::{Home, PlaceRefusal, Raw};
+use risc_alloc::placement::Placement;
+use risc_alloc::placer::{EverySlot, Placer};
+use risc_alloc::scan::Scan;
+use std::alloc::{AllocError, Global};
+use tac_code::tac::Tac;
+
+/// The home that a word names: `r5` is a register, `s5` a slot.
+pub(crate) fn home_of(word: &str) -> Home {
+    match word.strip_prefix("r") {
+        Some(digits) => Home::Reg(digits.parse::<u8>().unwrap_or(0)),
+        None => Home::Slot(number(word.strip_prefix("s").unwrap_or(""))),
+    }
+}
+
+fn verdict(alloc: Global, tac: &Tac, homes: &[Home]) -> Result<&'static str, AllocError> {
+    let raw = Raw {
+        homes: Vec::from_slice(alloc, homes)?,
+    };
+    Ok(match Placement::new(alloc, tac, raw) {
+        Ok(_) => "taken",
+        Err(PlaceRefusal::BadPlacement) => "refused",
+        Err(PlaceRefusal::OutOfMemory) => "out of memory",
+    })
+}
+
+/// Whether the homes that were told are taken.
+pub(crate) fn tried(alloc: Global, row: &str, job: &Job) -> Result<String, AllocError> {
+    match code(alloc, row)? {
+        Some(tac) => String::from_str(alloc, verdict(alloc, &tac, &job.homes)?),
+        None => String::from_str(alloc, "no code"),
+    }
+}
+
+// The homes of a placement, and whether a copy of them is taken.
+fn shown(alloc: Global, tac: &Tac, placement: &Placement) -> Result<String, AllocError> {
+    let mut line = String::new(alloc);
+    for home in &placement.raw().homes {
+        let told = match *home {
+            Home::Slot(slot) => format!(in alloc; "s{slot} ")?,
+            Home::Reg(register) => format!(in alloc; "r{register} ")?,
+        };
+        line.push_str(told.as_str())?;
+    }
+    line.push_str(verdict(alloc, tac, &placement.raw().homes)?)?;
+    Ok(line)
+}
+
+/// The homes that a placer chooses, and whether they are taken.
+pub(crate) fn placed<P: Placer>(
+    alloc: Global,
+    row: &str,
+    placer: &P,
+) -> Result<String, AllocError> {
+    match code(alloc, row)? {
+        Some(tac) => shown(alloc, &tac, &placer.place(alloc, &tac)?),
+        None => String::from_str(alloc, "no code"),
+    }
+}
+
+/// The homes of the placer that gives registers.
+pub(crate) fn scanned(alloc: Global, row: &str) -> Result<String, AllocError> {
+    placed(alloc, row, &Scan)
+}
+
+/// The homes of the placer that gives each temporary a slot.
+pub(crate) fn slotted(alloc: Global, row: &str) -> Result<String, AllocError> {
+    placed(alloc, row, &EverySlot)
+}

@@ -1,0 +1,109 @@
+//! Machines, and what they hold.
+
+use risc_machine::{Flags, Fused, Machine, OutOfMemory};
+use std::alloc::{AllocError, Global};
+
+/// A console with no input and no room.
+pub(crate) fn closed(alloc: Global) -> Result<Fused, OutOfMemory> {
+    Fused::new(alloc, b"", 0, 0, 0)
+}
+
+/// The machine with these words of code, 256 at most, and so many bytes of globals.
+pub(crate) fn machine_of(
+    alloc: Global,
+    words: &[u32],
+    globals: u32,
+) -> Result<Machine, OutOfMemory> {
+    let mut code = Vec::new(alloc);
+    for word in words {
+        code.extend_from_slice(&word.to_le_bytes())?;
+    }
+    let front = code.len().min(1024);
+    Machine::start(alloc, &code[..front], globals.min(1024), 0, 0)
+}
+
+/// The registers and the memory of a machine.
+#[derive(Drop)]
+pub(crate) struct State {
+    registers: [u32; 16],
+    memory: Vec<u8>,
+}
+
+/// Registers that hold 0, and no memory.
+pub(crate) fn nothing(alloc: Global) -> State {
+    State {
+        registers: [0; 16],
+        memory: Vec::new(alloc),
+    }
+}
+
+/// What a machine holds.
+pub(crate) fn state_of(alloc: Global, machine: &Machine) -> Result<State, OutOfMemory> {
+    let mut held = nothing(alloc);
+    for number in 0..16u8 {
+        held.registers[usize::from(number)] = machine.reg(number);
+    }
+    for address in 0..machine.size() {
+        held.memory.push(machine.byte(address))?;
+    }
+    Ok(held)
+}
+
+fn letter(is_set: bool, name: char) -> char {
+    if is_set { name } else { '-' }
+}
+
+/// Flags as a word like `N-CV`.
+fn put_flags(line: &mut String, flags: Flags) -> Result<(), AllocError> {
+    line.push(letter(flags.negative, 'N'))?;
+    line.push(letter(flags.equal, 'Z'))?;
+    line.push(letter(flags.carry, 'C'))?;
+    line.push(letter(flags.overflow, 'V'))
+}
+
+fn put_registers(
+    alloc: Global,
+    line: &mut String,
+    before: &State,
+    machine: &Machine,
+) -> Result<(), AllocError> {
+    for number in 0..16u8 {
+        let value = machine.reg(number);
+        if number == 0 || before.registers[usize::from(number)] != value {
+            let told = format!(in alloc; " R{number} {value:08X}")?;
+            line.push_str(told.as_str())?;
+        }
+    }
+    Ok(())
+}
+
+fn put_memory(
+    alloc: Global,
+    line: &mut String,
+    before: &State,
+    machine: &Machine,
+) -> Result<(), AllocError> {
+    for address in 0..machine.size() {
+        let byte = machine.byte(address);
+        if before.memory.get(address as usize).copied().unwrap_or(0) != byte {
+            let told = format!(in alloc; " [{address}] {byte:02X}")?;
+            line.push_str(told.as_str())?;
+        }
+    }
+    Ok(())
+}
+
+/// Puts what a machine holds behind a line: the flags, H, R0, and the other registers and the bytes of memory that are not as before.
+pub(crate) fn put_held(
+    alloc: Global,
+    line: &mut String,
+    before: &State,
+    machine: &Machine,
+) -> Result<(), AllocError> {
+    put_flags(line, machine.flags())?;
+    let high = machine.high();
+    let told = format!(in alloc; " H {high:08X}")?;
+    line.push_str(told.as_str())?;
+    put_registers(alloc, line, before, machine)?;
+    put_memory(alloc, line, before, machine)
+}

@@ -1,0 +1,86 @@
+//! Runs of the processor.
+
+use crate::job::Job;
+use crate::machines::{State, machine_of, nothing, put_held, state_of};
+use crate::texts::{hexadecimals, put_bytes};
+use risc_machine::{Fused, Machine, Stop, Streams, run};
+use std::alloc::{AllocError, Global};
+
+/// A run by single steps.
+fn step_by_step(machine: &mut Machine, console: &mut Fused, limit: u64) -> Stop {
+    for _ in 0..limit {
+        if let Some(stop) = machine.step(console) {
+            return stop;
+        }
+    }
+    Stop::Steps
+}
+
+// Puts where a run stopped, what the machine holds then and what was written behind a line.
+fn put_stop(
+    alloc: Global,
+    line: &mut String,
+    stop: Stop,
+    before: &State,
+    machine: &Machine,
+) -> Result<(), AllocError> {
+    let place = machine.pc();
+    let told = format!(in alloc; "{stop:?} at {place}, ")?;
+    line.push_str(told.as_str())?;
+    put_held(alloc, line, before, machine)
+}
+
+/// How the runs of one machine end, one behind the other, and what it has written then. The row has the words of its code.
+pub(crate) fn ran(alloc: Global, row: &str, job: &Job) -> Result<String, AllocError> {
+    let words = hexadecimals(alloc, row)?;
+    let mut machine = machine_of(alloc, &words, job.globals)?;
+    let mut console = Fused::new(alloc, &job.input, usize::from(job.room), job.take, job.put)?;
+    let before = state_of(alloc, &machine)?;
+    let mut line = String::new(alloc);
+    for limit in &job.limits {
+        let stop = if job.is_stepped {
+            step_by_step(&mut machine, &mut console, *limit)
+        } else {
+            run(&mut machine, &mut console, *limit)
+        };
+        put_stop(alloc, &mut line, stop, &before, &machine)?;
+        line.push(' ')?;
+        put_bytes(&mut line, console.output())?;
+        line.push(';')?;
+    }
+    Ok(line)
+}
+
+/// How the run of code ends over a reader and a writer, how much of the input is left, and what is written.
+pub(crate) fn streamed(alloc: Global, row: &str, job: &Job) -> Result<String, AllocError> {
+    let words = hexadecimals(alloc, row)?;
+    let mut machine = machine_of(alloc, &words, job.globals)?;
+    let input: &[u8] = &job.input;
+    let mut console = Streams::new(input, Vec::new(alloc));
+    let stop = run(&mut machine, &mut console, job.limit());
+    let (left, written) = console.into_parts();
+    let (place, left) = (machine.pc(), left.len());
+    let mut line = format!(in alloc; "{stop:?} at {place}, {left} left ")?;
+    put_bytes(&mut line, &written)?;
+    Ok(line)
+}
+
+/// What a machine holds when it starts. The row is its code.
+pub(crate) fn started(alloc: Global, code: &[u8], job: &Job) -> Result<String, AllocError> {
+    let front = code.len().min(1024);
+    let (globals, heap, stack) = (
+        job.globals.min(1024),
+        job.heap.min(1024),
+        job.stack.min(1024),
+    );
+    let machine = Machine::start(alloc, &code[..front], globals, heap, stack)?;
+    told(alloc, &machine)
+}
+
+/// What a machine holds, and where it is.
+pub(crate) fn told(alloc: Global, machine: &Machine) -> Result<String, AllocError> {
+    let (size, place) = (machine.size(), machine.pc());
+    let mut line = format!(in alloc; "{size} bytes, at {place}, ")?;
+    put_held(alloc, &mut line, &nothing(alloc), machine)?;
+    Ok(line)
+}
