@@ -17,7 +17,8 @@ use Rattle.ps_parse.specs.declared.error.ParseRefusal.TheVariants as p
 use Rattle.tac_rt.specs.Bodies.{run_time_routines}
 use Rattle.ps_code.specs.Programs.{code_of}
 use Rattle.ps_lowers.specs.Fits.{ProgramFits}
-use Rattle.ps_accepts.specs.Laws.{AcceptedFit}
+use Rattle.ps_accepts.specs.Formed.{IsFormed}
+use Rattle.ps_accepts.specs.Laws.{AcceptedFit, AcceptedFormed}
 use Rattle.ps_build.specs.declared.refusal.Refusal.{Refusal}
 use Rattle.ps_build.specs.declared.refusal.Refusal.TheVariants.{TooLong, TooManyLines, OutOfMemory, BadByte, OpenComment, OpenString, EmptyString, SeparatorMissing, NumberTooLarge, RealNumber, NotAProgram, TooDeep, NotInProfile, Broken, CodeTooLarge}
 use Rattle.ps_build.specs.Refusals.{of_parse, of_check, OnlyTooLarge}
@@ -67,6 +68,11 @@ pub fits : AcceptedFit → (text : List ℕ) (checked : Tree.Program) → ((k : 
 fits accepted_fit text checked narrow of_text =
     let a = of_text.accepts in
     accepted_fit text a.tokens a.tree checked (all_bytes text narrow) a.parsed.limits a.parsed.scanned a.parsed.derived a.checks
+
+pub formed : AcceptedFormed → (text : List ℕ) (checked : Tree.Program) → ((k : ℕ) → get_or text k 0 < 256) → IsProgramOf text checked → IsFormed checked
+formed accepted_are_formed text checked narrow of_text =
+    let a = of_text.accepts in
+    accepted_are_formed text a.tokens a.tree checked (all_bytes text narrow) a.parsed.limits a.parsed.scanned a.parsed.derived a.checks
 
 -- ---- why no tree
 

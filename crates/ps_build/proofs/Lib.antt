@@ -1,5 +1,6 @@
 pub mod Rows
 pub mod Asked
+pub mod Examples
 pub mod Told
 pub mod Compiled
 pub mod Results
@@ -7,3 +8,4 @@ pub mod Unbudgeted
 pub mod Charged
 pub mod Lowered
 pub mod Made
+pub mod Named

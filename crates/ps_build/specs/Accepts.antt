@@ -35,6 +35,12 @@ pub record IsProgramOf (text : List ℕ) (checked : Tree.Program) : Type 0 where
   pub accepts : Accepts text checked
   pub only : (other : Tree.Program) → Accepts text other → other ≡ checked
 
+-- the code of the program that the text is accepted as
+pub record IsCodeOfText (text : List ℕ) (code : Code) : Type 0 where
+  pub checked : Tree.Program
+  pub is_program : IsProgramOf text checked
+  pub is_code : code ≡ code_of run_time_routines checked
+
 -- no list of tokens is the text's
 pub record HasNoTokens (text : List ℕ) : Type 0 where
   pub limits : IsSource text

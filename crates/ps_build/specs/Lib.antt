@@ -8,3 +8,4 @@ pub mod Devices
 pub mod Runs
 pub mod Goes
 pub mod Laws
+pub mod Names

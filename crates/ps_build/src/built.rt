@@ -2,14 +2,15 @@
 
 ghost use Rattle.std.specs.Prelude.{◌≡◌, ℕ, ◌<◌, slice_index, IfOk, IfErr};
 ghost use Rattle.risc_image.specs.Format.{IsImage};
+ghost use Rattle.ps_accepts.specs.Formed.{IsFormed};
 ghost use Rattle.ps_lowers.specs.Fits.{ProgramFits};
 ghost use Rattle.ps_tree.specs.Checked.{program_in};
-ghost use Rattle.ps_build.specs.Accepts.{IsProgramOf, IsRefused, IsFaulty, IsNotAccepted};
+ghost use Rattle.ps_build.specs.Accepts.{IsProgramOf, IsCodeOfText, IsRefused, IsFaulty, IsNotAccepted};
 ghost use Rattle.ps_build.specs.Headline.{Compiles};
 
-use crate::making::image_made;
+use crate::making::{code_made, image_made};
 use crate::refusal::Refusal;
-use ps_accepts::accepted_fit;
+use ps_accepts::{accepted_are_formed, accepted_fit};
 use ps_check::check;
 use ps_parse::parse;
 use ps_scan::scan;
@@ -20,6 +21,7 @@ use risc_alloc::scan::Scan;
 use risc_image::ImageView;
 use std::alloc::Global;
 use std::marker::Model;
+use tac_code::tac::Tac;
 
 /// A program that was built: its image. A contract sees it as the list of its bytes.
 #[derive(Drop)]
@@ -84,11 +86,13 @@ fn is_of_bytes(text: &[u8])
 // What a text is accepted as has all that the lowering needs.
 fn has_what_is_needed(text: &[u8], checked: &Checked)
     requires { IsProgramOf text.now (program_in checked.now) }
-    ensures { ProgramFits (program_in checked.now) }
+    ensures fits { ProgramFits (program_in checked.now) }
+    ensures formed { IsFormed (program_in checked.now) }
 {
     let _ = checked;
     is_of_bytes(text);
     accepted_fit();
+    accepted_are_formed();
 }
 
 // The bytes of the image of a text.
@@ -99,6 +103,17 @@ fn image_built<P: Placer>(alloc: Global, text: &[u8], placer: &P) -> Result<Vec<
     let checked = program_of(alloc, text)?;
     has_what_is_needed(text, &checked);
     image_made(alloc, &checked, placer)
+}
+
+/// The three-address code of the program of a text, from which its image is built.
+///
+/// Refused is a text that isn't accepted.
+pub fn code_of_text(alloc: Global, text: &[u8]) -> Result<Tac, Refusal>
+    ensures { IfOk result (IsCodeOfText text.now) }
+{
+    let program = program_of(alloc, text)?;
+    has_what_is_needed(text, &program);
+    code_made(alloc, &program)
 }
 
 /// Builds the program of a text, with homes for its temporaries that a placer chooses: the image does on every input and under every

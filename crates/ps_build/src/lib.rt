@@ -5,11 +5,12 @@ mod built;
 pub mod laws;
 mod listing;
 mod making;
+pub mod names;
 mod outcome;
 mod refusal;
 mod run;
 
-pub use built::{Built, build, build_with};
+pub use built::{Built, build, build_with, code_of_text};
 pub use listing::list;
 pub use outcome::{FaultKind, Outcome};
 pub use ps_regions::refusal::Rule;

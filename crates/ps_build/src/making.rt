@@ -1,6 +1,7 @@
 // Images that are made through three-address code.
 
-ghost use Rattle.std.specs.Prelude.{IfOk, IfErr};
+ghost use Rattle.std.specs.Prelude.{◌≡◌, IfOk, IfErr};
+ghost use Rattle.ps_accepts.specs.Formed.{IsFormed};
 ghost use Rattle.ps_code.specs.Programs.{code_of};
 ghost use Rattle.ps_lowers.specs.Fits.{ProgramFits};
 ghost use Rattle.ps_tree.specs.Checked.{program_in};
@@ -9,10 +10,11 @@ ghost use Rattle.tac_rt.specs.Bodies.{run_time_routines};
 ghost use Rattle.ps_build.specs.Accepts.{HasNoRoom};
 ghost use Rattle.ps_build.specs.Made.{IsEmitted, AreMadeOf};
 ghost use Rattle.ps_build.specs.Refusals.{OnlyTooLarge};
+ghost use Rattle.ps_build.specs.declared.refusal.Refusal.TheVariants.{OutOfMemory};
 
 use crate::laws::code_does;
 use crate::refusal::Refusal;
-use ps_bounds::{objects_are_bounded, routines_are_bounded};
+use ps_bounds::{code_is_sound, objects_are_bounded, routines_are_bounded, weights_are_small};
 use ps_lower::lower::lower;
 use ps_tree::program::Checked;
 use risc_alloc::placer::Placer;
@@ -32,17 +34,30 @@ fn parts_of<P: Placer>(alloc: Global, tac: &Tac, placer: &P) -> Result<Parts, Re
     Ok(parts)
 }
 
+/// The three-address code of a checked program.
+pub(crate) fn code_made(alloc: Global, checked: &Checked) -> Result<Tac, Refusal>
+    requires { IsFormed (program_in checked.now) }
+    ensures ok { IfOk result (λ tac. tac ≡ code_of run_time_routines (program_in checked.now)) }
+    ensures err { IfErr result (λ e. e ≡ OutOfMemory) }
+{
+    code_is_sound();
+    weights_are_small();
+    let tac = lower(alloc, checked)?;
+    Ok(tac)
+}
+
 /// The bytes of the image of a checked program.
 pub(crate) fn image_made<P: Placer>(
     alloc: Global,
     checked: &Checked,
     placer: &P,
 ) -> Result<Vec<u8>, Refusal>
-    requires { ProgramFits (program_in checked.now) }
+    requires fits { ProgramFits (program_in checked.now) }
+    requires formed { IsFormed (program_in checked.now) }
     ensures ok { IfOk result (λ bytes. AreMadeOf (program_in checked.now) bytes.items) }
     ensures err { IfErr result (λ e. OnlyTooLarge e (HasNoRoom (code_of run_time_routines (program_in checked.now)))) }
 {
-    let tac = lower(alloc, checked)?;
+    let tac = code_made(alloc, checked)?;
     let parts = parts_of(alloc, &tac, placer)?;
     tac.keeps_invariant();
     code_does();

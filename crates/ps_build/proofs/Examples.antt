@@ -1,0 +1,74 @@
+-- What the promises don't allow, by examples that are worked out by hand: consoles whose output was held back or lost, and a table that charges
+-- too much.
+use Rattle.std.proofs.Common.{◌≡◌, ◌<◌, ◌≤◌, ℕ, zero, suc, ◌+◌, ◌*◌, List, [], ◌∷◌, ◌++◌, Some, None, refl, arith}
+use Rattle.behavior.specs.Transcripts.{output}
+use Rattle.risc_machine.specs.Console.{World}
+use Rattle.risc_image.specs.Image.{Image}
+use Rattle.risc_load.specs.declared.budget.Budget.{Budget}
+use Rattle.risc_runs.specs.Outcome.{image_outcome}
+use Rattle.ps_tree.specs.Tree.{Program, no_routine, routine_at}
+use Rattle.ps_tree.specs.Counts.{routine_cells, routine_nodes, routine_extent, formals_extent, result_extent, variables_extent, statements_extent}
+use Rattle.ps_meaning.specs.Costs.{Bounded}
+use Rattle.ps_build.specs.Devices.{AsksInput, AsksOutput}
+use Rattle.ps_build.specs.Runs.{stands_at, Breaks}
+
+-- ---- devices that fail
+
+-- MOV R6, -64; MOV R0, 97; ST R0, R6, 8; LD R0, R6, 8; ST R0, R6, 8; B T, -1: puts a byte, takes one and puts it
+abbrev echo : Image
+echo = record { global = 0; code = 0x5600FFC0 ∷ 0x40000061 ∷ 0xA0600008 ∷ 0x80600008 ∷ 0xA0600008 ∷ 0xE7FFFFFF ∷ []; frames = []; objects = []; traps = []; calls = None }
+
+abbrev none : Budget
+none = record { stack = 0; heap = 0 }
+
+module _ (after : World) where
+  gone : (steps : ℕ) → steps < 6 → AsksInput (stands_at echo none (7 ∷ []) steps).0 → after.output ≡ Some ([] ++ output (image_outcome echo 0 0 (7 ∷ []) steps).0) → after.output ≡ Some [] → ⊥
+  gone zero f a w e = a
+  gone (suc zero) f a w e = a
+  gone (suc (suc zero)) f a w e = a
+  gone (suc (suc (suc zero))) f a w e = absurd (cc)
+  gone (suc (suc (suc (suc zero)))) f a w e = a
+  gone (suc (suc (suc (suc (suc zero))))) f a w e = a
+  gone (suc (suc (suc (suc (suc (suc n)))))) f a w e = absurd (omega (arith, f))
+
+  -- The input failed, and the byte that was put before it was asked for is not there.
+  lost : Breaks AsksInput echo none 6 (7 ∷ []) [] after → after.output ≡ Some [] → ⊥
+  lost b e = gone b.steps b.fewer b.asking b.moved.written e
+
+  behind : (steps : ℕ) → steps < 6 → AsksOutput (stands_at echo none (7 ∷ []) steps).0 → after.output ≡ Some ([] ++ output (image_outcome echo 0 0 (7 ∷ []) steps).0) → after.input ≡ Some (stands_at echo none (7 ∷ []) steps).1.input → after.output ≡ Some [] → after.input ≡ Some [] → ⊥
+  behind zero f a w l e i = a
+  behind (suc zero) f a w l e i = a
+  behind (suc (suc zero)) f a w l e i = absurd (cc)
+  behind (suc (suc (suc zero))) f a w l e i = a
+  behind (suc (suc (suc (suc zero)))) f a w l e i = absurd (cc)
+  behind (suc (suc (suc (suc (suc zero))))) f a w l e i = a
+  behind (suc (suc (suc (suc (suc (suc n)))))) f a w l e i = absurd (omega (arith, f))
+
+  -- The output failed at its first byte, and the input was taken already: all writes were kept for the end.
+  late : Breaks AsksOutput echo none 6 (7 ∷ []) [] after → after.output ≡ Some [] → after.input ≡ Some [] → ⊥
+  late b e i = behind b.steps b.fewer b.asking b.moved.written b.moved.left e i
+
+-- the consoles that are left where the first take fails, and where the second put does
+prompted : Breaks AsksInput echo none 6 (7 ∷ []) [] (record { input = Some (7 ∷ []); output = Some (97 ∷ []); faults = 1 })
+prompted = record { steps = 3; fewer = omega arith; running = refl; asking = tt; moved = record { written = refl; left = refl } }
+
+answered : Breaks AsksOutput echo none 6 (7 ∷ []) [] (record { input = Some []; output = Some (97 ∷ []); faults = 1 })
+answered = record { steps = 4; fewer = omega arith; running = refl; asking = tt; moved = record { written = refl; left = refl } }
+
+-- ---- costs
+
+-- a program block without variables and statements
+abbrev smallest : Program
+smallest = record { routines = no_routine ∷ []; domains = [] }
+
+no_cells : routine_cells (routine_at smallest 0) ≡ 0
+unfolding routine_extent formals_extent result_extent variables_extent statements_extent
+no_cells = refl
+
+no_nodes : routine_nodes (routine_at smallest 0) ≡ 0
+unfolding routine_extent formals_extent result_extent variables_extent statements_extent
+no_nodes = refl
+
+-- its frame may not be charged with all of memory, which would stop every run for stack
+all_of_memory : Bounded smallest (16777152 ∷ []) [] → ⊥
+all_of_memory b = let h = (b.frames 0 (omega arith)).1 in absurd (omega (arith, h, no_cells, no_nodes))
