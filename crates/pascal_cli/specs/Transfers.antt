@@ -2,7 +2,7 @@
 use Rattle.std.specs.Prelude.{◌≡◌, ℕ, ◌≤◌, List, length, Result, Ok, Err, Option}
 use Rattle.std.specs.Io.KnownBytes.{Consumes}
 use Rattle.risc_machine.specs.Console.{one_more}
-use Rattle.pascal_cli.specs.declared.transfer.Counted.{Counted}
+use Rattle.pascal_cli.specs.declared.counted.Counted.{Counted}
 use Rattle.pascal_cli.specs.declared.transfer.ReadFault.{ReadFault}
 use Rattle.pascal_cli.specs.declared.transfer.ReadFault.TheVariants.{Device, OutOfMemory}
 

@@ -1,6 +1,7 @@
 //! The command `pascal`: its words, what it reads and writes, its statuses and its messages.
 #![tactic(auto)]
 
+mod counted;
 mod job;
 mod report;
 mod session;

@@ -1,13 +1,11 @@
 // Whole texts and images from readers and to writers, in a bounded number of turns.
 
 ghost use Rattle.std.specs.Prelude.{◌≡◌, ℕ, ◌+◌, ◌^◌, ◌<◌, ◌≤◌, length, take, OnOk, IfOk, IfErr, vec_len};
-ghost use Rattle.std.specs.Io.{ReadsAtMost, WritesAtMost};
-ghost use Rattle.std.specs.Io.KnownBytes.{Appends, Consumes, IsAtEnd, ReadConsumes, WriteAppends};
-ghost use Rattle.risc_machine.specs.Console.{one_more};
+ghost use Rattle.std.specs.Io.KnownBytes.{Appends, Consumes, IsAtEnd};
 ghost use Rattle.pascal_cli.specs.declared.transfer.ReadFault.TheVariants.{OutOfMemory};
 ghost use Rattle.pascal_cli.specs.Transfers.{device_of, faults_of, Counts, CountsRead, TakesUpTo};
 
-use risc_machine::DeviceFault;
+pub use crate::counted::Counted;
 use std::alloc::{AllocError, AllocFailed, Global};
 use std::io::{Read, Write};
 use thiserror::Error;
@@ -28,62 +26,6 @@ impl From<AllocError> for ReadFault {
 
     fn from(_error: AllocError) -> ReadFault {
         ReadFault::OutOfMemory
-    }
-}
-
-/// A reader or a writer with the count of its failures: each error, and each write of no byte.
-#[derive(Drop)]
-pub struct Counted<D> {
-    device: D,
-    faults: u64,
-}
-
-impl<D> Counted<D> {
-    /// The device, with no failure counted.
-    pub fn new(device: D) -> Counted<D>
-        ensures device { device_of result ≡ device }
-        ensures faults { faults_of result ≡ 0 }
-    {
-        Counted { device, faults: 0 }
-    }
-
-    // Counts a failure.
-    fn fault(&mut self) -> DeviceFault
-        ensures device { device_of self.new ≡ device_of self.old }
-        ensures faults { faults_of self.new ≡ one_more (faults_of self.old) }
-    {
-        self.faults = self.faults.saturating_add(1);
-        DeviceFault
-    }
-}
-
-impl<R: Read> Counted<R> {
-    // One read.
-    fn read(&mut self, buffer: &mut [u8]) -> Result<usize, DeviceFault>
-        ensures bound { ReadsAtMost result buffer.new }
-        ensures bytes { ReadConsumes (R.remaining (device_of self.old)) (R.remaining (device_of self.new)) result buffer.new }
-        ensures counted { Counts result (faults_of self.old) (faults_of self.new) }
-    {
-        match self.device.read(buffer) {
-            Ok(count) => Ok(count),
-            Err(_) => Err(self.fault()),
-        }
-    }
-}
-
-impl<W: Write> Counted<W> {
-    // One write, of some bytes.
-    fn write(&mut self, bytes: &[u8]) -> Result<usize, DeviceFault>
-        ensures bound { WritesAtMost result bytes.now }
-        ensures some { IfOk result (λ count. 0 < count) }
-        ensures bytes { WriteAppends (W.contents (device_of self.old)) (W.contents (device_of self.new)) result bytes.now }
-        ensures counted { Counts result (faults_of self.old) (faults_of self.new) }
-    {
-        match self.device.write(bytes) {
-            Ok(0) => Err(self.fault()),
-            Ok(count) => Ok(count),
-            Err(_) => Err(self.fault()),
-        }
     }
 }
 
