@@ -2,9 +2,9 @@
 // each temporary.
 
 use crate::front::checked;
-use ps_build::{Budget as ImageBudget, Outcome, Refusal, Trail, build_with, run_image};
-use ps_lower::lower::lower;
-use ps_lower::refusal::LowerRefusal;
+use ps_build::{
+    Budget as ImageBudget, Outcome, Refusal, Trail, build_with, code_of_text, run_image,
+};
 use ps_runner::ending::Ending;
 use ps_runner::run::{
     Budget, Ran, Refusal as MeaningRefusal, TranscriptFault, output, reference_to_depth,
@@ -58,12 +58,6 @@ impl From<AllocError> for Fault {
 impl From<Refusal> for Fault {
     fn from(refusal: Refusal) -> Fault {
         Fault::Refused(refusal)
-    }
-}
-
-impl From<LowerRefusal> for Fault {
-    fn from(refusal: LowerRefusal) -> Fault {
-        Fault::Refused(Refusal::from(refusal))
     }
 }
 
@@ -140,8 +134,7 @@ fn by_meaning(alloc: Global, text: &[u8], input: &[u8], steps: u64) -> Result<Ra
 }
 
 fn by_code(alloc: Global, text: &[u8], input: &[u8], steps: u64) -> Result<Ran, Fault> {
-    let program = checked(alloc, text)?;
-    let tac = lower(alloc, &program)?;
+    let tac = code_of_text(alloc, text)?;
     let free = code::Budget {
         frames: &[],
         objects: &[],

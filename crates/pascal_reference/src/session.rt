@@ -1,5 +1,6 @@
 // One call of the program: its words, its files, and what it tells.
 
+use crate::phases::take_standard_input;
 use crate::runs::{Fault, Limits, Runner, Shown, run_text};
 use pascal_cli::{
     Counted, Job, TEXT_LIMIT, Task, asked, put_all, read_file, read_standard_input, tell, texts,
@@ -37,6 +38,7 @@ fn run_texts<R: Files + Print + Eprint + Input + AllocGlobal>(rt: &R, texts: &[&
     match texts {
         ["code", others @ ..] => run_job(rt, Runner::Code, others),
         ["slots", others @ ..] => run_job(rt, Runner::Slots, others),
+        ["phases", last] => take_standard_input(rt, last),
         _ => run_job(rt, Runner::Meaning, texts),
     }
 }
