@@ -67,8 +67,8 @@ def look(folder, releases):
     tree = f"{folder}/tree"
     progress = report.Report(tree)
     passed, failed = prove(folder, progress)
-    more = ends.run_cases(tree)
-    passed, failed = passed + more[0], failed + more[1]
+    for more in (ends.run_cases(tree), ends.run_growths(tree)):
+        passed, failed = passed + more[0], failed + more[1]
     ends.hand_out(tree, TOP)
     if releases and not failed:
         ends.release(tree, TOP)

@@ -8,6 +8,7 @@ functions, edits of one function, and those that another hides.
 
 import os
 import re
+import resource
 import shutil
 
 import kit
@@ -15,6 +16,8 @@ import verdicts
 
 HEADER = re.compile(r"^( *)(?:pub(?:\([^)]*\))? )?(?:const )?(?:unsafe )?fn (\w+)")
 OWNER = re.compile(r"^impl\b(?:<[^>]*>)? (?:.* for )?(?:&'?\w* ?)?(\w+)")
+# what the kit says of a proof that names what an edit took away, and of what rests on that
+TAKEN_AWAY = r"has no field|is not in scope|has no `|was not admitted"
 PLACE = re.compile(r"(?:(?:note|warning): )?(?:\./)?(src/\S+?\.rt):(\d+):\d+: (.*)")
 
 
@@ -50,17 +53,30 @@ def top_of(lines, at):
     return at
 
 
+def puts_body(text, function, old, new):
+    """Whether a new text for a function's header goes on with the function's own clauses and another body, and then gives what stood behind the header to a
+    function of another name."""
+    lines = text.split("\n")
+    clauses = " ".join(" ".join(lines[function.header + 1 : function.body]).split())
+    rest = lines[function.header].split(f"fn {function.name}", 1)[1]
+    begun = " ".join(it for it in (old.strip(), clauses, "{") if it)
+    given = re.fullmatch(rf"{re.escape(begun)}(.*)\}} fn \w+{re.escape(rest)}", new.strip())
+    return bool(given) and lines[function.header].endswith(old.strip()) and given[1].count("{") == given[1].count("}")
+
+
 class Edit:
-    """A must-fail edit: the pairs of texts that it changes, with the file of each."""
+    """A must-fail edit: the pairs of texts that it changes, with the file of each, and the function at which it must fail, if a line `at:` tells one."""
 
     def __init__(self, path, crate):
         self.path, self.name = path, os.path.basename(path)
         with open(path, encoding="utf-8", errors="replace") as file:
             self.text = file.read()
-        self.pairs, at, old = [], "", None
+        self.pairs, self.at, at, old = [], None, "", None
         for line in self.text.split("\n"):
             if line.startswith("file: "):
                 at = line[6:].strip()
+            elif line.startswith("at: "):
+                self.at = line[4:].strip()
             elif line.startswith("old: "):
                 old = line[5:]
             elif line.startswith("new:"):
@@ -70,15 +86,17 @@ class Edit:
     def find(self, crate):
         """The functions whose bodies the edit changes, as (file, name, type), or None where it changes anything else."""
         places = set()
-        for at, old, _ in self.pairs:
+        for at, old, new in self.pairs:
             try:
                 with open(f"{crate.folder}/{at}", encoding="utf-8") as file:
                     text = file.read()
             except OSError:
                 return None
             line = text[: text.find(old)].count("\n") if old and old in text else -1
-            inside = [it for it in functions_of(text) if it.body <= line <= it.last]
-            if not at.startswith("src/") or len(inside) != 1 or line == inside[0].header:
+            functions = functions_of(text)
+            inside = [it for it in functions if it.body <= line <= it.last and line != it.header]
+            inside += [it for it in functions if line == it.header and puts_body(text, it, old, new)]
+            if not at.startswith("src/") or len(inside) != 1:
                 return None
             places.add((at, inside[0].name, inside[0].owner))
         return places
@@ -97,11 +115,16 @@ class Edit:
 
 
 def names_of(places, functions):
-    """The names by which a check tells of functions at these places, or None where one fits no name, or several."""
+    """The names by which a check tells of functions at these places, or None where one fits no name, or several. A method has its type's module, which may be
+    another than its file's, and, where it is a trait's, the trait's name behind the type's."""
     found = []
     for at, name, owner in places:
         wanted = "::".join([*module_of(at), *([owner] if owner else []), name])
         alike = [it for it in functions if it == wanted]
+        if owner and not alike:
+            alike = [it for it in functions if re.fullmatch(rf"(.*::)?{owner}::{name}", it)] or [it for it in functions if re.fullmatch(rf"(.*::)?{owner}\w+::{name}", it)]
+            beside = [it for it in alike if it.split("::")[:-2] == module_of(at)]
+            alike = beside if len(alike) > 1 else alike
         if len(alike) != 1:
             return None
         found += alike
@@ -160,17 +183,27 @@ def names_match(at, function, above, last, member):
     return [*above, last] == [*module_of(at), *([function.owner] if function.owner else []), function.name]
 
 
+def checked(crate, texts, flags):
+    """The check of a round's copy, or None where it ends without a verdict, or refuses nothing."""
+    ran = kit.rt().checked(crate, texts, flags, verdicts.kept_work(crate))
+    if ran.returncode == 1 and re.search(r"^(logic=not-proved|only=\d+)", ran.stdout.rstrip("\n").split("\n")[-1]):
+        return ran
+    print(f"a round of edits told nothing: {ran.stdout[-400:]}", flush=True)
+    return None
+
+
 def round_of(crate, edits, flags):
     """Tries edits together and returns those that are refused, each with what was said."""
     group, texts = side_by_side(edits, crate)
-    if len(group) < 2:
+    if not group:
         return {}
     known = verdicts.facts_of(crate).get("functions", [])
     names = [names_of(it.places, known) for it in group]
     only = [] if None in names else [word for it in names for name in it for word in ("--only", name)]
-    ran = kit.rt().checked(crate, texts, [*flags, *only], verdicts.kept_work(crate))
-    if ran.returncode != 1 or not re.search(r"^(logic=not-proved|only=\d+)", ran.stdout.rstrip("\n").split("\n")[-1]):
-        print(f"a round of {len(group)} edits told nothing: {ran.stdout[-400:]}", flush=True)
+    ran = checked(crate, texts, [*flags, *only])
+    if ran is None and only:
+        ran = checked(crate, texts, flags)
+    if ran is None:
         return {}
     found = refused_at(ran.stdout, texts, crate)
     done = {}
@@ -182,11 +215,42 @@ def round_of(crate, edits, flags):
     return done
 
 
+class Spent:
+    """What the parts of a crate's trials took of the processors, for the run's log."""
+
+    def __init__(self):
+        self.parts, self.last = [], self.now()
+
+    @staticmethod
+    def now():
+        usage = resource.getrusage(resource.RUSAGE_CHILDREN)
+        return usage.ru_utime + usage.ru_stime
+
+    def part(self, what):
+        now = self.now()
+        self.parts.append(f"{what} {now - self.last:.0f} s")
+        self.last = now
+
+    def tell(self):
+        print(f"gate: its edits took of a processor: {', '.join(self.parts)}", flush=True)
+
+
 def tried(crate, edit, flags, kept=None):
     """Whether `rt ci` refuses an edit, as it must, and what it says. One that cannot be applied, compiled or read counts as not refused."""
     rt = kit.rt()
     kind, said = rt.must_fail(crate, edit.path, flags, kept)
     return kind if kit.is_before_keeping() else kind in (rt.REFUSED, rt.AT_LIMIT), said
+
+
+def named(crate, edit, flags):
+    """Tries an edit at the function that its line `at:` names, and returns why that is not proved: then the crate is not, either. None where that is not told, or
+    only because a proof names what the edit took away."""
+    texts = edit.apply({}, crate)
+    ran = kit.rt().checked(crate, texts or {}, [*flags, "--only", edit.at], verdicts.kept_work(crate))
+    lines = ran.stdout.rstrip("\n").split("\n")
+    if not texts or ran.returncode != 1 or not re.match(r"only=1 proved=0\b", lines[-1]) or any(kit.rt().unread(it, texts) for it in lines):
+        return None
+    return next((it for it in lines if re.match(r"(\./)?(src|specs|proofs)/\S+:\d+:\d+: error", it) and not re.search(TAKEN_AWAY, it)), None)
 
 
 def alone(crate, edit, flags):
@@ -195,11 +259,13 @@ def alone(crate, edit, flags):
     return told if told[0] else tried(crate, edit, flags)
 
 
-def is_sound(crate, flags):
-    """Whether what is refused over the kept work is the edits' doing: this run has just proved the crate over it, or it is proved so now."""
+def is_sound(crate, names, flags):
+    """Whether what is refused over the kept work is the edits' doing: this run has just proved the crate over it, or the functions of these names, at which its
+    edits were tried, are proved so now without the edits; the whole crate, where there are no names."""
     if not verdicts.facts_of(crate).get("kept"):
         return True
-    return not kit.rt().checked(crate, {}, flags, verdicts.kept_work(crate)).returncode
+    only = [word for name in names or [] for word in ("--only", name)]
+    return not kit.rt().checked(crate, {}, [*flags, *only], verdicts.kept_work(crate)).returncode
 
 
 def key_of(crate, edit):
@@ -253,17 +319,36 @@ def try_all(crate, paths, flags):
     return [told[it] for it in paths]
 
 
+def names_tried(crate, edits):
+    """The functions at which edits were tried by themselves or by their `at:`."""
+    known = verdicts.facts_of(crate).get("functions", [])
+    found = [names_of(it.places, known) if it.places else [it.at] for it in edits]
+    return None if None in found else sorted({name for names in found for name in names})
+
+
 def try_anew(crate, edits, flags):
     os.makedirs(verdicts.kept_work(crate), exist_ok=True)
-    told, left = {}, edits
+    told, left, spent = {}, edits, Spent()
     while True:
         done = round_of(crate, left, flags)
+        spent.part(f"a round that refused {len(done)} of {len(left)}")
         told.update({it.path: (True, said) for it, said in done.items()})
         left = [it for it in left if it not in done]
         if not done:
             break
-    told.update({it.path: alone(crate, it, flags) for it in left})
-    if not is_sound(crate, flags):
+    by_name = [it for it in edits if it not in left]
+    for it in left:
+        why = it.at and named(crate, it, flags)
+        if why:
+            by_name.append(it)
+            told[it.path] = True, f"must-fail {crate.name}/{it.name}: refused, as it must be: {why[:160]}"
+        else:
+            told[it.path] = alone(crate, it, flags)
+        spent.part(f"{it.name} alone")
+    sound = is_sound(crate, names_tried(crate, edits) if len(by_name) == len(edits) else None, flags)
+    spent.part("the functions without the edits")
+    spent.tell()
+    if not sound:
         told = {it.path: tried(crate, it, flags) for it in edits}
     for it in edits:
         if told[it.path][0]:

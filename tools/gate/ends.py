@@ -19,8 +19,11 @@ CASES = (
     ("programs, as three-address code", "pascal_code", "programs"),
     ("programs, with a slot for each temporary", "pascal_slots", "programs"),
     ("stops", "pascal", "stops"),
+    ("stops, with a slot for each temporary", "pascal_slots", "stops"),
+    ("exact stops", "pascal", "exact"),
+    ("phases", "pascal_reference", "phases"),
 )
-PROGRAMS = ("pascal", "pascal_reference", "bench_phases")
+PROGRAMS = ("pascal", "pascal_reference")
 
 
 def count_in(text):
@@ -56,6 +59,18 @@ def run_cases(tree):
     """Runs each folder of cases over a program of the run."""
     told = [run_folder(tree, *case, {"PASCAL_BUILT": f"{tree}/crates"}) for case in CASES]
     return sum(well for well, _ in told), sum(bad for _, bad in told)
+
+
+def run_growths(tree):
+    """Refuses each growth of the built program's memory in turn. Where that tries nothing, it is a failure."""
+    words = [f"{tree}/tests/growths", "--program", f"{tree}/crates/pascal/out/pascal"]
+    ran = subprocess.run(words, stdout=subprocess.PIPE, stderr=subprocess.STDOUT, text=True, errors="replace")
+    well, bad = count_in(ran.stdout)
+    bad = bad or int(bool(ran.returncode) or not well)
+    if bad:
+        print(ran.stdout, end="")
+    print(f"tests/growths: {well} passed, {bad} failed", flush=True)
+    return well, bad
 
 
 def look_at_pages(tree):
