@@ -1,0 +1,706 @@
+"""Draws texts with one fault each, at a token that is known.
+
+A part of a text is written as a string in which `@` stands before the token that breaks the rule. Each way to break a rule takes the drawing and a
+block, and adds its parts to that block; all else in the text keeps the rules. Names that a fault adds are new ones.
+"""
+
+import re
+from typing import NamedTuple
+
+NAMES = {
+    30: "Unknown", 31: "Twice", 32: "UsedBefore", 33: "WrongKind", 34: "WrongType", 35: "NotAssignable", 36: "BadSubrange", 37: "SetBase",
+    38: "CaseTwice", 39: "ControlVariable", 40: "PackedVariable", 41: "NotCongruous", 42: "ForwardOpen", 43: "NoResultAssigned",
+    44: "NoInputOutput", 45: "Limit",
+}  # fmt: skip
+
+TOKEN = re.compile(r"@?(?:[A-Za-z][A-Za-z0-9]*|\d+|'(?:[^'\n]|'')*'|:=|\.\.|<>|<=|>=|[-+*=<>()\[\],;:.^])")
+DEEPEST = 3
+
+# what each program defines for all of its blocks
+CONSTANTS = ["three = 3", "cross = 'x'", "word = 'abcd'"]
+TYPES = [
+    "colour = (red, green, blue)", "small = 1..9", "node = record one: integer; two: char; next: ^ node end", "row = array [1..5] of integer",
+    "line = packed array [1..4] of char", "some = set of small", "link = ^ node", "tight = packed record left: char; right: Boolean end",
+]  # fmt: skip
+VARIABLES = ["gi, gj: integer", "gc: char", "gb: Boolean", "ge: colour", "gr: node", "ga: row", "gl: line", "gs: some", "gp: link", "gt: tight"]
+ROUTINES = [
+    "procedure pv(n: integer); begin gi := n end", "procedure pr(var n: integer); begin n := 1 end",
+    "procedure pc(var c: char); begin c := 'a' end", "procedure pt(n: integer; c: char); begin gi := n; gc := c end",
+    "function fn(n: integer): integer; begin fn := n + 1 end", "procedure hp(procedure q(n: integer)); begin q(3) end",
+    "procedure hf(function f(n: integer): integer); begin gi := f(4) end",
+]  # fmt: skip
+
+
+class Text(NamedTuple):
+    text: str
+    number: int  # of the refusal, 0 where there is no fault
+    line: int
+    way: str
+
+
+class Block:
+    """The parts of a block. `head` is what stands before it, without the semicolon."""
+
+    def __init__(self, head, depth, control):
+        self.head, self.depth, self.control = head, depth, control
+        self.constants, self.types, self.variables, self.routines, self.statements = [], [], [f"{control}: integer"], [], []
+
+    def written(self):
+        parts = [
+            f"{word} {'; '.join(items)};" for word, items in (("const", self.constants), ("type", self.types), ("var", self.variables)) if items
+        ]
+        routines = [f"{routine.head}; {routine.written()};" if isinstance(routine, Block) else f"{routine};" for routine in self.routines]
+        return " ".join([*parts, *routines, f"begin {'; '.join(self.statements)} end"])
+
+
+class Drawing:
+    def __init__(self, draw):
+        self.draw, self.count, self.reads, self.writes, self.blocks = draw, 0, True, True, []
+        self.parameters = "input, output"
+        self.program = self.block("program", 0)
+        self.program.constants[:0] = CONSTANTS
+        self.program.types[:0] = TYPES
+        self.program.variables[:0] = VARIABLES
+        self.program.routines[:0] = ROUTINES
+
+    def fresh(self, letter="x"):
+        self.count += 1
+        return f"{letter}{self.count}"
+
+    def choice(self, *ways):
+        return self.draw.choice(ways)
+
+    # ---- what keeps the rules
+
+    def block(self, head, depth):
+        """A block with routines in it."""
+        block = Block(head, depth, self.fresh("k"))
+        self.blocks.append(block)
+        for _ in range(self.draw.choice((0, 1, 1, 2)) if depth < DEEPEST else 0):
+            block.routines.append(self.routine(depth + 1))
+        for _ in range(self.draw.randint(0, 2)):
+            self.draw.choice((block.constants, block.variables, block.types)).append(None)
+        block.constants[:] = [f"{self.fresh('c')} = {self.draw.randint(0, 99)}" if item is None else item for item in block.constants]
+        block.types[:] = [f"{self.fresh('t')} = {self.denoter()}" if item is None else item for item in block.types]
+        block.variables[:] = [f"{self.fresh('v')}: {self.choice('integer', 'char', 'small')}" if item is None else item for item in block.variables]
+        return block
+
+    def denoter(self):
+        a, b, c = self.fresh(), self.fresh(), self.fresh()
+        return self.choice("integer", f"({a}, {b}, {c})", "1..20", f"record {a}, {b}: integer; {c}: char end", "array [1..3] of char", "set of small")
+
+    def routine(self, depth):
+        name, a, b = self.fresh("p"), self.fresh("a"), self.fresh("b")
+        formals = self.choice("", f"({a}: integer)", f"({a}, {b}: integer)", f"(var {a}: char; {b}: small)")
+        if self.draw.random() < 0.3:
+            block = self.block(f"function {name}{formals}: integer", depth)
+            block.statements.append(f"{name} := {self.number()}")
+            return block
+        return self.block(f"procedure {name}{formals}", depth)
+
+    def number(self):
+        return self.choice("1", "gi", "three", "gi + gj", "gr.one", "ga[2]", "(gi - 2) * gj", "fn(gi)", "abs(gj)", "ord(gc)")
+
+    def condition(self):
+        return self.choice("gb", "gi < 3", "not gb", "gb and (gi = gj)", "gc = 'a'", "gi in gs", "ge <> red")
+
+    def statement(self):
+        ways = ["gi := {n}", "gj := {n} + {n}", "gb := {b}", "gc := cross", "if {b} then gi := {n} else gj := {n}", "pv({n})", "pr(gi)", "pc(gc)"]
+        ways += ["case gi of 1: gj := 1; 2, three: end", "with gr do one := {n}", "hp(pv)", "hf(fn)", "begin gi := {n}; gj := 1 end", "new(gp)"]
+        ways += ["writeln(gi, 'abc')", "write({n}: 3)"] * self.writes + ["read(gi)", "readln"] * self.reads
+        return self.draw.choice(ways).replace("{n}", self.number()).replace("{b}", self.condition())
+
+    def around(self, statement, control=None):
+        """A statement that holds this one."""
+        for _ in range(self.draw.randint(0, 2)):
+            ways = ["if {b} then {s}", "if {b} then gi := 1 else {s}", "while {b} do {s}", "repeat {t}; {s} until {b}", "begin {t}; {s} end"]
+            ways += ["case gi of 4: gj := 1; 5: {s} end", "with gr do {s}", "begin {s}; {t} end"]
+            ways += [f"for {control} := 1 to 3 do {{s}}"] if control else []
+            way = self.draw.choice(ways).replace("{b}", self.condition()).replace("{t}", self.statement())
+            statement = way.replace("{s}", statement)
+            control = None
+        return statement
+
+    def finish(self):
+        for block in self.blocks:
+            for _ in range(self.draw.randint(1, 3)):
+                statement = self.around(self.statement(), block.control)
+                block.statements.insert(self.draw.randint(0, len(block.statements)), statement)
+        return f"program p({self.parameters}); {self.program.written()}." if self.parameters else f"program p; {self.program.written()}."
+
+    # ---- where a fault is put
+
+    def add(self, block, statement):
+        block.statements.insert(self.draw.randint(0, len(block.statements)), self.around(statement))
+
+    def declare(self, items, *new):
+        """New items of a part, in their order, among the others."""
+        places = sorted(self.draw.randint(0, len(items)) for _ in new)
+        for moved, (place, item) in enumerate(zip(places, new)):
+            items.insert(place + moved, item)
+
+    def declare_behind(self, items, *new):
+        """The same, behind what each program defines."""
+        first = max((index + 1 for index, item in enumerate(items) if item in VARIABLES + TYPES + CONSTANTS + ROUTINES), default=0)
+        held = items[first:]
+        self.declare(held, *new)
+        items[first:] = held
+
+    def use(self, block, expression):
+        """An expression of integer type where one may stand."""
+        way = self.choice("gi := {e}", "gj := 2 + {e}", "pv({e})", "ga[{e}] := 1", "if {e} > 0 then gi := 1", "gi := fn(1 + 2 * ({e}))", "gi := fn({e})")
+        self.add(block, way.replace("{e}", expression))
+
+
+# ---- the ways to break each rule
+
+WAYS = {}
+
+
+def way(number):
+    def kept(function):
+        WAYS.setdefault(number, []).append(function)
+        return function
+
+    return kept
+
+
+@way(30)
+def an_operand(d, b):
+    d.use(b, f"@{d.fresh('u')}")
+
+
+@way(30)
+def a_target(d, b):
+    d.add(b, f"@{d.fresh('u')} := {d.number()}")
+
+
+@way(30)
+def a_procedure(d, b):
+    d.add(b, f"@{d.fresh('u')}{d.choice('', '(1)')}")
+
+
+@way(30)
+def a_field(d, b):
+    d.add(b, f"gr.@{d.fresh('u')} := 1")
+
+
+@way(30)
+def a_type(d, b):
+    d.declare(b.variables, f"{d.fresh()}: {d.choice('', 'array [1..3] of ', 'record f: ')}@{d.fresh('u')}")
+    b.variables[:] = [f"{item} end" if "record f: @" in item else item for item in b.variables]
+
+
+@way(30)
+def a_domain(d, b):
+    d.declare(b.types, f"{d.fresh()} = ^ @{d.fresh('u')}")
+
+
+@way(30)
+def a_constant(d, b):
+    d.declare(b.constants, f"{d.fresh()} = {d.choice('', '-')}@{d.fresh('u')}")
+
+
+@way(30)
+def a_function_without_heading(d, b):
+    d.declare(b.routines, f"function @{d.fresh('u')}; begin end")
+
+
+@way(30)
+def a_parameter_type(d, b):
+    d.declare(b.routines, f"procedure {d.fresh()}(a: integer; b: @{d.fresh('u')}); begin end")
+
+
+@way(31)
+def variables(d, b):
+    name = d.fresh()
+    d.declare(b.variables, f"{name}: integer", f"{d.fresh()}, @{name}: char")
+
+
+@way(31)
+def variables_of_one_list(d, b):
+    name = d.fresh()
+    d.declare(b.variables, f"{name}, {d.fresh()}, @{name}: integer")
+
+
+@way(31)
+def constants(d, b):
+    name = d.fresh()
+    d.declare(b.constants, f"{name} = 1", f"@{name} = 2")
+
+
+@way(31)
+def types(d, b):
+    name = d.fresh()
+    d.declare_behind(b.types, f"{name} = char", f"@{name} = small")
+
+
+@way(31)
+def a_constant_and_a_variable(d, b):
+    name = d.fresh()
+    d.declare(b.constants, f"{name} = 1")
+    d.declare(b.variables, f"@{name}: char")
+
+
+@way(31)
+def fields(d, b):
+    name = d.fresh()
+    d.declare(b.types, f"{d.fresh()} = record {name}: integer; {d.fresh()}, @{name}: char end")
+
+
+@way(31)
+def inner_fields(d, b):
+    name = d.fresh()
+    d.declare(b.variables, f"{d.fresh()}: record {name}: array [1..2] of record {name}, @{name}: char end end")
+
+
+@way(31)
+def constants_of_an_enumeration(d, b):
+    name = d.fresh()
+    d.declare(b.types, f"{d.fresh()} = ({name}, {d.fresh()}, @{name})")
+
+
+@way(31)
+def a_type_and_its_constant(d, b):
+    name = d.fresh()
+    d.declare(b.types, f"{name} = ({d.fresh()}, @{name})")
+
+
+@way(31)
+def a_variable_and_its_constant(d, b):
+    name = d.fresh()
+    d.declare(b.variables, f"{name}: ({d.fresh()}, @{name})")
+
+
+@way(31)
+def a_constant_in_a_record(d, b):
+    name = d.fresh()
+    d.declare(b.types, f"{d.fresh()} = record {d.fresh()}: ({name}) end", f"{d.fresh()} = set of (@{name})")
+
+
+@way(31)
+def formal_parameters(d, b):
+    name = d.fresh()
+    d.declare(b.routines, f"procedure {d.fresh()}({name}: integer; {d.choice('', 'var ')}@{name}: char); begin end")
+
+
+@way(31)
+def formal_parameters_of_a_formal(d, b):
+    name = d.fresh()
+    d.declare(b.routines, f"procedure {d.fresh()}({name}: integer; procedure q({name}, @{name}: char)); begin end")
+
+
+@way(31)
+def a_formal_parameter_and_a_variable(d, b):
+    name = d.fresh()
+    d.declare(b.routines, f"function {(f := d.fresh())}({name}: integer): integer; var @{name}: char; begin {f} := 1 end")
+
+
+@way(31)
+def a_formal_parameter_of_a_forward_heading(d, b):
+    name, p = d.fresh(), d.fresh()
+    d.declare(b.routines, f"procedure {p}({name}: integer); forward", f"procedure {p}; var @{name}: char; begin end")
+
+
+@way(31)
+def a_routine_and_a_variable(d, b):
+    name = d.fresh()
+    d.declare(b.variables, f"{name}: integer")
+    d.declare(b.routines, f"procedure @{name}{d.choice('', '(n: integer)')}; begin end")
+
+
+@way(31)
+def a_block_and_a_variable(d, b):
+    name = d.fresh()
+    d.declare(b.variables, f"{name}: integer")
+    d.declare(b.routines, f"function @{name}; begin end")
+
+
+@way(31)
+def routines(d, b):
+    name = d.fresh()
+    d.declare(b.routines, f"procedure {name}; begin end", f"procedure @{name}{d.choice('', '(n: integer)')}; begin end")
+
+
+@way(31)
+def blocks_of_a_forward_heading(d, b):
+    name = d.fresh()
+    d.declare(b.routines, f"procedure {name}; forward", f"procedure {name}; begin end", f"procedure @{name}; begin end")
+
+
+@way(31)
+def forward_headings(d, b):
+    name = d.fresh()
+    d.declare(b.routines, f"procedure {name}; forward", f"procedure @{name}; forward", f"procedure {name}; begin end")
+
+
+@way(31)
+def a_block_of_another_kind(d, b):
+    name = d.fresh()
+    d.declare(b.routines, f"procedure {name}; forward", f"function @{name}; begin {name} := 1 end")
+
+
+@way(31)
+def a_list_that_is_repeated(d, b):
+    name = d.fresh()
+    d.declare(b.routines, f"procedure {name}(n: integer); forward", f"procedure @{name}(n: integer); begin end")
+
+
+@way(31)
+def files(d, b):
+    d.parameters = "input, output, @output"
+
+
+@way(32)
+def a_later_type(d, b):
+    name = d.fresh()
+    d.declare(b.types, f"{d.fresh()} = {d.choice('array [1..3] of ', '', 'set of ')}@{name}", f"{name} = {d.choice('char', '1..5')}")
+
+
+@way(32)
+def a_later_constant(d, b):
+    name = d.fresh()
+    d.declare(b.constants, f"{d.fresh()} = @{name}", f"{name} = 5")
+
+
+@way(32)
+def its_own_type(d, b):
+    name = d.fresh()
+    d.declare(b.types, f"{name} = {d.choice('record f: @{} end', 'array [1..3] of @{}', 'record f: integer; g: array [char] of @{} end').format(name)}")
+
+
+@way(32)
+def its_own_constant(d, b):
+    name = d.fresh()
+    d.declare(b.constants, f"{name} = @{name}")
+
+
+@way(32)
+def a_type_that_is_hidden_later(d, b):
+    routine = d.block(f"procedure {d.fresh()}", DEEPEST)
+    routine.types[:] = [f"{d.fresh()} = array [1..3] of @small", "small = char"]
+    d.declare_behind(b.routines, routine)
+
+
+@way(32)
+def a_constant_that_is_hidden_later(d, b):
+    routine = d.block(f"procedure {d.fresh()}", DEEPEST)
+    routine.constants[:] = [f"{d.fresh()} = @three", "three = 4"]
+    d.declare_behind(b.routines, routine)
+
+
+@way(32)
+def a_later_formal_parameter(d, b):
+    d.declare_behind(b.routines, f"procedure {d.fresh()}(a: @small; small: char); begin end")
+
+
+@way(33)
+def a_procedure_for_a_value(d, b):
+    d.use(b, "@pv")
+
+
+@way(33)
+def a_type_for_a_value(d, b):
+    d.use(b, d.choice("@small", "@integer", "@node"))
+
+
+@way(33)
+def a_constant_for_a_variable(d, b):
+    d.add(b, d.choice("@three := 3", "@red := green", "read(@three)", "pr(@three)"))
+
+
+@way(33)
+def a_variable_for_a_type(d, b):
+    d.declare_behind(b.variables, f"{(name := d.fresh())}: integer", f"{d.fresh()}: {d.choice('', 'array [1..2] of ')}@{name}")
+
+
+@way(33)
+def a_variable_for_a_constant(d, b):
+    routine = d.block(f"procedure {d.fresh()}", DEEPEST)
+    routine.constants[:] = [f"{d.fresh()} = @gi"]
+    d.declare_behind(b.routines, routine)
+
+
+@way(33)
+def a_variable_for_a_procedure(d, b):
+    d.add(b, d.choice("@gi", "@gi(1)", "@small", "@three(gi, 2)"))
+
+
+@way(33)
+def a_value_for_a_variable(d, b):
+    d.add(b, d.choice("pr(@1)", "pr(@gi + 1)", "pr(@(gi))", "pc(@'a')", "pr(@fn(1))"))
+
+
+@way(33)
+def a_function_of_another_block(d, b):
+    d.add(b, "@fn := 1")
+
+
+@way(34)
+def a_condition(d, b):
+    d.add(b, d.choice("if @gi + 1 then gj := 1", "while @gc do gj := 1", "repeat gj := 1 until @ge", "if @fn(1) then", "while @gr.one do gi := 1"))
+
+
+@way(34)
+def an_operand_of_a_wrong_type(d, b):
+    d.use(b, d.choice("1 + @gc", "@gc + 1", "@gb * 2", "2 div @'a'", "gi * (gj + @ge)", "(1 + @ga) * 2", "(-@gc)", "gi mod @gp"))
+
+
+@way(34)
+def an_operand_of_a_condition(d, b):
+    operand = d.choice("gb and @gi", "@gi or gb", "not @gi", "not @gc", "(gi < 1) and @ga[1]")
+    d.add(b, d.choice("gb := {}", "if {} then gi := 1", "while {} do gi := 1").format(operand))
+
+
+@way(34)
+def an_index(d, b):
+    d.add(b, d.choice("ga[@gc] := 1", "ga[@gb] := 1", "gl[@ge] := 'a'", "gi := ga[@gc]"))
+
+
+@way(34)
+def a_structured_result(d, b):
+    d.declare_behind(b.routines, f"function {(f := d.fresh())}(n: integer): @{d.choice('row', 'node', 'some')}; begin end")
+
+
+@way(34)
+def an_index_type(d, b):
+    routine = d.block(f"procedure {d.fresh()}", DEEPEST)
+    routine.types[:] = [d.choice(f"{d.fresh()} = array [@row] of char", f"{d.fresh()} = array [small, @node] of char", f"{d.fresh()} = set of @row")]
+    d.declare_behind(b.routines, routine)
+
+
+@way(35)
+def an_assignment(d, b):
+    d.add(b, d.choice("gi @:= gc", "gc @:= gi + 1", "gb @:= gi", "ga[gi] @:= 'a'", "gr.two @:= 1", "ge @:= 1", "gp^.one @:= gb", "gs @:= ['a']", "gl @:= 'abc'"))
+
+
+@way(35)
+def a_value_parameter(d, b):
+    d.add(b, d.choice("pv(@gc)", "pv(@'a')", "pt(1, @2 + gi)", "pt(@gb, 'a')", "gi := fn(@ge)", "pt(gi, @gi)"))
+
+
+@way(36)
+def a_subrange_type(d, b):
+    d.declare(b.types, f"{d.fresh()} = {d.choice('@5..2', '@0..-1', chr(64) + chr(39) + 'z' + chr(39) + '..' + chr(39) + 'a' + chr(39), '@1..-1')}")
+
+
+@way(36)
+def a_subrange_of_constants(d, b):
+    routine = d.block(f"procedure {d.fresh()}", DEEPEST)
+    routine.types[:] = [f"{d.fresh()} = {d.choice('@three..1', '@blue..red', '@true..false', '@maxint..1')}"]
+    d.declare_behind(b.routines, routine)
+
+
+@way(36)
+def an_index_range(d, b):
+    d.declare(b.variables, f"{d.fresh()}: {d.choice('array [@9..1] of char', 'array [1..3, @2..1] of integer', 'set of @3..1', 'record f: @2..1 end')}")
+
+
+@way(37)
+def a_base(d, b):
+    base = d.choice("integer", "0..256", "-1..5", "200..300")
+    d.declare(b.types, f"{d.fresh()} = {d.choice('', 'packed ')}@set of {base}")
+
+
+@way(37)
+def a_base_of_a_variable(d, b):
+    d.declare(b.variables, f"{d.fresh()}: {d.choice('array [1..2] of @set of integer', 'record f: @set of 1..256 end', '@set of integer')}")
+
+
+@way(38)
+def case_constants(d, b):
+    ways = ["case gi of 1: gj := 1; 2, @1: gj := 2 end", "case gi of 1, @1: gj := 1 end", "case gc of 'a': gi := 1; cross: ; @'x': end"]
+    ways += ["case gi of 3: ; 4: gj := 2; @three: gi := 1 end", "case ge of red, green: ; blue, @red: gi := 1 end", "case gb of true: ; false, @true: end"]
+    ways += ["case gi of 1: case gj of 1: ; @1: end; 2: end", "case gi of -3: ; 1: ; @-three: end"]
+    d.add(b, d.draw.choice(ways))
+
+
+def loop(d, b, body, control=None):
+    d.add(b, f"for {control or b.control} := {d.choice('1 to 3', '3 downto 1', 'gi to gi + 2')} do {body}")
+
+
+@way(39)
+def an_assignment_in_the_loop(d, b):
+    loop(d, b, d.around(f"@{b.control} := {d.number()}"))
+
+
+@way(39)
+def a_variable_parameter_in_the_loop(d, b):
+    loop(d, b, d.around(d.choice(f"pr(@{b.control})", f"begin gi := 2; pr(@{b.control}) end")))
+
+
+@way(39)
+def a_read_in_the_loop(d, b):
+    loop(d, b, d.around(d.choice(f"read(@{b.control})", f"readln(gi, @{b.control})", f"read(input, gj, @{b.control})")))
+
+
+@way(39)
+def a_loop_in_the_loop(d, b):
+    loop(d, b, d.around(f"for @{b.control} := 1 to 2 do gi := 1"))
+
+
+def variable_function(d):
+    """A function of the program with a variable parameter, and its name."""
+    name = d.fresh("f")
+    d.program.routines.insert(0, f"function {name}(var n: integer; m: integer): integer; begin {name} := n + m end")
+    return name
+
+
+@way(39)
+def a_function_in_the_loop(d, b):
+    name, control = variable_function(d), b.control
+    ways = f"gi := {name}(@{control}, 1)", f"gi := fn({control}) + fn(2 * {name}(@{control}, {control}))", f"gi := {name}(gj, {control}) + {name}(@{control}, 1)"
+    loop(d, b, d.around(d.draw.choice(ways)))
+
+
+@way(39)
+def a_routine_of_the_block(d, b):
+    body = d.choice("@{} := 3", "pr(@{})", "read(@{})", "for gi2 := 1 to 2 do begin @{} := 3 end").format(b.control)
+    declared = " var gi2: integer;" if "gi2" in body else ""
+    d.declare_behind(b.routines, f"procedure {d.fresh()};{declared} begin {body} end")
+    loop(d, b, "gi := 1")
+
+
+@way(39)
+def a_routine_beside_another(d, b):
+    b.routines.insert(0, f"procedure {d.fresh()}; var {b.control}: integer; begin {b.control} := 1 end")
+    b.routines.append(f"procedure {d.fresh()}; begin gi := {b.control}; @{b.control} := 1 end")
+    loop(d, b, "gi := 1")
+
+
+@way(39)
+def a_variable_of_another_block(d, b):
+    d.declare_behind(b.routines, f"procedure {d.fresh()}; var a: char; begin for @{d.choice('gi', b.control)} := 1 to 2 do gj := 1 end")
+
+
+@way(39)
+def a_formal_parameter(d, b):
+    d.declare_behind(b.routines, f"procedure {d.fresh()}({d.choice('', 'var ')}a: integer); begin for @a := 1 to 2 do gj := 1 end")
+
+
+@way(40)
+def a_component(d, b):
+    d.add(b, d.choice("pc(@gl[1])", "pc(@gt.left)", "pc(@gl[gi])"))
+
+
+@way(40)
+def a_component_in_with(d, b):
+    d.add(b, "with gt do pc(@left)")
+
+
+@way(41)
+def too_many(d, b):
+    d.add(b, d.choice("@pv(1, 2)", "@pv", "@pt(1)", "@pr(gi, gj)", "@hp", "gi := @fn(1, 2)", "gi := 2 * @fn", "@pt(gi, 'a', gj)"))
+
+
+@way(41)
+def lists(d, b):
+    d.add(b, d.choice("hp(@pr)", "hp(@pt)", "hf(@fz)", "hp(@pz)"))
+    d.program.routines.insert(0, "function fz(n: integer): char; begin fz := 'a' end")
+    d.program.routines.insert(0, "procedure pz; begin end")
+
+
+@way(42)
+def a_procedure_heading(d, b):
+    d.declare(b.routines, f"procedure @{d.fresh()}{d.choice('', '(n: integer)')}; forward")
+
+
+@way(42)
+def a_function_heading(d, b):
+    d.declare(b.routines, f"function @{d.fresh()}{d.choice('', '(var n: char)')}: integer; forward")
+
+
+@way(42)
+def a_heading_between_others(d, b):
+    name, other = d.fresh(), d.fresh()
+    d.declare(b.routines, f"procedure {other}; forward", f"procedure @{name}; forward", f"procedure {other}; begin {name} end")
+
+
+@way(43)
+def a_function_of_nothing(d, b):
+    d.declare(b.routines, f"function @{d.fresh()}{d.choice('', '(n: integer)')}: integer; begin {d.choice('', 'gj := 1')} end")
+
+
+@way(43)
+def a_forward_function(d, b):
+    name = d.fresh()
+    d.declare_behind(b.routines, f"function {name}(n: integer): char; forward", f"function @{name}; begin gi := n end")
+
+
+@way(43)
+def a_function_that_another_hides(d, b):
+    name = d.fresh()
+    d.declare_behind(b.routines, f"function @{name}: integer; var a: char; procedure q; var {name}: integer; begin {name} := 1 end; begin q end")
+
+
+@way(44)
+def no_output(d, b):
+    d.parameters, d.writes = d.choice("input", ""), False
+    d.reads = d.parameters == "input"
+    d.add(b, d.choice("@writeln", "@write(1)", "@writeln(gi: 3)", "write(@output, 'abc')", "writeln(@output)"))
+
+
+@way(44)
+def no_input(d, b):
+    d.parameters, d.reads = d.choice("output", ""), False
+    d.writes = d.parameters == "output"
+    d.add(b, d.choice("@read(gi)", "@readln", "gb := @eof", "while not @eoln do gi := 1", "read(@input, gi)", "gb := eof(@input)", "readln(@input)"))
+
+
+@way(45)
+def a_long_type(d, b):
+    d.declare(b.types, d.choice(f"@{d.fresh()} = array [1..100001] of char", f"@{d.fresh()} = array [1..400, 1..400] of Boolean"))
+
+
+@way(45)
+def a_long_part(d, b):
+    d.declare(b.variables, f"{d.fresh()}: {d.choice('@array [1..100001] of char', 'record f: @array [1..200000] of integer end', 'packed @array [char, 1..1000] of char')}")
+    b.variables[:] = [item.replace("packed @array", "@packed array") for item in b.variables]
+
+
+@way(45)
+def many_variables(d, b):
+    d.declare(b.routines, f"procedure @{d.fresh()}; var a, b: array [1..60000] of char; begin end")
+
+
+@way(45)
+def many_parameters(d, b):
+    d.declare(b.routines, f"procedure @{d.fresh()}({', '.join(f'q{k}' for k in range(33))}: integer); begin end")
+
+
+@way(45)
+def nested(d, b):
+    names = [d.fresh() for _ in range(16 - b.depth)]
+    heads = "; ".join(f"procedure {'@' if name == names[-1] else ''}{name}" for name in names)
+    d.declare(b.routines, f"{heads}; {'begin end; ' * len(names)}".rstrip("; "))
+
+
+# ---- the text
+
+def laid(draw, tokens):
+    """The tokens on lines, and the line of the marked one."""
+    often, line, told, text = draw.choice((0.03, 0.2, 0.7)), 1, 0, []
+    for token in tokens:
+        if token.startswith("@"):
+            token, told = token[1:], line
+        if token[0].isalpha() and draw.random() < 0.1:
+            token = draw.choice((token.upper(), token.capitalize()))
+        text.append(token)
+        gap = draw.choice(("\n", "\n\n", " \n  ", "\n{ on lines\n}")) if draw.random() < often else draw.choice((" ", " ", "  ", "{ }"))
+        line += gap.count("\n")
+        text.append(gap)
+    return "".join(text), told
+
+
+def drawn(draw, faulty):
+    """A text with a fault, or without one."""
+    drawing = Drawing(draw)
+    number, name = 0, ""
+    if faulty:
+        number = draw.choice(sorted(WAYS))
+        way = draw.choice(WAYS[number])
+        name = way.__name__
+        way(drawing, draw.choice(drawing.blocks))
+    tokens = TOKEN.findall(drawing.finish())
+    text, line = laid(draw, tokens)
+    return Text(text, number, line, name)

@@ -1,0 +1,52 @@
+"""Programs of this folder that no check has proved: `rt try` compiles each with the proved crates that it stands on, in a copy of the tree in which it is a crate."""
+
+import os
+import shutil
+import subprocess
+
+HERE = os.path.dirname(os.path.abspath(__file__))
+TOP = os.path.dirname(HERE)
+# what each of them stands on
+CRATES = {
+    "runs_codes": "tac_code tac_run risc_alloc risc_emit risc_image risc_load risc_machine risc_trail",
+    "runs_places": "ps_text ps_scan ps_parse ps_tree ps_check ps_lower tac_code risc_alloc risc_image risc_emit ps_build pascal_cli",
+}
+SECONDS = "120"
+
+
+def make_room(folder, name):
+    """A copy of the tree that has the program as a crate, whose folder is given."""
+    room = f"{folder}/room"
+    shutil.copytree(f"{TOP}/crates", f"{room}/crates", ignore=shutil.ignore_patterns("out"))
+    for file in ("crates.txt", "HANDLES"):
+        shutil.copy(f"{TOP}/{file}", room)
+    with open(f"{room}/crates.txt", "a", encoding="utf-8") as file:
+        file.write(f"{name}: {CRATES[name]}\n")
+    crate = f"{room}/crates/{name}"
+    os.makedirs(f"{crate}/src")
+    for file in os.listdir(f"{HERE}/{name}"):
+        shutil.copy(f"{HERE}/{name}/{file}", f"{crate}/src/{file.removesuffix('.txt')}")
+    return crate
+
+
+def tried(folder, name, inputs):
+    """What the program writes on each of these inputs; None where it doesn't end."""
+    cases = f"{folder}/cases"
+    os.makedirs(cases)
+    for number, given in enumerate(inputs):
+        with open(f"{cases}/{number:06}", "wb") as file:
+            file.write(given)
+    words = ["rt", "try", "--steps", "1", "--seconds", SECONDS, "--cases", cases]
+    ran = subprocess.run(words, cwd=make_room(folder, name), stdout=subprocess.PIPE)
+    found = {}
+    for block in (b"\n" + ran.stdout).split(b"\n== ")[1:]:
+        head, _, body = block.partition(b"\n")
+        found[head.split()[0].decode()] = body + b"\n"
+    return [found.get(f"{number:06}") for number in range(len(inputs))]
+
+
+def answers(folder, name, program, inputs):
+    """The same by the compiled program at a path, or by `rt try` where there is no path."""
+    if not program:
+        return tried(folder, name, inputs)
+    return (subprocess.run([program], input=given, stdout=subprocess.PIPE).stdout for given in inputs)
