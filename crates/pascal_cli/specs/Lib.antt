@@ -1,4 +1,5 @@
 pub mod App
 pub mod Command
 pub mod Report
+pub mod Session
 pub mod Transfers

@@ -1,29 +1,48 @@
-// One call of the program: its files, its streams, and what it tells.
+//! One call of the program: its words, its files, its streams, and what it tells.
+//!
+//! Contracts tell what is made of what a reader gives, and the status. What a runtime's files and streams give and take, no contract
+//! can tell, nor what reaches standard error.
 
-ghost use Rattle.std.specs.Prelude.{◌<◌, ◌^◌};
+ghost use Rattle.std.specs.Prelude.{◌≡◌, ◌≤◌, ◌<◌, ◌^◌, IfOk, IfErr, Some, None, map, string_bytes, true, vec_len};
+ghost use Rattle.clap.specs.Faults.{fault_of};
+ghost use Rattle.clap.specs.Values.{kind_of};
+ghost use Rattle.pascal_cli.specs.App.{pascal_app};
+ghost use Rattle.pascal_cli.specs.Command.{request_in, request_of};
+ghost use Rattle.pascal_cli.specs.Report.{status_of};
+ghost use Rattle.pascal_cli.specs.Session.{IsFrontOf, IsHelp, is_help};
 
-use crate::job::{CommandFault, Job, Task, command};
+use crate::job::{CommandFault, Job, MAX_BUDGET, MAX_STEPS, Task, command};
 use crate::report::{message, status};
 use crate::transfer::{Counted, ReadFault, put_all, read_up_to};
 use ps_build::{Budget, Built, Outcome, Refusal, build, go, list, run_image};
 use risc_machine::Streams;
-use std::io::{self, BufReader};
+use std::alloc::{AllocError, Global};
+use std::io::{self, BufReader, Read};
 use std::rt::{Env, Files};
 use std::{env, fs};
 
 /// One byte more than the longest text: what is longer still is seen to be.
 pub const TEXT_LIMIT: usize = 1_048_577;
 
-// The same of images.
-const IMAGE_LIMIT: usize = 41_943_069;
+// The most words that an image has, and rows that each of its tables has.
+const MOST_WORDS: usize = 1_048_576;
+
+// The bytes of the longest image: those of its head, and of words and of rows of frames, objects, traps and calls.
+const LONGEST_IMAGE: usize = 28 + (4 + 8 + 8 + 12 + 8) * MOST_WORDS;
+
+// One byte more than the longest image.
+const IMAGE_LIMIT: usize = LONGEST_IMAGE + 1;
+
+// The program's words as messages name them.
+const COMMAND_LINE: &str = "the command line";
 
 // Standard input as messages name it.
 const STANDARD_INPUT: &str = "standard input";
 
 const STANDARD_OUTPUT: &str = "standard output";
 
-// Every fault that is told by a line of its own ends with this status.
-const FAILED: u8 = 1;
+/// Every fault that is told by a line of its own ends with this status.
+pub const FAILED: u8 = 1;
 
 /// Does what the program's words ask for, and gives the program's status.
 ///
@@ -35,11 +54,23 @@ pub fn run<R: Files + Print + Eprint + Input + Env + AllocGlobal>(rt: &R) -> u8 
     }
 }
 
-/// The words after the program's name. Where memory is refused, that is told, and the status is given.
-pub fn words<R: Eprint + Env + AllocGlobal>(rt: &R) -> Result<Vec<String>, u8> {
+/// The words after the program's name. Where memory is refused, or a word is no text in UTF-8, that is told, and the status is given.
+pub fn words<R: Eprint + Env + AllocGlobal>(rt: &R) -> Result<Vec<String>, u8>
+    ensures { IfErr result (λ status. status ≡ FAILED) }
+{
     match words_of(rt) {
         Ok(words) => Ok(words),
-        Err(_) => Err(out_of_memory(rt)),
+        Err(error) => Err(tell_words_fault(rt, &error)),
+    }
+}
+
+// Tells why there are no words.
+fn tell_words_fault<R: Eprint + AllocGlobal>(rt: &R, error: &io::Error) -> u8
+    ensures { result ≡ FAILED }
+{
+    match error.kind() {
+        io::ErrorKind::OutOfMemory => out_of_memory(rt),
+        _ => cannot(rt, "read", COMMAND_LINE),
     }
 }
 
@@ -56,11 +87,20 @@ fn run_words<R: Files + Print + Eprint + Input + AllocGlobal>(rt: &R, words: &[S
 }
 
 /// The texts of words, as `asked` takes them. Where memory is refused, that is told, and the status is given.
-pub fn texts<'a, R: Eprint + AllocGlobal>(rt: &R, words: &'a [String]) -> Result<Vec<&'a str>, u8> {
-    match words.iter().map(|word| word.as_str()).collect(rt.alloc()) {
+pub fn texts<'a, R: Eprint + AllocGlobal>(rt: &R, words: &'a [String]) -> Result<Vec<&'a str>, u8>
+    ensures ok { IfOk result (λ texts. map (λ text. text.now) texts.items ≡ map string_bytes words.entry.now) }
+    ensures err { IfErr result (λ status. status ≡ FAILED) }
+{
+    match texts_of(rt.alloc(), words) {
         Ok(texts) => Ok(texts),
         Err(_) => Err(out_of_memory(rt)),
     }
+}
+
+fn texts_of<'a>(alloc: Global, words: &'a [String]) -> Result<Vec<&'a str>, AllocError>
+    ensures { IfOk result (λ texts. map (λ text. text.now) texts.items ≡ map string_bytes words.entry.now) }
+{
+    words.iter().map(|word| word.as_str()).collect(alloc)
 }
 
 fn run_texts<R: Files + Print + Eprint + Input + AllocGlobal>(rt: &R, texts: &[&str]) -> u8 {
@@ -70,11 +110,21 @@ fn run_texts<R: Files + Print + Eprint + Input + AllocGlobal>(rt: &R, texts: &[&
     }
 }
 
-/// The job that words ask for. Where they ask for none, or for help, that is told, and the status is given.
+/// The job that words ask for. Where they ask for none, that is told, and the status is given: 0 where they ask for help, which was
+/// printed, and else 1, as where memory was refused.
 pub fn asked<'a, R: Print + Eprint + AllocGlobal>(
     rt: &R,
     words: &'a [&'a str],
-) -> Result<Job<'a>, u8> {
+) -> Result<Job<'a>, u8>
+    ensures asked { IfOk result (λ job. request_of (map (λ word. word.now) words.entry.now) ≡ Some (request_in job)) }
+    ensures stack { IfOk result (λ job. job.stack ≤ MAX_BUDGET) }
+    ensures heap { IfOk result (λ job. job.heap ≤ MAX_BUDGET) }
+    ensures least { IfOk result (λ job. 1 ≤ job.steps) }
+    ensures most { IfOk result (λ job. job.steps ≤ MAX_STEPS) }
+    ensures status { IfErr result (λ status. status ≤ FAILED) }
+    ensures none { IfErr result (λ status. status ≡ 0 → request_of (map (λ word. word.now) words.entry.now) ≡ None) }
+    ensures help { IfErr result (λ status. status ≡ 0 → IsHelp (fault_of pascal_app (map (λ word. word.now) words.entry.now))) }
+{
     match command(rt.alloc(), words) {
         Ok(job) => Ok(job),
         Err(CommandFault::OutOfMemory) => Err(out_of_memory(rt)),
@@ -83,7 +133,10 @@ pub fn asked<'a, R: Print + Eprint + AllocGlobal>(
 }
 
 // Tells what is wrong with the words, or the help that they ask for.
-fn tell_line<R: Print + Eprint>(rt: &R, error: &clap::Error) -> u8 {
+fn tell_line<R: Print + Eprint>(rt: &R, error: &clap::Error) -> u8
+    ensures status { result ≤ FAILED }
+    ensures help { result ≡ 0 → is_help (kind_of error.now) ≡ true }
+{
     let is_mistake = error.use_stderr();
     match error.print(rt) {
         Ok(()) if !is_mistake => 0,
@@ -103,7 +156,9 @@ fn do_job<R: Files + Print + Eprint + Input + AllocGlobal>(rt: &R, job: &Job<'_>
 }
 
 /// Tells how a run ended, or why there was none, and gives the status of that.
-pub fn tell<R: Eprint + AllocGlobal>(rt: &R, end: &Result<Outcome, Refusal>) -> u8 {
+pub fn tell<R: Eprint + AllocGlobal>(rt: &R, end: &Result<Outcome, Refusal>) -> u8
+    ensures { result ≡ status_of end.now }
+{
     // where the line finds no memory, or no reader, the status still tells the end
     if let Ok(line) = message(rt.alloc(), end) {
         let _ = rt.eprint(line);
@@ -112,52 +167,75 @@ pub fn tell<R: Eprint + AllocGlobal>(rt: &R, end: &Result<Outcome, Refusal>) -> 
 }
 
 // Tells that memory was refused.
-fn out_of_memory<R: Eprint + AllocGlobal>(rt: &R) -> u8 {
+fn out_of_memory<R: Eprint + AllocGlobal>(rt: &R) -> u8
+    ensures { result ≡ FAILED }
+{
     tell(rt, &Err(Refusal::OutOfMemory))
 }
 
 // Tells of a file that can't be read or written.
-fn cannot<R: Eprint>(rt: &R, verb: &str, path: &str) -> u8 {
+fn cannot<R: Eprint>(rt: &R, verb: &str, path: &str) -> u8
+    ensures { result ≡ FAILED }
+{
     let _ = eprintln!(rt; "cannot {verb} {path}");
     FAILED
 }
 
 // Tells why a text or an image wasn't read.
-fn tell_read_fault<R: Eprint + AllocGlobal>(rt: &R, fault: ReadFault, path: &str) -> u8 {
+fn tell_read_fault<R: Eprint + AllocGlobal>(rt: &R, fault: ReadFault, path: &str) -> u8
+    ensures { result ≡ FAILED }
+{
     match fault {
         ReadFault::OutOfMemory => out_of_memory(rt),
         ReadFault::Device => cannot(rt, "read", path),
     }
 }
 
-/// The bytes of a file, or so many of them where it has more. Where it can't be read, that is told, and the status is given.
+/// The bytes of a reader that messages name so, or the first of them, so many, where it has more. Where it fails, or memory is refused,
+/// that is told, and the status is given.
+pub fn read_all<D: Read + Drop, R: Eprint + AllocGlobal>(
+    rt: &R,
+    reader: D,
+    name: &str,
+    limit: usize,
+) -> Result<Vec<u8>, u8>
+    requires { limit < 2 ^ 32 }
+    ensures bound { IfOk result (λ bytes. vec_len bytes ≤ limit) }
+    ensures bytes { IfOk result (λ bytes. IsFrontOf limit (D.remaining reader) bytes.items) }
+    ensures err { IfErr result (λ status. status ≡ FAILED) }
+{
+    match read_up_to(rt.alloc(), &mut Counted::new(reader), limit) {
+        Ok(bytes) => Ok(bytes),
+        Err(fault) => Err(tell_read_fault(rt, fault, name)),
+    }
+}
+
+/// The bytes of a file, as `read_all` gives those of a reader. Where it can't be opened or read, that is told, and the status is given.
 pub fn read_file<R: Files + Eprint + AllocGlobal>(
     rt: &R,
     path: &str,
     limit: usize,
 ) -> Result<Vec<u8>, u8>
     requires { limit < 2 ^ 32 }
+    ensures bound { IfOk result (λ bytes. vec_len bytes ≤ limit) }
+    ensures err { IfErr result (λ status. status ≡ FAILED) }
 {
-    let Ok(file) = fs::open(rt, path) else {
-        return Err(cannot(rt, "read", path));
-    };
-    match read_up_to(rt.alloc(), &mut Counted::new(file), limit) {
-        Ok(bytes) => Ok(bytes),
-        Err(fault) => Err(tell_read_fault(rt, fault, path)),
+    match fs::open(rt, path) {
+        Ok(file) => read_all(rt, file, path, limit),
+        Err(_) => Err(cannot(rt, "read", path)),
     }
 }
 
-/// The bytes of standard input, as `read_file` gives those of a file.
+/// The bytes of standard input, as `read_all` gives those of a reader.
 pub fn read_standard_input<R: Eprint + Input + AllocGlobal>(
     rt: &R,
     limit: usize,
 ) -> Result<Vec<u8>, u8>
     requires { limit < 2 ^ 32 }
+    ensures bound { IfOk result (λ bytes. vec_len bytes ≤ limit) }
+    ensures err { IfErr result (λ status. status ≡ FAILED) }
 {
-    match read_up_to(rt.alloc(), &mut Counted::new(rt.reader()), limit) {
-        Ok(bytes) => Ok(bytes),
-        Err(fault) => Err(tell_read_fault(rt, fault, STANDARD_INPUT)),
-    }
+    read_all(rt, rt.reader(), STANDARD_INPUT, limit)
 }
 
 fn budget_of(job: &Job<'_>) -> Budget {

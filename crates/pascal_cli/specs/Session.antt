@@ -1,0 +1,19 @@
+-- What a call of the program makes of its words and of what it reads.
+use Rattle.std.specs.Prelude.{◌≡◌, ℕ, Bool, true, false, List, take, Option, Some, None, ◌⊎◌}
+use Rattle.clap.specs.Kinds.{IsAmong, Kinds}
+use Rattle.clap.specs.declared.error.kind.ErrorKind.{ErrorKind}
+use Rattle.clap.specs.declared.error.kind.ErrorKind.TheVariants as kind
+
+-- the first bytes of a reader, so many, or all where there are no more; of a reader whose bytes are not known nothing is said
+abbrev pub IsFrontOf : ℕ → Option (List ℕ) → List ℕ → Type 0
+IsFrontOf limit None bytes = Unit {0}
+IsFrontOf limit (Some all) bytes = bytes ≡ take limit all
+
+-- the words ask for help, or for the version, and are no mistake
+abbrev pub is_help : ErrorKind → Bool
+is_help kind.DisplayHelp = true
+is_help kind.DisplayVersion = true
+is_help _ = false
+
+abbrev pub IsHelp : Kinds → Type 0
+IsHelp kinds = IsAmong kind.DisplayHelp kinds ⊎ IsAmong kind.DisplayVersion kinds
