@@ -1,10 +1,19 @@
 #!/usr/bin/env python3
-"""Writes Pascal texts of 1,048,576 bytes, the longest that there are, into a folder, one for each way in which a text can be long or deep."""
+"""Writes Pascal texts of 1,048,576 bytes, the longest that there are, into a folder, one for each way in which a text can be long or deep.
+
+TEXTS are those that are written. SHAPES are texts of any length, each with as much of one thing as there is room for: bench/phases --growth measures how the time
+of the lowering grows with them.
+"""
 
 import os
 import sys
 
 LENGTH = 1_048_576
+HEAD = "program bench(output);\nvar a, b, c, x: integer; y: Boolean;\n"
+# lines are few, so short statements stand side by side
+SIDE_BY_SIDE = 16
+# a type and a block have 100,000 cells at most, of which the variables of HEAD are five
+MOST_NAMES = 99_990
 
 
 def parts_of(make, room):
@@ -16,13 +25,21 @@ def parts_of(make, room):
     return parts
 
 
-def program(declarations, statements):
-    """A program of parts that are repeated; spaces at its end make it as long as wanted."""
-    head = "program bench(output);\nvar a, b, c, x: integer; y: Boolean;\n"
-    room = LENGTH - len(head) - len("begin\nx := 1\nend.\n")
-    body = parts_of(statements, room) or ["x := 1"]
-    text = head + "".join(parts_of(declarations, room)) + "begin\n" + ";\n".join(body) + "\nend."
-    return text + " " * (LENGTH - len(text) - 1) + "\n"
+def room_in(length):
+    """The bytes for declarations and statements."""
+    return length - len(HEAD) - len("begin\nx := 1\nend.\n")
+
+
+def whole(length, declared, statements):
+    """The program of what is declared and of statements; spaces at its end make it as long as wanted."""
+    text = HEAD + declared + "begin\n" + ";\n".join(statements or ["x := 1"]) + "\nend."
+    return text + " " * (length - len(text) - 1) + "\n"
+
+
+def program(declarations, statements, length=LENGTH):
+    """A program of parts that are repeated."""
+    room = room_in(length)
+    return whole(length, "".join(parts_of(declarations, room)), parts_of(statements, room))
 
 
 def routine(k):
@@ -43,6 +60,12 @@ def nest(k):
     return "x := " + "(" * depth + f"a + {k}" + ")" * depth
 
 
+def operands(k):
+    """Each right operand is a sum in parentheses, as deep."""
+    depth = 497
+    return "x := " + "a + (" * depth + f"b + {k}" + ")" * depth
+
+
 def blocks(k):
     """Two statements each, so that with the block, the assignment and its value the height is 499."""
     depth = 248
@@ -53,12 +76,42 @@ def remarks(k):
     return "{ " + "a remark that is as long as remarks are, and then goes on; " * 20 + f"}}\nwriteln('{'a string ' * 20}', {k})"
 
 
+def assignments(k):
+    return "; ".join(["x := 1"] * SIDE_BY_SIDE)
+
+
+def named(length, declare, use):
+    """Names that are declared together in four fifths of the text, and uses of them in an order that is none of theirs."""
+    room = room_in(length)
+    names = parts_of(lambda k: f"v{k}", room * 4 // 5)[:MOST_NAMES]
+    declared = declare.format(", ".join(names))
+    return whole(length, declared, parts_of(lambda k: use.format(k * 7919 % len(names)), room - len(declared)))
+
+
+def choice(length, element, between, tail):
+    """One `case`, whose list is as long as there is room for."""
+    frame = "case x of {}" + tail
+    return whole(length, "", [frame.format(between.join(parts_of(element, room_in(length) - len(frame))))])
+
+
 TEXTS = {
     "routines": program(routine, None),
     "expressions": program(expression, None),
     "parentheses": program(None, nest),
     "statements": program(None, blocks),
     "remarks": program(None, remarks),
+}
+
+SHAPES = {
+    "variables": lambda length: named(length, "{}: integer;\n", "v{} := 1"),
+    "fields": lambda length: named(length, "r: record {}: integer end;\n", "r.v{} := 1"),
+    "assignments": lambda length: program(None, assignments, length),
+    "blocks": lambda length: program(None, blocks, length),
+    "parentheses": lambda length: program(None, nest, length),
+    "operands": lambda length: program(None, operands, length),
+    "cases": lambda length: choice(length, "{0}: x := {0}".format, ";\n", " end"),
+    "constants": lambda length: choice(length, "{}".format, ", ", ": x := 1 end"),
+    "routines": lambda length: program(routine, None, length),
 }
 
 

@@ -3,8 +3,8 @@
 //! fuel: how many calls and turns of loops may lie within one another. Behind a first word `code` it runs the three-address code which the
 //! text is lowered to, and `--steps` counts its instructions. What a run costs is unknown to both: they look at no stack and no heap. Behind a
 //! first word `slots` it runs an image in which each temporary has a slot of the frame. The input is read whole before the run, and the output
-//! written whole after it. Behind `phases` it runs nothing: it takes the text of standard input through the phases of the compiler's front, up to the
-//! one that the next word names, `read`, `scan`, `parse` or `check`.
+//! written whole after it. Behind `phases` it runs nothing: it takes the text of standard input through the phases of the compiler, up to the one that
+//! the next word names: `read`, `scan`, `parse`, `check`, `lower`, `place`, `emit` or `write`.
 #![tactic(auto)]
 
 mod front;

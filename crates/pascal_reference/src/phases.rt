@@ -1,11 +1,15 @@
-// The phases of the compiler's front, one after another, up to one of them: `bench/phases` tells their shares of the time by it.
+// The phases of the compiler, one after another, up to one of them: `bench/phases` tells their shares of the time by it.
 
 use pascal_cli::{TEXT_LIMIT, read_standard_input};
-use ps_build::Refusal;
+use ps_build::{Refusal, code_of_text};
 use ps_check::check;
 use ps_parse::parse;
 use ps_scan::scan;
 use ps_text::Source;
+use risc_alloc::placer::Placer;
+use risc_alloc::scan::Scan;
+use risc_emit::emit::emit;
+use risc_image::write;
 use std::alloc::Global;
 
 const DONE: u8 = 0;
@@ -19,6 +23,10 @@ enum Phase {
     Scan,
     Parse,
     Check,
+    Lower,
+    Place,
+    Emit,
+    Write,
 }
 
 // The phase that a word names; all of them where it names none.
@@ -27,11 +35,16 @@ fn phase_named(word: &str) -> Phase {
         "read" => Phase::Read,
         "scan" => Phase::Scan,
         "parse" => Phase::Parse,
-        _ => Phase::Check,
+        "check" => Phase::Check,
+        "lower" => Phase::Lower,
+        "place" => Phase::Place,
+        "emit" => Phase::Emit,
+        _ => Phase::Write,
     }
 }
 
-fn take(alloc: Global, text: &[u8], last: Phase) -> Result<(), Refusal> {
+// The phases up to the checker.
+fn take_to_checker(alloc: Global, text: &[u8], last: Phase) -> Result<(), Refusal> {
     let source = Source::new(text)?;
     if last == Phase::Read {
         return Ok(());
@@ -46,6 +59,35 @@ fn take(alloc: Global, text: &[u8], last: Phase) -> Result<(), Refusal> {
     }
     check(alloc, &source, &program)?;
     Ok(())
+}
+
+// Those up to the lowering, and the ones behind it: homes of the temporaries, the parts of an image, and its bytes.
+fn take_past_checker(alloc: Global, text: &[u8], last: Phase) -> Result<(), Refusal> {
+    let tac = code_of_text(alloc, text)?;
+    if last == Phase::Lower {
+        return Ok(());
+    }
+    let placement = Scan.place(alloc, &tac)?;
+    if last == Phase::Place {
+        return Ok(());
+    }
+    let parts = emit(alloc, &tac, &placement)?;
+    if last == Phase::Emit {
+        return Ok(());
+    }
+    write(alloc, &parts)?;
+    Ok(())
+}
+
+fn take(alloc: Global, text: &[u8], last: Phase) -> Result<(), Refusal> {
+    match last {
+        Phase::Read | Phase::Scan | Phase::Parse | Phase::Check => {
+            take_to_checker(alloc, text, last)
+        }
+        Phase::Lower | Phase::Place | Phase::Emit | Phase::Write => {
+            take_past_checker(alloc, text, last)
+        }
+    }
 }
 
 /// Takes the text of standard input through the phases up to the one that a word names, and gives the status: 0, or 1 where the text is refused or cannot be read.
