@@ -1,8 +1,8 @@
 #!/usr/bin/env bash
 # Runs the proved program `pascal`, or the one that PASCAL_PROGRAM names, with the words given. It runs the first of these that there is:
 #
-#   the released program     released/NAME, where the sum beside it is that of the tree's sources
-#   the tree's own program   crates/NAME/out/NAME, where the sum beside it is that of the tree's sources
+#   the released program     released/NAME, where the sums beside it are that of the tree's sources and its own
+#   the tree's own program   crates/NAME/out/NAME, where the sums beside it are that of the tree's sources and its own
 #   a new one                which is proved and built first; that takes long, and standard error tells how far it is
 #
 # PASCAL_OWN=1 leaves out the released program. PASCAL_BUILT=FOLDER has FOLDER/NAME/out/NAME run as it is.
@@ -10,12 +10,19 @@ set -u
 
 top=$(dirname "$(readlink -f "$0")")
 name=${PASCAL_PROGRAM:-pascal}
-own=$top/crates/$name/out/$name
-log=$top/crates/$name/out/build.log
+out=$top/crates/$name/out
+own=$out/$name
+log=$out/build.log
 
-# Whether a program lies there, and the sum beside it is that of the tree's sources.
+# The sum of the tree's sources, and that of a program.
+sums() {
+    echo "$sum"
+    sha256sum <"$1" | cut -d ' ' -f 1
+}
+
+# Whether a program lies there whole, and is of the tree's sources.
 is_current() {
-    [ -x "$1" ] && [ "$(cat "$1.sum" 2>/dev/null)" = "$sum" ]
+    [ -x "$1" ] && [ "$(cat "$1.sum" 2>/dev/null)" = "$(sums "$1")" ]
 }
 
 # Proves each crate in turn, telling how far it is.
@@ -32,14 +39,14 @@ build() {
             (cd "$top/crates/$crate" && rt lib) </dev/null >"$log" 2>&1
         fi || { echo "$name: $crate was not proved; $log tells why" >&2; exit 1; }
     done
-    echo "$sum" >"$own.sum"
+    sums "$own" >"$own.sum"
 }
 
 # Proves and builds the tree's own program, once however many ask for it.
 make_own() {
     command -v rt >/dev/null || { echo "$name: the command rt of the Rattle kit is not on the path" >&2; exit 1; }
-    mkdir -p "$top/crates/$name/out"
-    exec 9>"$top/crates/$name/out/build.lock"
+    mkdir -p "$out" 2>/dev/null && : >>"$out/build.lock" || { echo "$name: $out cannot be written" >&2; exit 1; }
+    exec 9>"$out/build.lock"
     flock 9
     is_current "$own" || build
     exec 9>&-
@@ -48,7 +55,7 @@ make_own() {
 if [ -n "${PASCAL_BUILT:-}" ]; then
     program=$PASCAL_BUILT/$name/out/$name
 else
-    sum=$("$top/tools/sources_sum" "$name")
+    sum=$("$top/tools/sources_sum" "$name") || exit 1
     if [ -z "${PASCAL_OWN:-}" ] && is_current "$top/released/$name"; then
         program=$top/released/$name
     else

@@ -14,6 +14,6 @@ def current_program():
     subprocess.run([f"{top}/pascal", "--help"], stdout=subprocess.DEVNULL, check=True)
     wanted = subprocess.run([f"{top}/tools/sources_sum", "pascal"], stdout=subprocess.PIPE, check=True).stdout
     for path in (f"{top}/released/pascal", f"{top}/crates/pascal/out/pascal"):
-        if os.path.exists(f"{path}.sum") and open(f"{path}.sum", "rb").read() == wanted:
+        if os.path.exists(f"{path}.sum") and open(f"{path}.sum", "rb").readline() == wanted:
             return path
     sys.exit("the launcher runs no program of these sources")

@@ -125,11 +125,16 @@ def look_at_release(tree):
     return None
 
 
+def write_sums(tree, name, program):
+    """Writes beside a program the sums by which the launcher knows it: that of the sources, and its own."""
+    with open(f"{program}.sum", "w", encoding="utf-8") as file:
+        file.write(f"{sum_of_sources(tree, name)}\n{kit.file_sum(program)}\n")
+
+
 def release(tree, top):
     os.makedirs(f"{top}/released", exist_ok=True)
     shutil.copy2(f"{tree}/crates/pascal/out/pascal", f"{top}/released/pascal")
-    with open(f"{top}/released/pascal.sum", "w", encoding="utf-8") as file:
-        file.write(f"{sum_of_sources(tree, 'pascal')}\n")
+    write_sums(tree, "pascal", f"{top}/released/pascal")
     with open(f"{top}/released/pascal.kit", "w", encoding="utf-8") as file:
         file.write(f"{kit.name()}\n")
 
@@ -141,5 +146,4 @@ def hand_out(tree, top):
             os.makedirs(f"{top}/crates/{name}/out", exist_ok=True)
             shutil.copy2(f"{tree}/crates/{name}/out/{name}", f"{top}/crates/{name}/out/{name}.new")
             os.replace(f"{top}/crates/{name}/out/{name}.new", f"{top}/crates/{name}/out/{name}")
-            with open(f"{top}/crates/{name}/out/{name}.sum", "w", encoding="utf-8") as file:
-                file.write(f"{sum_of_sources(tree, name)}\n")
+            write_sums(tree, name, f"{top}/crates/{name}/out/{name}")

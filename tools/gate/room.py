@@ -6,6 +6,10 @@ import os
 import shutil
 import subprocess
 import tempfile
+import time
+
+# seconds: a room that was just made may not be held yet
+YOUNG = 2
 
 
 def files_of(top):
@@ -42,7 +46,8 @@ def clear_left(rooms):
         try:
             with open(f"{rooms}/{it}/lock", encoding="utf-8") as held:
                 fcntl.flock(held, fcntl.LOCK_EX | fcntl.LOCK_NB)
-                shutil.rmtree(f"{rooms}/{it}", ignore_errors=True)
+                if time.time() - os.fstat(held.fileno()).st_mtime > YOUNG:
+                    shutil.rmtree(f"{rooms}/{it}", ignore_errors=True)
         except OSError:
             continue
 
