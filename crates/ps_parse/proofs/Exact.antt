@@ -1,5 +1,5 @@
 -- When a parser reads a symbol of the grammar exactly, and what its first steps tell.
-use Rattle.std.proofs.Common.{◌≡◌, ◌<◌, ◌≤◌, Bool, true, false, [], ◌∷◌, length, Option, Some, None, ◌⊎◌, inl, inr, refl, sym, ap, ◌∙◌, subst, if◌then◌else◌}
+use Rattle.std.proofs.Common.{◌≡◌, ◌<◌, ◌≤◌, Bool, true, false, [], ◌∷◌, length, Option, Some, None, Ok, Err, ◌⊎◌, inl, inr, refl, sym, ap, ◌∙◌, subst, if◌then◌else◌}
 use Rattle.ps_text.specs.declared.Span.{Span}
 use Rattle.ps_scan.specs.declared.token.Kind.{Kind}
 use Rattle.ps_scan.specs.declared.token.Token.{Token}
@@ -12,8 +12,8 @@ use Rattle.ps_parse.specs.ReadExpressions.{eat_operator}
 
 -- A parser reads a symbol exactly, where what comes after it meets ends.
 pub record Exact {A : Type 0} (ends : Tokens → Type 0) (S : Symbol A) (p : Parser A) : Type 0 where
-  pub sound : (ts : Tokens) (x : A) (r : Tokens) → p ts ≡ Some (x, r) → S x ts r
-  pub complete : (x : A) (ts r : Tokens) → S x ts r → ends r → p ts ≡ Some (x, r)
+  pub sound : (ts : Tokens) (x : A) (r : Tokens) → p ts ≡ Ok (x, r) → S x ts r
+  pub complete : (x : A) (ts r : Tokens) → S x ts r → ends r → p ts ≡ Ok (x, r)
   pub shrinks : (x : A) (ts r : Tokens) → S x ts r → length r ≤ length ts
 
 -- the symbol, or nothing
@@ -23,9 +23,9 @@ Perhaps S (Some x) ts r = S x ts r
 
 -- the same of a parser that answers none, and takes nothing, where the symbol doesn't come next
 pub record ExactOption {A : Type 0} (inner outer : Tokens → Type 0) (S : Symbol A) (p : Parser (Option A)) : Type 0 where
-  pub sound : (ts : Tokens) (o : Option A) (r : Tokens) → p ts ≡ Some (o, r) → Perhaps S o ts r
-  pub complete : (x : A) (ts r : Tokens) → S x ts r → inner r → p ts ≡ Some (Some x, r)
-  pub absent : (ts : Tokens) → outer ts → p ts ≡ Some (None, ts)
+  pub sound : (ts : Tokens) (o : Option A) (r : Tokens) → p ts ≡ Ok (o, r) → Perhaps S o ts r
+  pub complete : (x : A) (ts r : Tokens) → S x ts r → inner r → p ts ≡ Ok (Some x, r)
+  pub absent : (ts : Tokens) → outer ts → p ts ≡ Ok (None, ts)
   pub starts : (x : A) (ts r : Tokens) → S x ts r → inner ts
   pub weaker : (ts : Tokens) → outer ts → inner ts
   pub shrinks : (x : A) (ts r : Tokens) → S x ts r → length r < length ts
@@ -33,18 +33,18 @@ pub record ExactOption {A : Type 0} (inner outer : Tokens → Type 0) (S : Symbo
 -- ---- steps
 
 -- what a parser in two steps read
-pub both_steps : {A B : Type 0} (o : Outcome A) (f : A → Parser B) (y : B) (r : Tokens) → and_then o f ≡ Some (y, r) → (x : A) × (m : Tokens) × (o ≡ Some (x, m)) × (f x m ≡ Some (y, r))
-both_steps None f y r e = cc
-both_steps (Some p) f y r e = (p.0, p.1, refl, e)
+pub both_steps : {A B : Type 0} (o : Outcome A) (f : A → Parser B) (y : B) (r : Tokens) → and_then o f ≡ Ok (y, r) → (x : A) × (m : Tokens) × (o ≡ Ok (x, m)) × (f x m ≡ Ok (y, r))
+both_steps (Err n) f y r e = cc
+both_steps (Ok p) f y r e = (p.0, p.1, refl, e)
 
-pub first_part : {A : Type 0} (x y : A) (m r : Tokens) → ◌≡◌ {A = Outcome A} (Some (x, m)) (Some (y, r)) → x ≡ y
-first_part {A} x y m r e = ap (λ (o : Outcome A). elim o [ None ↦ x | Some q ↦ q.0 ]) e
+pub first_part : {A : Type 0} (x y : A) (m r : Tokens) → ◌≡◌ {A = Outcome A} (Ok (x, m)) (Ok (y, r)) → x ≡ y
+first_part {A} x y m r e = ap (λ (o : Outcome A). elim o [ Err n ↦ x | Ok q ↦ q.0 ]) e
 
-pub second_part : {A : Type 0} (x y : A) (m r : Tokens) → ◌≡◌ {A = Outcome A} (Some (x, m)) (Some (y, r)) → m ≡ r
-second_part {A} x y m r e = ap (λ (o : Outcome A). elim o [ None ↦ m | Some q ↦ q.1 ]) e
+pub second_part : {A : Type 0} (x y : A) (m r : Tokens) → ◌≡◌ {A = Outcome A} (Ok (x, m)) (Ok (y, r)) → m ≡ r
+second_part {A} x y m r e = ap (λ (o : Outcome A). elim o [ Err n ↦ m | Ok q ↦ q.1 ]) e
 
 -- what was read is what the last step answers
-pub at_last : {A : Type 0} (S : Symbol A) (ts : Tokens) (x y : A) (m r : Tokens) → ◌≡◌ {A = Outcome A} (Some (x, m)) (Some (y, r)) → S x ts m → S y ts r
+pub at_last : {A : Type 0} (S : Symbol A) (ts : Tokens) (x y : A) (m r : Tokens) → ◌≡◌ {A = Outcome A} (Ok (x, m)) (Ok (y, r)) → S x ts m → S y ts r
 at_last S ts x y m r e d = subst (λ z. S z ts r) (first_part x y m r e) (subst (λ q. S x ts q) (second_part x y m r e) d)
 
 pub same_is : (a b : Kind) → same a b ≡ true → a ≡ b
@@ -59,18 +59,18 @@ bool_cases : (b : Bool) → (b ≡ true) ⊎ (b ≡ false)
 bool_cases true = inl refl
 bool_cases false = inr refl
 
-expect_here : (k : Kind) (t : Token) (ts : Tokens) (b : Bool) → same t.kind k ≡ b → (at : Span) (r : Tokens) → ◌≡◌ {A = Outcome Span} (if b then Some (t.span, ts) else None) (Some (at, r)) → t ∷ ts ≡ token k at ∷ r
+expect_here : (k : Kind) (t : Token) (ts : Tokens) (b : Bool) → same t.kind k ≡ b → (at : Span) (r : Tokens) → ◌≡◌ {A = Outcome Span} (if b then Ok (t.span, ts) else Err (length (t ∷ ts))) (Ok (at, r)) → t ∷ ts ≡ token k at ∷ r
 expect_here k t ts true e at r h =
     let kinds = same_is t.kind k e in let spans = first_part t.span at ts r h in let rests = second_part t.span at ts r h in
     ap (λ (q : Kind). token q t.span ∷ ts) kinds ∙ ap (λ (q : Span). token k q ∷ ts) spans ∙ ap (λ (q : Tokens). token k at ∷ q) rests
 expect_here k t ts false e at r h = cc
 
-pub expect_sound : (k : Kind) (ts : Tokens) (at : Span) (r : Tokens) → expect k ts ≡ Some (at, r) → ts ≡ token k at ∷ r
+pub expect_sound : (k : Kind) (ts : Tokens) (at : Span) (r : Tokens) → expect k ts ≡ Ok (at, r) → ts ≡ token k at ∷ r
 unfolding expect
 expect_sound k [] at r e = cc
 expect_sound k (t ∷ ts) at r e = expect_here k t ts (same t.kind k) refl at r e
 
-pub expect_complete : (k : Kind) (at : Span) (r : Tokens) → expect k (token k at ∷ r) ≡ Some (at, r)
+pub expect_complete : (k : Kind) (at : Span) (r : Tokens) → expect k (token k at ∷ r) ≡ Ok (at, r)
 unfolding expect
 expect_complete k at r = rw (same_self k) refl
 
@@ -88,7 +88,7 @@ unfolding eat
 eat_missed k [] f e = refl
 eat_missed k (t ∷ ts) f e = rw e refl
 
-pub eat_sound : {B : Type 0} (k : Kind) (ts : Tokens) (f : Bool → Parser B) (y : B) (r : Tokens) → and_then (eat k ts) f ≡ Some (y, r) → ((at : Span) × (m : Tokens) × (ts ≡ token k at ∷ m) × (f true m ≡ Some (y, r))) ⊎ (f false ts ≡ Some (y, r))
+pub eat_sound : {B : Type 0} (k : Kind) (ts : Tokens) (f : Bool → Parser B) (y : B) (r : Tokens) → and_then (eat k ts) f ≡ Ok (y, r) → ((at : Span) × (m : Tokens) × (ts ≡ token k at ∷ m) × (f true m ≡ Ok (y, r))) ⊎ (f false ts ≡ Ok (y, r))
 eat_sound {B} k ts f y r e =
     elim (sees_cases k ts) [
       | inl h ↦ inl (h.0, h.1, h.2, sym (eat_found k h.0 h.1 f) ∙ (ap (λ (q : Tokens). and_then (eat k q) f) (sym h.2) ∙ e))
@@ -96,7 +96,7 @@ eat_sound {B} k ts f y r e =
     ]
 
 -- the same with what a miss tells
-pub eat_either : {B : Type 0} (k : Kind) (ts : Tokens) (f : Bool → Parser B) (y : B) (r : Tokens) → and_then (eat k ts) f ≡ Some (y, r) → ((at : Span) × (m : Tokens) × (ts ≡ token k at ∷ m) × (f true m ≡ Some (y, r))) ⊎ ((sees k ts ≡ false) × (f false ts ≡ Some (y, r)))
+pub eat_either : {B : Type 0} (k : Kind) (ts : Tokens) (f : Bool → Parser B) (y : B) (r : Tokens) → and_then (eat k ts) f ≡ Ok (y, r) → ((at : Span) × (m : Tokens) × (ts ≡ token k at ∷ m) × (f true m ≡ Ok (y, r))) ⊎ ((sees k ts ≡ false) × (f false ts ≡ Ok (y, r)))
 eat_either {B} k ts f y r e =
     elim (sees_cases k ts) [
       | inl h ↦ inl (h.0, h.1, h.2, sym (eat_found k h.0 h.1 f) ∙ (ap (λ (q : Tokens). and_then (eat k q) f) (sym h.2) ∙ e))
@@ -116,7 +116,7 @@ unfolding accept
 accept_missed k [] f e = refl
 accept_missed k (t ∷ ts) f e = rw e refl
 
-pub accept_sound : {B : Type 0} (k : Kind) (ts : Tokens) (f : Option Span → Parser B) (y : B) (r : Tokens) → and_then (accept k ts) f ≡ Some (y, r) → ((at : Span) × (m : Tokens) × (ts ≡ token k at ∷ m) × (f (Some at) m ≡ Some (y, r))) ⊎ ((sees k ts ≡ false) × (f None ts ≡ Some (y, r)))
+pub accept_sound : {B : Type 0} (k : Kind) (ts : Tokens) (f : Option Span → Parser B) (y : B) (r : Tokens) → and_then (accept k ts) f ≡ Ok (y, r) → ((at : Span) × (m : Tokens) × (ts ≡ token k at ∷ m) × (f (Some at) m ≡ Ok (y, r))) ⊎ ((sees k ts ≡ false) × (f None ts ≡ Ok (y, r)))
 accept_sound {B} k ts f y r e =
     elim (sees_cases k ts) [
       | inl h ↦ inl (h.0, h.1, h.2, sym (accept_found k h.0 h.1 f) ∙ (ap (λ (q : Tokens). and_then (accept k q) f) (sym h.2) ∙ e))
@@ -141,7 +141,7 @@ module _ {O : Type 0} (of : Kind → Option O) (kind_of : O → Kind) (back : (k
   unfolding eat_operator
   operator_missed t m f e = rw e refl
 
-  pub operator_sound : {B : Type 0} (ts : Tokens) (f : Option (O × Span) → Parser B) (y : B) (r : Tokens) → and_then (eat_operator of ts) f ≡ Some (y, r) → ((op : O) × (at : Span) × (m : Tokens) × (ts ≡ token (kind_of op) at ∷ m) × (f (Some (op, at)) m ≡ Some (y, r))) ⊎ (f None ts ≡ Some (y, r))
+  pub operator_sound : {B : Type 0} (ts : Tokens) (f : Option (O × Span) → Parser B) (y : B) (r : Tokens) → and_then (eat_operator of ts) f ≡ Ok (y, r) → ((op : O) × (at : Span) × (m : Tokens) × (ts ≡ token (kind_of op) at ∷ m) × (f (Some (op, at)) m ≡ Ok (y, r))) ⊎ (f None ts ≡ Ok (y, r))
   unfolding eat_operator
   operator_sound [] f y r e = inr e
   operator_sound (t ∷ m) f y r e =

@@ -1,5 +1,5 @@
 -- Expressions are read exactly.
-use Rattle.std.proofs.Common.{◌≡◌, ℕ, zero, suc, ◌<◌, ◌≤◌, false, List, [], ◌∷◌, length, Option, Some, None, inl, inr, refl, sym, ap, ◌∙◌, subst, arith}
+use Rattle.std.proofs.Common.{◌≡◌, ℕ, zero, suc, ◌<◌, ◌≤◌, false, List, [], ◌∷◌, length, Option, Some, None, Ok, Err, inl, inr, refl, sym, ap, ◌∙◌, subst, arith}
 use Rattle.ps_text.specs.declared.Span.{Span}
 use Rattle.ps_scan.specs.declared.token.Kind.{Kind}
 use Rattle.ps_scan.specs.declared.token.Kind.TheVariants as k
@@ -61,7 +61,7 @@ module _ (E : Symbol Expr) (p : Parser Expr) (h : Exact (Ends 1) E p) where
 
   -- ---- members
 
-  member_sound : (ts : Tokens) (y : Member) (r : Tokens) → read.member p ts ≡ Some (y, r) → IsMember E y ts r
+  member_sound : (ts : Tokens) (y : Member) (r : Tokens) → read.member p ts ≡ Ok (y, r) → IsMember E y ts r
   unfolding read.member
   member_sound ts y r e =
       let b = both_steps (p ts) _ y r e in
@@ -71,7 +71,7 @@ module _ (E : Symbol Expr) (p : Parser Expr) (h : Exact (Ends 1) E p) where
         | inr w ↦ at_last (IsMember E) ts _ y b.1 r w (single (h.sound ts b.0 b.1 b.2))
       ]
 
-  member_complete : (y : Member) (ts r : Tokens) → IsMember E y ts r → EndsMember r → read.member p ts ≡ Some (y, r)
+  member_complete : (y : Member) (ts r : Tokens) → IsMember E y ts r → EndsMember r → read.member p ts ≡ Ok (y, r)
   unfolding read.member
   member_complete y ts r (single {x = x} d) o = rw (h.complete x ts r d o.0) (eat_missed k.DotDot r _ o.1)
   member_complete y ts r (range {x = x} {y = z} {m = m} {at = at} d d') o = rw (h.complete x ts (token k.DotDot at ∷ m) d loose) (eat_found k.DotDot at m _ ∙ rw (h.complete z m r d' o.0) refl)
@@ -92,14 +92,14 @@ module _ (E : Symbol Expr) (p : Parser Expr) (h : Exact (Ends 1) E p) where
 
   -- ---- selectors
 
-  index_sound : (ts : Tokens) (at : Span) (y : Selector) (r : Tokens) → read.index p ts ≡ Some (y, r) → IsSelector E y (token k.LeftBracket at ∷ ts) r
+  index_sound : (ts : Tokens) (at : Span) (y : Selector) (r : Tokens) → read.index p ts ≡ Ok (y, r) → IsSelector E y (token k.LeftBracket at ∷ ts) r
   unfolding read.index
   index_sound ts at y r e =
       let b = both_steps (separated k.Comma p ts) _ y r e in
       let c = both_steps (expect k.RightBracket b.1) _ y r b.3 in
       at_last (IsSelector E) _ _ y c.1 r c.3 (index (subst (λ q. Separated k.Comma E b.0 ts q) (expect_sound k.RightBracket b.1 c.0 c.1 c.2) (exprs_exact.sound ts b.0 b.1 b.2)))
 
-  selector_by_sound : (kind : Kind) (at : Span) (ts : Tokens) (o : Option Selector) (r : Tokens) → read.selector_by p kind at (token kind at ∷ ts) ≡ Some (o, r) → Perhaps (IsSelector E) o (token kind at ∷ ts) r
+  selector_by_sound : (kind : Kind) (at : Span) (ts : Tokens) (o : Option Selector) (r : Tokens) → read.selector_by p kind at (token kind at ∷ ts) ≡ Ok (o, r) → Perhaps (IsSelector E) o (token kind at ∷ ts) r
   selector_by_sound k.LeftBracket at ts o r e = let b = both_steps (read.index p ts) _ o r e in at_last (Perhaps (IsSelector E)) _ (Some b.0) o b.1 r b.3 (index_sound ts at b.0 b.1 b.2)
   selector_by_sound k.Dot at ts o r e =
       let b = both_steps (expect k.Name ts) _ o r e in
@@ -107,24 +107,24 @@ module _ (E : Symbol Expr) (p : Parser Expr) (h : Exact (Ends 1) E p) where
   selector_by_sound k.Caret at ts o r e = at_last (Perhaps (IsSelector E)) _ (Some (s.Content at)) o ts r e content
   selector_by_sound kind at ts o r e = at_last (Perhaps (IsSelector E)) _ None o (token kind at ∷ ts) r e refl
 
-  selector_sound : (ts : Tokens) (o : Option Selector) (r : Tokens) → read.selector p ts ≡ Some (o, r) → Perhaps (IsSelector E) o ts r
+  selector_sound : (ts : Tokens) (o : Option Selector) (r : Tokens) → read.selector p ts ≡ Ok (o, r) → Perhaps (IsSelector E) o ts r
   unfolding read.selector
   selector_sound [] o r e = at_last (Perhaps (IsSelector E)) [] None o [] r e refl
   selector_sound (t ∷ ts) o r e = selector_by_sound t.kind t.span ts o r e
 
-  selector_complete : (x : Selector) (ts r : Tokens) → IsSelector E x ts r → Unit {0} → read.selector p ts ≡ Some (Some x, r)
+  selector_complete : (x : Selector) (ts r : Tokens) → IsSelector E x ts r → Unit {0} → read.selector p ts ≡ Ok (Some x, r)
   unfolding read.selector read.index
   selector_complete x ts r (index {left = left} {right = right} {xs = xs} {ts = m} d) o = rw (exprs_exact.complete xs m (token k.RightBracket right ∷ r) d (at_bracket right r), expect_complete k.RightBracket right r) refl
   selector_complete x ts r (field {at = at}) o = rw (expect_complete k.Name at r) refl
   selector_complete x ts r content o = refl
 
-  no_selector : (kind : Kind) (t : Token) (ts : Tokens) → binds kind < 4 → read.selector_by p kind t.span (t ∷ ts) ≡ Some (None, t ∷ ts)
+  no_selector : (kind : Kind) (t : Token) (ts : Tokens) → binds kind < 4 → read.selector_by p kind t.span (t ∷ ts) ≡ Ok (None, t ∷ ts)
   no_selector k.LeftBracket t ts h = absurd (omega arith)
   no_selector k.Dot t ts h = absurd (omega arith)
   no_selector k.Caret t ts h = absurd (omega arith)
   no_selector kind t ts h = refl
 
-  selector_absent : (ts : Tokens) → Ends 4 ts → read.selector p ts ≡ Some (None, ts)
+  selector_absent : (ts : Tokens) → Ends 4 ts → read.selector p ts ≡ Ok (None, ts)
   unfolding read.selector
   selector_absent [] o = refl
   selector_absent (t ∷ ts) o = no_selector t.kind t ts o
@@ -154,14 +154,14 @@ module _ (E : Symbol Expr) (p : Parser Expr) (h : Exact (Ends 1) E p) where
 
   -- ---- factors
   module _ (F : Symbol Factor) (q : Parser Factor) (i : Exact (Ends 4) F q) (begins : (x : Expr) (ts r : Tokens) → E x ts r → sees k.RightBracket ts ≡ false) where
-    call_sound : (at left : Span) (ts : Tokens) (y : Factor) (r : Tokens) → read.call p at ts ≡ Some (y, r) → IsFactor E F y (token k.Name at ∷ token k.LeftParen left ∷ ts) r
+    call_sound : (at left : Span) (ts : Tokens) (y : Factor) (r : Tokens) → read.call p at ts ≡ Ok (y, r) → IsFactor E F y (token k.Name at ∷ token k.LeftParen left ∷ ts) r
     unfolding read.call
     call_sound at left ts y r e =
         let b = both_steps (separated k.Comma p ts) _ y r e in
         let c = both_steps (expect k.RightParen b.1) _ y r b.3 in
         at_last (IsFactor E F) _ _ y c.1 r c.3 (call (subst (λ z. Separated k.Comma E b.0 ts z) (expect_sound k.RightParen b.1 c.0 c.1 c.2) (exprs_exact.sound ts b.0 b.1 b.2)))
 
-    named_sound : (at : Span) (ts : Tokens) (y : Factor) (r : Tokens) → read.named p at ts ≡ Some (y, r) → IsFactor E F y (token k.Name at ∷ ts) r
+    named_sound : (at : Span) (ts : Tokens) (y : Factor) (r : Tokens) → read.named p at ts ≡ Ok (y, r) → IsFactor E F y (token k.Name at ∷ ts) r
     unfolding read.named read.variable
     named_sound at ts y r e =
         elim (eat_sound k.LeftParen ts _ y r e) [
@@ -171,7 +171,7 @@ module _ (E : Symbol Expr) (p : Parser Expr) (h : Exact (Ends 1) E p) where
               at_last (IsFactor E F) _ _ y b.1 r b.3 (variable (at_last (IsVariable E) _ _ b.0 c.1 b.1 c.3 (selected (selectors_exact.sound ts c.0 c.1 c.2)))))
         ]
 
-    set_sound : (at : Span) (ts : Tokens) (y : Factor) (r : Tokens) → read.set p at ts ≡ Some (y, r) → IsFactor E F y (token k.LeftBracket at ∷ ts) r
+    set_sound : (at : Span) (ts : Tokens) (y : Factor) (r : Tokens) → read.set p at ts ≡ Ok (y, r) → IsFactor E F y (token k.LeftBracket at ∷ ts) r
     unfolding read.set
     set_sound at ts y r e =
         elim (eat_sound k.RightBracket ts _ y r e) [
@@ -181,14 +181,14 @@ module _ (E : Symbol Expr) (p : Parser Expr) (h : Exact (Ends 1) E p) where
               at_last (IsFactor E F) _ _ y c.1 r c.3 (set (subst (λ z. Separated k.Comma (IsMember E) b.0 ts z) (expect_sound k.RightBracket b.1 c.0 c.1 c.2) (members_exact.sound ts b.0 b.1 b.2))))
         ]
 
-    group_sound : (at : Span) (ts : Tokens) (y : Factor) (r : Tokens) → read.group p at ts ≡ Some (y, r) → IsFactor E F y (token k.LeftParen at ∷ ts) r
+    group_sound : (at : Span) (ts : Tokens) (y : Factor) (r : Tokens) → read.group p at ts ≡ Ok (y, r) → IsFactor E F y (token k.LeftParen at ∷ ts) r
     unfolding read.group
     group_sound at ts y r e =
         let b = both_steps (p ts) _ y r e in
         let c = both_steps (expect k.RightParen b.1) _ y r b.3 in
         at_last (IsFactor E F) _ _ y c.1 r c.3 (group (subst (λ z. E b.0 ts z) (expect_sound k.RightParen b.1 c.0 c.1 c.2) (h.sound ts b.0 b.1 b.2)))
 
-    factor_by_sound : (kind : Kind) (at : Span) (ts : Tokens) (y : Factor) (r : Tokens) → read.factor_by p q kind at (token kind at ∷ ts) ≡ Some (y, r) → IsFactor E F y (token kind at ∷ ts) r
+    factor_by_sound : (kind : Kind) (at : Span) (ts : Tokens) (y : Factor) (r : Tokens) → read.factor_by p q kind at (token kind at ∷ ts) ≡ Ok (y, r) → IsFactor E F y (token kind at ∷ ts) r
     factor_by_sound k.Name at ts y r e = named_sound at ts y r e
     factor_by_sound k.Number at ts y r e = at_last (IsFactor E F) _ _ y ts r e number
     factor_by_sound k.Text at ts y r e = at_last (IsFactor E F) _ _ y ts r e text
@@ -198,7 +198,7 @@ module _ (E : Symbol Expr) (p : Parser Expr) (h : Exact (Ends 1) E p) where
     factor_by_sound k.Not at ts y r e = let b = both_steps (q ts) _ y r e in at_last (IsFactor E F) _ _ y b.1 r b.3 (not (i.sound ts b.0 b.1 b.2))
     factor_by_sound kind at ts y r e = cc
 
-    factor_sound : (ts : Tokens) (y : Factor) (r : Tokens) → read.factor p q ts ≡ Some (y, r) → IsFactor E F y ts r
+    factor_sound : (ts : Tokens) (y : Factor) (r : Tokens) → read.factor p q ts ≡ Ok (y, r) → IsFactor E F y ts r
     unfolding read.factor
     factor_sound [] y r e = cc
     factor_sound (t ∷ ts) y r e = factor_by_sound t.kind t.span ts y r e
@@ -210,7 +210,7 @@ module _ (E : Symbol Expr) (p : Parser Expr) (h : Exact (Ends 1) E p) where
     no_end xs ts r (several {m = m} {at = at} (single {x = x} d) ds) = begins x ts (token k.Comma at ∷ m) d
     no_end xs ts r (several (range {x = x} {m = m} {at = at} d d') ds) = begins x ts (token k.DotDot at ∷ m) d
 
-    factor_complete : (x : Factor) (ts r : Tokens) → IsFactor E F x ts r → Ends 4 r → read.factor p q ts ≡ Some (x, r)
+    factor_complete : (x : Factor) (ts r : Tokens) → IsFactor E F x ts r → Ends 4 r → read.factor p q ts ≡ Ok (x, r)
     unfolding read.factor read.named read.variable read.call read.set read.group
     factor_complete x ts r (variable (selected {at = at} {xs = xs} {ts = m} d)) o = eat_missed k.LeftParen m _ (no_call xs m r d o) ∙ rw (selectors_exact.complete xs m r d o) refl
     factor_complete x ts r (call {at = at} {left = left} {right = right} {xs = xs} {ts = m} d) o =
@@ -250,7 +250,7 @@ module _ (E : Symbol Expr) (p : Parser Expr) (h : Exact (Ends 1) E p) where
     factor_begins x ts r (group d) = refl
     factor_begins x ts r (not d) = refl
 
-    pub factor_unsigned : (x : Factor) (ts r : Tokens) → IsFactor E F x ts r → read.eat_operator read.sign_of ts ≡ Some (None, ts)
+    pub factor_unsigned : (x : Factor) (ts r : Tokens) → IsFactor E F x ts r → read.eat_operator read.sign_of ts ≡ Ok (None, ts)
     unfolding read.eat_operator
     factor_unsigned x ts r (variable (selected d)) = refl
     factor_unsigned x ts r (call d) = refl
@@ -360,7 +360,7 @@ sign_forth sign.Minus = refl
 
 -- ---- terms
 module _ (F : Symbol Factor) (q : Parser Factor) (i : Exact (Ends 4) F q) where
-  multiplied_sound : (ts : Tokens) (o : Option MultipliedFactor) (r : Tokens) → read.multiplied q ts ≡ Some (o, r) → Perhaps (IsMultiplied F) o ts r
+  multiplied_sound : (ts : Tokens) (o : Option MultipliedFactor) (r : Tokens) → read.multiplied q ts ≡ Ok (o, r) → Perhaps (IsMultiplied F) o ts r
   unfolding read.multiplied
   multiplied_sound ts o r e =
       elim (operator_sound read.multiplying_of multiplying_kind multiplying_back multiplying_forth ts _ o r e) [
@@ -369,11 +369,11 @@ module _ (F : Symbol Factor) (q : Parser Factor) (i : Exact (Ends 4) F q) where
         | inr w ↦ at_last (Perhaps (IsMultiplied F)) _ None o ts r w refl
       ]
 
-  multiplied_complete : (x : MultipliedFactor) (ts r : Tokens) → IsMultiplied F x ts r → Ends 4 r → read.multiplied q ts ≡ Some (Some x, r)
+  multiplied_complete : (x : MultipliedFactor) (ts r : Tokens) → IsMultiplied F x ts r → Ends 4 r → read.multiplied q ts ≡ Ok (Some x, r)
   unfolding read.multiplied
   multiplied_complete x ts r (multiplied op at z {ts = m} d) o = operator_found read.multiplying_of multiplying_kind multiplying_back multiplying_forth op at m _ ∙ rw (i.complete z m r d o) refl
 
-  multiplied_absent : (ts : Tokens) → Ends 3 ts → read.multiplied q ts ≡ Some (None, ts)
+  multiplied_absent : (ts : Tokens) → Ends 3 ts → read.multiplied q ts ≡ Ok (None, ts)
   unfolding read.multiplied read.eat_operator
   multiplied_absent [] o = refl
   multiplied_absent (t ∷ ts) o = rw (no_multiplying t.kind o) refl
@@ -394,7 +394,7 @@ module _ (F : Symbol Factor) (q : Parser Factor) (i : Exact (Ends 4) F q) where
     shrinks = multiplied_shrinks;
   })
 
-  term_sound : (ts : Tokens) (y : Term) (r : Tokens) → read.term q ts ≡ Some (y, r) → IsTerm F y ts r
+  term_sound : (ts : Tokens) (y : Term) (r : Tokens) → read.term q ts ≡ Ok (y, r) → IsTerm F y ts r
   unfolding read.term
   term_sound ts y r e =
       let b = both_steps (q ts) _ y r e in
@@ -405,7 +405,7 @@ module _ (F : Symbol Factor) (q : Parser Factor) (i : Exact (Ends 4) F q) where
   factors_begin xs ts r none o = ends_weaker 3 4 r (omega arith) o
   factors_begin xs ts r (more {x = x} {m = m} d ds) o = multiplied_starts x ts m d
 
-  term_complete : (y : Term) (ts r : Tokens) → IsTerm F y ts r → Ends 3 r → read.term q ts ≡ Some (y, r)
+  term_complete : (y : Term) (ts r : Tokens) → IsTerm F y ts r → Ends 3 r → read.term q ts ≡ Ok (y, r)
   unfolding read.term
   term_complete y ts r (term x xs {m = m} d ds) o = rw (i.complete x ts m d (factors_begin xs m r ds o), factors_exact.complete xs m r ds o) refl
 
@@ -417,7 +417,7 @@ module _ (F : Symbol Factor) (q : Parser Factor) (i : Exact (Ends 4) F q) where
 
 -- ---- simple expressions
 module _ (T : Symbol Term) (q : Parser Term) (i : Exact (Ends 3) T q) where
-  added_sound : (ts : Tokens) (o : Option AddedTerm) (r : Tokens) → read.added q ts ≡ Some (o, r) → Perhaps (IsAdded T) o ts r
+  added_sound : (ts : Tokens) (o : Option AddedTerm) (r : Tokens) → read.added q ts ≡ Ok (o, r) → Perhaps (IsAdded T) o ts r
   unfolding read.added
   added_sound ts o r e =
       elim (operator_sound read.adding_of adding_kind adding_back adding_forth ts _ o r e) [
@@ -426,11 +426,11 @@ module _ (T : Symbol Term) (q : Parser Term) (i : Exact (Ends 3) T q) where
         | inr w ↦ at_last (Perhaps (IsAdded T)) _ None o ts r w refl
       ]
 
-  added_complete : (x : AddedTerm) (ts r : Tokens) → IsAdded T x ts r → Ends 3 r → read.added q ts ≡ Some (Some x, r)
+  added_complete : (x : AddedTerm) (ts r : Tokens) → IsAdded T x ts r → Ends 3 r → read.added q ts ≡ Ok (Some x, r)
   unfolding read.added
   added_complete x ts r (added op at z {ts = m} d) o = operator_found read.adding_of adding_kind adding_back adding_forth op at m _ ∙ rw (i.complete z m r d o) refl
 
-  added_absent : (ts : Tokens) → Ends 2 ts → read.added q ts ≡ Some (None, ts)
+  added_absent : (ts : Tokens) → Ends 2 ts → read.added q ts ≡ Ok (None, ts)
   unfolding read.added read.eat_operator
   added_absent [] o = refl
   added_absent (t ∷ ts) o = rw (no_adding t.kind o) refl
@@ -455,7 +455,7 @@ module _ (T : Symbol Term) (q : Parser Term) (i : Exact (Ends 3) T q) where
   terms_begin xs ts r none o = ends_weaker 2 3 r (omega arith) o
   terms_begin xs ts r (more {x = x} {m = m} d ds) o = added_starts x ts m d
 
-  simple_sound : (ts : Tokens) (y : Simple) (r : Tokens) → read.simple q ts ≡ Some (y, r) → IsSimple T y ts r
+  simple_sound : (ts : Tokens) (y : Simple) (r : Tokens) → read.simple q ts ≡ Ok (y, r) → IsSimple T y ts r
   unfolding read.simple
   simple_sound ts y r e =
       elim (operator_sound read.sign_of sign_kind sign_back sign_forth ts _ y r e) [
@@ -467,7 +467,7 @@ module _ (T : Symbol Term) (q : Parser Term) (i : Exact (Ends 3) T q) where
             at_last (IsSimple T) _ _ y c.1 r c.3 (plain b.0 c.0 (i.sound ts b.0 b.1 b.2) (terms_exact.sound b.1 c.0 c.1 c.2)))
       ]
 
-  simple_complete : (unsigned : (x : Term) (ts r : Tokens) → T x ts r → read.eat_operator read.sign_of ts ≡ Some (None, ts)) (y : Simple) (ts r : Tokens) → IsSimple T y ts r → Ends 2 r → read.simple q ts ≡ Some (y, r)
+  simple_complete : (unsigned : (x : Term) (ts r : Tokens) → T x ts r → read.eat_operator read.sign_of ts ≡ Ok (None, ts)) (y : Simple) (ts r : Tokens) → IsSimple T y ts r → Ends 2 r → read.simple q ts ≡ Ok (y, r)
   unfolding read.simple
   simple_complete unsigned y ts r (plain x xs {m = m} d ds) o = rw (unsigned x ts m d, i.complete x ts m d (terms_begin xs m r ds o), terms_exact.complete xs m r ds o) refl
   simple_complete unsigned y ts r (signed s at x xs {ts = l} {m = m} d ds) o =
@@ -477,12 +477,12 @@ module _ (T : Symbol Term) (q : Parser Term) (i : Exact (Ends 3) T q) where
   simple_shrinks y ts r (plain x xs {m = m} d ds) = omega (arith, i.shrinks x ts m d, terms_exact.shrinks xs m r ds)
   simple_shrinks y ts r (signed s at x xs {ts = l} {m = m} d ds) = omega (arith, i.shrinks x l m d, terms_exact.shrinks xs m r ds)
 
-  pub simple_exact : ((x : Term) (ts r : Tokens) → T x ts r → read.eat_operator read.sign_of ts ≡ Some (None, ts)) → Exact (Ends 2) (IsSimple T) (read.simple q)
+  pub simple_exact : ((x : Term) (ts r : Tokens) → T x ts r → read.eat_operator read.sign_of ts ≡ Ok (None, ts)) → Exact (Ends 2) (IsSimple T) (read.simple q)
   simple_exact unsigned = record { sound = simple_sound; complete = simple_complete unsigned; shrinks = simple_shrinks }
 
 -- ---- expressions
 module _ (S : Symbol Simple) (q : Parser Simple) (i : Exact (Ends 2) S q) where
-  compared_sound : (ts : Tokens) (y : Expr) (r : Tokens) → read.compared q ts ≡ Some (y, r) → IsExpr S y ts r
+  compared_sound : (ts : Tokens) (y : Expr) (r : Tokens) → read.compared q ts ≡ Ok (y, r) → IsExpr S y ts r
   unfolding read.compared
   compared_sound ts y r e =
       let b = both_steps (q ts) _ y r e in
@@ -492,7 +492,7 @@ module _ (S : Symbol Simple) (q : Parser Simple) (i : Exact (Ends 2) S q) where
         | inr w ↦ at_last (IsExpr S) _ _ y b.1 r w (alone (i.sound ts b.0 b.1 b.2))
       ]
 
-  compared_complete : (y : Expr) (ts r : Tokens) → IsExpr S y ts r → Ends 1 r → read.compared q ts ≡ Some (y, r)
+  compared_complete : (y : Expr) (ts r : Tokens) → IsExpr S y ts r → Ends 1 r → read.compared q ts ≡ Ok (y, r)
   unfolding read.compared
   compared_complete y ts [] (alone {x = x} d) o = rw (i.complete x ts [] d tt) (operator_ended read.relation_of relation_kind relation_back relation_forth _)
   compared_complete y ts (t ∷ r) (alone {x = x} d) o =
@@ -512,10 +512,10 @@ module _ (S : Symbol Simple) (q : Parser Simple) (i : Exact (Ends 2) S q) where
 record Level (F : Symbol Factor) (q : Parser Factor) : Type 0 where
   exact : Exact (Ends 4) F q
   begins : (x : Factor) (ts r : Tokens) → F x ts r → sees k.RightBracket ts ≡ false
-  unsigned : (x : Factor) (ts r : Tokens) → F x ts r → read.eat_operator read.sign_of ts ≡ Some (None, ts)
+  unsigned : (x : Factor) (ts r : Tokens) → F x ts r → read.eat_operator read.sign_of ts ≡ Ok (None, ts)
 
 module _ (F : Symbol Factor) (q : Parser Factor) (l : Level F q) where
-  term_unsigned : (x : Term) (ts r : Tokens) → IsTerm F x ts r → read.eat_operator read.sign_of ts ≡ Some (None, ts)
+  term_unsigned : (x : Term) (ts r : Tokens) → IsTerm F x ts r → read.eat_operator read.sign_of ts ≡ Ok (None, ts)
   term_unsigned x ts r (term z xs {m = m} d ds) = l.unsigned z ts m d
 
   sign_seen : (s : Sign) (at : Span) (ts : Tokens) → sees k.RightBracket (token (sign_kind s) at ∷ ts) ≡ false

@@ -50,15 +50,15 @@ unfolding same
 at_paren at m = (refl, refl)
 
 module _ (F : Symbol (List Section)) (p : Parser (List Section)) (i : Exact Anything F p) (begins : (xs : List Section) (ts r : Tokens) → F xs ts r → sees k.LeftParen ts ≡ true) where
-  chosen_sound : (b : Bool) (ts : Tokens) (xs : List Section) (r : Tokens) → (if b then p ts else Some ([], ts)) ≡ Some (xs, r) → IsFormals F xs ts r
+  chosen_sound : (b : Bool) (ts : Tokens) (xs : List Section) (r : Tokens) → (if b then p ts else Some ([], ts)) ≡ Ok (xs, r) → IsFormals F xs ts r
   chosen_sound true ts xs r e = present (i.sound ts xs r e)
   chosen_sound false ts xs r e = at_last (IsFormals F) ts [] xs ts r e absent
 
-  optional_sound : (ts : Tokens) (xs : List Section) (r : Tokens) → read.optional_formals p ts ≡ Some (xs, r) → IsFormals F xs ts r
+  optional_sound : (ts : Tokens) (xs : List Section) (r : Tokens) → read.optional_formals p ts ≡ Ok (xs, r) → IsFormals F xs ts r
   unfolding read.optional_formals
   optional_sound ts xs r e = chosen_sound (sees k.LeftParen ts) ts xs r e
 
-  optional_complete : (xs : List Section) (ts r : Tokens) → IsFormals F xs ts r → NoParen r → read.optional_formals p ts ≡ Some (xs, r)
+  optional_complete : (xs : List Section) (ts r : Tokens) → IsFormals F xs ts r → NoParen r → read.optional_formals p ts ≡ Ok (xs, r)
   unfolding read.optional_formals
   optional_complete xs ts r absent n = rw n refl
   optional_complete xs ts r (present d) n = rw (begins xs ts r d) (i.complete xs ts r d tt)
@@ -67,14 +67,14 @@ module _ (F : Symbol (List Section)) (p : Parser (List Section)) (i : Exact Anyt
   optional_shrinks xs ts r absent = omega arith
   optional_shrinks xs ts r (present d) = i.shrinks xs ts r d
 
-  procedure_sound : (word : Span) (ts : Tokens) (y : Heading) (r : Tokens) → read.procedure p ts ≡ Some (y, r) → IsHeading F y (token k.Procedure word ∷ ts) r
+  procedure_sound : (word : Span) (ts : Tokens) (y : Heading) (r : Tokens) → read.procedure p ts ≡ Ok (y, r) → IsHeading F y (token k.Procedure word ∷ ts) r
   unfolding read.procedure
   procedure_sound word ts y r e =
       let a = both_steps (expect k.Name ts) _ y r e in
       let b = both_steps (read.optional_formals p a.1) _ y r a.3 in
       subst (λ z. IsHeading F y (token k.Procedure word ∷ z) r) (sym (expect_sound k.Name ts a.0 a.1 a.2)) (at_last (IsHeading F) _ _ y b.1 r b.3 (procedure (optional_sound a.1 b.0 b.1 b.2)))
 
-  named_sound : (word at : Span) (ts : Tokens) (y : Heading) (r : Tokens) → read.function_named p at ts ≡ Some (y, r) → IsHeading F y (token k.Function word ∷ token k.Name at ∷ ts) r
+  named_sound : (word at : Span) (ts : Tokens) (y : Heading) (r : Tokens) → read.function_named p at ts ≡ Ok (y, r) → IsHeading F y (token k.Function word ∷ token k.Name at ∷ ts) r
   unfolding read.function_named
   named_sound word at ts y r e =
       let b = both_steps (read.optional_formals p ts) _ y r e in
@@ -83,22 +83,22 @@ module _ (F : Symbol (List Section)) (p : Parser (List Section)) (i : Exact Anyt
       let end = expect_sound k.Colon b.1 f.0 f.1 f.2 ∙ ap (λ (z : Tokens). token k.Colon f.0 ∷ z) (expect_sound k.Name f.1 g.0 g.1 g.2) in
       at_last (IsHeading F) _ _ y g.1 r g.3 (function (subst (λ z. IsFormals F b.0 ts z) end (optional_sound ts b.0 b.1 b.2)))
 
-  function_sound : (word : Span) (ts : Tokens) (y : Heading) (r : Tokens) → read.function p ts ≡ Some (y, r) → IsHeading F y (token k.Function word ∷ ts) r
+  function_sound : (word : Span) (ts : Tokens) (y : Heading) (r : Tokens) → read.function p ts ≡ Ok (y, r) → IsHeading F y (token k.Function word ∷ ts) r
   unfolding read.function
   function_sound word ts y r e =
       let a = both_steps (expect k.Name ts) _ y r e in
       subst (λ z. IsHeading F y (token k.Function word ∷ z) r) (sym (expect_sound k.Name ts a.0 a.1 a.2)) (named_sound word a.0 a.1 y r a.3)
 
-  procedure_complete : (at : Span) (xs : List Section) (ts r : Tokens) → IsFormals F xs ts r → NoParen r → read.procedure p (token k.Name at ∷ ts) ≡ Some (h.Procedure at xs, r)
+  procedure_complete : (at : Span) (xs : List Section) (ts r : Tokens) → IsFormals F xs ts r → NoParen r → read.procedure p (token k.Name at ∷ ts) ≡ Ok (h.Procedure at xs, r)
   unfolding read.procedure
   procedure_complete at xs ts r d n = rw (expect_complete k.Name at ts, optional_complete xs ts r d n) refl
 
-  named_complete : (at colon result : Span) (xs : List Section) (ts r : Tokens) → IsFormals F xs ts (token k.Colon colon ∷ token k.Name result ∷ r) → read.function_named p at ts ≡ Some (h.Function at xs result, r)
+  named_complete : (at colon result : Span) (xs : List Section) (ts r : Tokens) → IsFormals F xs ts (token k.Colon colon ∷ token k.Name result ∷ r) → read.function_named p at ts ≡ Ok (h.Function at xs result, r)
   unfolding read.function_named
   named_complete at colon result xs ts r d =
       rw (optional_complete xs ts (token k.Colon colon ∷ token k.Name result ∷ r) d (colon_no_paren colon (token k.Name result ∷ r)), expect_complete k.Colon colon (token k.Name result ∷ r), expect_complete k.Name result r) refl
 
-  function_complete : (at colon result : Span) (xs : List Section) (ts r : Tokens) → IsFormals F xs ts (token k.Colon colon ∷ token k.Name result ∷ r) → read.function p (token k.Name at ∷ ts) ≡ Some (h.Function at xs result, r)
+  function_complete : (at colon result : Span) (xs : List Section) (ts r : Tokens) → IsFormals F xs ts (token k.Colon colon ∷ token k.Name result ∷ r) → read.function p (token k.Name at ∷ ts) ≡ Ok (h.Function at xs result, r)
   unfolding read.function
   function_complete at colon result xs ts r d = rw (expect_complete k.Name at ts) (named_complete at colon result xs ts r d)
 
@@ -107,7 +107,7 @@ module _ (F : Symbol (List Section)) (p : Parser (List Section)) (i : Exact Anyt
   heading_shrinks y ts r (function {colon = colon} {result = result} {xs = xs} {ts = l} d) = omega (arith, optional_shrinks xs l (token k.Colon colon ∷ token k.Name result ∷ r) d)
 
   -- ---- sections
-  value_sound : (ts : Tokens) (y : Section) (r : Tokens) → read.value_section p ts ≡ Some (y, r) → IsSection (IsHeading F) y ts r
+  value_sound : (ts : Tokens) (y : Section) (r : Tokens) → read.value_section p ts ≡ Ok (y, r) → IsSection (IsHeading F) y ts r
   unfolding read.value_section
   value_sound ts y r e =
       let b = both_steps (read.names ts) _ y r e in
@@ -116,7 +116,7 @@ module _ (F : Symbol (List Section)) (p : Parser (List Section)) (i : Exact Anyt
       let end = expect_sound k.Colon b.1 f.0 f.1 f.2 ∙ ap (λ (z : Tokens). token k.Colon f.0 ∷ z) (expect_sound k.Name f.1 g.0 g.1 g.2) in
       at_last (IsSection (IsHeading F)) _ _ y g.1 r g.3 (value (subst (λ z. IsNames b.0 ts z) end (names_exact.sound ts b.0 b.1 b.2)))
 
-  variable_sound : (at : Span) (ts : Tokens) (y : Section) (r : Tokens) → read.variable_section p ts ≡ Some (y, r) → IsSection (IsHeading F) y (token k.Var at ∷ ts) r
+  variable_sound : (at : Span) (ts : Tokens) (y : Section) (r : Tokens) → read.variable_section p ts ≡ Ok (y, r) → IsSection (IsHeading F) y (token k.Var at ∷ ts) r
   unfolding read.variable_section
   variable_sound at ts y r e =
       let b = both_steps (read.names ts) _ y r e in
@@ -125,13 +125,13 @@ module _ (F : Symbol (List Section)) (p : Parser (List Section)) (i : Exact Anyt
       let end = expect_sound k.Colon b.1 f.0 f.1 f.2 ∙ ap (λ (z : Tokens). token k.Colon f.0 ∷ z) (expect_sound k.Name f.1 g.0 g.1 g.2) in
       at_last (IsSection (IsHeading F)) _ _ y g.1 r g.3 (variable (subst (λ z. IsNames b.0 ts z) end (names_exact.sound ts b.0 b.1 b.2)))
 
-  section_by_sound : (kind : Kind) (at : Span) (ts : Tokens) (y : Section) (r : Tokens) → read.section_by p kind (token kind at ∷ ts) ≡ Some (y, r) → IsSection (IsHeading F) y (token kind at ∷ ts) r
+  section_by_sound : (kind : Kind) (at : Span) (ts : Tokens) (y : Section) (r : Tokens) → read.section_by p kind (token kind at ∷ ts) ≡ Ok (y, r) → IsSection (IsHeading F) y (token kind at ∷ ts) r
   section_by_sound k.Var at ts y r e = variable_sound at ts y r e
   section_by_sound k.Procedure at ts y r e = (let b = both_steps (read.procedure p ts) _ y r e in at_last (IsSection (IsHeading F)) _ _ y b.1 r b.3 (routine (procedure_sound at ts b.0 b.1 b.2)))
   section_by_sound k.Function at ts y r e = (let b = both_steps (read.function p ts) _ y r e in at_last (IsSection (IsHeading F)) _ _ y b.1 r b.3 (routine (function_sound at ts b.0 b.1 b.2)))
   section_by_sound kind at ts y r e = value_sound (token kind at ∷ ts) y r e
 
-  section_sound : (ts : Tokens) (y : Section) (r : Tokens) → read.section p ts ≡ Some (y, r) → IsSection (IsHeading F) y ts r
+  section_sound : (ts : Tokens) (y : Section) (r : Tokens) → read.section p ts ≡ Ok (y, r) → IsSection (IsHeading F) y ts r
   unfolding read.section
   section_sound [] y r e = cc
   section_sound (t ∷ ts) y r e = section_by_sound t.kind t.span ts y r e
@@ -141,11 +141,11 @@ module _ (F : Symbol (List Section)) (p : Parser (List Section)) (i : Exact Anyt
   as_value xs ts r (one name) = refl
   as_value xs ts r (several name ds) = refl
 
-  value_complete : (xs : List Span) (colon at : Span) (ts r : Tokens) → IsNames xs ts (token k.Colon colon ∷ token k.Name at ∷ r) → read.value_section p ts ≡ Some (x.Value xs at, r)
+  value_complete : (xs : List Span) (colon at : Span) (ts r : Tokens) → IsNames xs ts (token k.Colon colon ∷ token k.Name at ∷ r) → read.value_section p ts ≡ Ok (x.Value xs at, r)
   unfolding read.value_section
   value_complete xs colon at ts r d = rw (names_exact.complete xs ts (token k.Colon colon ∷ token k.Name at ∷ r) d (colon_no_comma colon (token k.Name at ∷ r)), expect_complete k.Colon colon (token k.Name at ∷ r), expect_complete k.Name at r) refl
 
-  section_complete : (y : Section) (ts r : Tokens) → IsSection (IsHeading F) y ts r → NoParen r → read.section p ts ≡ Some (y, r)
+  section_complete : (y : Section) (ts r : Tokens) → IsSection (IsHeading F) y ts r → NoParen r → read.section p ts ≡ Ok (y, r)
   unfolding read.section read.variable_section
   section_complete y ts r (value {colon = colon} {at = at} {xs = xs} d) n = as_value xs ts _ d ∙ value_complete xs colon at ts r d
   section_complete y ts r (variable {colon = colon} {at = at} {xs = xs} {ts = l} d) n =
@@ -161,7 +161,7 @@ module _ (F : Symbol (List Section)) (p : Parser (List Section)) (i : Exact Anyt
   sections_exact : Exact EndsSections (Separated k.Semicolon (IsSection (IsHeading F))) (separated k.Semicolon (read.section p))
   sections_exact = separated_exact NoParen EndsSections k.Semicolon (IsSection (IsHeading F)) (read.section p) (record { sound = section_sound; complete = section_complete; shrinks = section_shrinks }) semicolon_no_paren (λ r o. o.0) (λ r o. o.1)
 
-  list_sound : (ts : Tokens) (xs : List Section) (r : Tokens) → read.formal_list p ts ≡ Some (xs, r) → IsFormalList (IsHeading F) xs ts r
+  list_sound : (ts : Tokens) (xs : List Section) (r : Tokens) → read.formal_list p ts ≡ Ok (xs, r) → IsFormalList (IsHeading F) xs ts r
   unfolding read.formal_list
   list_sound ts xs r e =
       let a = both_steps (expect k.LeftParen ts) _ xs r e in
@@ -170,7 +170,7 @@ module _ (F : Symbol (List Section)) (p : Parser (List Section)) (i : Exact Anyt
       subst (λ z. IsFormalList (IsHeading F) xs z r) (sym (expect_sound k.LeftParen ts a.0 a.1 a.2))
       (at_last (IsFormalList (IsHeading F)) _ _ xs f.1 r f.3 (formals (subst (λ z. Separated k.Semicolon (IsSection (IsHeading F)) b.0 a.1 z) (expect_sound k.RightParen b.1 f.0 f.1 f.2) (sections_exact.sound a.1 b.0 b.1 b.2))))
 
-  list_complete : (xs : List Section) (ts r : Tokens) → IsFormalList (IsHeading F) xs ts r → Anything r → read.formal_list p ts ≡ Some (xs, r)
+  list_complete : (xs : List Section) (ts r : Tokens) → IsFormalList (IsHeading F) xs ts r → Anything r → read.formal_list p ts ≡ Ok (xs, r)
   unfolding read.formal_list
   list_complete xs ts r (formals {left = left} {right = right} {ts = l} d) n =
       rw (expect_complete k.LeftParen left l, sections_exact.complete xs l (token k.RightParen right ∷ r) d (at_paren right r), expect_complete k.RightParen right r) refl
@@ -235,7 +235,7 @@ seen_other k j (t ∷ ts) ne e = go (same t.kind j) refl
     go false e' = e'
 
 -- ---- definitions
-definition_sound : (ts : Tokens) (y : ConstantDefinition) (r : Tokens) → read.constant_definition ts ≡ Some (y, r) → IsConstantDefinition y ts r
+definition_sound : (ts : Tokens) (y : ConstantDefinition) (r : Tokens) → read.constant_definition ts ≡ Ok (y, r) → IsConstantDefinition y ts r
 unfolding read.constant_definition
 definition_sound ts y r e =
     let a = both_steps (expect k.Name ts) _ y r e in
@@ -245,7 +245,7 @@ definition_sound ts y r e =
     let head = expect_sound k.Name ts a.0 a.1 a.2 ∙ ap (λ (z : Tokens). token k.Name a.0 ∷ z) (expect_sound k.Equal a.1 b.0 b.1 b.2) in
     subst (λ z. IsConstantDefinition y z r) (sym head) (at_last IsConstantDefinition _ _ y g.1 r g.3 (constant (subst (λ z. IsConstant f.0 b.1 z) (expect_sound k.Semicolon f.1 g.0 g.1 g.2) (constant_exact.sound b.1 f.0 f.1 f.2))))
 
-definition_complete : (y : ConstantDefinition) (ts r : Tokens) → IsConstantDefinition y ts r → Anything r → read.constant_definition ts ≡ Some (y, r)
+definition_complete : (y : ConstantDefinition) (ts r : Tokens) → IsConstantDefinition y ts r → Anything r → read.constant_definition ts ≡ Ok (y, r)
 unfolding read.constant_definition
 definition_complete y ts r (constant {at = at} {equal = equal} {end = end} {x = x} {ts = l} d) n =
     rw (expect_complete k.Name at (token k.Equal equal ∷ l), expect_complete k.Equal equal l, constant_exact.complete x l (token k.Semicolon end ∷ r) d tt, expect_complete k.Semicolon end r) refl
@@ -269,7 +269,7 @@ module _ (T : Symbol TypeDenoter) (pt : Parser TypeDenoter) (ht : Exact NoRange 
   unfolding same
   semicolon_no_range at m = refl
 
-  type_sound : (ts : Tokens) (y : TypeDefinition) (r : Tokens) → read.type_definition pt ts ≡ Some (y, r) → IsTypeDefinition T y ts r
+  type_sound : (ts : Tokens) (y : TypeDefinition) (r : Tokens) → read.type_definition pt ts ≡ Ok (y, r) → IsTypeDefinition T y ts r
   unfolding read.type_definition
   type_sound ts y r e =
       let a = both_steps (expect k.Name ts) _ y r e in
@@ -279,7 +279,7 @@ module _ (T : Symbol TypeDenoter) (pt : Parser TypeDenoter) (ht : Exact NoRange 
       let head = expect_sound k.Name ts a.0 a.1 a.2 ∙ ap (λ (z : Tokens). token k.Name a.0 ∷ z) (expect_sound k.Equal a.1 b.0 b.1 b.2) in
       subst (λ z. IsTypeDefinition T y z r) (sym head) (at_last (IsTypeDefinition T) _ _ y g.1 r g.3 (definition (subst (λ z. T f.0 b.1 z) (expect_sound k.Semicolon f.1 g.0 g.1 g.2) (ht.sound b.1 f.0 f.1 f.2))))
 
-  type_complete : (y : TypeDefinition) (ts r : Tokens) → IsTypeDefinition T y ts r → Anything r → read.type_definition pt ts ≡ Some (y, r)
+  type_complete : (y : TypeDefinition) (ts r : Tokens) → IsTypeDefinition T y ts r → Anything r → read.type_definition pt ts ≡ Ok (y, r)
   unfolding read.type_definition
   type_complete y ts r (definition {at = at} {equal = equal} {end = end} {x = x} {ts = l} d) n =
       rw (expect_complete k.Name at (token k.Equal equal ∷ l), expect_complete k.Equal equal l, ht.complete x l (token k.Semicolon end ∷ r) d (semicolon_no_range end r), expect_complete k.Semicolon end r) refl
@@ -295,7 +295,7 @@ module _ (T : Symbol TypeDenoter) (pt : Parser TypeDenoter) (ht : Exact NoRange 
   types_exact = part_exact Anything NoName read.begins_name (IsTypeDefinition T) (read.type_definition pt) (record { sound = type_sound; complete = type_complete; shrinks = λ y ts r d. omega (arith, type_shrinks y ts r d) })
       type_begins (λ ts o. o) (λ x ts r d. tt) (λ ts o. tt) type_shrinks k.Type (Later 3) (λ r l. later_unseen 3 k.Type r l (omega arith)) (λ r l. later_unseen 3 k.Name r l (omega arith))
 
-  variables_sound : (ts : Tokens) (y : Variables) (r : Tokens) → read.variables pt ts ≡ Some (y, r) → IsVariables T y ts r
+  variables_sound : (ts : Tokens) (y : Variables) (r : Tokens) → read.variables pt ts ≡ Ok (y, r) → IsVariables T y ts r
   unfolding read.variables
   variables_sound ts y r e =
       let a = both_steps (read.names ts) _ y r e in
@@ -304,7 +304,7 @@ module _ (T : Symbol TypeDenoter) (pt : Parser TypeDenoter) (ht : Exact NoRange 
       let g = both_steps (expect k.Semicolon f.1) _ y r f.3 in
       at_last (IsVariables T) _ _ y g.1 r g.3 (variables (subst (λ z. IsNames a.0 ts z) (expect_sound k.Colon a.1 b.0 b.1 b.2) (names_exact.sound ts a.0 a.1 a.2)) (subst (λ z. T f.0 b.1 z) (expect_sound k.Semicolon f.1 g.0 g.1 g.2) (ht.sound b.1 f.0 f.1 f.2)))
 
-  variables_complete : (y : Variables) (ts r : Tokens) → IsVariables T y ts r → Anything r → read.variables pt ts ≡ Some (y, r)
+  variables_complete : (y : Variables) (ts r : Tokens) → IsVariables T y ts r → Anything r → read.variables pt ts ≡ Ok (y, r)
   unfolding read.variables
   variables_complete y ts r (variables {colon = colon} {end = end} {xs = xs} {x = x} {m = m} d d') n =
       rw (names_exact.complete xs ts (token k.Colon colon ∷ m) d (colon_no_comma colon m), expect_complete k.Colon colon m, ht.complete x m (token k.Semicolon end ∷ r) d' (semicolon_no_range end r), expect_complete k.Semicolon end r) refl
@@ -328,12 +328,12 @@ module _ (is_forward : Span → Bool) (F : Symbol (List Section)) (p : Parser (L
   abbrev Before : Routine → Tokens → Tokens → Type 0
   Before y ts m = (end : Span) (r : Tokens) → m ≡ token k.Semicolon end ∷ r → IsRoutine is_forward Heads B y ts r
 
-  forward_case : (b : Bool) (x : Heading) (at semicolon : Span) (start ts : Tokens) (y : Routine) (m : Tokens) → is_forward at ≡ b → Heads x start (token k.Semicolon semicolon ∷ token k.Name at ∷ ts) → (if b then pure (q.Forward x) else refuse) ts ≡ Some (y, m) → Before y start m
+  forward_case : (b : Bool) (x : Heading) (at semicolon : Span) (start ts : Tokens) (y : Routine) (m : Tokens) → is_forward at ≡ b → Heads x start (token k.Semicolon semicolon ∷ token k.Name at ∷ ts) → (if b then pure (q.Forward x) else refuse) ts ≡ Ok (y, m) → Before y start m
   forward_case true x at semicolon start ts y m f d e =
       at_last Before start (q.Forward x) y ts m e (λ end r g. forward (subst (λ z. Heads x start (token k.Semicolon semicolon ∷ token k.Name at ∷ z)) g d) f)
   forward_case false x at semicolon start ts y m f d e = cc
 
-  after_sound : (x : Heading) (semicolon : Span) (start ts : Tokens) (y : Routine) (m : Tokens) → Heads x start (token k.Semicolon semicolon ∷ ts) → read.after_heading is_forward p pb x ts ≡ Some (y, m) → Before y start m
+  after_sound : (x : Heading) (semicolon : Span) (start ts : Tokens) (y : Routine) (m : Tokens) → Heads x start (token k.Semicolon semicolon ∷ ts) → read.after_heading is_forward p pb x ts ≡ Ok (y, m) → Before y start m
   unfolding read.after_heading
   after_sound x semicolon start ts y m d e =
       elim (accept_sound k.Name ts _ y m e) [
@@ -342,14 +342,14 @@ module _ (is_forward : Span → Bool) (F : Symbol (List Section)) (p : Parser (L
             at_last Before start (q.Whole x b.0) y b.1 m b.3 (λ end r g. whole d (subst (λ z. B b.0 ts z) g (hb.sound ts b.0 b.1 b.2))))
       ]
 
-  procedure_routine_sound : (word : Span) (ts : Tokens) (y : Routine) (m : Tokens) → read.procedure_routine is_forward p pb ts ≡ Some (y, m) → Before y (token k.Procedure word ∷ ts) m
+  procedure_routine_sound : (word : Span) (ts : Tokens) (y : Routine) (m : Tokens) → read.procedure_routine is_forward p pb ts ≡ Ok (y, m) → Before y (token k.Procedure word ∷ ts) m
   unfolding read.procedure_routine
   procedure_routine_sound word ts y m e =
       let a = both_steps (read.procedure p ts) _ y m e in
       let b = both_steps (expect k.Semicolon a.1) _ y m a.3 in
       after_sound a.0 b.0 (token k.Procedure word ∷ ts) b.1 y m (subst (λ z. Heads a.0 (token k.Procedure word ∷ ts) z) (expect_sound k.Semicolon a.1 b.0 b.1 b.2) (procedure_sound F p l.exact l.begins word ts a.0 a.1 a.2)) b.3
 
-  function_routine_sound : (word : Span) (ts : Tokens) (y : Routine) (m : Tokens) → read.function_routine is_forward p pb ts ≡ Some (y, m) → Before y (token k.Function word ∷ ts) m
+  function_routine_sound : (word : Span) (ts : Tokens) (y : Routine) (m : Tokens) → read.function_routine is_forward p pb ts ≡ Ok (y, m) → Before y (token k.Function word ∷ ts) m
   unfolding read.function_routine
   function_routine_sound word ts y m e =
       let a = both_steps (expect k.Name ts) _ y m e in
@@ -362,17 +362,17 @@ module _ (is_forward : Span → Bool) (F : Symbol (List Section)) (p : Parser (L
             after_sound b.0 f.0 (token k.Function word ∷ token k.Name a.0 ∷ a.1) f.1 y m (subst (λ z. Heads b.0 (token k.Function word ∷ token k.Name a.0 ∷ a.1) z) (expect_sound k.Semicolon b.1 f.0 f.1 f.2) (named_sound F p l.exact l.begins word a.0 a.1 b.0 b.1 b.2)) f.3)
       ])
 
-  routine_by_sound : (kind : Kind) (at : Span) (ts : Tokens) (y : Routine) (m : Tokens) → read.routine_by is_forward p pb kind (token kind at ∷ ts) ≡ Some (y, m) → Before y (token kind at ∷ ts) m
+  routine_by_sound : (kind : Kind) (at : Span) (ts : Tokens) (y : Routine) (m : Tokens) → read.routine_by is_forward p pb kind (token kind at ∷ ts) ≡ Ok (y, m) → Before y (token kind at ∷ ts) m
   routine_by_sound k.Procedure at ts y m e = procedure_routine_sound at ts y m e
   routine_by_sound k.Function at ts y m e = function_routine_sound at ts y m e
   routine_by_sound kind at ts y m e = cc
 
-  routine_head_sound : (ts : Tokens) (y : Routine) (m : Tokens) → read.routine_head is_forward p pb ts ≡ Some (y, m) → Before y ts m
+  routine_head_sound : (ts : Tokens) (y : Routine) (m : Tokens) → read.routine_head is_forward p pb ts ≡ Ok (y, m) → Before y ts m
   unfolding read.routine_head
   routine_head_sound [] y m e = cc
   routine_head_sound (t ∷ ts) y m e = routine_by_sound t.kind t.span ts y m e
 
-  routine_sound : (ts : Tokens) (y : Routine) (r : Tokens) → read.routine is_forward p pb ts ≡ Some (y, r) → IsRoutine is_forward Heads B y ts r
+  routine_sound : (ts : Tokens) (y : Routine) (r : Tokens) → read.routine is_forward p pb ts ≡ Ok (y, r) → IsRoutine is_forward Heads B y ts r
   unfolding read.routine
   routine_sound ts y r e =
       let a = both_steps (read.routine_head is_forward p pb ts) _ y r e in
@@ -384,16 +384,16 @@ module _ (is_forward : Span → Bool) (F : Symbol (List Section)) (p : Parser (L
   formals_no_semicolon xs colon ts m absent = refl
   formals_no_semicolon xs colon ts m (present d) = seen_other k.LeftParen k.Semicolon ts (λ e. cc) (l.begins xs ts _ d)
 
-  whole_complete : (x : Heading) (b : Block) (m n : Tokens) → B b m n → read.after_heading is_forward p pb x m ≡ Some (q.Whole x b, n)
+  whole_complete : (x : Heading) (b : Block) (m n : Tokens) → B b m n → read.after_heading is_forward p pb x m ≡ Ok (q.Whole x b, n)
   unfolding read.after_heading
   whole_complete x b m n d = accept_missed k.Name m _ (later_unseen 1 k.Name m (begins b m n d) (omega arith)) ∙ rw (hb.complete b m n d tt) refl
 
-  forward_complete : (x : Heading) (at : Span) (n : Tokens) → is_forward at ≡ true → read.after_heading is_forward p pb x (token k.Name at ∷ n) ≡ Some (q.Forward x, n)
+  forward_complete : (x : Heading) (at : Span) (n : Tokens) → is_forward at ≡ true → read.after_heading is_forward p pb x (token k.Name at ∷ n) ≡ Ok (q.Forward x, n)
   unfolding read.after_heading
   forward_complete x at n f = accept_found k.Name at n _ ∙ rw f refl
 
   -- a heading, its semicolon and what follows
-  headed_complete : (x : Heading) (semicolon : Span) (ts m n : Tokens) (y : Routine) → Heads x ts (token k.Semicolon semicolon ∷ m) → read.after_heading is_forward p pb x m ≡ Some (y, n) → read.routine_head is_forward p pb ts ≡ Some (y, n)
+  headed_complete : (x : Heading) (semicolon : Span) (ts m n : Tokens) (y : Routine) → Heads x ts (token k.Semicolon semicolon ∷ m) → read.after_heading is_forward p pb x m ≡ Ok (y, n) → read.routine_head is_forward p pb ts ≡ Ok (y, n)
   unfolding read.routine_head read.procedure_routine read.function_routine
   headed_complete x semicolon ts m n y (procedure {at = at} {xs = xs} {ts = a} d) e =
       rw (procedure_complete F p l.exact l.begins at xs a (token k.Semicolon semicolon ∷ m) d (semicolon_no_paren semicolon m), expect_complete k.Semicolon semicolon m) e
@@ -401,11 +401,11 @@ module _ (is_forward : Span → Bool) (F : Symbol (List Section)) (p : Parser (L
       rw (expect_complete k.Name at a) (eat_missed k.Semicolon a _ (formals_no_semicolon xs colon a (token k.Name result ∷ token k.Semicolon semicolon ∷ m) d)
       ∙ rw (named_complete F p l.exact l.begins at colon result xs a (token k.Semicolon semicolon ∷ m) d, expect_complete k.Semicolon semicolon m) e)
 
-  completed : (word at semicolon : Span) (b : Block) (ts n : Tokens) → B b ts n → read.routine_head is_forward p pb (token k.Function word ∷ token k.Name at ∷ token k.Semicolon semicolon ∷ ts) ≡ Some (q.Completion at b, n)
+  completed : (word at semicolon : Span) (b : Block) (ts n : Tokens) → B b ts n → read.routine_head is_forward p pb (token k.Function word ∷ token k.Name at ∷ token k.Semicolon semicolon ∷ ts) ≡ Ok (q.Completion at b, n)
   unfolding read.routine_head read.function_routine
   completed word at semicolon b ts n d = rw (expect_complete k.Name at (token k.Semicolon semicolon ∷ ts)) (eat_found k.Semicolon semicolon ts _ ∙ rw (hb.complete b ts n d tt) refl)
 
-  routine_complete : (y : Routine) (ts r : Tokens) → IsRoutine is_forward Heads B y ts r → Anything r → read.routine is_forward p pb ts ≡ Some (y, r)
+  routine_complete : (y : Routine) (ts r : Tokens) → IsRoutine is_forward Heads B y ts r → Anything r → read.routine is_forward p pb ts ≡ Ok (y, r)
   unfolding read.routine
   routine_complete y ts r (whole {x = x} {b = b} {semicolon = semicolon} {end = end} {m = m} d d') n =
       rw (headed_complete x semicolon ts m (token k.Semicolon end ∷ r) (q.Whole x b) d (whole_complete x b m (token k.Semicolon end ∷ r) d'), expect_complete k.Semicolon end r) refl
@@ -467,7 +467,7 @@ module _ (is_forward : Span → Bool) (n : ℕ) (B : Symbol Block) (pb : Parser 
   vs_exact : Exact (Later 4) (IsPart k.Var (IsVariables (type_within n))) (part k.Var read.begins_name (read.variables (read.read_type n)))
   vs_exact = variables_exact (type_within n) (read.read_type n) (type_exact_within n)
 
-  block_sound : (ts : Tokens) (y : Block) (r : Tokens) → read_whole ts ≡ Some (y, r) → Whole y ts r
+  block_sound : (ts : Tokens) (y : Block) (r : Tokens) → read_whole ts ≡ Ok (y, r) → Whole y ts r
   unfolding read.any_block
   block_sound ts y r e =
       let a = both_steps (part k.Const read.begins_name read.constant_definition ts) _ y r e in
@@ -487,7 +487,7 @@ module _ (is_forward : Span → Bool) (n : ℕ) (B : Symbol Block) (pb : Parser 
   later_c : (xs : List Routine) (begin : Span) (c d : Tokens) → Many (IsRoutine is_forward (heading_within n) B) xs c (token k.Begin begin ∷ d) → Later 4 c
   later_c xs begin c d h = routines_later is_forward (formals_within n) (read.read_formals n) (formals_level n) B pb bl.exact bl.begins xs c (token k.Begin begin ∷ d) h (begin_later begin d)
 
-  block_complete : (y : Block) (ts r : Tokens) → Whole y ts r → Anything r → read_whole ts ≡ Some (y, r)
+  block_complete : (y : Block) (ts r : Tokens) → Whole y ts r → Anything r → read_whole ts ≡ Ok (y, r)
   unfolding read.any_block
   block_complete y ts r (parts cs types vs routines begin ss {end = end} {a = a} {b = b} {c = c} {d = d} d1 d2 d3 d4 d5) o =
       let lc = later_c routines begin c d d4 in let lb = part_later k.Var (IsVariables (type_within n)) vs b c d3 lc in let la = part_later k.Type (IsTypeDefinition (type_within n)) types a b d2 lb in
@@ -519,7 +519,7 @@ block_level is_forward (suc n) = next_block is_forward n (block_within is_forwar
 
 -- ---- programs
 module _ (is_forward : Span → Bool) (B : Symbol Block) (pb : Parser Block) (hb : Exact Anything B pb) where
-  program_names_sound : (at : Span) (ts : Tokens) (xs : List Span) (m : Tokens) (semicolon : Span) (l : Tokens) (b : Block) (r : Tokens) (word dot : Span) → read.program_names is_forward pb ts ≡ Some (xs, m) → m ≡ token k.Semicolon semicolon ∷ l → B b l (token k.Dot dot ∷ r)
+  program_names_sound : (at : Span) (ts : Tokens) (xs : List Span) (m : Tokens) (semicolon : Span) (l : Tokens) (b : Block) (r : Tokens) (word dot : Span) → read.program_names is_forward pb ts ≡ Ok (xs, m) → m ≡ token k.Semicolon semicolon ∷ l → B b l (token k.Dot dot ∷ r)
       → IsProgram is_forward B (record { name = at; parameters = xs; block = b }) (token k.Program word ∷ token k.Name at ∷ ts) r
   unfolding read.program_names
   program_names_sound at ts xs m semicolon l b r word dot e g d =
@@ -534,7 +534,7 @@ module _ (is_forward : Span → Bool) (B : Symbol Block) (pb : Parser Block) (hb
             (subst (λ (z : List Span). IsProgram is_forward B (record { name = at; parameters = z; block = b }) (token k.Program word ∷ token k.Name at ∷ token k.Semicolon semicolon ∷ l) r) (first_part [] xs ts m w) (plain d)))
       ]
 
-  program_sound : (ts : Tokens) (y : Program) (r : Tokens) → read.program is_forward pb ts ≡ Some (y, r) → IsProgram is_forward B y ts r
+  program_sound : (ts : Tokens) (y : Program) (r : Tokens) → read.program is_forward pb ts ≡ Ok (y, r) → IsProgram is_forward B y ts r
   unfolding read.program
   program_sound ts y r e =
       let a = both_steps (expect k.Program ts) _ y r e in
@@ -547,15 +547,15 @@ module _ (is_forward : Span → Bool) (B : Symbol Block) (pb : Parser Block) (hb
       subst (λ z. IsProgram is_forward B y z r) (sym head) (at_last (IsProgram is_forward B) _ _ y g.1 r g.3
       (program_names_sound b.0 b.1 c.0 c.1 d.0 d.1 f.0 g.1 a.0 g.0 c.2 (expect_sound k.Semicolon c.1 d.0 d.1 d.2) (subst (λ z. B f.0 d.1 z) (expect_sound k.Dot f.1 g.0 g.1 g.2) (hb.sound d.1 f.0 f.1 f.2))))
 
-  no_names : (semicolon : Span) (m : Tokens) → read.program_names is_forward pb (token k.Semicolon semicolon ∷ m) ≡ Some ([], token k.Semicolon semicolon ∷ m)
+  no_names : (semicolon : Span) (m : Tokens) → read.program_names is_forward pb (token k.Semicolon semicolon ∷ m) ≡ Ok ([], token k.Semicolon semicolon ∷ m)
   unfolding read.program_names same
   no_names semicolon m = eat_missed k.LeftParen (token k.Semicolon semicolon ∷ m) _ refl
 
-  some_names : (left right : Span) (xs : List Span) (l m : Tokens) → IsNames xs l (token k.RightParen right ∷ m) → read.program_names is_forward pb (token k.LeftParen left ∷ l) ≡ Some (xs, m)
+  some_names : (left right : Span) (xs : List Span) (l m : Tokens) → IsNames xs l (token k.RightParen right ∷ m) → read.program_names is_forward pb (token k.LeftParen left ∷ l) ≡ Ok (xs, m)
   unfolding read.program_names
   some_names left right xs l m d = eat_found k.LeftParen left l _ ∙ rw (names_exact.complete xs l (token k.RightParen right ∷ m) d (paren_no_comma right m), expect_complete k.RightParen right m) refl
 
-  program_complete : (y : Program) (ts r : Tokens) → IsProgram is_forward B y ts r → read.program is_forward pb ts ≡ Some (y, r)
+  program_complete : (y : Program) (ts r : Tokens) → IsProgram is_forward B y ts r → read.program is_forward pb ts ≡ Ok (y, r)
   unfolding read.program
   program_complete y ts r (plain {word = word} {at = at} {semicolon = semicolon} {dot = dot} {b = b} {ts = l} d) =
       rw (expect_complete k.Program word (token k.Name at ∷ token k.Semicolon semicolon ∷ l), expect_complete k.Name at (token k.Semicolon semicolon ∷ l), no_names semicolon l, expect_complete k.Semicolon semicolon l, hb.complete b l (token k.Dot dot ∷ r) d tt, expect_complete k.Dot dot r) refl
@@ -563,8 +563,8 @@ module _ (is_forward : Span → Bool) (B : Symbol Block) (pb : Parser Block) (hb
       rw (expect_complete k.Program word (token k.Name at ∷ token k.LeftParen left ∷ l), expect_complete k.Name at (token k.LeftParen left ∷ l), some_names left right xs l (token k.Semicolon semicolon ∷ m) d, expect_complete k.Semicolon semicolon m, hb.complete b m (token k.Dot dot ∷ r) d' tt, expect_complete k.Dot dot r) refl
 
 -- What is read of all tokens is the program that derives from them, and the only one.
-pub reads_derived : (is_forward : Span → Bool) (n : ℕ) (ts : Tokens) (y : Program) → read.program is_forward (read.read_block is_forward n) ts ≡ Some (y, []) → DerivesWithin is_forward n ts y
+pub reads_derived : (is_forward : Span → Bool) (n : ℕ) (ts : Tokens) (y : Program) → read.program is_forward (read.read_block is_forward n) ts ≡ Ok (y, []) → DerivesWithin is_forward n ts y
 reads_derived is_forward n ts y e = program_sound is_forward (block_within is_forward n) (read.read_block is_forward n) ((block_level is_forward n).exact) ts y [] e
 
-pub derived_is_read : (is_forward : Span → Bool) (n : ℕ) (ts : Tokens) (y : Program) → DerivesWithin is_forward n ts y → read.program is_forward (read.read_block is_forward n) ts ≡ Some (y, [])
+pub derived_is_read : (is_forward : Span → Bool) (n : ℕ) (ts : Tokens) (y : Program) → DerivesWithin is_forward n ts y → read.program is_forward (read.read_block is_forward n) ts ≡ Ok (y, [])
 derived_is_read is_forward n ts y d = program_complete is_forward (block_within is_forward n) (read.read_block is_forward n) ((block_level is_forward n).exact) y ts [] d

@@ -1,5 +1,5 @@
 -- Statements are read exactly.
-use Rattle.std.proofs.Common.{◌≡◌, ℕ, zero, suc, ◌<◌, ◌≤◌, Bool, true, false, List, [], ◌∷◌, length, Option, Some, None, inl, inr, refl, sym, ap, ◌∙◌, subst, arith}
+use Rattle.std.proofs.Common.{◌≡◌, ℕ, zero, suc, ◌<◌, ◌≤◌, Bool, true, false, List, [], ◌∷◌, length, Option, Some, None, Ok, Err, inl, inr, refl, sym, ap, ◌∙◌, subst, arith}
 use Rattle.ps_text.specs.declared.Span.{Span}
 use Rattle.ps_scan.specs.declared.token.Kind.{Kind}
 use Rattle.ps_scan.specs.declared.token.Kind.TheVariants as k
@@ -28,27 +28,27 @@ use Rattle.ps_parse.proofs.Ends.{Ends, binds, loose, Follows, follow, follows_en
 use Rattle.ps_parse.proofs.ExactExpressions.{sign_back, sign_forth, selectors_exact, no_call, expr_exact_within}
 
 -- ---- constants
-operand_none : (kind : Kind) (at : Span) (ts : Tokens) (y : Constant) (r : Tokens) → read.operand_by None kind at (token kind at ∷ ts) ≡ Some (y, r) → IsConstant y (token kind at ∷ ts) r
+operand_none : (kind : Kind) (at : Span) (ts : Tokens) (y : Constant) (r : Tokens) → read.operand_by None kind at (token kind at ∷ ts) ≡ Ok (y, r) → IsConstant y (token kind at ∷ ts) r
 operand_none k.Number at ts y r e = at_last IsConstant _ _ y ts r e number
 operand_none k.Name at ts y r e = at_last IsConstant _ _ y ts r e name
 operand_none kind at ts y r e = cc
 
-operand_some : (s : Sign) (first : Span) (kind : Kind) (at : Span) (ts : Tokens) (y : Constant) (r : Tokens) → read.operand_by (Some (s, first)) kind at (token kind at ∷ ts) ≡ Some (y, r) → IsConstant y (token (sign_kind s) first ∷ token kind at ∷ ts) r
+operand_some : (s : Sign) (first : Span) (kind : Kind) (at : Span) (ts : Tokens) (y : Constant) (r : Tokens) → read.operand_by (Some (s, first)) kind at (token kind at ∷ ts) ≡ Ok (y, r) → IsConstant y (token (sign_kind s) first ∷ token kind at ∷ ts) r
 operand_some s first k.Number at ts y r e = at_last IsConstant _ _ y ts r e (signed_number s)
 operand_some s first k.Name at ts y r e = at_last IsConstant _ _ y ts r e (signed_name s)
 operand_some s first kind at ts y r e = cc
 
-unsigned_sound : (ts : Tokens) (y : Constant) (r : Tokens) → read.operand None ts ≡ Some (y, r) → IsConstant y ts r
+unsigned_sound : (ts : Tokens) (y : Constant) (r : Tokens) → read.operand None ts ≡ Ok (y, r) → IsConstant y ts r
 unfolding read.operand
 unsigned_sound [] y r e = cc
 unsigned_sound (t ∷ ts) y r e = operand_none t.kind t.span ts y r e
 
-signed_sound : (s : Sign) (at : Span) (ts : Tokens) (y : Constant) (r : Tokens) → read.operand (Some (s, at)) ts ≡ Some (y, r) → IsConstant y (token (sign_kind s) at ∷ ts) r
+signed_sound : (s : Sign) (at : Span) (ts : Tokens) (y : Constant) (r : Tokens) → read.operand (Some (s, at)) ts ≡ Ok (y, r) → IsConstant y (token (sign_kind s) at ∷ ts) r
 unfolding read.operand
 signed_sound s at [] y r e = cc
 signed_sound s at (t ∷ ts) y r e = operand_some s at t.kind t.span ts y r e
 
-constant_sound : (ts : Tokens) (y : Constant) (r : Tokens) → read.constant ts ≡ Some (y, r) → IsConstant y ts r
+constant_sound : (ts : Tokens) (y : Constant) (r : Tokens) → read.constant ts ≡ Ok (y, r) → IsConstant y ts r
 unfolding read.constant
 constant_sound ts y r e =
     elim (accept_sound k.Text ts _ y r e) [
@@ -62,7 +62,7 @@ constant_sound ts y r e =
 abbrev pub Anything : Tokens → Type 0
 Anything ts = Unit {0}
 
-constant_complete : (y : Constant) (ts r : Tokens) → IsConstant y ts r → Anything r → read.constant ts ≡ Some (y, r)
+constant_complete : (y : Constant) (ts r : Tokens) → IsConstant y ts r → Anything r → read.constant ts ≡ Ok (y, r)
 unfolding read.constant read.operand accept eat_operator same
 constant_complete y ts r number o = refl
 constant_complete y ts r (signed_number sign.Plus) o = refl
@@ -174,7 +174,7 @@ never : {P : Type 0} → false ≡ true → P
 never e = cc
 
 module _ (E : Symbol Expr) (p : Parser Expr) (h : Exact (Ends 1) E p) where
-  parameter_sound : (ts : Tokens) (y : Parameter) (r : Tokens) → read.parameter p ts ≡ Some (y, r) → IsParameter E y ts r
+  parameter_sound : (ts : Tokens) (y : Parameter) (r : Tokens) → read.parameter p ts ≡ Ok (y, r) → IsParameter E y ts r
   unfolding read.parameter
   parameter_sound ts y r e =
       let b = both_steps (p ts) _ y r e in
@@ -184,7 +184,7 @@ module _ (E : Symbol Expr) (p : Parser Expr) (h : Exact (Ends 1) E p) where
         | inr w ↦ at_last (IsParameter E) ts _ y b.1 r w (unformatted (h.sound ts b.0 b.1 b.2))
       ]
 
-  parameter_complete : (y : Parameter) (ts r : Tokens) → IsParameter E y ts r → EndsParameter r → read.parameter p ts ≡ Some (y, r)
+  parameter_complete : (y : Parameter) (ts r : Tokens) → IsParameter E y ts r → EndsParameter r → read.parameter p ts ≡ Ok (y, r)
   unfolding read.parameter
   parameter_complete y ts r (unformatted {x = x} d) o = rw (h.complete x ts r d o.0) (eat_missed k.Colon r _ o.1)
   parameter_complete y ts r (formatted {x = x} {y = z} {m = m} {at = at} d d') o = rw (h.complete x ts (token k.Colon at ∷ m) d loose) (eat_found k.Colon at m _ ∙ rw (h.complete z m r d' o.0) refl)
@@ -197,14 +197,14 @@ module _ (E : Symbol Expr) (p : Parser Expr) (h : Exact (Ends 1) E p) where
   parameters_exact = separated_exact EndsParameter EndsParameters k.Comma (IsParameter E) (read.parameter p) (record { sound = parameter_sound; complete = parameter_complete; shrinks = parameter_shrinks }) comma_between (λ r o. o.0) (λ r o. o.1)
 
   -- ---- variables
-  variable_sound : (ts : Tokens) (y : Variable) (r : Tokens) → read.named_variable p ts ≡ Some (y, r) → IsVariable E y ts r
+  variable_sound : (ts : Tokens) (y : Variable) (r : Tokens) → read.named_variable p ts ≡ Ok (y, r) → IsVariable E y ts r
   unfolding read.named_variable variable
   variable_sound ts y r e =
       let b = both_steps (expect k.Name ts) _ y r e in
       let c = both_steps (many (selector p) b.1) _ y r b.3 in
       subst (λ z. IsVariable E y z r) (sym (expect_sound k.Name ts b.0 b.1 b.2)) (at_last (IsVariable E) _ _ y c.1 r c.3 (selected ((selectors_exact E p h).sound b.1 c.0 c.1 c.2)))
 
-  variable_complete : (y : Variable) (ts r : Tokens) → IsVariable E y ts r → Ends 4 r → read.named_variable p ts ≡ Some (y, r)
+  variable_complete : (y : Variable) (ts r : Tokens) → IsVariable E y ts r → Ends 4 r → read.named_variable p ts ≡ Ok (y, r)
   unfolding read.named_variable variable
   variable_complete y ts r (selected {at = at} {xs = xs} {ts = m} d) o = rw (expect_complete k.Name at m, (selectors_exact E p h).complete xs m r d o) refl
 
@@ -226,7 +226,7 @@ module _ (E : Symbol Expr) (p : Parser Expr) (h : Exact (Ends 1) E p) where
       shrinks = any_shrinks;
     }
       where
-        any_complete : (x : Statement) (ts r : Tokens) → InSequence S x ts r → EndsInSequence r → q ts ≡ Some (x, r)
+        any_complete : (x : Statement) (ts r : Tokens) → InSequence S x ts r → EndsInSequence r → q ts ≡ Ok (x, r)
         any_complete x ts r (in_sequence {ends = ends} d) o = i.complete x ts r (ends, d, λ e. o.1) o.0
 
         any_shrinks : (x : Statement) (ts r : Tokens) → InSequence S x ts r → length r ≤ length ts
@@ -236,7 +236,7 @@ module _ (E : Symbol Expr) (p : Parser Expr) (h : Exact (Ends 1) E p) where
     sequence_exact = separated_exact EndsInSequence EndsSequence k.Semicolon (InSequence S) q any_exact between_statements (λ r o. o.0) (λ r o. o.1)
 
     -- ---- elements
-    element_sound : (ts : Tokens) (y : Element) (r : Tokens) → read.element p q ts ≡ Some (y, r) → IsElement S y ts r
+    element_sound : (ts : Tokens) (y : Element) (r : Tokens) → read.element p q ts ≡ Ok (y, r) → IsElement S y ts r
     unfolding read.element
     element_sound ts y r e =
         let b = both_steps (separated k.Comma read.constant ts) _ y r e in
@@ -245,7 +245,7 @@ module _ (E : Symbol Expr) (p : Parser Expr) (h : Exact (Ends 1) E p) where
         let g = i.sound c.1 d.0 d.1 d.2 in
         at_last (IsElement S) _ _ y d.1 r d.3 (element b.0 d.0 {ends = g.0} (subst (λ z. Separated k.Comma IsConstant b.0 ts z) (expect_sound k.Colon b.1 c.0 c.1 c.2) (constants_exact.sound ts b.0 b.1 b.2)) g.1)
 
-    element_complete : (y : Element) (ts r : Tokens) → IsElement S y ts r → EndsInSequence r → read.element p q ts ≡ Some (y, r)
+    element_complete : (y : Element) (ts r : Tokens) → IsElement S y ts r → EndsInSequence r → read.element p q ts ≡ Ok (y, r)
     unfolding read.element
     element_complete y ts r (element cs x {ends = ends} {m = m} {at = at} d d') o =
         rw (constants_exact.complete cs ts (token k.Colon at ∷ m) d (colon_no_comma at m), expect_complete k.Colon at m, i.complete x m r (ends, d', λ e. o.1) o.0) refl
@@ -266,7 +266,7 @@ module _ (E : Symbol Expr) (p : Parser Expr) (h : Exact (Ends 1) E p) where
     unelsed : {y : Statement} {ts r : Tokens} → IsStatement E S false y ts r → Greedy (IsStatement E S) y ts r
     unelsed d = (false, d, λ e. never e)
 
-    assigned_sound : (called : Span) (xs : List Selector) (at : Option Span) (ts l m : Tokens) (y : Statement) (r : Tokens) → Many (IsSelector E) xs l ts → (at ≡ None → ts ≡ m) → ((a : Span) → at ≡ Some a → ts ≡ token k.Assign a ∷ m) → read.assigned p called xs at m ≡ Some (y, r) → Greedy (IsStatement E S) y (token k.Name called ∷ l) r
+    assigned_sound : (called : Span) (xs : List Selector) (at : Option Span) (ts l m : Tokens) (y : Statement) (r : Tokens) → Many (IsSelector E) xs l ts → (at ≡ None → ts ≡ m) → ((a : Span) → at ≡ Some a → ts ≡ token k.Assign a ∷ m) → read.assigned p called xs at m ≡ Ok (y, r) → Greedy (IsStatement E S) y (token k.Name called ∷ l) r
     assigned_sound called xs (Some at) ts l m y r d absent present e =
         let b = both_steps (p m) _ y r e in
         at_last (Greedy (IsStatement E S)) _ _ y b.1 r b.3 (unelsed (assign (selected (subst (λ z. Many (IsSelector E) xs l z) (present at refl) d)) (h.sound m b.0 b.1 b.2)))
@@ -275,7 +275,7 @@ module _ (E : Symbol Expr) (p : Parser Expr) (h : Exact (Ends 1) E p) where
         subst (λ z. Greedy (IsStatement E S) y (token k.Name called ∷ z) r) (sym same_rest) (at_last (Greedy (IsStatement E S)) _ _ y m r e (unelsed procedure))
     assigned_sound called (x ∷ xs) None ts l m y r d absent present e = cc
 
-    after_name_sound : (at : Span) (ts : Tokens) (y : Statement) (r : Tokens) → read.after_name p at ts ≡ Some (y, r) → Greedy (IsStatement E S) y (token k.Name at ∷ ts) r
+    after_name_sound : (at : Span) (ts : Tokens) (y : Statement) (r : Tokens) → read.after_name p at ts ≡ Ok (y, r) → Greedy (IsStatement E S) y (token k.Name at ∷ ts) r
     unfolding read.after_name
     after_name_sound at ts y r e =
         elim (eat_sound k.LeftParen ts _ y r e) [
@@ -290,7 +290,7 @@ module _ (E : Symbol Expr) (p : Parser Expr) (h : Exact (Ends 1) E p) where
               ])
         ]
 
-    compound_sound : (at : Span) (ts : Tokens) (y : Statement) (r : Tokens) → read.compound p q ts ≡ Some (y, r) → Greedy (IsStatement E S) y (token k.Begin at ∷ ts) r
+    compound_sound : (at : Span) (ts : Tokens) (y : Statement) (r : Tokens) → read.compound p q ts ≡ Ok (y, r) → Greedy (IsStatement E S) y (token k.Begin at ∷ ts) r
     unfolding read.compound read.sequence
     compound_sound at ts y r e =
         let b = both_steps (separated k.Semicolon q ts) _ y r e in
@@ -302,7 +302,7 @@ module _ (E : Symbol Expr) (p : Parser Expr) (h : Exact (Ends 1) E p) where
     closed_before_else x l other m (false, d, g) = d
     closed_before_else x l other m (true, d, g) = (let t : true ≡ false = g refl in cc)
 
-    if_sound : (at : Span) (ts : Tokens) (y : Statement) (r : Tokens) → read.if_statement p q ts ≡ Some (y, r) → Greedy (IsStatement E S) y (token k.If at ∷ ts) r
+    if_sound : (at : Span) (ts : Tokens) (y : Statement) (r : Tokens) → read.if_statement p q ts ≡ Ok (y, r) → Greedy (IsStatement E S) y (token k.If at ∷ ts) r
     unfolding read.if_statement
     if_sound at ts y r e =
         let b = both_steps (p ts) _ y r e in
@@ -318,7 +318,7 @@ module _ (E : Symbol Expr) (p : Parser Expr) (h : Exact (Ends 1) E p) where
           | inr w ↦ at_last (Greedy (IsStatement E S)) _ _ y d.1 r w.1 (true, if_then condition g.1, λ e. w.0)
         ]
 
-    case_sound : (at : Span) (ts : Tokens) (y : Statement) (r : Tokens) → read.case_statement p q at ts ≡ Some (y, r) → Greedy (IsStatement E S) y (token k.Case at ∷ ts) r
+    case_sound : (at : Span) (ts : Tokens) (y : Statement) (r : Tokens) → read.case_statement p q at ts ≡ Ok (y, r) → Greedy (IsStatement E S) y (token k.Case at ∷ ts) r
     unfolding read.case_statement
     case_sound at ts y r e =
         let b = both_steps (p ts) _ y r e in
@@ -328,7 +328,7 @@ module _ (E : Symbol Expr) (p : Parser Expr) (h : Exact (Ends 1) E p) where
         at_last (Greedy (IsStatement E S)) _ _ y f.1 r f.3 (unelsed (case (subst (λ z. E b.0 ts z) (expect_sound k.Of b.1 c.0 c.1 c.2) (h.sound ts b.0 b.1 b.2))
         (subst (λ z. Terminated k.Semicolon (IsElement S) d.0 c.1 z) (expect_sound k.End d.1 f.0 f.1 f.2) (elements_exact.sound c.1 d.0 d.1 d.2))))
 
-    while_sound : (at : Span) (ts : Tokens) (y : Statement) (r : Tokens) → read.while_statement p q ts ≡ Some (y, r) → Greedy (IsStatement E S) y (token k.While at ∷ ts) r
+    while_sound : (at : Span) (ts : Tokens) (y : Statement) (r : Tokens) → read.while_statement p q ts ≡ Ok (y, r) → Greedy (IsStatement E S) y (token k.While at ∷ ts) r
     unfolding read.while_statement
     while_sound at ts y r e =
         let b = both_steps (p ts) _ y r e in
@@ -337,7 +337,7 @@ module _ (E : Symbol Expr) (p : Parser Expr) (h : Exact (Ends 1) E p) where
         let g = i.sound c.1 d.0 d.1 d.2 in
         at_last (Greedy (IsStatement E S)) _ _ y d.1 r d.3 (g.0, while (subst (λ z. E b.0 ts z) (expect_sound k.Do b.1 c.0 c.1 c.2) (h.sound ts b.0 b.1 b.2)) g.1, g.2)
 
-    repeat_sound : (at : Span) (ts : Tokens) (y : Statement) (r : Tokens) → read.repeat_statement p q ts ≡ Some (y, r) → Greedy (IsStatement E S) y (token k.Repeat at ∷ ts) r
+    repeat_sound : (at : Span) (ts : Tokens) (y : Statement) (r : Tokens) → read.repeat_statement p q ts ≡ Ok (y, r) → Greedy (IsStatement E S) y (token k.Repeat at ∷ ts) r
     unfolding read.repeat_statement read.sequence
     repeat_sound at ts y r e =
         let b = both_steps (separated k.Semicolon q ts) _ y r e in
@@ -345,7 +345,7 @@ module _ (E : Symbol Expr) (p : Parser Expr) (h : Exact (Ends 1) E p) where
         let d = both_steps (p c.1) _ y r c.3 in
         at_last (Greedy (IsStatement E S)) _ _ y d.1 r d.3 (unelsed (repeat (subst (λ z. Separated k.Semicolon (InSequence S) b.0 ts z) (expect_sound k.Until b.1 c.0 c.1 c.2) (sequence_exact.sound ts b.0 b.1 b.2)) (h.sound c.1 d.0 d.1 d.2)))
 
-    for_sound : (at : Span) (ts : Tokens) (y : Statement) (r : Tokens) → read.for_statement p q ts ≡ Some (y, r) → Greedy (IsStatement E S) y (token k.For at ∷ ts) r
+    for_sound : (at : Span) (ts : Tokens) (y : Statement) (r : Tokens) → read.for_statement p q ts ≡ Ok (y, r) → Greedy (IsStatement E S) y (token k.For at ∷ ts) r
     unfolding read.for_statement
     for_sound at ts y r e =
         let a = both_steps (expect k.Name ts) _ y r e in
@@ -362,7 +362,7 @@ module _ (E : Symbol Expr) (p : Parser Expr) (h : Exact (Ends 1) E p) where
           | inr w ↦ cc
         ]
 
-    with_sound : (at : Span) (ts : Tokens) (y : Statement) (r : Tokens) → read.with_statement p q ts ≡ Some (y, r) → Greedy (IsStatement E S) y (token k.With at ∷ ts) r
+    with_sound : (at : Span) (ts : Tokens) (y : Statement) (r : Tokens) → read.with_statement p q ts ≡ Ok (y, r) → Greedy (IsStatement E S) y (token k.With at ∷ ts) r
     unfolding read.with_statement
     with_sound at ts y r e =
         let b = both_steps (separated k.Comma (read.named_variable p) ts) _ y r e in
@@ -371,7 +371,7 @@ module _ (E : Symbol Expr) (p : Parser Expr) (h : Exact (Ends 1) E p) where
         let g = i.sound c.1 d.0 d.1 d.2 in
         at_last (Greedy (IsStatement E S)) _ _ y d.1 r d.3 (g.0, with (subst (λ z. Separated k.Comma (IsVariable E) b.0 ts z) (expect_sound k.Do b.1 c.0 c.1 c.2) (variables_exact.sound ts b.0 b.1 b.2)) g.1, g.2)
 
-    statement_by_sound : (kind : Kind) (at : Span) (ts : Tokens) (y : Statement) (r : Tokens) → read.statement_by p q kind at (token kind at ∷ ts) ≡ Some (y, r) → Greedy (IsStatement E S) y (token kind at ∷ ts) r
+    statement_by_sound : (kind : Kind) (at : Span) (ts : Tokens) (y : Statement) (r : Tokens) → read.statement_by p q kind at (token kind at ∷ ts) ≡ Ok (y, r) → Greedy (IsStatement E S) y (token kind at ∷ ts) r
     statement_by_sound k.Name at ts y r e = after_name_sound at ts y r e
     statement_by_sound k.Begin at ts y r e = compound_sound at ts y r e
     statement_by_sound k.If at ts y r e = if_sound at ts y r e
@@ -382,13 +382,13 @@ module _ (E : Symbol Expr) (p : Parser Expr) (h : Exact (Ends 1) E p) where
     statement_by_sound k.With at ts y r e = with_sound at ts y r e
     statement_by_sound kind at ts y r e = at_last (Greedy (IsStatement E S)) _ _ y (token kind at ∷ ts) r e (unelsed empty)
 
-    statement_sound : (ts : Tokens) (y : Statement) (r : Tokens) → read.any_statement p q ts ≡ Some (y, r) → Greedy (IsStatement E S) y ts r
+    statement_sound : (ts : Tokens) (y : Statement) (r : Tokens) → read.any_statement p q ts ≡ Ok (y, r) → Greedy (IsStatement E S) y ts r
     unfolding read.any_statement
     statement_sound [] y r e = at_last (Greedy (IsStatement E S)) _ _ y [] r e (unelsed empty)
     statement_sound (t ∷ ts) y r e = statement_by_sound t.kind t.span ts y r e
 
     -- ---- and back
-    no_statement : (kind : Kind) (at : Span) (ts : Tokens) → 0 < follow kind → read.statement_by p q kind at ts ≡ Some (s.Empty, ts)
+    no_statement : (kind : Kind) (at : Span) (ts : Tokens) → 0 < follow kind → read.statement_by p q kind at ts ≡ Ok (s.Empty, ts)
     no_statement k.Name at ts o = absurd (omega arith)
     no_statement k.Begin at ts o = absurd (omega arith)
     no_statement k.If at ts o = absurd (omega arith)
@@ -400,24 +400,24 @@ module _ (E : Symbol Expr) (p : Parser Expr) (h : Exact (Ends 1) E p) where
     no_statement kind at ts o = refl
 
     -- the parts of an assignment and a call
-    assign_complete : (at becomes : Span) (xs : List Selector) (x : Expr) (l m r : Tokens) → Many (IsSelector E) xs l (token k.Assign becomes ∷ m) → E x m r → Ends 1 r → read.after_name p at l ≡ Some (s.Assign (record { name = at; selectors = xs }) becomes x, r)
+    assign_complete : (at becomes : Span) (xs : List Selector) (x : Expr) (l m r : Tokens) → Many (IsSelector E) xs l (token k.Assign becomes ∷ m) → E x m r → Ends 1 r → read.after_name p at l ≡ Ok (s.Assign (record { name = at; selectors = xs }) becomes x, r)
     unfolding read.after_name
     assign_complete at becomes xs x l m r d d' o =
         eat_missed k.LeftParen l _ (no_call E p h xs l (token k.Assign becomes ∷ m) d (omega arith))
         ∙ rw ((selectors_exact E p h).complete xs l (token k.Assign becomes ∷ m) d (omega arith)) (accept_found k.Assign becomes m _ ∙ rw (h.complete x m r d' o) refl)
 
-    procedure_complete : (at : Span) (r : Tokens) → Follows r → read.after_name p at r ≡ Some (s.Call at [], r)
+    procedure_complete : (at : Span) (r : Tokens) → Follows r → read.after_name p at r ≡ Ok (s.Call at [], r)
     unfolding read.after_name
     procedure_complete at r o =
         eat_missed k.LeftParen r _ (follows_unseen k.LeftParen r o refl)
         ∙ rw ((selectors_exact E p h).complete [] r r none (follows_ends 4 r (omega arith) o)) (accept_missed k.Assign r _ (follows_unseen k.Assign r o refl))
 
-    call_complete : (at left right : Span) (xs : List Parameter) (l r : Tokens) → Separated k.Comma (IsParameter E) xs l (token k.RightParen right ∷ r) → read.after_name p at (token k.LeftParen left ∷ l) ≡ Some (s.Call at xs, r)
+    call_complete : (at left right : Span) (xs : List Parameter) (l r : Tokens) → Separated k.Comma (IsParameter E) xs l (token k.RightParen right ∷ r) → read.after_name p at (token k.LeftParen left ∷ l) ≡ Ok (s.Call at xs, r)
     unfolding read.after_name
     call_complete at left right xs l r d =
         eat_found k.LeftParen left l _ ∙ rw (parameters_exact.complete xs l (token k.RightParen right ∷ r) d (at_paren right r), expect_complete k.RightParen right r) refl
 
-    statement_complete : (ends : Bool) (y : Statement) (ts r : Tokens) → IsStatement E S ends y ts r → (ends ≡ true → sees k.Else r ≡ false) → Follows r → read.any_statement p q ts ≡ Some (y, r)
+    statement_complete : (ends : Bool) (y : Statement) (ts r : Tokens) → IsStatement E S ends y ts r → (ends ≡ true → sees k.Else r ≡ false) → Follows r → read.any_statement p q ts ≡ Ok (y, r)
     unfolding read.any_statement read.compound read.sequence read.if_statement read.case_statement read.while_statement read.repeat_statement read.for_statement read.with_statement
     statement_complete ends y ts [] empty g o = refl
     statement_complete ends y ts (t ∷ r) empty g o = no_statement t.kind t.span (t ∷ r) o

@@ -1,5 +1,5 @@
 -- Names, ordinals and types are read exactly.
-use Rattle.std.proofs.Common.{◌≡◌, ℕ, zero, suc, ◌<◌, ◌≤◌, true, false, List, [], ◌∷◌, length, Some, None, inl, inr, refl, sym, ap, ◌∙◌, subst, arith}
+use Rattle.std.proofs.Common.{◌≡◌, ℕ, zero, suc, ◌<◌, ◌≤◌, true, false, List, [], ◌∷◌, length, Some, None, Ok, Err, inl, inr, refl, sym, ap, ◌∙◌, subst, arith}
 use Rattle.ps_text.specs.declared.Span.{Span}
 use Rattle.ps_scan.specs.declared.token.Kind.{Kind}
 use Rattle.ps_scan.specs.declared.token.Kind.TheVariants as k
@@ -25,10 +25,10 @@ use Rattle.ps_parse.proofs.Lists.{separated_exact, terminated_exact}
 use Rattle.ps_parse.proofs.ExactStatements.{Anything, NoComma, constant_exact}
 
 -- ---- names
-name_sound : (ts : Tokens) (x : Span) (r : Tokens) → expect k.Name ts ≡ Some (x, r) → IsName x ts r
+name_sound : (ts : Tokens) (x : Span) (r : Tokens) → expect k.Name ts ≡ Ok (x, r) → IsName x ts r
 name_sound ts x r e = subst (λ z. IsName x z r) (sym (expect_sound k.Name ts x r e)) name
 
-name_complete : (x : Span) (ts r : Tokens) → IsName x ts r → Anything r → expect k.Name ts ≡ Some (x, r)
+name_complete : (x : Span) (ts r : Tokens) → IsName x ts r → Anything r → expect k.Name ts ≡ Ok (x, r)
 name_complete x ts r name o = expect_complete k.Name x r
 
 name_shrinks : (x : Span) (ts r : Tokens) → IsName x ts r → length r ≤ length ts
@@ -67,13 +67,13 @@ plain_name x at ts m (st.name {at = b}) e = (let q : b ≡ at = cc in ap (λ (z 
 plain_name x at ts m (signed_name s) e = cc
 plain_name x at ts m text e = cc
 
-dotted_sound : (x : Constant) (ts m : Tokens) (y : Ordinal) (r : Tokens) → IsConstant x ts m → and_then (expect k.DotDot m) (λ at n. and_then (constant n) (λ z. pure (o.Subrange x z))) ≡ Some (y, r) → IsOrdinal y ts r
+dotted_sound : (x : Constant) (ts m : Tokens) (y : Ordinal) (r : Tokens) → IsConstant x ts m → and_then (expect k.DotDot m) (λ at n. and_then (constant n) (λ z. pure (o.Subrange x z))) ≡ Ok (y, r) → IsOrdinal y ts r
 dotted_sound x ts m y r d e =
     let b = both_steps (expect k.DotDot m) _ y r e in
     let f = both_steps (constant b.1) _ y r b.3 in
     at_last IsOrdinal ts _ y f.1 r f.3 (subrange (subst (λ z. IsConstant x ts z) (expect_sound k.DotDot m b.0 b.1 b.2) d) (constant_exact.sound b.1 f.0 f.1 f.2))
 
-after_constant_sound : (x : Constant) (ts m : Tokens) (y : Ordinal) (r : Tokens) → IsConstant x ts m → read.after_constant x m ≡ Some (y, r) → IsOrdinal y ts r
+after_constant_sound : (x : Constant) (ts m : Tokens) (y : Ordinal) (r : Tokens) → IsConstant x ts m → read.after_constant x m ≡ Ok (y, r) → IsOrdinal y ts r
 after_constant_sound (c.Name None at) ts m y r d e =
     elim (eat_sound k.DotDot m _ y r e) [
       | inl w ↦ (let f = both_steps (constant w.1) _ y r w.3 in
@@ -84,14 +84,14 @@ after_constant_sound (c.Name (Some s) at) ts m y r d e = dotted_sound (c.Name (S
 after_constant_sound (c.Number s at) ts m y r d e = dotted_sound (c.Number s at) ts m y r d e
 after_constant_sound (c.Text at) ts m y r d e = dotted_sound (c.Text at) ts m y r d e
 
-enumeration_sound : (at : Span) (ts : Tokens) (y : Ordinal) (r : Tokens) → read.enumeration at ts ≡ Some (y, r) → IsOrdinal y (token k.LeftParen at ∷ ts) r
+enumeration_sound : (at : Span) (ts : Tokens) (y : Ordinal) (r : Tokens) → read.enumeration at ts ≡ Ok (y, r) → IsOrdinal y (token k.LeftParen at ∷ ts) r
 unfolding read.enumeration
 enumeration_sound at ts y r e =
     let b = both_steps (read.names ts) _ y r e in
     let f = both_steps (expect k.RightParen b.1) _ y r b.3 in
     at_last IsOrdinal _ _ y f.1 r f.3 (enumeration (subst (λ z. IsNames b.0 ts z) (expect_sound k.RightParen b.1 f.0 f.1 f.2) (names_exact.sound ts b.0 b.1 b.2)))
 
-ordinal_sound : (ts : Tokens) (y : Ordinal) (r : Tokens) → read.ordinal ts ≡ Some (y, r) → IsOrdinal y ts r
+ordinal_sound : (ts : Tokens) (y : Ordinal) (r : Tokens) → read.ordinal ts ≡ Ok (y, r) → IsOrdinal y ts r
 unfolding read.ordinal
 ordinal_sound ts y r e =
     elim (accept_sound k.LeftParen ts _ y r e) [
@@ -109,13 +109,13 @@ constant_no_paren x ts r (signed_name sign.Plus) = refl
 constant_no_paren x ts r (signed_name sign.Minus) = refl
 constant_no_paren x ts r text = refl
 
-dotted_complete : (x y : Constant) (at : Span) (m r : Tokens) → IsConstant y m r → read.after_constant x (token k.DotDot at ∷ m) ≡ Some (o.Subrange x y, r)
+dotted_complete : (x y : Constant) (at : Span) (m r : Tokens) → IsConstant y m r → read.after_constant x (token k.DotDot at ∷ m) ≡ Ok (o.Subrange x y, r)
 dotted_complete (c.Name None b) y at m r d = eat_found k.DotDot at m _ ∙ rw (constant_exact.complete y m r d tt) refl
 dotted_complete (c.Name (Some s) b) y at m r d = rw (expect_complete k.DotDot at m, constant_exact.complete y m r d tt) refl
 dotted_complete (c.Number s b) y at m r d = rw (expect_complete k.DotDot at m, constant_exact.complete y m r d tt) refl
 dotted_complete (c.Text b) y at m r d = rw (expect_complete k.DotDot at m, constant_exact.complete y m r d tt) refl
 
-ordinal_complete : (y : Ordinal) (ts r : Tokens) → IsOrdinal y ts r → NoRange r → read.ordinal ts ≡ Some (y, r)
+ordinal_complete : (y : Ordinal) (ts r : Tokens) → IsOrdinal y ts r → NoRange r → read.ordinal ts ≡ Ok (y, r)
 unfolding read.ordinal read.enumeration
 ordinal_complete y ts r (named {at = at}) n = accept_missed k.LeftParen _ _ (constant_no_paren _ _ r (st.name {at = at})) ∙ rw (constant_exact.complete (c.Name None at) _ r st.name tt) (eat_missed k.DotDot r _ n)
 ordinal_complete y ts r (enumeration {left = left} {right = right} {xs = xs} {ts = l} d) n =
@@ -168,7 +168,7 @@ module _ (I : Symbol Ordinal) (pi : Parser Ordinal) (hi : Exact NoRange I pi) (T
   indices_exact : Exact EndsIndices (Separated k.Comma I) (separated k.Comma pi)
   indices_exact = separated_exact NoRange EndsIndices k.Comma I pi hi comma_no_range (λ r o. o.0) (λ r o. o.1)
 
-  fields_sound : (ts : Tokens) (y : Fields) (r : Tokens) → read.fields pi pt ts ≡ Some (y, r) → IsFields T y ts r
+  fields_sound : (ts : Tokens) (y : Fields) (r : Tokens) → read.fields pi pt ts ≡ Ok (y, r) → IsFields T y ts r
   unfolding read.fields
   fields_sound ts y r e =
       let b = both_steps (read.names ts) _ y r e in
@@ -176,7 +176,7 @@ module _ (I : Symbol Ordinal) (pi : Parser Ordinal) (hi : Exact NoRange I pi) (T
       let g = both_steps (pt f.1) _ y r f.3 in
       at_last (IsFields T) _ _ y g.1 r g.3 (fields b.0 g.0 (subst (λ z. IsNames b.0 ts z) (expect_sound k.Colon b.1 f.0 f.1 f.2) (names_exact.sound ts b.0 b.1 b.2)) (ht.sound f.1 g.0 g.1 g.2))
 
-  fields_complete : (y : Fields) (ts r : Tokens) → IsFields T y ts r → NoRange r → read.fields pi pt ts ≡ Some (y, r)
+  fields_complete : (y : Fields) (ts r : Tokens) → IsFields T y ts r → NoRange r → read.fields pi pt ts ≡ Ok (y, r)
   unfolding read.fields
   fields_complete y ts r (fields xs x {at = at} {m = m} d d') n = rw (names_exact.complete xs ts (token k.Colon at ∷ m) d (colon_no_comma at m), expect_complete k.Colon at m, ht.complete x m r d' n) refl
 
@@ -189,7 +189,7 @@ module _ (I : Symbol Ordinal) (pi : Parser Ordinal) (hi : Exact NoRange I pi) (T
   all_fields : Exact EndsFields (Terminated k.Semicolon (IsFields T)) (terminated k.Semicolon k.End (read.fields pi pt))
   all_fields = terminated_exact NoRange EndsFields k.Semicolon k.End (IsFields T) (read.fields pi pt) (record { sound = fields_sound; complete = fields_complete; shrinks = fields_shrinks }) semicolon_no_range (λ r o. o.0) (λ r o. o.1) (λ r o. o.2) fields_begin
 
-  array_sound : (at : Span) (ts : Tokens) (y : Structure) (r : Tokens) → read.array pi pt at ts ≡ Some (y, r) → IsStructure I T y (token k.Array at ∷ ts) r
+  array_sound : (at : Span) (ts : Tokens) (y : Structure) (r : Tokens) → read.array pi pt at ts ≡ Ok (y, r) → IsStructure I T y (token k.Array at ∷ ts) r
   unfolding read.array
   array_sound at ts y r e =
       let a = both_steps (expect k.LeftBracket ts) _ y r e in
@@ -201,7 +201,7 @@ module _ (I : Symbol Ordinal) (pi : Parser Ordinal) (hi : Exact NoRange I pi) (T
       subst (λ z. IsStructure I T y (token k.Array at ∷ z) r) (sym (expect_sound k.LeftBracket ts a.0 a.1 a.2))
       (at_last (IsStructure I T) _ _ y l.1 r l.3 (array (subst (λ z. Separated k.Comma I b.0 a.1 z) middle (indices_exact.sound a.1 b.0 b.1 b.2)) (ht.sound g.1 l.0 l.1 l.2)))
 
-  record_sound : (at : Span) (ts : Tokens) (y : Structure) (r : Tokens) → read.record_of pi pt at ts ≡ Some (y, r) → IsStructure I T y (token k.Record at ∷ ts) r
+  record_sound : (at : Span) (ts : Tokens) (y : Structure) (r : Tokens) → read.record_of pi pt at ts ≡ Ok (y, r) → IsStructure I T y (token k.Record at ∷ ts) r
   unfolding read.record_of
   record_sound at ts y r e =
       elim (eat_sound k.End ts _ y r e) [
@@ -211,20 +211,20 @@ module _ (I : Symbol Ordinal) (pi : Parser Ordinal) (hi : Exact NoRange I pi) (T
             at_last (IsStructure I T) _ _ y f.1 r f.3 (filled_record (subst (λ z. Terminated k.Semicolon (IsFields T) b.0 ts z) (expect_sound k.End b.1 f.0 f.1 f.2) (all_fields.sound ts b.0 b.1 b.2))))
       ]
 
-  set_sound : (at : Span) (ts : Tokens) (y : Structure) (r : Tokens) → read.set_of pi pt at ts ≡ Some (y, r) → IsStructure I T y (token k.Set at ∷ ts) r
+  set_sound : (at : Span) (ts : Tokens) (y : Structure) (r : Tokens) → read.set_of pi pt at ts ≡ Ok (y, r) → IsStructure I T y (token k.Set at ∷ ts) r
   unfolding read.set_of
   set_sound at ts y r e =
       let a = both_steps (expect k.Of ts) _ y r e in
       let b = both_steps (pi a.1) _ y r a.3 in
       subst (λ z. IsStructure I T y (token k.Set at ∷ z) r) (sym (expect_sound k.Of ts a.0 a.1 a.2)) (at_last (IsStructure I T) _ _ y b.1 r b.3 (set (hi.sound a.1 b.0 b.1 b.2)))
 
-  structure_by_sound : (kind : Kind) (at : Span) (ts : Tokens) (y : Structure) (r : Tokens) → read.structure_by pi pt kind at (token kind at ∷ ts) ≡ Some (y, r) → IsStructure I T y (token kind at ∷ ts) r
+  structure_by_sound : (kind : Kind) (at : Span) (ts : Tokens) (y : Structure) (r : Tokens) → read.structure_by pi pt kind at (token kind at ∷ ts) ≡ Ok (y, r) → IsStructure I T y (token kind at ∷ ts) r
   structure_by_sound k.Array at ts y r e = array_sound at ts y r e
   structure_by_sound k.Record at ts y r e = record_sound at ts y r e
   structure_by_sound k.Set at ts y r e = set_sound at ts y r e
   structure_by_sound kind at ts y r e = cc
 
-  structure_sound : (ts : Tokens) (y : Structure) (r : Tokens) → read.structure pi pt ts ≡ Some (y, r) → IsStructure I T y ts r
+  structure_sound : (ts : Tokens) (y : Structure) (r : Tokens) → read.structure pi pt ts ≡ Ok (y, r) → IsStructure I T y ts r
   unfolding read.structure
   structure_sound [] y r e = cc
   structure_sound (t ∷ ts) y r e = structure_by_sound t.kind t.span ts y r e
@@ -235,7 +235,7 @@ module _ (I : Symbol Ordinal) (pi : Parser Ordinal) (hi : Exact NoRange I pi) (T
   no_end_first xs ts r (trailing (one {x = x} d)) = fields_begin x ts _ d
   no_end_first xs ts r (trailing (several {x = x} d ds)) = fields_begin x ts _ d
 
-  structure_complete : (y : Structure) (ts r : Tokens) → IsStructure I T y ts r → NoRange r → read.structure pi pt ts ≡ Some (y, r)
+  structure_complete : (y : Structure) (ts r : Tokens) → IsStructure I T y ts r → NoRange r → read.structure pi pt ts ≡ Ok (y, r)
   unfolding read.structure read.array read.record_of read.set_of
   structure_complete y ts r (array {left = left} {right = right} {of = of} {xs = xs} {x = x} {ts = l} {m = m} d d') n =
       rw (expect_complete k.LeftBracket left l, indices_exact.complete xs l (token k.RightBracket right ∷ token k.Of of ∷ m) d (at_bracket right (token k.Of of ∷ m)), expect_complete k.RightBracket right (token k.Of of ∷ m), expect_complete k.Of of m, ht.complete x m r d' n) refl
@@ -250,7 +250,7 @@ module _ (I : Symbol Ordinal) (pi : Parser Ordinal) (hi : Exact NoRange I pi) (T
   structure_shrinks y ts r (filled_record {end = end} {xs = xs} {ts = l} d) = omega (arith, all_fields.shrinks xs l (token k.End end ∷ r) d)
   structure_shrinks y ts r (set {x = x} {ts = l} d) = omega (arith, hi.shrinks x l r d)
 
-  type_by_sound : (kind : Kind) (at : Span) (ts : Tokens) (y : TypeDenoter) (r : Tokens) → read.type_by pi pt kind at (token kind at ∷ ts) ≡ Some (y, r) → IsType I T y (token kind at ∷ ts) r
+  type_by_sound : (kind : Kind) (at : Span) (ts : Tokens) (y : TypeDenoter) (r : Tokens) → read.type_by pi pt kind at (token kind at ∷ ts) ≡ Ok (y, r) → IsType I T y (token kind at ∷ ts) r
   type_by_sound k.Caret at ts y r e = (let b = both_steps (expect k.Name ts) _ y r e in
       subst (λ z. IsType I T y (token k.Caret at ∷ z) r) (sym (expect_sound k.Name ts b.0 b.1 b.2)) (at_last (IsType I T) _ _ y b.1 r b.3 pointer))
   type_by_sound k.Packed at ts y r e = (let b = both_steps (read.structure pi pt ts) _ y r e in at_last (IsType I T) _ _ y b.1 r b.3 (packed (structure_sound ts b.0 b.1 b.2)))
@@ -259,7 +259,7 @@ module _ (I : Symbol Ordinal) (pi : Parser Ordinal) (hi : Exact NoRange I pi) (T
   type_by_sound k.Set at ts y r e = (let b = both_steps (read.structure pi pt (token k.Set at ∷ ts)) _ y r e in at_last (IsType I T) _ _ y b.1 r b.3 (structure (structure_sound _ b.0 b.1 b.2)))
   type_by_sound kind at ts y r e = (let b = both_steps (read.ordinal (token kind at ∷ ts)) _ y r e in at_last (IsType I T) _ _ y b.1 r b.3 (ordinal (ordinal_sound _ b.0 b.1 b.2)))
 
-  type_sound : (ts : Tokens) (y : TypeDenoter) (r : Tokens) → read.any_type pi pt ts ≡ Some (y, r) → IsType I T y ts r
+  type_sound : (ts : Tokens) (y : TypeDenoter) (r : Tokens) → read.any_type pi pt ts ≡ Ok (y, r) → IsType I T y ts r
   unfolding read.any_type
   type_sound [] y r e = cc
   type_sound (t ∷ ts) y r e = type_by_sound t.kind t.span ts y r e
@@ -288,11 +288,11 @@ module _ (I : Symbol Ordinal) (pi : Parser Ordinal) (hi : Exact NoRange I pi) (T
   unfolding read.any_type
   as_packed at ts = refl
 
-  as_pointer : (at domain : Span) (r : Tokens) → read.any_type pi pt (token k.Caret at ∷ token k.Name domain ∷ r) ≡ Some (t.Pointer at domain, r)
+  as_pointer : (at domain : Span) (r : Tokens) → read.any_type pi pt (token k.Caret at ∷ token k.Name domain ∷ r) ≡ Ok (t.Pointer at domain, r)
   unfolding read.any_type
   as_pointer at domain r = rw (expect_complete k.Name domain r) refl
 
-  type_complete : (y : TypeDenoter) (ts r : Tokens) → IsType I T y ts r → NoRange r → read.any_type pi pt ts ≡ Some (y, r)
+  type_complete : (y : TypeDenoter) (ts r : Tokens) → IsType I T y ts r → NoRange r → read.any_type pi pt ts ≡ Ok (y, r)
   type_complete y ts r (ordinal {x = x} d) n = as_ordinal x ts r d ∙ rw (ordinal_complete x ts r d n) refl
   type_complete y ts r (pointer {at = at} {domain = domain}) n = as_pointer at domain r
   type_complete y ts r (structure {x = x} d) n = as_structure x ts r d ∙ rw (structure_complete x ts r d n) refl

@@ -1,5 +1,5 @@
 -- That reading exactly lasts through lists.
-use Rattle.std.proofs.Common.{◌≡◌, ℕ, zero, suc, ◌+◌, ◌<◌, ◌≤◌, Bool, true, false, List, [], ◌∷◌, ◌++◌, length, Option, Some, None, inl, inr, refl, sym, ap, ◌∙◌, subst, arith, append_assoc, append-nil, if◌then◌else◌}
+use Rattle.std.proofs.Common.{◌≡◌, ℕ, zero, suc, ◌+◌, ◌<◌, ◌≤◌, Bool, true, false, List, [], ◌∷◌, ◌++◌, length, Option, Some, None, Ok, Err, inl, inr, refl, sym, ap, ◌∙◌, subst, arith, append_assoc, append-nil, if◌then◌else◌}
 use Rattle.ps_text.specs.declared.Span.{Span}
 use Rattle.ps_scan.specs.declared.token.Kind.{Kind}
 use Rattle.ps_grammar.specs.Symbols.{Tokens, Symbol, token, Many, Separated, Terminated, none, more, one, several, exactly, trailing}
@@ -16,18 +16,18 @@ module _ {A : Type 0} (inner outer : Tokens → Type 0) (S : Symbol A) (p : Pars
   many_shrinks xs ts r none = omega arith
   many_shrinks xs ts r (more {x = x} {xs = ys} {m = m} d ds) = omega (arith, h.shrinks x ts m d, many_shrinks ys m r ds)
 
-  pub many_complete : (n : ℕ) (found xs : List A) (ts r : Tokens) → length xs ≤ n → Many S xs ts r → outer r → many_from p n found ts ≡ Some (found ++ xs, r)
+  pub many_complete : (n : ℕ) (found xs : List A) (ts r : Tokens) → length xs ≤ n → Many S xs ts r → outer r → many_from p n found ts ≡ Ok (found ++ xs, r)
   unfolding many_from
-  many_complete zero found xs ts r le none o = ap (λ ys. Some (ys, r)) (sym (append-nil found))
-  many_complete (suc n) found xs ts r le none o = rw (h.absent r o) (ap (λ ys. Some (ys, r)) (sym (append-nil found)))
+  many_complete zero found xs ts r le none o = ap (λ ys. Ok (ys, r)) (sym (append-nil found))
+  many_complete (suc n) found xs ts r le none o = rw (h.absent r o) (ap (λ ys. Ok (ys, r)) (sym (append-nil found)))
   many_complete zero found xs ts r le (more {m = m} d ds) o = absurd (omega arith)
-  many_complete (suc n) found xs ts r le (more {x = x} {xs = ys} {m = m} d ds) o = rw (h.complete x ts m d (many_inner ys m r ds o)) (many_complete n (found ++ x ∷ []) ys m r (omega arith) ds o ∙ ap (λ zs. Some (zs, r)) (append_assoc found (x ∷ []) ys))
+  many_complete (suc n) found xs ts r le (more {x = x} {xs = ys} {m = m} d ds) o = rw (h.complete x ts m d (many_inner ys m r ds o)) (many_complete n (found ++ x ∷ []) ys m r (omega arith) ds o ∙ ap (λ zs. Ok (zs, r)) (append_assoc found (x ∷ []) ys))
 
-  next_sound : (n : ℕ) (found : List A) (ts m : Tokens) (next : Option A) (ys : List A) (r : Tokens) → p ts ≡ Some (next, m) → if_some next (λ x. many_from p n (found ++ x ∷ [])) (pure found) m ≡ Some (ys, r) → ((found' : List A) (ts' : Tokens) (ys' : List A) (r' : Tokens) → many_from p n found' ts' ≡ Some (ys', r') → (xs : List A) × (ys' ≡ found' ++ xs) × Many S xs ts' r') → (xs : List A) × (ys ≡ found ++ xs) × Many S xs ts r
+  next_sound : (n : ℕ) (found : List A) (ts m : Tokens) (next : Option A) (ys : List A) (r : Tokens) → p ts ≡ Ok (next, m) → if_some next (λ x. many_from p n (found ++ x ∷ [])) (pure found) m ≡ Ok (ys, r) → ((found' : List A) (ts' : Tokens) (ys' : List A) (r' : Tokens) → many_from p n found' ts' ≡ Ok (ys', r') → (xs : List A) × (ys' ≡ found' ++ xs) × Many S xs ts' r') → (xs : List A) × (ys ≡ found ++ xs) × Many S xs ts r
   next_sound n found ts m None ys r e e' ih = ([], sym (first_part found ys m r e') ∙ sym (append-nil found), subst (λ q. Many S [] ts q) (h.sound ts None m e ∙ second_part found ys m r e') none)
   next_sound n found ts m (Some x) ys r e e' ih = let t = ih (found ++ x ∷ []) m ys r e' in (x ∷ t.0, t.1 ∙ append_assoc found (x ∷ []) t.0, more (h.sound ts (Some x) m e) t.2)
 
-  pub many_sound : (n : ℕ) (found : List A) (ts : Tokens) (ys : List A) (r : Tokens) → many_from p n found ts ≡ Some (ys, r) → (xs : List A) × (ys ≡ found ++ xs) × Many S xs ts r
+  pub many_sound : (n : ℕ) (found : List A) (ts : Tokens) (ys : List A) (r : Tokens) → many_from p n found ts ≡ Ok (ys, r) → (xs : List A) × (ys ≡ found ++ xs) × Many S xs ts r
   unfolding many_from
   many_sound zero found ts ys r e = ([], sym (first_part found ys ts r e) ∙ sym (append-nil found), subst (λ q. Many S [] ts q) (second_part found ys ts r e) none)
   many_sound (suc n) found ts ys r e = let b = both_steps (p ts) _ ys r e in next_sound n found ts b.1 b.0 ys r b.2 b.3 (many_sound n)
@@ -46,20 +46,20 @@ module _ {A : Type 0} (inner outer : Tokens → Type 0) (separator : Kind) (S : 
   separated_shrinks xs ts r (one {x = x} d) = omega (arith, h.shrinks x ts r d)
   separated_shrinks xs ts r (several {x = x} {xs = ys} {m = m} {at = at} d ds) = omega (arith, h.shrinks x ts (token separator at ∷ m) d, separated_shrinks ys m r ds)
 
-  from_stops : (n : ℕ) (found : List A) (r : Tokens) → outer r → separated_from separator p n found r ≡ Some (found, r)
+  from_stops : (n : ℕ) (found : List A) (r : Tokens) → outer r → separated_from separator p n found r ≡ Ok (found, r)
   unfolding separated_from
   from_stops zero found r o = refl
   from_stops (suc n) found r o = eat_missed separator r _ (stops r o)
 
-  from_complete : (n : ℕ) (found : List A) (at : Span) (xs : List A) (m r : Tokens) → length xs ≤ suc n → Separated separator S xs m r → outer r → separated_from separator p (suc n) found (token separator at ∷ m) ≡ Some (found ++ xs, r)
+  from_complete : (n : ℕ) (found : List A) (at : Span) (xs : List A) (m r : Tokens) → length xs ≤ suc n → Separated separator S xs m r → outer r → separated_from separator p (suc n) found (token separator at ∷ m) ≡ Ok (found ++ xs, r)
   unfolding separated_from
   from_complete n found at xs m r le (one {x = x} d) o = eat_found separator at m _ ∙ rw (h.complete x m r d (weaker r o)) (from_stops n (found ++ x ∷ []) r o)
   from_complete zero found at xs m r le (several d (one d')) o = absurd (omega arith)
   from_complete zero found at xs m r le (several d (several d' ds)) o = absurd (omega arith)
   from_complete (suc n) found at xs m r le (several {x = x} {xs = ys} {m = m'} {at = at'} d ds) o =
-      eat_found separator at m _ ∙ rw (h.complete x m (token separator at' ∷ m') d (between at' m')) (from_complete n (found ++ x ∷ []) at' ys m' r (omega arith) ds o ∙ ap (λ zs. Some (zs, r)) (append_assoc found (x ∷ []) ys))
+      eat_found separator at m _ ∙ rw (h.complete x m (token separator at' ∷ m') d (between at' m')) (from_complete n (found ++ x ∷ []) at' ys m' r (omega arith) ds o ∙ ap (λ zs. Ok (zs, r)) (append_assoc found (x ∷ []) ys))
 
-  from_sound : (n : ℕ) (found : List A) (ts : Tokens) (ys : List A) (r : Tokens) → separated_from separator p n found ts ≡ Some (ys, r) → (xs : List A) × (ys ≡ found ++ xs) × ((x : A) (start : Tokens) → S x start ts → Separated separator S (x ∷ xs) start r)
+  from_sound : (n : ℕ) (found : List A) (ts : Tokens) (ys : List A) (r : Tokens) → separated_from separator p n found ts ≡ Ok (ys, r) → (xs : List A) × (ys ≡ found ++ xs) × ((x : A) (start : Tokens) → S x start ts → Separated separator S (x ∷ xs) start r)
   unfolding separated_from
   from_sound zero found ts ys r e = ([], sym (first_part found ys ts r e) ∙ sym (append-nil found), λ x start d. one (subst (λ q. S x start q) (second_part found ys ts r e) d))
   from_sound (suc n) found ts ys r e =
@@ -69,13 +69,13 @@ module _ {A : Type 0} (inner outer : Tokens → Type 0) (separator : Kind) (S : 
         | inr w ↦ ([], sym (first_part found ys ts r w) ∙ sym (append-nil found), λ x start d. one (subst (λ q. S x start q) (second_part found ys ts r w) d))
       ]
 
-  separated_complete : (xs : List A) (ts r : Tokens) → Separated separator S xs ts r → outer r → separated separator p ts ≡ Some (xs, r)
+  separated_complete : (xs : List A) (ts r : Tokens) → Separated separator S xs ts r → outer r → separated separator p ts ≡ Ok (xs, r)
   unfolding separated
   separated_complete xs ts r (one {x = x} d) o = rw (h.complete x ts r d (weaker r o)) (from_stops (length r) (x ∷ []) r o)
   separated_complete xs ts r (several {x = x} {xs = ys} {m = m} {at = at} d ds) o =
       rw (h.complete x ts (token separator at ∷ m) d (between at m)) (from_complete (length m) (x ∷ []) at ys m r (omega (arith, separated_shrinks ys m r ds)) ds o)
 
-  separated_sound : (ts : Tokens) (ys : List A) (r : Tokens) → separated separator p ts ≡ Some (ys, r) → Separated separator S ys ts r
+  separated_sound : (ts : Tokens) (ys : List A) (r : Tokens) → separated separator p ts ≡ Ok (ys, r) → Separated separator S ys ts r
   unfolding separated
   separated_sound ts ys r e = let b = both_steps (p ts) _ ys r e in let t = from_sound (length b.1) (b.0 ∷ []) b.1 ys r b.3 in
       subst (λ zs. Separated separator S zs ts r) (sym t.1) (t.2 b.0 ts (h.sound ts b.0 b.1 b.2))
@@ -99,36 +99,36 @@ many_nil S xs ts r (more d ds) e = cc
 module _ {A : Type 0} (inner outer : Tokens → Type 0) (separator stop : Kind) (S : Symbol A) (p : Parser A) (h : Exact inner S p)
     (between : (at : Span) (m : Tokens) → inner (token separator at ∷ m)) (weaker : (r : Tokens) → outer r → inner r) (stops : (r : Tokens) → outer r → sees separator r ≡ false)
     (ended : (r : Tokens) → outer r → sees stop r ≡ true) (begins : (x : A) (ts r : Tokens) → S x ts r → sees stop ts ≡ false) where
-  run_stops : (n : ℕ) (found : List A) (r : Tokens) → outer r → terminated_from separator stop p n found r ≡ Some (found, r)
+  run_stops : (n : ℕ) (found : List A) (r : Tokens) → outer r → terminated_from separator stop p n found r ≡ Ok (found, r)
   unfolding terminated_from
   run_stops zero found r o = refl
   run_stops (suc n) found r o = eat_missed separator r _ (stops r o)
 
-  run_trails : (n : ℕ) (found : List A) (at : Span) (r : Tokens) → 1 ≤ n → outer r → terminated_from separator stop p n found (token separator at ∷ r) ≡ Some (found, r)
+  run_trails : (n : ℕ) (found : List A) (at : Span) (r : Tokens) → 1 ≤ n → outer r → terminated_from separator stop p n found (token separator at ∷ r) ≡ Ok (found, r)
   unfolding terminated_from
   run_trails zero found at r le o = absurd (omega arith)
   run_trails (suc n) found at r le o = eat_found separator at r _ ∙ (look_is stop r _ ∙ rw (ended r o) refl)
 
-  run_complete : (r e : Tokens) (need : ℕ) → inner e → ((n : ℕ) (found : List A) → need ≤ n → terminated_from separator stop p n found e ≡ Some (found, r)) → (n : ℕ) (found : List A) (at : Span) (xs : List A) (m : Tokens) → need + length xs ≤ suc n → Separated separator S xs m e → terminated_from separator stop p (suc n) found (token separator at ∷ m) ≡ Some (found ++ xs, r)
+  run_complete : (r e : Tokens) (need : ℕ) → inner e → ((n : ℕ) (found : List A) → need ≤ n → terminated_from separator stop p n found e ≡ Ok (found, r)) → (n : ℕ) (found : List A) (at : Span) (xs : List A) (m : Tokens) → need + length xs ≤ suc n → Separated separator S xs m e → terminated_from separator stop p (suc n) found (token separator at ∷ m) ≡ Ok (found ++ xs, r)
   unfolding terminated_from
   run_complete r e need o fin n found at xs m le (one {x = x} d) =
       eat_found separator at m _ ∙ (look_is stop m _ ∙ rw (begins x m e d, h.complete x m e d o) (fin n (found ++ x ∷ []) (omega arith)))
   run_complete r e need o fin zero found at xs m le (several d (one d')) = absurd (omega arith)
   run_complete r e need o fin zero found at xs m le (several d (several d' ds)) = absurd (omega arith)
   run_complete r e need o fin (suc n) found at xs m le (several {x = x} {xs = ys} {m = m'} {at = at'} d ds) =
-      eat_found separator at m _ ∙ (look_is stop m _ ∙ rw (begins x m _ d, h.complete x m (token separator at' ∷ m') d (between at' m')) (run_complete r e need o fin n (found ++ x ∷ []) at' ys m' (omega arith) ds ∙ ap (λ zs. Some (zs, r)) (append_assoc found (x ∷ []) ys)))
+      eat_found separator at m _ ∙ (look_is stop m _ ∙ rw (begins x m _ d, h.complete x m (token separator at' ∷ m') d (between at' m')) (run_complete r e need o fin n (found ++ x ∷ []) at' ys m' (omega arith) ds ∙ ap (λ zs. Ok (zs, r)) (append_assoc found (x ∷ []) ys)))
 
   separated_count : (xs : List A) (ts r : Tokens) → Separated separator S xs ts r → length r + length xs ≤ suc (length ts)
   separated_count xs ts r (one {x = x} d) = omega (arith, h.shrinks x ts r d)
   separated_count xs ts r (several {x = x} {xs = ys} {m = m} {at = at} d ds) = omega (arith, h.shrinks x ts (token separator at ∷ m) d, separated_count ys m r ds)
 
-  all_complete : (r e : Tokens) (need : ℕ) → need ≤ length e → inner e → ((n : ℕ) (found : List A) → need ≤ n → terminated_from separator stop p n found e ≡ Some (found, r)) → (xs : List A) (ts : Tokens) → Separated separator S xs ts e → terminated separator stop p ts ≡ Some (xs, r)
+  all_complete : (r e : Tokens) (need : ℕ) → need ≤ length e → inner e → ((n : ℕ) (found : List A) → need ≤ n → terminated_from separator stop p n found e ≡ Ok (found, r)) → (xs : List A) (ts : Tokens) → Separated separator S xs ts e → terminated separator stop p ts ≡ Ok (xs, r)
   unfolding terminated
   all_complete r e need le o fin xs ts (one {x = x} d) = rw (h.complete x ts e d o) (fin (length e) (x ∷ []) le)
   all_complete r e need le o fin xs ts (several {x = x} {xs = ys} {m = m} {at = at} d ds) =
       rw (h.complete x ts (token separator at ∷ m) d (between at m)) (run_complete r e need o fin (length m) (x ∷ []) at ys m (omega (arith, separated_count ys m e ds)) ds)
 
-  terminated_complete : (xs : List A) (ts r : Tokens) → Terminated separator S xs ts r → outer r → terminated separator stop p ts ≡ Some (xs, r)
+  terminated_complete : (xs : List A) (ts r : Tokens) → Terminated separator S xs ts r → outer r → terminated separator stop p ts ≡ Ok (xs, r)
   terminated_complete xs ts r (exactly d) o = all_complete r r 0 (omega arith) (weaker r o) (λ n found le. run_stops n found r o) xs ts d
   terminated_complete xs ts r (trailing {at = at} d) o = all_complete r (token separator at ∷ r) 1 (omega arith) (between at r) (λ n found le. run_trails n found at r le o) xs ts d
 
@@ -139,15 +139,15 @@ module _ {A : Type 0} (inner outer : Tokens → Type 0) (separator stop : Kind) 
   Run : List A → Tokens → Tokens → Type 0
   Run xs ts r = (x : A) (start : Tokens) → S x start ts → Terminated separator S (x ∷ xs) start r
 
-  end_case : (n : ℕ) (found : List A) (b : Bool) (at : Span) (m : Tokens) (ys : List A) (r : Tokens) → (if b then pure found else (p >>= (λ x. terminated_from separator stop p n (found ++ x ∷ [])))) m ≡ Some (ys, r)
-      → ((found' : List A) (ts' : Tokens) (ys' : List A) (r' : Tokens) → terminated_from separator stop p n found' ts' ≡ Some (ys', r') → (xs : List A) × (ys' ≡ found' ++ xs) × Run xs ts' r') → (xs : List A) × (ys ≡ found ++ xs) × Run xs (token separator at ∷ m) r
+  end_case : (n : ℕ) (found : List A) (b : Bool) (at : Span) (m : Tokens) (ys : List A) (r : Tokens) → (if b then pure found else (p >>= (λ x. terminated_from separator stop p n (found ++ x ∷ [])))) m ≡ Ok (ys, r)
+      → ((found' : List A) (ts' : Tokens) (ys' : List A) (r' : Tokens) → terminated_from separator stop p n found' ts' ≡ Ok (ys', r') → (xs : List A) × (ys' ≡ found' ++ xs) × Run xs ts' r') → (xs : List A) × (ys ≡ found ++ xs) × Run xs (token separator at ∷ m) r
   unfolding Run
   end_case n found true at m ys r e ih = ([], sym (first_part found ys m r e) ∙ sym (append-nil found), λ x start d. trailing (one (subst (λ q. S x start (token separator at ∷ q)) (second_part found ys m r e) d)))
   end_case n found false at m ys r e ih =
       let b = both_steps (p m) _ ys r e in let t = ih (found ++ b.0 ∷ []) b.1 ys r b.3 in
       (b.0 ∷ t.0, t.1 ∙ append_assoc found (b.0 ∷ []) t.0, λ x start d. with_front x (b.0 ∷ t.0) start m r at d (t.2 b.0 m (h.sound m b.0 b.1 b.2)))
 
-  run_sound : (n : ℕ) (found : List A) (ts : Tokens) (ys : List A) (r : Tokens) → terminated_from separator stop p n found ts ≡ Some (ys, r) → (xs : List A) × (ys ≡ found ++ xs) × Run xs ts r
+  run_sound : (n : ℕ) (found : List A) (ts : Tokens) (ys : List A) (r : Tokens) → terminated_from separator stop p n found ts ≡ Ok (ys, r) → (xs : List A) × (ys ≡ found ++ xs) × Run xs ts r
   unfolding terminated_from Run
   run_sound zero found ts ys r e = ([], sym (first_part found ys ts r e) ∙ sym (append-nil found), λ x start d. exactly (one (subst (λ q. S x start q) (second_part found ys ts r e) d)))
   run_sound (suc n) found ts ys r e =
@@ -156,7 +156,7 @@ module _ {A : Type 0} (inner outer : Tokens → Type 0) (separator stop : Kind) 
         | inr w ↦ ([], sym (first_part found ys ts r w) ∙ sym (append-nil found), λ x start d. exactly (one (subst (λ q. S x start q) (second_part found ys ts r w) d)))
       ]
 
-  terminated_sound : (ts : Tokens) (ys : List A) (r : Tokens) → terminated separator stop p ts ≡ Some (ys, r) → Terminated separator S ys ts r
+  terminated_sound : (ts : Tokens) (ys : List A) (r : Tokens) → terminated separator stop p ts ≡ Ok (ys, r) → Terminated separator S ys ts r
   unfolding terminated Run
   terminated_sound ts ys r e = let b = both_steps (p ts) _ ys r e in let t = run_sound (length b.1) (b.0 ∷ []) b.1 ys r b.3 in
       subst (λ zs. Terminated separator S zs ts r) (sym t.1) (t.2 b.0 ts (h.sound ts b.0 b.1 b.2))
@@ -176,19 +176,19 @@ module _ {A : Type 0} (inner outer : Tokens → Type 0) (separator stop : Kind) 
 module _ {A : Type 0} (inner outer : Tokens → Type 0) (begins : Tokens → Bool) (S : Symbol A) (p : Parser A) (h : Exact inner S p)
     (starts : (x : A) (ts r : Tokens) → S x ts r → begins ts ≡ true) (over : (ts : Tokens) → outer ts → begins ts ≡ false) (chain : (x : A) (ts r : Tokens) → S x ts r → inner ts)
     (weaker : (ts : Tokens) → outer ts → inner ts) (strict : (x : A) (ts r : Tokens) → S x ts r → length r < length ts) where
-  begun : (b : Bool) (ts : Tokens) (o : Option A) (r : Tokens) → (if b then and_then (p ts) (λ x. pure (Some x)) else Some (None, ts)) ≡ Some (o, r) → Perhaps S o ts r
+  begun : (b : Bool) (ts : Tokens) (o : Option A) (r : Tokens) → (if b then and_then (p ts) (λ x. pure (Some x)) else Ok (None, ts)) ≡ Ok (o, r) → Perhaps S o ts r
   begun true ts o r e = let b = both_steps (p ts) _ o r e in at_last (Perhaps S) ts (Some b.0) o b.1 r b.3 (h.sound ts b.0 b.1 b.2)
   begun false ts o r e = at_last (Perhaps S) ts None o ts r e refl
 
-  option_sound : (ts : Tokens) (o : Option A) (r : Tokens) → if_begins begins p ts ≡ Some (o, r) → Perhaps S o ts r
+  option_sound : (ts : Tokens) (o : Option A) (r : Tokens) → if_begins begins p ts ≡ Ok (o, r) → Perhaps S o ts r
   unfolding if_begins
   option_sound ts o r e = begun (begins ts) ts o r e
 
-  option_complete : (x : A) (ts r : Tokens) → S x ts r → inner r → if_begins begins p ts ≡ Some (Some x, r)
+  option_complete : (x : A) (ts r : Tokens) → S x ts r → inner r → if_begins begins p ts ≡ Ok (Some x, r)
   unfolding if_begins
   option_complete x ts r d o = rw (starts x ts r d, h.complete x ts r d o) refl
 
-  option_absent : (ts : Tokens) → outer ts → if_begins begins p ts ≡ Some (None, ts)
+  option_absent : (ts : Tokens) → outer ts → if_begins begins p ts ≡ Ok (None, ts)
   unfolding if_begins
   option_absent ts o = rw (over ts o) refl
 
@@ -197,7 +197,7 @@ module _ {A : Type 0} (inner outer : Tokens → Type 0) (begins : Tokens → Boo
 
   -- a part of a block
   module _ (word : Kind) (after : Tokens → Type 0) (no_word : (r : Tokens) → after r → sees word r ≡ false) (ended : (r : Tokens) → after r → outer r) where
-    part_sound : (ts : Tokens) (ys : List A) (r : Tokens) → part word begins p ts ≡ Some (ys, r) → IsPart word S ys ts r
+    part_sound : (ts : Tokens) (ys : List A) (r : Tokens) → part word begins p ts ≡ Ok (ys, r) → IsPart word S ys ts r
     unfolding part
     part_sound ts ys r e =
         elim (eat_sound word ts _ ys r e) [
@@ -207,7 +207,7 @@ module _ {A : Type 0} (inner outer : Tokens → Type 0) (begins : Tokens → Boo
           | inr w ↦ at_last (IsPart word S) ts [] ys ts r w without
         ]
 
-    part_complete : (xs : List A) (ts r : Tokens) → IsPart word S xs ts r → after r → part word begins p ts ≡ Some (xs, r)
+    part_complete : (xs : List A) (ts r : Tokens) → IsPart word S xs ts r → after r → part word begins p ts ≡ Ok (xs, r)
     unfolding part
     part_complete xs ts r without o = eat_missed word r _ (no_word r o)
     part_complete xs ts r (filled {at = at} {x = x} {xs = ys} {ts = l} {m = m} d ds) o =

@@ -1,5 +1,5 @@
 -- How far an expression is read once its sign and its first factor are.
-use Rattle.std.proofs.Common.{◌≡◌, ℕ, suc, Bool, true, false, ◌||◌, [], ◌∷◌, Option, Some, None, refl}
+use Rattle.std.proofs.Common.{◌≡◌, ℕ, suc, Bool, true, false, ◌||◌, [], ◌∷◌, Option, Some, None, Ok, Err, refl}
 use Rattle.std.specs.Option.{is_some}
 use Rattle.ps_text.specs.declared.Span.{Span}
 use Rattle.ps_syntax.specs.declared.expression.Sign.{Sign}
@@ -20,7 +20,7 @@ neither true b e = cc
 neither false b e = (refl, e)
 
 -- with no operator after it
-pub lone_factor : (factor : Parser Factor) (sign : Option (Sign × Span)) (x : Factor) (ts : Tokens) → sees_operator ts ≡ false → expr_after factor sign x ts ≡ Some (e.Simple (roll-Simple (record { sign = sign; first = roll-Term (record { first = x; more = [] }); more = [] })), ts)
+pub lone_factor : (factor : Parser Factor) (sign : Option (Sign × Span)) (x : Factor) (ts : Tokens) → sees_operator ts ≡ false → expr_after factor sign x ts ≡ Ok (e.Simple (roll-Simple (record { sign = sign; first = roll-Term (record { first = x; more = [] }); more = [] })), ts)
 unfolding many many_from multiplied added eat_operator
 lone_factor factor sign x [] is_last = refl
 lone_factor factor sign x (t ∷ ts) is_last =
@@ -28,6 +28,6 @@ lone_factor factor sign x (t ∷ ts) is_last =
     let second = neither (is_some (adding_of t.kind)) (is_some (relation_of t.kind)) first.1 in
     rw (none_of (multiplying_of t.kind) first.0, none_of (adding_of t.kind) second.0, none_of (relation_of t.kind) second.1) refl
 
-pub first_read : (n : ℕ) (ts l m : Tokens) (sign : Option (Sign × Span)) (x : Factor) → eat_operator sign_of ts ≡ Some (sign, l) → read_factor n l ≡ Some (x, m) → read_expr (suc n) ts ≡ expr_after (read_factor n) sign x m
+pub first_read : (n : ℕ) (ts l m : Tokens) (sign : Option (Sign × Span)) (x : Factor) → eat_operator sign_of ts ≡ Ok (sign, l) → read_factor n l ≡ Ok (x, m) → read_expr (suc n) ts ≡ expr_after (read_factor n) sign x m
 unfolding read_expr compared simple term
 first_read n ts l m sign x is_sign is_first = rw (is_sign, is_first) refl

@@ -1,5 +1,5 @@
 -- How types, routines, blocks and programs are read.
-use Rattle.std.specs.Prelude.{ℕ, zero, suc, Bool, ◌||◌, if◌then◌else◌, List, [], Some, None}
+use Rattle.std.specs.Prelude.{ℕ, zero, suc, Bool, ◌||◌, if◌then◌else◌, List, [], length, Some, None, Ok}
 use Rattle.ps_text.specs.declared.Span.{Span}
 use Rattle.ps_scan.specs.declared.token.Kind.{Kind}
 use Rattle.ps_scan.specs.declared.token.Kind.TheVariants as k
@@ -25,7 +25,7 @@ use Rattle.ps_syntax.specs.declared.program.Routine.TheVariants as q
 use Rattle.ps_syntax.specs.declared.program.Block.{Block, roll-Block}
 use Rattle.ps_syntax.specs.declared.program.Program.{Program}
 use Rattle.ps_grammar.specs.Symbols.{Tokens}
-use Rattle.ps_parse.specs.Steps.{Parser, if_some, first, skip, sees, ◌>>=◌, ◌>>◌, ◌<$>◌, pure, refuse, eat, accept, expect, separated, terminated, many, part, if_begins}
+use Rattle.ps_parse.specs.Steps.{Parser, if_some, first, skip, sees, ◌>>=◌, ◌>>◌, ◌<$>◌, pure, refuse, refuse_from, eat, accept, expect, separated, terminated, many, part, if_begins}
 use Rattle.ps_parse.specs.ReadStatements.{constant, read_statement}
 
 unfoldable pub names : Parser (List Span)
@@ -112,7 +112,7 @@ read_type (suc n) = any_type (read_index n) (read_type n)
 -- ---- headings
 module _ (formals : Parser (List Section)) where
   unfoldable pub optional_formals : Parser (List Section)
-  optional_formals = λ ts. if sees k.LeftParen ts then formals ts else Some ([], ts)
+  optional_formals = λ ts. if sees k.LeftParen ts then formals ts else Ok ([], ts)
 
   -- after the word `procedure`
   unfoldable pub procedure : Parser Heading
@@ -201,9 +201,9 @@ module _ (is_forward : Span → Bool) where
   module _ (formals : Parser (List Section)) (block : Parser Block) where
     -- after a heading's semicolon
     unfoldable pub after_heading : Heading → Parser Routine
-    after_heading heading = do
+    after_heading heading = λ ts. (do
       directive ← accept k.Name
-      if_some directive (λ at. if is_forward at then pure (q.Forward heading) else refuse) (q.Whole heading <$> block)
+      if_some directive (λ at. if is_forward at then pure (q.Forward heading) else refuse_from (length ts)) (q.Whole heading <$> block)) ts
 
     unfoldable pub procedure_routine : Parser Routine
     procedure_routine = do

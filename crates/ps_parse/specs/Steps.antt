@@ -1,4 +1,4 @@
--- What a parser is made of: a function from the tokens that are left to what it read and the tokens after that, or none where it refuses.
+-- What a parser is made of: a function from the tokens that are left to what it read and the tokens after that, or, where it refuses, how many tokens are left from the one on that it refuses.
 use Rattle.std.specs.Prelude.{◌≡◌, ◌≢◌, ℕ, zero, suc, Bool, true, false, if◌then◌else◌, List, [], ◌∷◌, ◌++◌, length, Option, Some, None, Result, Ok, Err}
 use Rattle.ps_text.specs.declared.Span.{Span}
 use Rattle.ps_scan.specs.declared.token.Kind.{Kind}
@@ -6,17 +6,17 @@ use Rattle.ps_scan.specs.declared.token.Token.{Token}
 use Rattle.ps_scan.specs.Kinds.{same}
 use Rattle.ps_grammar.specs.Symbols.{Tokens}
 use Rattle.ps_parse.specs.declared.error.Fault.{Fault}
-use Rattle.ps_parse.specs.declared.error.Fault.TheVariants.{OutOfMemory}
+use Rattle.ps_parse.specs.declared.error.Fault.TheVariants.{OutOfMemory, Unexpected, TooDeep, NotInProfile}
 
 abbrev pub Outcome : Type 0 → Type 0
-Outcome A = Option (A × Tokens)
+Outcome A = Result (A × Tokens) ℕ
 
 abbrev pub Parser : Type 0 → Type 0
 Parser A = Tokens → Outcome A
 
 abbrev pub and_then : {A B : Type 0} → Outcome A → (A → Parser B) → Outcome B
-and_then None f = None
-and_then (Some p) f = f p.0 p.1
+and_then (Err n) f = Err n
+and_then (Ok p) f = f p.0 p.1
 
 infixl 10 ◌>>=◌
 abbrev pub ◌>>=◌ : {A B : Type 0} → Parser A → (A → Parser B) → Parser B
@@ -27,7 +27,7 @@ abbrev pub ◌>>◌ : {A B : Type 0} → Parser A → Parser B → Parser B
 p >> q = p >>= (λ _. q)
 
 abbrev pub pure : {A : Type 0} → A → Parser A
-pure a = λ ts. Some (a, ts)
+pure a = λ ts. Ok (a, ts)
 
 infixr 11 ◌<$>◌
 abbrev pub ◌<$>◌ : {A B : Type 0} → (A → B) → Parser A → Parser B
@@ -39,7 +39,11 @@ if_some None f p = p
 if_some (Some x) f p = f x
 
 abbrev pub refuse : {A : Type 0} → Parser A
-refuse = λ ts. None
+refuse = λ ts. Err (length ts)
+
+-- refuses from an earlier token on, from which so many are left
+abbrev pub refuse_from : {A : Type 0} → ℕ → Parser A
+refuse_from left = λ ts. Err left
 
 -- the next token, and the tokens after it
 abbrev pub first : Tokens → Option Token
@@ -51,7 +55,7 @@ rest [] = []
 rest (t ∷ ts) = ts
 
 abbrev pub skip : Parser (Unit {0})
-skip = λ ts. Some (tt, rest ts)
+skip = λ ts. Ok (tt, rest ts)
 
 -- the next token is of this kind
 abbrev pub sees : Kind → Tokens → Bool
@@ -65,12 +69,12 @@ after k (t ∷ ts) = if same t.kind k then ts else t ∷ ts
 
 -- takes the next token if it is of this kind
 unfoldable pub eat : Kind → Parser Bool
-eat k = λ ts. Some (sees k ts, after k ts)
+eat k = λ ts. Ok (sees k ts, after k ts)
 
 -- takes a token of this kind
 unfoldable pub expect : Kind → Parser Span
-expect k [] = None
-expect k (t ∷ ts) = if same t.kind k then Some (t.span, ts) else None
+expect k [] = Err 0
+expect k (t ∷ ts) = if same t.kind k then Ok (t.span, ts) else Err (length (t ∷ ts))
 
 -- {separator item}, at most n times
 unfoldable pub separated_from : {A : Type 0} → Kind → Parser A → ℕ → List A → Parser (List A)
@@ -87,7 +91,7 @@ separated separator item = do
 
 -- whether the next token is of this kind
 unfoldable pub look : Kind → Parser Bool
-look k = λ ts. Some (sees k ts, ts)
+look k = λ ts. Ok (sees k ts, ts)
 
 abbrev pub accept_one : Bool → Span → Parser (Option Span)
 accept_one true at = skip >> pure (Some at)
@@ -125,7 +129,7 @@ many item = λ ts. many_from item (length ts) [] ts
 
 -- an item, if the next tokens begin one
 unfoldable pub if_begins : {A : Type 0} → (Tokens → Bool) → Parser A → Parser (Option A)
-if_begins begins item = λ ts. if begins ts then (Some <$> item) ts else Some (None, ts)
+if_begins begins item = λ ts. if begins ts then (Some <$> item) ts else Ok (None, ts)
 
 -- [word item {item}]
 unfoldable pub part : {A : Type 0} → Kind → (Tokens → Bool) → Parser A → Parser (List A)
@@ -135,7 +139,14 @@ part word begins item = do
     x ← item
     λ ts. many_from (if_begins begins item) (length ts) (x ∷ []) ts) else pure []
 
+-- how many tokens are left from the token on that a fault is told at
+abbrev pub left_of : Fault → ℕ
+left_of OutOfMemory = 0
+left_of (Unexpected left) = left
+left_of (TooDeep left) = left
+left_of (NotInProfile left) = left
+
 -- A function that parses gives what the parser reads, and refuses just where it refuses, unless memory runs out.
 abbrev pub Reads : {A : Type 0} → Outcome A → Result A Fault → Tokens → Type 0
-Reads outcome (Ok a) new = outcome ≡ Some (a, new)
-Reads outcome (Err e) new = e ≢ OutOfMemory → outcome ≡ None
+Reads outcome (Ok a) new = outcome ≡ Ok (a, new)
+Reads outcome (Err e) new = e ≢ OutOfMemory → outcome ≡ Err (left_of e)

@@ -103,7 +103,7 @@ impl<'a> Parser<'a> {
 
     #[tactic(auto, unfolding(crate::specs::ReadExpressions::eat_operator))]
     fn relation(&mut self) -> Option<(Relation, Span)>
-        ensures read { read.eat_operator read.relation_of self.old.rest.now ≡ Some (result, self.new.rest.now) }
+        ensures read { read.eat_operator read.relation_of self.old.rest.now ≡ Ok (result, self.new.rest.now) }
         ensures kept { self.new.left_out ≡ self.old.left_out }
     {
         let token = self.peek()?;
@@ -114,7 +114,7 @@ impl<'a> Parser<'a> {
 
     #[tactic(auto, unfolding(crate::specs::ReadExpressions::eat_operator))]
     pub fn sign(&mut self) -> Option<(Sign, Span)>
-        ensures read { read.eat_operator read.sign_of self.old.rest.now ≡ Some (result, self.new.rest.now) }
+        ensures read { read.eat_operator read.sign_of self.old.rest.now ≡ Ok (result, self.new.rest.now) }
         ensures kept { self.new.left_out ≡ self.old.left_out }
     {
         let token = self.peek()?;
@@ -125,7 +125,7 @@ impl<'a> Parser<'a> {
 
     #[tactic(auto, unfolding(crate::specs::ReadExpressions::eat_operator))]
     fn adding(&mut self) -> Option<(Adding, Span)>
-        ensures read { read.eat_operator read.adding_of self.old.rest.now ≡ Some (result, self.new.rest.now) }
+        ensures read { read.eat_operator read.adding_of self.old.rest.now ≡ Ok (result, self.new.rest.now) }
         ensures kept { self.new.left_out ≡ self.old.left_out }
     {
         let token = self.peek()?;
@@ -136,7 +136,7 @@ impl<'a> Parser<'a> {
 
     #[tactic(auto, unfolding(crate::specs::ReadExpressions::eat_operator))]
     fn multiplying(&mut self) -> Option<(Multiplying, Span)>
-        ensures read { read.eat_operator read.multiplying_of self.old.rest.now ≡ Some (result, self.new.rest.now) }
+        ensures read { read.eat_operator read.multiplying_of self.old.rest.now ≡ Ok (result, self.new.rest.now) }
         ensures kept { self.new.left_out ≡ self.old.left_out }
     {
         let token = self.peek()?;

@@ -29,6 +29,7 @@ impl<'a> Parser<'a> {
     /// The next token is one that no rule takes here.
     pub fn refusal(&self) -> Fault
         ensures fault { result ≡ refusal_at self.now.left_out self.now.rest.now }
+        ensures left { spec.left_of result ≡ length self.now.rest.now }
         ensures memory { result ≢ OutOfMemory }
     {
         let left = self.rest.len();
@@ -75,6 +76,7 @@ impl<'a> Parser<'a> {
     /// A construction inside as many others as may be is too deep, if the next token can begin it.
     pub fn too_deep(&self, can_begin: bool) -> Fault
         ensures fault { result ≡ (if can_begin then TooDeep (length self.now.rest.now) else refusal_at self.now.left_out self.now.rest.now) }
+        ensures left { spec.left_of result ≡ length self.now.rest.now }
         ensures memory { result ≢ OutOfMemory }
     {
         if can_begin {
@@ -131,7 +133,7 @@ impl<'a> Parser<'a> {
     /// Takes the next token if it is of this kind, and answers where it stands.
     #[tactic(auto, unfolding(crate::specs::Steps::accept))]
     pub fn accept(&mut self, kind: Kind) -> Option<Span>
-        ensures read { spec.accept kind self.old.rest.now ≡ Some (result, self.new.rest.now) }
+        ensures read { spec.accept kind self.old.rest.now ≡ Ok (result, self.new.rest.now) }
         ensures kept { self.new.left_out ≡ self.old.left_out }
     {
         let token = self.peek()?;

@@ -252,9 +252,10 @@ impl<'a> Parser<'a> {
     fn after_heading(&mut self, text: &[u8], depth: u32, heading: Heading) -> Result<Routine, Fault>
         ensures { Reads (read.after_heading (is_forward text.now) (read.read_formals depth) (read.read_block (is_forward text.now) depth) heading self.old.rest.now) result self.new.rest.now }
     {
+        let left = self.left();
         match self.accept(Kind::Name) {
             Some(at) if names_forward(text, at) => Ok(Routine::Forward(heading)),
-            Some(_) => Err(Fault::Unexpected(self.left().saturating_add(1))),
+            Some(_) => Err(Fault::Unexpected(left)),
             None => Ok(Routine::Whole(heading, self.block(text, depth)?)),
         }
     }

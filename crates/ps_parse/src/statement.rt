@@ -25,7 +25,7 @@ fn direction_of(kind: Kind) -> Option<Direction>
 impl<'a> Parser<'a> {
     #[tactic(auto, unfolding(crate::specs::ReadExpressions::eat_operator))]
     fn direction(&mut self) -> Option<(Direction, Span)>
-        ensures read { expression.eat_operator read.direction_of self.old.rest.now ≡ Some (result, self.new.rest.now) }
+        ensures read { expression.eat_operator read.direction_of self.old.rest.now ≡ Ok (result, self.new.rest.now) }
         ensures kept { self.new.left_out ≡ self.old.left_out }
     {
         let token = self.peek()?;

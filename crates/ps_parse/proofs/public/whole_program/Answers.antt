@@ -12,4 +12,4 @@ pub returns-else-left-eq0-clause-refused : goal.returns-else-left-eq0-clause-ref
 returns-else-left-eq0-clause-refused c = λ ne. left_over c.args.text.now c.args.tokens.now c.in-Ok.program c.program.new.self.rest.now c.in-Ok.ensures (λ e. c.if-left-eq0.false (c.left.ensures ∙ e))
 
 pub returns-in-Err-clause-refused : goal.returns-in-Err-clause-refused
-returns-in-Err-clause-refused c = λ ne. never c.args.text.now c.args.tokens.now (c.in-Err.ensures ne)
+returns-in-Err-clause-refused c = λ ne. never c.args.text.now c.args.tokens.now _ (c.in-Err.ensures ne)
