@@ -1,5 +1,5 @@
 -- Headings, blocks and programs are read exactly.
-use Rattle.std.proofs.Common.{◌≡◌, ℕ, zero, suc, ◌<◌, ◌≤◌, Bool, true, false, if◌then◌else◌, List, [], ◌∷◌, length, Some, inl, inr, refl, sym, ap, ◌∙◌, subst, arith}
+use Rattle.std.proofs.Common.{◌≡◌, ℕ, zero, suc, ◌<◌, ◌≤◌, Bool, true, false, if◌then◌else◌, List, [], ◌∷◌, length, Some, Ok, inl, inr, refl, sym, ap, ◌∙◌, subst, arith}
 use Rattle.ps_text.specs.declared.Span.{Span}
 use Rattle.ps_scan.specs.declared.token.Kind.{Kind}
 use Rattle.ps_scan.specs.declared.token.Kind.TheVariants as k
@@ -19,7 +19,7 @@ use Rattle.ps_syntax.specs.declared.program.Program.{Program}
 use Rattle.ps_grammar.specs.Symbols.{Tokens, Symbol, token, Many, Separated, none, more, one, several}
 use Rattle.ps_grammar.specs.Statements.{IsConstant, IsSequence, statement_within}
 use Rattle.ps_grammar.specs.Programs.{name, IsNames, IsSection, value, variable, routine, IsFormals, absent, present, IsFormalList, formals, IsHeading, procedure, function, formals_within, heading_within, IsPart, without, filled, IsConstantDefinition, constant, IsTypeDefinition, definition, IsVariables, variables, IsRoutine, whole, forward, completion, IsBlock, parts, block_within, IsProgram, plain, listed, DerivesWithin, type_within}
-use Rattle.ps_parse.specs.Steps.{Parser, sees, expect, separated, many, part, if_begins, pure, refuse}
+use Rattle.ps_parse.specs.Steps.{Parser, sees, expect, separated, many, part, if_begins, pure, refuse_from}
 use Rattle.ps_parse.specs.ReadStatements.{read_statement}
 use Rattle.ps_parse.specs.ReadStatements as st
 use Rattle.ps_parse.specs.ReadPrograms as read
@@ -50,7 +50,7 @@ unfolding same
 at_paren at m = (refl, refl)
 
 module _ (F : Symbol (List Section)) (p : Parser (List Section)) (i : Exact Anything F p) (begins : (xs : List Section) (ts r : Tokens) → F xs ts r → sees k.LeftParen ts ≡ true) where
-  chosen_sound : (b : Bool) (ts : Tokens) (xs : List Section) (r : Tokens) → (if b then p ts else Some ([], ts)) ≡ Ok (xs, r) → IsFormals F xs ts r
+  chosen_sound : (b : Bool) (ts : Tokens) (xs : List Section) (r : Tokens) → (if b then p ts else Ok ([], ts)) ≡ Ok (xs, r) → IsFormals F xs ts r
   chosen_sound true ts xs r e = present (i.sound ts xs r e)
   chosen_sound false ts xs r e = at_last (IsFormals F) ts [] xs ts r e absent
 
@@ -328,16 +328,16 @@ module _ (is_forward : Span → Bool) (F : Symbol (List Section)) (p : Parser (L
   abbrev Before : Routine → Tokens → Tokens → Type 0
   Before y ts m = (end : Span) (r : Tokens) → m ≡ token k.Semicolon end ∷ r → IsRoutine is_forward Heads B y ts r
 
-  forward_case : (b : Bool) (x : Heading) (at semicolon : Span) (start ts : Tokens) (y : Routine) (m : Tokens) → is_forward at ≡ b → Heads x start (token k.Semicolon semicolon ∷ token k.Name at ∷ ts) → (if b then pure (q.Forward x) else refuse) ts ≡ Ok (y, m) → Before y start m
-  forward_case true x at semicolon start ts y m f d e =
+  forward_case : (left : ℕ) (b : Bool) (x : Heading) (at semicolon : Span) (start ts : Tokens) (y : Routine) (m : Tokens) → is_forward at ≡ b → Heads x start (token k.Semicolon semicolon ∷ token k.Name at ∷ ts) → (if b then pure (q.Forward x) else refuse_from left) ts ≡ Ok (y, m) → Before y start m
+  forward_case left true x at semicolon start ts y m f d e =
       at_last Before start (q.Forward x) y ts m e (λ end r g. forward (subst (λ z. Heads x start (token k.Semicolon semicolon ∷ token k.Name at ∷ z)) g d) f)
-  forward_case false x at semicolon start ts y m f d e = cc
+  forward_case left false x at semicolon start ts y m f d e = cc
 
   after_sound : (x : Heading) (semicolon : Span) (start ts : Tokens) (y : Routine) (m : Tokens) → Heads x start (token k.Semicolon semicolon ∷ ts) → read.after_heading is_forward p pb x ts ≡ Ok (y, m) → Before y start m
   unfolding read.after_heading
   after_sound x semicolon start ts y m d e =
       elim (accept_sound k.Name ts _ y m e) [
-        | inl w ↦ forward_case (is_forward w.0) x w.0 semicolon start w.1 y m refl (subst (λ z. Heads x start (token k.Semicolon semicolon ∷ z)) w.2 d) w.3
+        | inl w ↦ forward_case (length ts) (is_forward w.0) x w.0 semicolon start w.1 y m refl (subst (λ z. Heads x start (token k.Semicolon semicolon ∷ z)) w.2 d) w.3
         | inr w ↦ (let b = both_steps (pb ts) _ y m w.1 in
             at_last Before start (q.Whole x b.0) y b.1 m b.3 (λ end r g. whole d (subst (λ z. B b.0 ts z) g (hb.sound ts b.0 b.1 b.2))))
       ]

@@ -1,0 +1,99 @@
+-- That a parser looks no further than at the token that it stops before or refuses.
+use Rattle.std.proofs.Common.{◌≡◌, ℕ, Bool, true, false, List, [], ◌∷◌, ◌++◌, length, Option, Some, None, Ok, Err, ◌⊎◌, inl, inr, refl, sym, ap, ◌∙◌, subst, append_assoc}
+use Rattle.ps_scan.specs.declared.token.Token.{Token}
+use Rattle.ps_grammar.specs.Symbols.{Tokens}
+use Rattle.ps_parse.specs.Steps.{Outcome, Parser, and_then, first, rest, skip, pure, refuse, ◌>>=◌}
+use Rattle.ps_parse.proofs.Exact.{both_steps, first_part, second_part}
+
+-- What it reads, and where it refuses, depends on the tokens before that place and on the next one alone.
+pub record Local {A : Type 0} (p : Parser A) : Type 0 where
+  pub reads : (ts : Tokens) (a : A) (r : Tokens) → p ts ≡ Ok (a, r) → (c : Tokens) × (ts ≡ c ++ r) × ((r' : Tokens) → first r' ≡ first r → p (c ++ r') ≡ Ok (a, r'))
+  pub refuses : (ts : Tokens) (n : ℕ) → p ts ≡ Err n → (c : Tokens) × (r : Tokens) × (ts ≡ c ++ r) × (length r ≡ n) × ((r' : Tokens) → first r' ≡ first r → p (c ++ r') ≡ Err (length r'))
+
+pub first_after : (c r r' : Tokens) → first r' ≡ first r → first (c ++ r') ≡ first (c ++ r)
+first_after [] r r' e = e
+first_after (t ∷ c) r r' e = refl
+
+either_step : {A B : Type 0} (o : Outcome A) (f : A → Parser B) (n : ℕ) → and_then o f ≡ Err n → (o ≡ Err n) ⊎ ((x : A) × (m : Tokens) × (o ≡ Ok (x, m)) × (f x m ≡ Err n))
+either_step (Err k) f n e = inl (left_same k n e)
+  where
+    left_same : {A B : Type 0} (k n : ℕ) → ◌≡◌ {A = Outcome B} (Err k) (Err n) → ◌≡◌ {A = Outcome A} (Err k) (Err n)
+    left_same {A} {B} k n e = ap (λ (o : Outcome B). elim o [ Err i ↦ Err i | Ok q ↦ Err n ]) e
+either_step (Ok p) f n e = inr (p.0, p.1, refl, e)
+
+pub local_pure : {A : Type 0} (a : A) → Local (pure a)
+local_pure a = record {
+  reads = λ ts b r e. ([], second_part a b ts r e, λ r' s. ap (λ z. Ok (z, r')) (first_part a b ts r e));
+  refuses = λ ts n e. cc;
+}
+
+refused_length : {A : Type 0} (k n : ℕ) → ◌≡◌ {A = Outcome A} (Err k) (Err n) → k ≡ n
+refused_length {A} k n e = ap (λ (o : Outcome A). elim o [ Err i ↦ i | Ok q ↦ k ]) e
+
+pub local_refuse : {A : Type 0} → Local {A = A} refuse
+local_refuse {A} = record {
+  reads = λ ts a r e. cc;
+  refuses = λ ts n e. ([], ts, refl, refused_length {A = A} (length ts) n e, λ r' s. refl);
+}
+
+module _ {A B : Type 0} (p : Parser A) (f : A → Parser B) (h : Local p) (i : (x : A) → Local (f x)) where
+  bind_reads : (ts : Tokens) (b : B) (r : Tokens) → (p >>= f) ts ≡ Ok (b, r) → (c : Tokens) × (ts ≡ c ++ r) × ((r' : Tokens) → first r' ≡ first r → (p >>= f) (c ++ r') ≡ Ok (b, r'))
+  bind_reads ts b r e =
+      let s = both_steps (p ts) f b r e in
+      let one = h.reads ts s.0 s.1 s.2 in
+      let two = (i s.0).reads s.1 b r s.3 in
+      (one.0 ++ two.0,
+       one.1 ∙ ap (λ (q : Tokens). one.0 ++ q) two.1 ∙ sym (append_assoc one.0 two.0 r),
+       λ r' same. ap (p >>= f) (append_assoc one.0 two.0 r')
+         ∙ ap (λ (o : Outcome A). and_then o f) (one.2 (two.0 ++ r') (first_after two.0 r r' same ∙ ap first (sym two.1)))
+         ∙ two.2 r' same)
+
+  bind_refuses : (ts : Tokens) (n : ℕ) → (p >>= f) ts ≡ Err n → (c : Tokens) × (r : Tokens) × (ts ≡ c ++ r) × (length r ≡ n) × ((r' : Tokens) → first r' ≡ first r → (p >>= f) (c ++ r') ≡ Err (length r'))
+  bind_refuses ts n e =
+      elim (either_step (p ts) f n e) [
+        | inl w ↦ (let one = h.refuses ts n w in
+            (one.0, one.1, one.2, one.3, λ r' same. ap (λ (o : Outcome A). and_then o f) (one.4 r' same)))
+        | inr s ↦ (let one = h.reads ts s.0 s.1 s.2 in let two = (i s.0).refuses s.1 n s.3 in
+            (one.0 ++ two.0, two.1,
+             one.1 ∙ ap (λ (q : Tokens). one.0 ++ q) two.2 ∙ sym (append_assoc one.0 two.0 two.1),
+             two.3,
+             λ r' same. ap (p >>= f) (append_assoc one.0 two.0 r')
+               ∙ ap (λ (o : Outcome A). and_then o f) (one.2 (two.0 ++ r') (first_after two.0 two.1 r' same ∙ ap first (sym two.2)))
+               ∙ two.4 r' same))
+      ]
+
+  pub local_bind : Local (p >>= f)
+  local_bind = record { reads = bind_reads; refuses = bind_refuses }
+
+-- a parser that chooses by the next token
+module _ {A : Type 0} (q : Option Token → Parser A) (h : (o : Option Token) → Local (q o)) where
+  by_reads : (ts : Tokens) (a : A) (r : Tokens) → q (first ts) ts ≡ Ok (a, r) → (c : Tokens) × (ts ≡ c ++ r) × ((r' : Tokens) → first r' ≡ first r → q (first (c ++ r')) (c ++ r') ≡ Ok (a, r'))
+  by_reads ts a r e =
+      let one = (h (first ts)).reads ts a r e in
+      (one.0, one.1, λ r' same. ap (λ (o : Option Token). q o (one.0 ++ r')) (first_after one.0 r r' same ∙ ap first (sym one.1)) ∙ one.2 r' same)
+
+  by_refuses : (ts : Tokens) (n : ℕ) → q (first ts) ts ≡ Err n → (c : Tokens) × (r : Tokens) × (ts ≡ c ++ r) × (length r ≡ n) × ((r' : Tokens) → first r' ≡ first r → q (first (c ++ r')) (c ++ r') ≡ Err (length r'))
+  by_refuses ts n e =
+      let one = (h (first ts)).refuses ts n e in
+      (one.0, one.1, one.2, one.3, λ r' same. ap (λ (o : Option Token). q o (one.0 ++ r')) (first_after one.0 one.1 r' same ∙ ap first (sym one.2)) ∙ one.4 r' same)
+
+  pub local_by : Local (λ ts. q (first ts) ts)
+  local_by = record { reads = by_reads; refuses = by_refuses }
+
+-- a parser that does the same on all tokens
+pub local_same : {A : Type 0} (p q : Parser A) → ((ts : Tokens) → p ts ≡ q ts) → Local p → Local q
+local_same p q e h = record {
+  reads = λ ts a r d. (let one = h.reads ts a r (e ts ∙ d) in (one.0, one.1, λ r' same. sym (e (one.0 ++ r')) ∙ one.2 r' same));
+  refuses = λ ts n d. (let one = h.refuses ts n (e ts ∙ d) in (one.0, one.1, one.2, one.3, λ r' same. sym (e (one.0 ++ r')) ∙ one.4 r' same));
+}
+
+none_left : (r : Tokens) → first r ≡ None → r ≡ []
+none_left [] e = refl
+none_left (t ∷ r) e = cc
+
+skip_reads : (ts : Tokens) (a : Unit {0}) (r : Tokens) → skip ts ≡ Ok (a, r) → (c : Tokens) × (ts ≡ c ++ r) × ((r' : Tokens) → first r' ≡ first r → skip (c ++ r') ≡ Ok (a, r'))
+skip_reads [] a r e = ([], second_part tt a [] r e, λ r' same. ap (λ (z : Tokens). Ok (tt, z)) (ap rest (none_left r' (same ∙ ap first (sym (second_part tt a [] r e)))) ∙ sym (none_left r' (same ∙ ap first (sym (second_part tt a [] r e))))))
+skip_reads (t ∷ ts) a r e = (t ∷ [], ap (λ (z : Tokens). t ∷ z) (second_part tt a ts r e), λ r' same. refl)
+
+pub local_skip : Local skip
+local_skip = record { reads = skip_reads; refuses = λ ts n e. cc }
