@@ -1,8 +1,10 @@
 -- That a parser looks no further than at the token that it stops before or refuses.
-use Rattle.std.proofs.Common.{◌≡◌, ℕ, Bool, true, false, List, [], ◌∷◌, ◌++◌, length, Option, Some, None, Ok, Err, ◌⊎◌, inl, inr, refl, sym, ap, ◌∙◌, subst, append_assoc}
+use Rattle.std.proofs.Common.{◌≡◌, ℕ, Bool, true, false, List, [], ◌∷◌, ◌++◌, length, Option, Some, None, Ok, Err, ◌⊎◌, inl, inr, refl, sym, ap, ◌∙◌, subst, append_assoc, if◌then◌else◌}
+use Rattle.ps_scan.specs.declared.token.Kind.{Kind}
 use Rattle.ps_scan.specs.declared.token.Token.{Token}
+use Rattle.ps_scan.specs.Kinds.{same}
 use Rattle.ps_grammar.specs.Symbols.{Tokens}
-use Rattle.ps_parse.specs.Steps.{Outcome, Parser, and_then, first, rest, skip, pure, refuse, ◌>>=◌}
+use Rattle.ps_parse.specs.Steps.{Outcome, Parser, and_then, first, rest, skip, eat, if_some, pure, refuse, ◌>>=◌, ◌>>◌}
 use Rattle.ps_parse.proofs.Exact.{both_steps, first_part, second_part}
 
 -- What it reads, and where it refuses, depends on the tokens before that place and on the next one alone.
@@ -41,25 +43,28 @@ module _ {A B : Type 0} (p : Parser A) (f : A → Parser B) (h : Local p) (i : (
   bind_reads ts b r e =
       let s = both_steps (p ts) f b r e in
       let one = h.reads ts s.0 s.1 s.2 in
-      let two = (i s.0).reads s.1 b r s.3 in
-      (one.0 ++ two.0,
-       one.1 ∙ ap (λ (q : Tokens). one.0 ++ q) two.1 ∙ sym (append_assoc one.0 two.0 r),
-       λ r' same. ap (p >>= f) (append_assoc one.0 two.0 r')
-         ∙ ap (λ (o : Outcome A). and_then o f) (one.2 (two.0 ++ r') (first_after two.0 r r' same ∙ ap first (sym two.1)))
-         ∙ two.2 r' same)
+      let two = (i s.0).reads s.1 b r s.3 in (
+        one.0 ++ two.0,
+        one.1 ∙ ap (λ (q : Tokens). one.0 ++ q) two.1 ∙ sym (append_assoc one.0 two.0 r),
+        λ r' same. ap (p >>= f) (append_assoc one.0 two.0 r')
+            ∙ ap (λ (o : Outcome A). and_then o f) (one.2 (two.0 ++ r') (first_after two.0 r r' same ∙ ap first (sym two.1)))
+            ∙ two.2 r' same,
+      )
 
   bind_refuses : (ts : Tokens) (n : ℕ) → (p >>= f) ts ≡ Err n → (c : Tokens) × (r : Tokens) × (ts ≡ c ++ r) × (length r ≡ n) × ((r' : Tokens) → first r' ≡ first r → (p >>= f) (c ++ r') ≡ Err (length r'))
   bind_refuses ts n e =
       elim (either_step (p ts) f n e) [
         | inl w ↦ (let one = h.refuses ts n w in
             (one.0, one.1, one.2, one.3, λ r' same. ap (λ (o : Outcome A). and_then o f) (one.4 r' same)))
-        | inr s ↦ (let one = h.reads ts s.0 s.1 s.2 in let two = (i s.0).refuses s.1 n s.3 in
-            (one.0 ++ two.0, two.1,
-             one.1 ∙ ap (λ (q : Tokens). one.0 ++ q) two.2 ∙ sym (append_assoc one.0 two.0 two.1),
-             two.3,
-             λ r' same. ap (p >>= f) (append_assoc one.0 two.0 r')
-               ∙ ap (λ (o : Outcome A). and_then o f) (one.2 (two.0 ++ r') (first_after two.0 two.1 r' same ∙ ap first (sym two.2)))
-               ∙ two.4 r' same))
+        | inr s ↦ (let one = h.reads ts s.0 s.1 s.2 in let two = (i s.0).refuses s.1 n s.3 in (
+          one.0 ++ two.0,
+          two.1,
+          one.1 ∙ ap (λ (q : Tokens). one.0 ++ q) two.2 ∙ sym (append_assoc one.0 two.0 two.1),
+          two.3,
+          λ r' same. ap (p >>= f) (append_assoc one.0 two.0 r')
+              ∙ ap (λ (o : Outcome A). and_then o f) (one.2 (two.0 ++ r') (first_after two.0 two.1 r' same ∙ ap first (sym two.2)))
+              ∙ two.4 r' same,
+        ))
       ]
 
   pub local_bind : Local (p >>= f)
@@ -97,3 +102,30 @@ skip_reads (t ∷ ts) a r e = (t ∷ [], ap (λ (z : Tokens). t ∷ z) (second_p
 
 pub local_skip : Local skip
 local_skip = record { reads = skip_reads; refuses = λ ts n e. cc }
+
+pub local_if : {A : Type 0} (p q : Parser A) → Local p → Local q → (b : Bool) → Local (if b then p else q)
+local_if p q h i true = h
+local_if p q h i false = i
+
+pub local_if_some : {A B : Type 0} (f : A → Parser B) (p : Parser B) → ((x : A) → Local (f x)) → Local p → (o : Option A) → Local (if_some o f p)
+local_if_some f p h i None = i
+local_if_some f p h i (Some x) = h x
+
+pub local_then : {A B : Type 0} (p : Parser A) (q : Parser B) → Local p → Local q → Local (p >> q)
+local_then p q h i = local_bind p (λ _. q) h (λ _. i)
+
+abbrev pub seen : Kind → Option Token → Bool
+seen k None = false
+seen k (Some t) = same t.kind k
+
+eat_is : (k : Kind) (ts : Tokens) → (if seen k (first ts) then (skip >> pure true) else pure false) ts ≡ eat k ts
+unfolding eat
+eat_is k [] = refl
+eat_is k (t ∷ ts) = go (same t.kind k) refl
+  where
+    go : (b : Bool) → same t.kind k ≡ b → (if same t.kind k then (skip >> pure true) else pure false) (t ∷ ts) ≡ Ok (same t.kind k, if same t.kind k then ts else t ∷ ts)
+    go true e = rw e refl
+    go false e = rw e refl
+
+pub local_eat : (k : Kind) → Local (eat k)
+local_eat k = local_same _ (eat k) (eat_is k) (local_by (λ o. if seen k o then (skip >> pure true) else pure false) (λ o. local_if _ _ (local_then skip (pure true) local_skip (local_pure true)) (local_pure false) (seen k o)))
