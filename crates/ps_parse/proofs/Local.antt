@@ -1,10 +1,11 @@
 -- That a parser looks no further than at the token that it stops before or refuses.
 use Rattle.std.proofs.Common.{◌≡◌, ℕ, Bool, true, false, List, [], ◌∷◌, ◌++◌, length, Option, Some, None, Ok, Err, ◌⊎◌, inl, inr, refl, sym, ap, ◌∙◌, subst, append_assoc, if◌then◌else◌}
+use Rattle.ps_text.specs.declared.Span.{Span}
 use Rattle.ps_scan.specs.declared.token.Kind.{Kind}
 use Rattle.ps_scan.specs.declared.token.Token.{Token}
 use Rattle.ps_scan.specs.Kinds.{same}
 use Rattle.ps_grammar.specs.Symbols.{Tokens}
-use Rattle.ps_parse.specs.Steps.{Outcome, Parser, and_then, first, rest, skip, eat, if_some, pure, refuse, ◌>>=◌, ◌>>◌}
+use Rattle.ps_parse.specs.Steps.{Outcome, Parser, and_then, first, rest, skip, eat, look, expect, if_some, pure, refuse, ◌>>=◌, ◌>>◌}
 use Rattle.ps_parse.proofs.Exact.{both_steps, first_part, second_part}
 
 -- What it reads, and where it refuses, depends on the tokens before that place and on the next one alone.
@@ -129,3 +130,27 @@ eat_is k (t ∷ ts) = go (same t.kind k) refl
 
 pub local_eat : (k : Kind) → Local (eat k)
 local_eat k = local_same _ (eat k) (eat_is k) (local_by (λ o. if seen k o then (skip >> pure true) else pure false) (λ o. local_if _ _ (local_then skip (pure true) local_skip (local_pure true)) (local_pure false) (seen k o)))
+
+look_is : (k : Kind) (ts : Tokens) → pure (seen k (first ts)) ts ≡ look k ts
+unfolding look
+look_is k [] = refl
+look_is k (t ∷ ts) = refl
+
+pub local_look : (k : Kind) → Local (look k)
+local_look k = local_same _ (look k) (look_is k) (local_by (λ o. pure (seen k o)) (λ o. local_pure (seen k o)))
+
+one_of : Kind → Token → Parser Span
+one_of k t = if same t.kind k then (skip >> pure t.span) else refuse
+
+expect_is : (k : Kind) (ts : Tokens) → if_some (first ts) (one_of k) refuse ts ≡ expect k ts
+unfolding expect one_of
+expect_is k [] = refl
+expect_is k (t ∷ ts) = go (same t.kind k) refl
+  where
+    go : (b : Bool) → same t.kind k ≡ b → (if same t.kind k then (skip >> pure t.span) else refuse) (t ∷ ts) ≡ (if same t.kind k then Ok (t.span, ts) else Err (length (t ∷ ts)))
+    go true e = rw e refl
+    go false e = rw e refl
+
+pub local_expect : (k : Kind) → Local (expect k)
+unfolding one_of
+local_expect k = local_same _ (expect k) (expect_is k) (local_by (λ o. if_some o (one_of k) refuse) (λ o. local_if_some (one_of k) refuse (λ t. local_if _ _ (local_then skip (pure t.span) local_skip (local_pure t.span)) local_refuse (same t.kind k)) local_refuse o))
