@@ -263,14 +263,14 @@ module _ (E : Symbol Expr) (p : Parser Expr) (h : Exact (Ends 1) E p) where
     factor_unsigned x ts r (not d) = refl
 
 -- ---- operators
-multiplying_back : (kind : Kind) (op : Multiplying) → read.multiplying_of kind ≡ Some op → kind ≡ multiplying_kind op
+pub multiplying_back : (kind : Kind) (op : Multiplying) → read.multiplying_of kind ≡ Some op → kind ≡ multiplying_kind op
 multiplying_back k.Star op e = ap multiplying_kind (some_is e)
 multiplying_back k.Div op e = ap multiplying_kind (some_is e)
 multiplying_back k.Mod op e = ap multiplying_kind (some_is e)
 multiplying_back k.And op e = ap multiplying_kind (some_is e)
 multiplying_back kind op e = cc
 
-multiplying_forth : (op : Multiplying) → read.multiplying_of (multiplying_kind op) ≡ Some op
+pub multiplying_forth : (op : Multiplying) → read.multiplying_of (multiplying_kind op) ≡ Some op
 multiplying_forth multiplying.Times = refl
 multiplying_forth multiplying.Div = refl
 multiplying_forth multiplying.Mod = refl
@@ -289,13 +289,13 @@ no_multiplying k.Mod h = absurd (omega arith)
 no_multiplying k.And h = absurd (omega arith)
 no_multiplying kind h = refl
 
-adding_back : (kind : Kind) (op : Adding) → read.adding_of kind ≡ Some op → kind ≡ adding_kind op
+pub adding_back : (kind : Kind) (op : Adding) → read.adding_of kind ≡ Some op → kind ≡ adding_kind op
 adding_back k.Plus op e = ap adding_kind (some_is e)
 adding_back k.Minus op e = ap adding_kind (some_is e)
 adding_back k.Or op e = ap adding_kind (some_is e)
 adding_back kind op e = cc
 
-adding_forth : (op : Adding) → read.adding_of (adding_kind op) ≡ Some op
+pub adding_forth : (op : Adding) → read.adding_of (adding_kind op) ≡ Some op
 adding_forth adding.Plus = refl
 adding_forth adding.Minus = refl
 adding_forth adding.Or = refl
@@ -311,7 +311,7 @@ no_adding k.Minus h = absurd (omega arith)
 no_adding k.Or h = absurd (omega arith)
 no_adding kind h = refl
 
-relation_back : (kind : Kind) (op : Relation) → read.relation_of kind ≡ Some op → kind ≡ relation_kind op
+pub relation_back : (kind : Kind) (op : Relation) → read.relation_of kind ≡ Some op → kind ≡ relation_kind op
 relation_back k.Equal op e = ap relation_kind (some_is e)
 relation_back k.NotEqual op e = ap relation_kind (some_is e)
 relation_back k.Less op e = ap relation_kind (some_is e)
@@ -321,7 +321,7 @@ relation_back k.GreaterEqual op e = ap relation_kind (some_is e)
 relation_back k.In op e = ap relation_kind (some_is e)
 relation_back kind op e = cc
 
-relation_forth : (op : Relation) → read.relation_of (relation_kind op) ≡ Some op
+pub relation_forth : (op : Relation) → read.relation_of (relation_kind op) ≡ Some op
 relation_forth relation.Equal = refl
 relation_forth relation.NotEqual = refl
 relation_forth relation.Less = refl

@@ -102,12 +102,12 @@ constants_begin : (xs : List Constant) (ts r : Tokens) → Separated k.Comma IsC
 constants_begin xs ts r (one {x = x} d) = constant_begins x ts r d
 constants_begin xs ts r (several {x = x} d ds) = constant_begins x ts _ d
 
-direction_back : (kind : Kind) (d : Direction) → read.direction_of kind ≡ Some d → kind ≡ direction_kind d
+pub direction_back : (kind : Kind) (d : Direction) → read.direction_of kind ≡ Some d → kind ≡ direction_kind d
 direction_back k.To d e = ap direction_kind (let g : direction.Up ≡ d = cc in g)
 direction_back k.Downto d e = ap direction_kind (let g : direction.Down ≡ d = cc in g)
 direction_back kind d e = cc
 
-direction_forth : (d : Direction) → read.direction_of (direction_kind d) ≡ Some d
+pub direction_forth : (d : Direction) → read.direction_of (direction_kind d) ≡ Some d
 direction_forth direction.Up = refl
 direction_forth direction.Down = refl
 
