@@ -347,3 +347,14 @@ module _ {A B : Type 0} (S T : Symbol A) (R : Symbol B) (k : Kind) (p : Parser A
     well = λ ts. seen_well ts (p ts) refl (v.well ts);
     start = let s = v.start in then_start S R s.tokens s.tree s.derives (i s.tree).start;
   }
+
+-- ---- a token at the end
+ends_alike : {A : Type 0} (o : Outcome A) → and_then o pure ≡ o
+ends_alike (Ok q) = refl
+ends_alike (Err n) = refl
+
+pub viable_last : (R : Symbol Span) (k : Kind) → ((at : Span) (r : Tokens) → R at (token k at ∷ r) r) → Viable R (expect k)
+viable_last R k h = let v : Viable R (expect k >>= pure) = viable_expect R k pure (λ at. viable_pure (λ r. h at r)) in record {
+  well = λ ts. subst (λ (o : Outcome Span). Well R ts o) (ends_alike (expect k ts)) (v.well ts);
+  start = v.start;
+}
