@@ -8,7 +8,7 @@ use Rattle.ps_grammar.specs.Symbols.{Tokens, Symbol, token, Many, Separated, Ter
 use Rattle.ps_grammar.specs.Programs.{IsPart, without, filled}
 use Rattle.ps_parse.specs.Steps.{Outcome, Parser, and_then, if_some, first, ◌>>=◌, ◌<$>◌, pure, refuse, sees, eat, look, accept, expect, separated, separated_from, many, many_from, terminated, terminated_from, if_begins, part}
 use Rattle.ps_parse.specs.ReadExpressions.{eat_operator}
-use Rattle.ps_parse.proofs.Exact.{Perhaps, expect_complete, sees_cases, eat_found, eat_missed, look_is, accept_found, accept_missed, operator_found, operator_missed, operator_ended, same_is, same_self}
+use Rattle.ps_parse.proofs.Exact.{Perhaps, sees_cases, eat_found, eat_missed, accept_found, accept_missed, operator_found, operator_missed, operator_ended, same_is, same_self}
 
 -- The tokens derive from the symbol, whatever comes after them.
 abbrev pub Framed : {A : Type 0} → Symbol A → A → Tokens → Type 0

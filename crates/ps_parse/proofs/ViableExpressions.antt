@@ -1,29 +1,21 @@
 -- What was taken of an expression begins one.
-use Rattle.std.proofs.Common.{◌≡◌, ℕ, zero, suc, List, [], ◌∷◌, Option, Some, None, refl}
+use Rattle.std.proofs.Common.{ℕ, zero, suc, [], ◌∷◌, Some, None, refl}
 use Rattle.ps_text.specs.declared.Span.{Span}
 use Rattle.ps_scan.specs.declared.token.Kind.{Kind}
 use Rattle.ps_scan.specs.declared.token.Kind.TheVariants as k
 use Rattle.ps_syntax.specs.declared.expression.Expr.{Expr}
-use Rattle.ps_syntax.specs.declared.expression.Expr.TheVariants as e
-use Rattle.ps_syntax.specs.declared.expression.Sign.{Sign}
-use Rattle.ps_syntax.specs.declared.expression.Simple.{Simple, roll-Simple}
-use Rattle.ps_syntax.specs.declared.expression.AddedTerm.{AddedTerm, roll-AddedTerm}
-use Rattle.ps_syntax.specs.declared.expression.Term.{Term, roll-Term}
-use Rattle.ps_syntax.specs.declared.expression.MultipliedFactor.{MultipliedFactor}
+use Rattle.ps_syntax.specs.declared.expression.Simple.{Simple}
+use Rattle.ps_syntax.specs.declared.expression.Term.{Term}
 use Rattle.ps_syntax.specs.declared.expression.Factor.{Factor}
 use Rattle.ps_syntax.specs.declared.expression.Factor.TheVariants as f
-use Rattle.ps_syntax.specs.declared.expression.Variable.{Variable}
-use Rattle.ps_syntax.specs.declared.expression.Selector.{Selector}
-use Rattle.ps_syntax.specs.declared.expression.Selector.TheVariants as s
-use Rattle.ps_syntax.specs.declared.expression.Member.{Member}
 use Rattle.ps_syntax.specs.declared.expression.Member.TheVariants as m
-use Rattle.ps_grammar.specs.Symbols.{Tokens, Symbol, token, Many, Separated}
+use Rattle.ps_grammar.specs.Symbols.{Tokens, Symbol, token}
 use Rattle.ps_grammar.specs.Expressions.{multiplying_kind, adding_kind, relation_kind, sign_kind, IsMember, single, range, IsSelector, index, field, content, IsVariable, selected, IsFactor, variable, call, number, text, nil, empty, set, group, not, IsMultiplied, multiplied, IsTerm, term, IsAdded, added, IsSimple, plain, signed, IsExpr, alone, compare, factor_within, expr_within}
-use Rattle.ps_parse.specs.Steps.{Parser, if_some, pure, ◌<$>◌}
+use Rattle.ps_parse.specs.Steps.{Parser}
 use Rattle.ps_parse.specs.ReadExpressions as read
 use Rattle.ps_parse.proofs.Exact.{Perhaps}
 use Rattle.ps_parse.proofs.ExactExpressions.{multiplying_back, multiplying_forth, adding_back, adding_forth, relation_back, relation_forth, sign_back, sign_forth}
-use Rattle.ps_parse.proofs.Viable.{Viable, Well, Start, After, Behind, after_token, nowhere, well_pure, well_refuse, viable_pure, viable_refuse, viable_within, viable_bind, viable_map, viable_expect, viable_eat, viable_operator, viable_choice, viable_choice_of, viable_separated, viable_many}
+use Rattle.ps_parse.proofs.Viable.{Viable, Well, Start, Behind, after_token, nowhere, well_pure, well_refuse, viable_pure, viable_refuse, viable_bind, viable_map, viable_expect, viable_eat, viable_operator, viable_choice, viable_choice_of, viable_separated, viable_many}
 
 -- a number is a factor
 factor_start : {E : Symbol Expr} {F : Symbol Factor} → Start (IsFactor E F)

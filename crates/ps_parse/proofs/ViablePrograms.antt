@@ -1,14 +1,11 @@
 -- What was taken of a program begins one.
-use Rattle.std.proofs.Common.{◌≡◌, ℕ, zero, suc, Bool, true, false, if◌then◌else◌, List, [], ◌∷◌, length, Option, Some, None, Ok, Err, inl, inr, refl, sym, subst}
+use Rattle.std.proofs.Common.{◌≡◌, ℕ, zero, suc, Bool, true, false, if◌then◌else◌, List, [], ◌∷◌, length, Ok, inl, inr, refl, sym, subst}
 use Rattle.ps_text.specs.declared.Span.{Span}
 use Rattle.ps_scan.specs.declared.token.Kind.{Kind}
 use Rattle.ps_scan.specs.declared.token.Kind.TheVariants as k
 use Rattle.ps_syntax.specs.declared.statement.Statement.{Statement}
 use Rattle.ps_syntax.specs.declared.statement.Statement.TheVariants as s
 use Rattle.ps_syntax.specs.declared.program.TypeDenoter.{TypeDenoter}
-use Rattle.ps_syntax.specs.declared.program.ConstantDefinition.{ConstantDefinition}
-use Rattle.ps_syntax.specs.declared.program.TypeDefinition.{TypeDefinition}
-use Rattle.ps_syntax.specs.declared.program.Variables.{Variables}
 use Rattle.ps_syntax.specs.declared.program.Section.{Section}
 use Rattle.ps_syntax.specs.declared.program.Section.TheVariants as x
 use Rattle.ps_syntax.specs.declared.program.Heading.{Heading}
@@ -16,13 +13,11 @@ use Rattle.ps_syntax.specs.declared.program.Heading.TheVariants as h
 use Rattle.ps_syntax.specs.declared.program.Routine.{Routine}
 use Rattle.ps_syntax.specs.declared.program.Routine.TheVariants as q
 use Rattle.ps_syntax.specs.declared.program.Block.{Block, roll-Block}
-use Rattle.ps_syntax.specs.declared.program.Program.{Program}
-use Rattle.ps_grammar.specs.Symbols.{Tokens, Symbol, token, Many, Separated, none, one}
-use Rattle.ps_grammar.specs.Statements.{IsConstant, InSequence, in_sequence, IsSequence, empty, statement_within}
-use Rattle.ps_grammar.specs.Programs.{name, IsNames, IsSection, value, variable, routine, IsFormals, absent, present, IsFormalList, formals, IsHeading, procedure, function, formals_within, heading_within, IsPart, without, IsConstantDefinition, constant, IsTypeDefinition, definition, IsVariables, variables, IsRoutine, whole, forward, completion, IsBlock, parts, block_within, IsProgram, plain, listed, type_within}
-use Rattle.ps_parse.specs.Steps.{Outcome, Parser, and_then, if_some, pure, refuse_from, sees, accept, separated, if_begins, part, ◌>>=◌, ◌<$>◌}
+use Rattle.ps_grammar.specs.Symbols.{Tokens, Symbol, token, none, one}
+use Rattle.ps_grammar.specs.Statements.{InSequence, in_sequence, empty, statement_within}
+use Rattle.ps_grammar.specs.Programs.{name, IsNames, IsSection, value, variable, routine, IsFormals, absent, present, IsFormalList, formals, IsHeading, procedure, function, formals_within, without, IsConstantDefinition, constant, IsTypeDefinition, definition, IsVariables, variables, IsRoutine, whole, forward, completion, IsBlock, parts, block_within, IsProgram, plain, listed, type_within}
+use Rattle.ps_parse.specs.Steps.{Outcome, Parser, pure, refuse_from, sees, if_begins, ◌<$>◌}
 use Rattle.ps_parse.specs.ReadStatements.{read_statement}
-use Rattle.ps_parse.specs.ReadStatements as st
 use Rattle.ps_parse.specs.ReadPrograms as read
 use Rattle.ps_parse.proofs.Exact.{sees_cases, accept_found, accept_missed}
 use Rattle.ps_parse.proofs.Viable.{Viable, Well, Start, After, Behind, after_token, start_behind, nowhere, well_pure, well_refuse, viable_pure, viable_refuse, viable_within, viable_bind, viable_map, viable_expect, viable_eat, viable_choice_of, viable_separated, viable_many, viable_if_begins, viable_part}

@@ -1,5 +1,5 @@
 -- What was taken of a statement begins one.
-use Rattle.std.proofs.Common.{◌≡◌, ℕ, zero, suc, Bool, true, false, List, [], ◌∷◌, Option, Some, None, Ok, refl, sym, ap, ◌∙◌, subst}
+use Rattle.std.proofs.Common.{◌≡◌, ℕ, zero, suc, Bool, true, false, List, [], ◌∷◌, Some, None, Ok, refl, sym, ap, ◌∙◌, subst}
 use Rattle.ps_text.specs.declared.Span.{Span}
 use Rattle.ps_scan.specs.declared.token.Kind.{Kind}
 use Rattle.ps_scan.specs.declared.token.Kind.TheVariants as k
@@ -10,22 +10,21 @@ use Rattle.ps_syntax.specs.declared.expression.Variable.{Variable}
 use Rattle.ps_syntax.specs.declared.statement.Constant.{Constant}
 use Rattle.ps_syntax.specs.declared.statement.Direction.{Direction}
 use Rattle.ps_syntax.specs.declared.statement.Direction.TheVariants as direction
-use Rattle.ps_syntax.specs.declared.statement.Parameter.{Parameter}
 use Rattle.ps_syntax.specs.declared.statement.Parameter.TheVariants as parameter
 use Rattle.ps_syntax.specs.declared.statement.Statement.{Statement}
 use Rattle.ps_syntax.specs.declared.statement.Statement.TheVariants as s
 use Rattle.ps_syntax.specs.declared.statement.Statement.TheOpen.{Statement-F}
 use Rattle.ps_syntax.specs.declared.statement.Statement.TheFolds.{fold-Statement, fold-roll-Statement}
-use Rattle.ps_syntax.specs.declared.statement.Element.{Element, roll-Element}
+use Rattle.ps_syntax.specs.declared.statement.Element.{roll-Element}
 use Rattle.ps_syntax.specs.declared.statement.Constant.TheVariants as c
-use Rattle.ps_grammar.specs.Symbols.{Tokens, Symbol, token, Many, Separated, Terminated}
+use Rattle.ps_grammar.specs.Symbols.{Tokens, Symbol, token, Many, Separated}
 use Rattle.ps_grammar.specs.Expressions.{sign_kind, IsSelector, IsVariable, selected, expr_within}
 use Rattle.ps_grammar.specs.Statements.{IsConstant, number, signed_number, name, signed_name, text, IsParameter, unformatted, formatted, IsElement, element, InSequence, in_sequence, IsSequence, IsStatement, empty, assign, procedure, call, compound, if_then, if_else, case, while, repeat, for, with, direction_kind, statement_within}
-use Rattle.ps_parse.specs.Steps.{Parser, if_some, pure, sees, accept, ◌>>=◌, ◌<$>◌}
+use Rattle.ps_parse.specs.Steps.{Parser, sees, accept, ◌>>=◌}
 use Rattle.ps_parse.specs.ReadExpressions.{sign_of, selector, read_expr}
 use Rattle.ps_parse.specs.ReadStatements as read
 use Rattle.ps_parse.proofs.ExactExpressions.{sign_back, sign_forth}
-use Rattle.ps_parse.proofs.ExactStatements.{Greedy, direction_back, direction_forth, statement_exact_within}
+use Rattle.ps_parse.proofs.ExactStatements.{direction_back, direction_forth, statement_exact_within}
 use Rattle.ps_parse.proofs.Lists.{many_nil}
 use Rattle.ps_parse.proofs.Viable.{Viable, Well, Start, After, Behind, after_token, start_behind, nowhere, well_pure, well_refuse, viable_pure, viable_refuse, viable_bind, viable_map, viable_expect, viable_eat, viable_accept, viable_operator, viable_needed, viable_choice, viable_choice_of, viable_separated, viable_many, viable_terminated, viable_seen}
 use Rattle.ps_parse.proofs.ViableExpressions.{selector_viable, variable_viable, expr_viable}

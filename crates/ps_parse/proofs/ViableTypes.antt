@@ -1,18 +1,15 @@
 -- What was taken of a type begins one.
-use Rattle.std.proofs.Common.{ℕ, zero, suc, List, [], ◌∷◌, Option, Some, None}
+use Rattle.std.proofs.Common.{ℕ, zero, suc, [], ◌∷◌, Some, None}
 use Rattle.ps_text.specs.declared.Span.{Span}
 use Rattle.ps_scan.specs.declared.token.Kind.{Kind}
 use Rattle.ps_scan.specs.declared.token.Kind.TheVariants as k
-use Rattle.ps_syntax.specs.declared.expression.Sign.{Sign}
 use Rattle.ps_syntax.specs.declared.statement.Constant.{Constant}
 use Rattle.ps_syntax.specs.declared.statement.Constant.TheVariants as c
 use Rattle.ps_syntax.specs.declared.program.Ordinal.{Ordinal}
 use Rattle.ps_syntax.specs.declared.program.Ordinal.TheVariants as o
 use Rattle.ps_syntax.specs.declared.program.TypeDenoter.{TypeDenoter}
 use Rattle.ps_syntax.specs.declared.program.TypeDenoter.TheVariants as t
-use Rattle.ps_syntax.specs.declared.program.Structure.{Structure}
 use Rattle.ps_syntax.specs.declared.program.Structure.TheVariants as u
-use Rattle.ps_syntax.specs.declared.program.Fields.{Fields}
 use Rattle.ps_grammar.specs.Symbols.{Tokens, Symbol, token}
 use Rattle.ps_grammar.specs.Statements.{IsConstant}
 use Rattle.ps_grammar.specs.Statements as st

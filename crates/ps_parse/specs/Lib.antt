@@ -3,3 +3,4 @@ pub mod ReadExpressions
 pub mod ReadStatements
 pub mod ReadPrograms
 pub mod Refusals
+pub mod Begun
