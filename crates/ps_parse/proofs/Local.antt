@@ -1,12 +1,13 @@
 -- That a parser looks no further than at the token that it stops before or refuses.
-use Rattle.std.proofs.Common.{◌≡◌, ℕ, Bool, true, false, List, [], ◌∷◌, ◌++◌, length, Option, Some, None, Ok, Err, ◌⊎◌, inl, inr, refl, sym, ap, ◌∙◌, subst, append_assoc, if◌then◌else◌}
+use Rattle.std.proofs.Common.{◌≡◌, ℕ, ◌<◌, ◌≤◌, Bool, true, false, [], ◌∷◌, ◌++◌, length, Option, Some, None, Ok, Err, ◌⊎◌, inl, inr, refl, sym, ap, ◌∙◌, append_assoc, length-append, arith, if◌then◌else◌}
 use Rattle.ps_text.specs.declared.Span.{Span}
 use Rattle.ps_scan.specs.declared.token.Kind.{Kind}
 use Rattle.ps_scan.specs.declared.token.Token.{Token}
 use Rattle.ps_scan.specs.Kinds.{same}
 use Rattle.ps_grammar.specs.Symbols.{Tokens}
-use Rattle.ps_parse.specs.Steps.{Outcome, Parser, and_then, first, rest, skip, eat, look, expect, if_some, pure, refuse, ◌>>=◌, ◌>>◌}
-use Rattle.ps_parse.proofs.Exact.{both_steps, first_part, second_part}
+use Rattle.ps_parse.specs.Steps.{Outcome, Parser, and_then, first, rest, skip, sees, eat, accept, accept_one, look, expect, if_some, if_begins, pure, refuse, ◌>>=◌, ◌>>◌, ◌<$>◌}
+use Rattle.ps_parse.specs.ReadExpressions.{eat_operator, taken}
+use Rattle.ps_parse.proofs.Exact.{both_steps, first_part, second_part, expect_sound}
 
 -- What it reads, and where it refuses, depends on the tokens before that place and on the next one alone.
 pub record Local {A : Type 0} (p : Parser A) : Type 0 where
@@ -93,7 +94,7 @@ local_same p q e h = record {
   refuses = λ ts n d. (let one = h.refuses ts n (e ts ∙ d) in (one.0, one.1, one.2, one.3, λ r' same. sym (e (one.0 ++ r')) ∙ one.4 r' same));
 }
 
-none_left : (r : Tokens) → first r ≡ None → r ≡ []
+pub none_left : (r : Tokens) → first r ≡ None → r ≡ []
 none_left [] e = refl
 none_left (t ∷ r) e = cc
 
@@ -154,3 +155,76 @@ expect_is k (t ∷ ts) = go (same t.kind k) refl
 pub local_expect : (k : Kind) → Local (expect k)
 unfolding one_of
 local_expect k = local_same _ (expect k) (expect_is k) (local_by (λ o. if_some o (one_of k) refuse) (λ o. local_if_some (one_of k) refuse (λ t. local_if _ _ (local_then skip (pure t.span) local_skip (local_pure t.span)) local_refuse (same t.kind k)) local_refuse o))
+
+pub local_map : {A B : Type 0} (f : A → B) (p : Parser A) → Local p → Local (f <$> p)
+local_map f p h = local_bind p (λ x. pure (f x)) h (λ x. local_pure (f x))
+
+-- past the next token
+pub local_past : {A : Type 0} (p : Parser A) → Local p → Local (skip >> p)
+local_past p h = local_then skip p local_skip h
+
+-- by the next token, if there is one
+pub local_next : {A : Type 0} (f : Token → Parser A) (p : Parser A) → ((t : Token) → Local (f t)) → Local p → Local (λ ts. if_some (first ts) f p ts)
+local_next f p h i = local_by (λ o. if_some o f p) (λ o. local_if_some f p h i o)
+
+local_one : (b : Bool) (at : Span) → Local (accept_one b at)
+local_one true at = local_past (pure (Some at)) (local_pure (Some at))
+local_one false at = local_pure None
+
+pub local_accept : (k : Kind) → Local (accept k)
+unfolding accept
+local_accept k = local_next (λ t. accept_one (same t.kind k) t.span) (pure None) (λ t. local_one (same t.kind k) t.span) (local_pure None)
+
+local_taken : {O : Type 0} (op : Option O) (at : Span) → Local (taken op at)
+local_taken None at = local_pure None
+local_taken (Some op) at = local_past (pure (Some (op, at))) (local_pure (Some (op, at)))
+
+pub local_operator : {O : Type 0} (of : Kind → Option O) → Local (eat_operator of)
+unfolding eat_operator
+local_operator of = local_next (λ t. taken (of t.kind) t.span) (pure None) (λ t. local_taken (of t.kind) t.span) (local_pure None)
+
+-- ---- what the next token tells
+either_at : {A : Type 0} (b : Bool) (p q : Parser A) (ts : Tokens) → (if b then p else q) ts ≡ (if b then p ts else q ts)
+either_at true p q ts = refl
+either_at false p q ts = refl
+
+module _ {A : Type 0} (begins : Tokens → Bool) (is_begin : Option Token → Bool) (shown : (ts : Tokens) → is_begin (first ts) ≡ begins ts) where
+  choice_is : (p q : Parser A) (ts : Tokens) → (if is_begin (first ts) then p else q) ts ≡ (if begins ts then p ts else q ts)
+  choice_is p q ts = ap (λ (b : Bool). (if b then p else q) ts) (shown ts) ∙ either_at (begins ts) p q ts
+
+  pub local_choice : (p q : Parser A) → Local p → Local q → Local (λ ts. if begins ts then p ts else q ts)
+  local_choice p q h i = local_same _ _ (choice_is p q) (local_by (λ o. if is_begin o then p else q) (λ o. local_if p q h i (is_begin o)))
+
+pub sees_shown : (k : Kind) (ts : Tokens) → seen k (first ts) ≡ sees k ts
+sees_shown k [] = refl
+sees_shown k (t ∷ ts) = refl
+
+pub local_if_begins : {A : Type 0} (begins : Tokens → Bool) (is_begin : Option Token → Bool) → ((ts : Tokens) → is_begin (first ts) ≡ begins ts) → (p : Parser A) → Local p → Local (if_begins begins p)
+unfolding if_begins
+local_if_begins begins is_begin shown p h = local_choice begins is_begin shown (Some <$> p) (pure None) (local_map Some p h) (local_pure None)
+
+-- ---- how much is taken
+pub no_longer : {A : Type 0} (p : Parser A) → Local p → (ts : Tokens) (a : A) (r : Tokens) → p ts ≡ Ok (a, r) → length r ≤ length ts
+no_longer p h ts a r e = (let one = h.reads ts a r e in omega (arith, ap length one.1, length-append one.0 r))
+
+-- it takes a token at least
+abbrev pub Takes : {A : Type 0} → Parser A → Type 0
+Takes {A} p = (ts : Tokens) (a : A) (r : Tokens) → p ts ≡ Ok (a, r) → length r < length ts
+
+pub expect_takes : (k : Kind) → Takes (expect k)
+expect_takes k ts at r e = (let here = expect_sound k ts at r e in omega (arith, ap length here))
+
+pub last_takes : {A B : Type 0} (p : Parser A) (f : A → Parser B) → Local p → ((x : A) → Takes (f x)) → Takes (p >>= f)
+last_takes p f h t ts b r e = (let s = both_steps (p ts) f b r e in omega (arith, no_longer p h ts s.0 s.1 s.2, t s.0 s.1 b r s.3))
+
+pub first_takes : {A B : Type 0} (p : Parser A) (f : A → Parser B) → Takes p → ((x : A) → Local (f x)) → Takes (p >>= f)
+first_takes p f t i ts b r e = (let s = both_steps (p ts) f b r e in omega (arith, t ts s.0 s.1 s.2, no_longer (f s.0) (i s.0) s.1 b r s.3))
+
+pub past_takes : {A : Type 0} (p : Parser A) → Local p → (t : Token) (ts : Tokens) (a : A) (r : Tokens) → (skip >> p) (t ∷ ts) ≡ Ok (a, r) → length r < length (t ∷ ts)
+past_takes p h t ts a r e = omega (arith, no_longer p h ts a r e)
+
+pub starts_with : {A B : Type 0} (p : Parser A) (f : A → Parser B) → Local p → Takes p → ((x : A) → Local (f x)) → Local (p >>= f) × Takes (p >>= f)
+starts_with p f h t i = (local_bind p f h i, first_takes p f t i)
+
+pub none_some : {A : Type 0} (x : A) (m r : Tokens) → ◌≡◌ {A = Outcome (Option A)} (Ok (None, m)) (Ok (Some x, r)) → ⊥
+none_some {A} x m r e = (let none : ◌≡◌ {A = Option A} None (Some x) = first_part None (Some x) m r e in cc)

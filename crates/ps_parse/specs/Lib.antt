@@ -4,3 +4,4 @@ pub mod ReadStatements
 pub mod ReadPrograms
 pub mod Refusals
 pub mod Begun
+pub mod Untaken

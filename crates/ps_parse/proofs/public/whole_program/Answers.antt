@@ -1,5 +1,7 @@
-use Rattle.std.proofs.Common.{sym, ◌∙◌}
+use Rattle.std.proofs.Common.{◌-◌, length, sym, subst, ◌∙◌}
+use Rattle.ps_parse.specs.Untaken.{NoneTakesAt}
 use Rattle.ps_parse.proofs.Whole.{derives, only, left_over, never}
+use Rattle.ps_parse.proofs.Refused.{refused_untaken, left_untaken}
 use Rattle.ps_parse.proofs.public.whole_program.Goals as goal
 
 pub returns-then-left-eq0-clause-derives : goal.returns-then-left-eq0-clause-derives
@@ -13,3 +15,11 @@ returns-else-left-eq0-clause-refused c = λ ne. left_over c.args.text.now c.args
 
 pub returns-in-Err-clause-refused : goal.returns-in-Err-clause-refused
 returns-in-Err-clause-refused c = λ ne. never c.args.text.now c.args.tokens.now _ (c.in-Err.ensures ne)
+
+pub returns-else-left-eq0-clause-untaken : goal.returns-else-left-eq0-clause-untaken
+returns-else-left-eq0-clause-untaken c = λ ne.
+    subst (λ left. NoneTakesAt c.args.text.now c.args.tokens.now (length c.args.tokens.now - left)) (sym c.refusal.ensures.left)
+    (left_untaken c.args.text.now c.args.tokens.now c.in-Ok.program c.program.new.self.rest.now c.in-Ok.ensures (λ e. c.if-left-eq0.false (c.left.ensures ∙ e)))
+
+pub returns-in-Err-clause-untaken : goal.returns-in-Err-clause-untaken
+returns-in-Err-clause-untaken c = λ ne. refused_untaken c.args.text.now c.args.tokens.now _ (c.in-Err.ensures ne)

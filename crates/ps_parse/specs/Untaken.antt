@@ -1,0 +1,28 @@
+-- What a refusal tells of the token that it is told at: no derivation takes it (this project's format).
+use Rattle.std.specs.Prelude.{◌≡◌, ℕ, ◌≤◌, List, [], ◌∷◌, ◌++◌, length, take, drop}
+use Rattle.ps_syntax.specs.declared.program.Program.{Program}
+use Rattle.ps_grammar.specs.Symbols.{Tokens}
+use Rattle.ps_grammar.specs.Trees.{IsTreeOf}
+use Rattle.ps_parse.specs.Refusals.{token_line}
+use Rattle.ps_parse.specs.declared.error.ParseRefusal.{ParseRefusal}
+use Rattle.ps_parse.specs.declared.error.ParseRefusal.TheVariants.{NotAProgram, TooDeep, NotInProfile, OutOfMemory}
+
+-- No derivation takes the first of some tokens after those before it: whatever comes behind, nothing that begins with those before and this one has a tree. Where there is no such token, those before have none.
+abbrev pub NoneTakes : List ℕ → Tokens → Tokens → Type 0
+NoneTakes text before [] = (p : Program) → IsTreeOf text before p → ⊥
+NoneTakes text before (t ∷ ts) = (behind : Tokens) (p : Program) → IsTreeOf text (before ++ t ∷ behind) p → ⊥
+
+-- the same of the token with a number, counted from 0
+abbrev pub NoneTakesAt : List ℕ → Tokens → ℕ → Type 0
+NoneTakesAt text ts at = NoneTakes text (take at ts) (drop at ts)
+
+-- the line is that of a token, or of the end, which no derivation takes
+abbrev pub IsUntakenOn : List ℕ → Tokens → ℕ → ℕ → Type 0
+IsUntakenOn text ts line at = (at ≤ length ts) × (line ≡ token_line text ts at) × NoneTakesAt text ts at
+
+-- and the token is the one told
+abbrev pub IsUntaken : List ℕ → Tokens → ParseRefusal → Type 0
+IsUntaken text ts (NotAProgram line at) = IsUntakenOn text ts line at
+IsUntaken text ts (TooDeep line) = (at : ℕ) × IsUntakenOn text ts line at
+IsUntaken text ts (NotInProfile line) = (at : ℕ) × IsUntakenOn text ts line at
+IsUntaken text ts OutOfMemory = Unit {0}
