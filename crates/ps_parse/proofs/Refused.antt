@@ -1,18 +1,14 @@
 -- No derivation takes the token that the reading of all tokens refuses.
-use Rattle.std.proofs.Common.{◌≡◌, ◌≢◌, ℕ, ◌-◌, ◌<◌, List, [], ◌∷◌, ◌++◌, length, take, drop, Ok, Err, refl, sym, ap, ◌∙◌, subst, arith, append-nil, length-append, length-drop}
-use Rattle.std.proofs.Math.Nat.{min-eq_left}
+use Rattle.std.proofs.Common.{◌≡◌, ◌≢◌, ℕ, ◌-◌, List, [], ◌∷◌, ◌++◌, length, take, drop, Ok, Err, refl, sym, ap, ◌∙◌, subst, arith, append-nil, length-append, length-drop}
 use Rattle.std.proofs.lemmas.List.{take-append-drop}
 use Rattle.ps_syntax.specs.declared.program.Program.{Program}
 use Rattle.ps_grammar.specs.Symbols.{Tokens}
 use Rattle.ps_grammar.specs.Forward.{is_forward}
 use Rattle.ps_grammar.specs.Trees.{IsTreeOf}
 use Rattle.ps_grammar.proofs.ProgramLevels.{low_is_within}
-use Rattle.ps_parse.specs.declared.error.Fault.{Fault}
-use Rattle.ps_parse.specs.declared.error.Fault.TheVariants as fault
-use Rattle.ps_parse.specs.Steps.{Outcome, Parser, first, left_of}
+use Rattle.ps_parse.specs.Steps.{Outcome, Parser, first}
 use Rattle.ps_parse.specs.ReadPrograms.{program, read_block}
-use Rattle.ps_parse.specs.Refusals.{token_from, token_line, refusal_of}
-use Rattle.ps_parse.specs.Untaken.{NoneTakes, NoneTakesAt, IsUntakenOn, IsUntaken}
+use Rattle.ps_parse.specs.Untaken.{NoneTakes, NoneTakesAt}
 use Rattle.ps_parse.proofs.Exact.{second_part}
 use Rattle.ps_parse.proofs.ExactPrograms.{derived_is_read}
 use Rattle.ps_parse.proofs.Local.{Local, none_left}
@@ -48,15 +44,3 @@ module _ (text : List ℕ) where
   left_untaken ts p r e some =
       let one = looks.reads ts p r e in
       at_place ts one.0 r (length r) one.1 refl (no_tree one.0 r (λ r' same q d. some (ap length (none_left r (sym same ∙ ap first (second_part p q r' [] (sym (one.2 r' same) ∙ d)))))))
-
-  -- ---- as it is told
-  placed : (ts : Tokens) (left : ℕ) → length ts < 4294967296 → NoneTakesAt text ts (length ts - left) → IsUntakenOn text ts (token_line text ts (token_from ts left)) (token_from ts left)
-  placed ts left few never =
-      let same : length ts - left ≡ token_from ts left = sym (min-eq_left {n = length ts - left} {m = 4294967295} (omega arith)) in
-      subst (λ at. IsUntakenOn text ts (token_line text ts at) at) same (omega arith, refl, never)
-
-  pub told_untaken : (ts : Tokens) (e : Fault) → length ts < 4294967296 → (e ≢ fault.OutOfMemory → NoneTakesAt text ts (length ts - left_of e)) → IsUntaken text ts (refusal_of text ts e)
-  told_untaken ts fault.OutOfMemory few never = tt
-  told_untaken ts (fault.Unexpected left) few never = placed ts left few (never (λ e. cc))
-  told_untaken ts (fault.TooDeep left) few never = (token_from ts left, placed ts left few (never (λ e. cc)))
-  told_untaken ts (fault.NotInProfile left) few never = (token_from ts left, placed ts left few (never (λ e. cc)))

@@ -144,7 +144,7 @@ module _ (is_forward : Span → Bool) where
       unfolding read.function_routine
       function_routine_viable word = viable_expect _ k.Name _ (λ at. viable_eat _ k.Semicolon _ (λ semicolon. viable_map (q.Completion at) w (λ y ts r d. completing d))
           (viable_bind (function_named_viable F p v word at) (λ heading. viable_expect _ k.Semicolon _ (λ semicolon.
-            viable_within (Rest heading semicolon) _ (λ y m r f ts d. f (token k.Function word ∷ token k.Name at ∷ ts) d) _ (after_heading_viable heading semicolon)))))
+          viable_within (Rest heading semicolon) _ (λ y m r f ts d. f (token k.Function word ∷ token k.Name at ∷ ts) d) _ (after_heading_viable heading semicolon)))))
 
       head_start : Start Head
       head_start = start_behind Head k.Procedure (procedure_routine_viable nowhere).start

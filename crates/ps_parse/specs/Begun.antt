@@ -1,4 +1,4 @@
--- What a refusal tells of the tokens before the one that it is told at: they begin a program (this project's format). So that token is the first that no derivation takes.
+-- What a refusal tells of the tokens before the one that it is told at: they begin a program (this project's format).
 use Rattle.std.specs.Prelude.{ℕ, List, ◌++◌, take}
 use Rattle.ps_syntax.specs.declared.program.Program.{Program}
 use Rattle.ps_grammar.specs.Symbols.{Tokens}

@@ -7,7 +7,8 @@ ghost use Rattle.ps_parse.specs.declared.error.ParseRefusal.TheVariants.{OutOfMe
 ghost use Rattle.ps_grammar.specs.Trees.{IsTreeOf};
 ghost use Rattle.ps_parse.specs.Refusals as refusals;
 ghost use Rattle.ps_parse.specs.Steps.{left_of};
-ghost use Rattle.ps_parse.specs.Untaken.{NoneTakesAt, IsUntaken};
+ghost use Rattle.ps_parse.specs.Begun.{BeginsUntil};
+ghost use Rattle.ps_parse.specs.Untaken.{NoneTakesAt, IsFirstUntaken};
 ghost use Rattle.ps_parse.specs.Refusals.{IsPlaced, token_line};
 
 use crate::error::{Fault, ParseRefusal};
@@ -30,8 +31,8 @@ pub fn parse(alloc: Global, source: &Source, tokens: &[Token]) -> Result<Program
     // Unless memory ran out, the tokens have no tree.
     ensures refused { IfErr result (λ e. e ≢ OutOfMemory → (other : Program) → IsTreeOf source.now tokens.now other → ⊥) }
     ensures placed { IfErr result (IsPlaced source.now tokens.now) }
-    // No derivation takes the token told. (No text has so many.)
-    ensures untaken { length tokens.now < 4294967296 → IfErr result (IsUntaken source.now tokens.now) }
+    // The token told is the first that no derivation takes. (No text has so many.)
+    ensures untaken { length tokens.now < 4294967296 → IfErr result (IsFirstUntaken source.now tokens.now) }
 {
     match whole_program(alloc, source.bytes(), tokens) {
         Ok(program) => Ok(program),
@@ -44,6 +45,7 @@ fn whole_program(alloc: Global, text: &[u8], tokens: &[Token]) -> Result<Program
     ensures derives { IfOk result (IsTreeOf text.now tokens.now) }
     ensures only { IfOk result (λ p. (other : Program) → IsTreeOf text.now tokens.now other → other ≡ p) }
     ensures refused { IfErr result (λ e. e ≢ faults.OutOfMemory → (other : Program) → IsTreeOf text.now tokens.now other → ⊥) }
+    ensures begun { IfErr result (λ e. e ≢ faults.OutOfMemory → BeginsUntil text.now tokens.now (length tokens.now - left_of e)) }
     ensures untaken { IfErr result (λ e. e ≢ faults.OutOfMemory → NoneTakesAt text.now tokens.now (length tokens.now - left_of e)) }
 {
     let mut parser = Parser {

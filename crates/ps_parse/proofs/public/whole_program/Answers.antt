@@ -1,7 +1,9 @@
 use Rattle.std.proofs.Common.{◌-◌, length, sym, subst, ◌∙◌}
+use Rattle.ps_parse.specs.Begun.{BeginsUntil}
 use Rattle.ps_parse.specs.Untaken.{NoneTakesAt}
 use Rattle.ps_parse.proofs.Whole.{derives, only, left_over, never}
 use Rattle.ps_parse.proofs.Refused.{refused_untaken, left_untaken}
+use Rattle.ps_parse.proofs.ViableWhole.{refused_begins, left_begins}
 use Rattle.ps_parse.proofs.public.whole_program.Goals as goal
 
 pub returns-then-left-eq0-clause-derives : goal.returns-then-left-eq0-clause-derives
@@ -23,3 +25,11 @@ returns-else-left-eq0-clause-untaken c = λ ne.
 
 pub returns-in-Err-clause-untaken : goal.returns-in-Err-clause-untaken
 returns-in-Err-clause-untaken c = λ ne. refused_untaken c.args.text.now c.args.tokens.now _ (c.in-Err.ensures ne)
+
+pub returns-else-left-eq0-clause-begun : goal.returns-else-left-eq0-clause-begun
+returns-else-left-eq0-clause-begun c = λ ne.
+    subst (λ left. BeginsUntil c.args.text.now c.args.tokens.now (length c.args.tokens.now - left)) (sym c.refusal.ensures.left)
+    (left_begins c.args.text.now c.args.tokens.now c.in-Ok.program c.program.new.self.rest.now c.in-Ok.ensures)
+
+pub returns-in-Err-clause-begun : goal.returns-in-Err-clause-begun
+returns-in-Err-clause-begun c = λ ne. refused_begins c.args.text.now c.args.tokens.now _ (c.in-Err.ensures ne)
