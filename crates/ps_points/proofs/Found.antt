@@ -18,10 +18,10 @@ use Rattle.ps_syntax.specs.declared.expression.MultipliedFactor.{MultipliedFacto
 use Rattle.ps_syntax.specs.declared.expression.Variable.{Variable, out-Variable}
 use Rattle.ps_syntax.specs.declared.statement.Constant.{Constant}
 use Rattle.ps_syntax.specs.declared.statement.Parameter.{Parameter}
-use Rattle.ps_points.specs.declared.uses.Way.TheVariants.{Named, Assigned, Passed}
+use Rattle.ps_points.specs.declared.uses.Way.TheVariants.{Named, Selected, Assigned, Passed}
 use Rattle.ps_points.specs.declared.uses.Use.{Use}
 use Rattle.ps_points.specs.Uses.{Uses, Part, IsFound, either, used, no_name, all_uses, argument_of, argument, arguments, assigned_of, assigned, constant_uses, parameter_part, expr_part, factor_part, member_uses, selector_uses, added_uses, multiplied_uses, simple_part, term_part, variable_part}
-use Rattle.ps_points.proofs.UseEquations.{expr_Simple, expr_Compare, factor_Variable, factor_Call, factor_Set, factor_Group, factor_Not, member_One, member_Range, selector_Index, added_is, multiplied_is, simple_is, term_is, variable_is}
+use Rattle.ps_points.proofs.UseEquations.{expr_Simple, expr_Compare, factor_Variable, factor_Call, factor_Set, factor_Group, factor_Not, member_One, member_Range, selector_Index, selector_Field, added_is, multiplied_is, simple_is, term_is, variable_is}
 
 pub found_none : (xs : Uses) → IsFound xs None
 found_none xs = record { stands = tt }
@@ -130,6 +130,9 @@ selectors_found xs i x r lt at h = all_found selector_uses xs i x r lt at h
 pub selector_found : (xs : List Expr) (r : Option Use) → IsFound (all_uses (λ x. (expr_part x).uses) xs) r → IsFound (selector_uses (s.Index xs)) r
 selector_found xs r h = moved _ _ r (selector_Index xs) h
 
+pub selector_found_field : (at : Span) (r : Option Use) → IsFound (used at Selected ∷ []) r → IsFound (selector_uses (s.Field at)) r
+selector_found_field at r h = moved _ _ r (selector_Field at) h
+
 pub exprs_found : (xs : List Expr) (i : ℕ) (x : Expr) (r : Option Use) → i < length xs → x ≡ get_or xs i x → IsFound (expr_part x).uses r → IsFound (all_uses (λ x. (expr_part x).uses) xs) r
 exprs_found xs i x r lt at h = all_found (λ (x : Expr). (expr_part x).uses) xs i x r lt at h
 
@@ -137,7 +140,7 @@ pub records_found : (xs : List Variable) (i : ℕ) (x : Variable) (r : Option Us
 records_found xs i x r lt at h = all_found (λ (x : Variable). (variable_part x).uses) xs i x r lt at h
 
 -- of a list whose items have a default
-get_any : {A : Type 0} (xs : List A) (i : ℕ) (c d : A) → i < length xs → get_or xs i c ≡ get_or xs i d
+pub get_any : {A : Type 0} (xs : List A) (i : ℕ) (c d : A) → i < length xs → get_or xs i c ≡ get_or xs i d
 get_any [] i c d lt = absurd (let q : i < 0 = lt in omega (arith, q))
 get_any (x ∷ xs) zero c d lt = refl
 get_any (x ∷ xs) (suc i) c d lt = get_any xs i c d (let q : suc i < suc (length xs) = lt in omega (arith, q))

@@ -6,3 +6,6 @@ pub mod BodyLemmas
 pub mod Formals
 pub mod ControlLemmas
 pub mod FunctionLemmas
+pub mod DeclaredFound
+pub mod UnknownLemmas
+pub mod WalkLemmas

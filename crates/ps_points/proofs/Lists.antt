@@ -74,11 +74,11 @@ each_at P (y ∷ ys) x e (zero, lt, at) = subst P at e.0
 each_at P (y ∷ ys) x e (suc k, lt, at) = each_at P ys x e.1 (k, (let q : suc k < suc (length ys) = lt in omega (arith, q)), at)
 
 pub record Missing (text : List ℕ) (kind : Kind) (p : Point) (points : Points) (i : ℕ) : Type 0 where
-  pub rest : Each (λ q. AreAlike text p q → is_kind kind q.form ≡ true → ⊥) (drop i points) → Each (λ q. AreAlike text p q → is_kind kind q.form ≡ true → ⊥) points
+  pub rest : Each (λ q. AreAlike text p q → is_kind kind p q ≡ true → ⊥) (drop i points) → Each (λ q. AreAlike text p q → is_kind kind p q ≡ true → ⊥) points
 
 module _ (text : List ℕ) (kind : Kind) (p : Point) (points : Points) where
   abbrev IsNone : Point → Type 0
-  IsNone q = AreAlike text p q → is_kind kind q.form ≡ true → ⊥
+  IsNone q = AreAlike text p q → is_kind kind p q ≡ true → ⊥
 
   pub missing_start : Missing text kind p points 0
   missing_start = record { rest = λ e. e }

@@ -16,7 +16,7 @@ use Rattle.ps_syntax.specs.declared.expression.MultipliedFactor.{MultipliedFacto
 use Rattle.ps_syntax.specs.declared.expression.Variable.{Variable, out-Variable}
 use Rattle.ps_syntax.specs.declared.expression.Expr.TheOpen.{Expr-F, Factor-F, Member-F, Selector-F}
 use Rattle.ps_syntax.specs.declared.expression.Expr.TheFolds.{fold-roll-Expr, fold-roll-Factor, fold-roll-Member, fold-roll-Selector, fold_out-AddedTerm, fold_out-MultipliedFactor, fold_out-Simple, fold_out-Term, fold_out-Variable}
-use Rattle.ps_points.specs.declared.uses.Way.TheVariants.{Named}
+use Rattle.ps_points.specs.declared.uses.Way.TheVariants.{Named, Selected}
 use Rattle.ps_points.specs.Uses.{Uses, Part, used, no_name, all_uses, only, no_sign, arguments, expr_step, factor_step, member_step, selector_step, added_step, multiplied_step, simple_step, term_step, variable_step, expr_part, factor_part, member_uses, selector_uses, added_uses, multiplied_uses, simple_part, term_part, variable_part}
 
 pub all_uses-map : {A B : Type 0} (f : B → Uses) (g : A → B) (xs : List A) → all_uses f (map g xs) ≡ all_uses (λ x. f (g x)) xs
@@ -81,7 +81,7 @@ pub selector_Index : (xs : List Expr) → selector_uses (s.Index xs) ≡ all_use
 unfolding selector_step
 selector_Index xs = ap selector_uses (sym (s.rolls-Index xs)) ∙ fold-roll-Selector Part Part Uses Uses Uses Uses Part Part Part expr_step factor_step member_step selector_step added_step multiplied_step simple_step term_step variable_step (Selector-F.Index xs) ∙ all_uses-map (λ (p : Part). p.uses) expr_part xs
 
-pub selector_Field : (at : Span) → selector_uses (s.Field at) ≡ []
+pub selector_Field : (at : Span) → selector_uses (s.Field at) ≡ used at Selected ∷ []
 unfolding selector_step
 selector_Field at = ap selector_uses (sym (s.rolls-Field at)) ∙ fold-roll-Selector Part Part Uses Uses Uses Uses Part Part Part expr_step factor_step member_step selector_step added_step multiplied_step simple_step term_step variable_step (Selector-F.Field at) ∙ refl
 

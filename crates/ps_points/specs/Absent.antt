@@ -1,11 +1,11 @@
--- Names that have no defining point of some form in a region.
-use Rattle.std.specs.Prelude.{◌≡◌, ℕ, Bool, true, false, List, Contains}
+-- Names that have no defining point of some kind in a region.
+use Rattle.std.specs.Prelude.{◌≡◌, ℕ, Bool, true, false, List, Contains, nat_lt}
 use Rattle.ps_regions.specs.Spelling.{spelled}
 use Rattle.ps_points.specs.declared.point.Point.{Point}
 use Rattle.ps_points.specs.declared.point.Form.{Form}
 use Rattle.ps_points.specs.declared.point.Form.TheVariants.{Variable, WholeProcedure, WholeFunction, ProcedureBlock, FunctionBlock}
 use Rattle.ps_points.specs.declared.absent.Kind.{Kind}
-use Rattle.ps_points.specs.declared.absent.Kind.TheVariants.{Every, WithBlock, OfVariable}
+use Rattle.ps_points.specs.declared.absent.Kind.TheVariants.{Every, Ahead, WithBlock, OfVariable}
 use Rattle.ps_points.specs.Points.{Points}
 
 -- both stand in one region, and are spelled alike
@@ -26,11 +26,13 @@ abbrev pub is_variable : Form → Bool
 is_variable Variable = true
 is_variable _ = false
 
-abbrev pub is_kind : Kind → Form → Bool
-is_kind Every form = true
-is_kind WithBlock form = has_block form
-is_kind OfVariable form = is_variable form
+-- of the points that are alike with `p`, these are of the kind
+abbrev pub is_kind : Kind → (p q : Point) → Bool
+is_kind Every p q = true
+is_kind Ahead p q = nat_lt q.name.from p.name.from
+is_kind WithBlock p q = has_block q.form
+is_kind OfVariable p q = is_variable q.form
 
 -- no point of this kind is alike
 abbrev pub IsAbsent : List ℕ → Points → Kind → Point → Type 0
-IsAbsent text points kind p = (q : Point) → Contains points q → AreAlike text p q → is_kind kind q.form ≡ true → ⊥
+IsAbsent text points kind p = (q : Point) → Contains points q → AreAlike text p q → is_kind kind p q ≡ true → ⊥

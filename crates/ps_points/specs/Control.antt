@@ -9,7 +9,7 @@ use Rattle.ps_points.specs.declared.point.Form.{Form}
 use Rattle.ps_points.specs.declared.point.Form.TheVariants.{Constant, Field, VariableParameter}
 use Rattle.ps_points.specs.declared.absent.Kind.TheVariants.{Every, OfVariable}
 use Rattle.ps_points.specs.declared.uses.Way.{Way}
-use Rattle.ps_points.specs.declared.uses.Way.TheVariants.{Named, Assigned, Counted, CountedWithin, Passed}
+use Rattle.ps_points.specs.declared.uses.Way.TheVariants.{Named, Selected, Completed, Assigned, Counted, CountedWithin, Passed}
 use Rattle.ps_points.specs.declared.uses.Use.{Use}
 use Rattle.ps_points.specs.declared.bodies.Repeated.{Repeated}
 use Rattle.ps_points.specs.Points.{Points, point, within}
@@ -59,6 +59,8 @@ Takes text points (l ∷ ls) routine index = IsByVariable text points l.region r
 -- 6.8.3.9: The use threatens what its name denotes. Where it is passed to a routine, it stands in the innermost of these blocks.
 abbrev pub Threatens : List ℕ → Points → Nested → Way → Type 0
 Threatens text points levels Named = ⊥
+Threatens text points levels Selected = ⊥
+Threatens text points levels Completed = ⊥
 Threatens text points levels Assigned = Unit {0}
 Threatens text points levels Counted = Unit {0}
 Threatens text points levels CountedWithin = Unit {0}
@@ -125,9 +127,3 @@ pub record IsNotLocal (text : List ℕ) (points : Points) (own : Level) (at : �
 abbrev pub IsControlIn : List ℕ → Points → Nested → ℕ → Type 0
 IsControlIn text points [] at = ⊥
 IsControlIn text points (own ∷ outer) at = IsInLoop text points own outer at ⊎ (IsInRoutine text points own outer at ⊎ IsNotLocal text points own at)
-
--- it is broken in one of the program's blocks
-pub record IsControl (text : List ℕ) (points : Points) (blocks : List Nested) (at : ℕ) : Type 0 where
-  pub levels : Nested
-  pub stands : Contains blocks levels
-  pub broken : IsControlIn text points levels at

@@ -1,23 +1,22 @@
 -- The blocks of a program, each with those round it: a walk over the tree.
 use Rattle.std.specs.Prelude.{false, List, [], ◌∷◌, ◌++◌}
-use Rattle.ps_syntax.specs.declared.statement.Statement.{Statement}
 use Rattle.ps_syntax.specs.declared.program.Routine.{Routine}
-use Rattle.ps_syntax.specs.declared.program.Block.{Block}
+use Rattle.ps_syntax.specs.declared.program.Block.{Block, out-Block}
 use Rattle.ps_syntax.specs.declared.program.Routine.TheOpen.{Routine-F, Block-F}
 use Rattle.ps_syntax.specs.declared.program.Routine.TheFolds.{fold-Block, fold-Routine}
 use Rattle.ps_syntax.specs.declared.program.Program.{Program}
 use Rattle.ps_points.specs.declared.point.Region.{Region}
 use Rattle.ps_points.specs.declared.levels.Levels.{Levels, Outside, Within'}
 use Rattle.ps_points.specs.Points.{heading, within, of_program}
-use Rattle.ps_points.specs.Uses.{Body, statements_body}
+use Rattle.ps_points.specs.declared.uses.Way.TheVariants.{Completed}
+use Rattle.ps_points.specs.Uses.{Uses, used, all_uses, Body, statements_body}
+use Rattle.ps_points.specs.DeclaredUses.{heading_uses, declared_uses}
 
--- a block: its region, and what stands in its statements
+-- a block: its region, the uses in its declarations, and what stands in its statements
 pub record Level : Type 0 where
   pub region : Region
+  pub declared : Uses
   pub body : Body
-
-abbrev pub own_level : Region → List Statement → Level
-own_level region statements = record { region = region; body = statements_body statements false }
 
 -- a block and those round it, from the inside out
 abbrev pub Nested : Type 0
@@ -32,20 +31,41 @@ all_nested f (x ∷ xs) = f x ++ all_nested f xs
 abbrev pub NestedIn : Type 0
 NestedIn = Region → Nested → List Nested
 
-unfoldable pub routine_levels_step : Routine-F NestedIn NestedIn → NestedIn
-routine_levels_step (Routine-F.Whole h b) region outer = b (within region (heading h).0) outer
-routine_levels_step (Routine-F.Forward h) region outer = []
-routine_levels_step (Routine-F.Completion name b) region outer = b (within region name) outer
+-- a routine: the uses in its heading, and the blocks in it
+pub record RoutineLevels : Type 0 where
+  pub heading : Uses
+  pub nested : NestedIn
+
+unfoldable pub routine_levels_step : Routine-F RoutineLevels NestedIn → RoutineLevels
+routine_levels_step (Routine-F.Whole h b) = record { heading = heading_uses h; nested = λ region outer. b (within region (heading h).0) outer }
+routine_levels_step (Routine-F.Forward h) = record { heading = heading_uses h; nested = λ region outer. [] }
+routine_levels_step (Routine-F.Completion name b) = record { heading = used name Completed ∷ []; nested = λ region outer. b (within region name) outer }
 
 -- a block by its own region
-unfoldable pub block_levels_step : Block-F NestedIn NestedIn → NestedIn
-block_levels_step b region outer = (own_level region b.statements ∷ outer) ∷ all_nested (λ r. r region (own_level region b.statements ∷ outer)) b.routines
+abbrev pub level_at : Block-F RoutineLevels NestedIn → Region → Level
+level_at b region = record { region = region; declared = declared_uses b.constants b.types b.variables (all_uses (λ r. r.heading) b.routines); body = statements_body b.statements false }
+
+unfoldable pub block_levels_step : Block-F RoutineLevels NestedIn → NestedIn
+block_levels_step b region outer = (level_at b region ∷ outer) ∷ all_nested (λ r. r.nested region (level_at b region ∷ outer)) b.routines
 
 abbrev pub block_levels : Block → NestedIn
-block_levels = fold-Block NestedIn NestedIn routine_levels_step block_levels_step
+block_levels = fold-Block RoutineLevels NestedIn routine_levels_step block_levels_step
+
+abbrev pub routine_part : Routine → RoutineLevels
+routine_part = fold-Routine RoutineLevels NestedIn routine_levels_step block_levels_step
 
 abbrev pub routine_levels : Routine → NestedIn
-routine_levels = fold-Routine NestedIn NestedIn routine_levels_step block_levels_step
+routine_levels r = (routine_part r).nested
+
+abbrev pub routine_heading_uses : Routine → Uses
+routine_heading_uses r = (routine_part r).heading
+
+abbrev pub block_declared_uses : Block → Uses
+block_declared_uses b = declared_uses (out-Block b).constants (out-Block b).types (out-Block b).variables (all_uses routine_heading_uses (out-Block b).routines)
+
+-- a block
+abbrev pub own_level : Region → Block → Level
+own_level region b = record { region = region; declared = block_declared_uses b; body = statements_body (out-Block b).statements false }
 
 -- those in some routines
 unfoldable pub routines_levels : Region → Nested → List Routine → List Nested
@@ -57,4 +77,4 @@ program_levels p = block_levels p.block (of_program p.name) []
 -- what the nested blocks of a walk stand for
 unfoldable pub levels_of : Levels → Nested
 levels_of Outside = []
-levels_of (Within' region statements p outer) = own_level region statements.now ∷ levels_of outer
+levels_of (Within' region block p outer) = own_level region block.now ∷ levels_of outer

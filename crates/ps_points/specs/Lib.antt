@@ -1,6 +1,9 @@
 pub mod Points
 pub mod Absent
 pub mod Uses
+pub mod DeclaredUses
 pub mod Levels
 pub mod Control
+pub mod Unknown
+pub mod Walk
 pub mod Broken

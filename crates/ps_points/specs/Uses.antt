@@ -22,7 +22,7 @@ use Rattle.ps_syntax.specs.declared.statement.Element.{Element}
 use Rattle.ps_syntax.specs.declared.statement.Statement.TheOpen.{Statement-F, Element-F}
 use Rattle.ps_syntax.specs.declared.statement.Statement.TheFolds.{fold-Statement, fold-Element}
 use Rattle.ps_points.specs.declared.uses.Way.{Way}
-use Rattle.ps_points.specs.declared.uses.Way.TheVariants.{Named, Assigned, Counted, CountedWithin, Passed}
+use Rattle.ps_points.specs.declared.uses.Way.TheVariants.{Named, Selected, Assigned, Counted, CountedWithin, Passed}
 use Rattle.ps_points.specs.declared.uses.Use.{Use}
 use Rattle.ps_points.specs.declared.bodies.Repeated.{Repeated}
 
@@ -95,10 +95,9 @@ unfoldable pub member_step : Member-F Part Part Uses Uses Uses Uses Part Part Pa
 member_step (Member-F.One x) = x.uses
 member_step (Member-F.Range x y) = x.uses ++ y.uses
 
--- the name of a field is looked up in the type of the record before the point (6.5.3.3), so it is no use here
 unfoldable pub selector_step : Selector-F Part Part Uses Uses Uses Uses Part Part Part → Uses
 selector_step (Selector-F.Index xs) = all_uses (λ (x : Part). x.uses) xs
-selector_step (Selector-F.Field at) = []
+selector_step (Selector-F.Field at) = used at Selected ∷ []
 selector_step (Selector-F.Content at) = []
 
 unfoldable pub added_step : AddedTerm-F Part Part Uses Uses Uses Uses Part Part Part → Uses

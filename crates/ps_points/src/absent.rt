@@ -1,4 +1,4 @@
-//! Names that have no defining point of some form in a region.
+//! Names that have no defining point of some kind in a region.
 
 ghost use Rattle.std.specs.Prelude.{◌≡◌, true, false};
 ghost use Rattle.ps_points.specs.Absent.{AreAlike, IsAbsent, has_block, is_variable, is_kind};
@@ -12,6 +12,8 @@ use ps_regions::reading::Reading;
 pub enum Kind {
     /// All.
     Every,
+    /// Those that stand before it in the text.
+    Ahead,
     /// Those of routines with their blocks.
     WithBlock,
     /// Those of variable parts.
@@ -38,21 +40,23 @@ fn is_variable(form: Form) -> bool
     }
 }
 
-fn is_kind(kind: Kind, form: Form) -> bool
-    ensures { result ≡ is_kind kind form }
+/// Whether a point that is alike is of this kind.
+fn is_kind(kind: Kind, like: Point, point: Point) -> bool
+    ensures { result ≡ is_kind kind like point }
 {
     match kind {
         Kind::Every => true,
-        Kind::WithBlock => has_block(form),
-        Kind::OfVariable => is_variable(form),
+        Kind::Ahead => point.name.from < like.name.from,
+        Kind::WithBlock => has_block(point.form),
+        Kind::OfVariable => is_variable(point.form),
     }
 }
 
 /// Whether a point is of this kind, and alike.
 fn is_such(reading: &Reading, kind: Kind, like: Point, point: Point) -> bool
-    ensures { result ≡ false → AreAlike reading.now.source.now like point → is_kind kind point.form ≡ true → ⊥ }
+    ensures { result ≡ false → AreAlike reading.now.source.now like point → is_kind kind like point ≡ true → ⊥ }
 {
-    is_kind(kind, point.form) && are_alike(reading, like, point)
+    is_kind(kind, like, point) && are_alike(reading, like, point)
 }
 
 /// Whether no point of this kind is alike.

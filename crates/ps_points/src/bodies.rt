@@ -31,7 +31,7 @@ fn in_assigned(variable: &Variable, sought: Sought<'_>) -> Option<Use>
 }
 
 #[tactic(auto, using(crate::proofs::Found::found_none), unfolding(crate::specs::Uses::constant_uses))]
-fn in_constant(constant: &Constant, sought: Sought<'_>) -> Option<Use>
+pub fn in_constant(constant: &Constant, sought: Sought<'_>) -> Option<Use>
     ensures { IsFound (constant_uses constant.now) result }
 {
     match constant {
@@ -170,7 +170,7 @@ fn in_statement(statement: &Statement, opened: bool, sought: Sought<'_>) -> Opti
         Statement::With(list, body) => {
             first(
                 in_records(list.as_slice(), sought),
-                in_statement(body.get(), true, sought),
+                in_statement(body.get(), true, sought.within_records()),
             )
         }
     }

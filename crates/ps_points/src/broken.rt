@@ -1,63 +1,151 @@
 //! What is told of a fault, and where.
 
-ghost use Rattle.std.specs.Prelude.{IfOk, IfSome};
+ghost use Rattle.std.specs.Prelude.{ℕ, List, IfOk, IfSome};
 ghost use Rattle.ps_regions.specs.Refusal.{IsFault, IsRefusal};
+ghost use Rattle.ps_regions.specs.declared.refusal.Rule.TheVariants.{Unknown, Twice};
+ghost use Rattle.ps_points.specs.declared.walk.Asked.TheVariants.{OfUnknown};
 ghost use Rattle.ps_points.specs.Levels.{program_levels};
-ghost use Rattle.ps_points.specs.Control.{IsControl};
+ghost use Rattle.ps_points.specs.Walk.{IsSomewhere};
 ghost use Rattle.ps_points.specs.Broken.{BrokenAt, IsToldOf};
 
 use crate::blocks::program_points;
-use crate::control::is_control_broken;
+use crate::earliest::{earlier, first_undefined};
 use crate::functions::function_at;
 use crate::open::first_open;
 use crate::point::Point;
 use crate::twice::first_repeated;
+use crate::walk::{Asked, is_broken};
 use ps_regions::reading::Reading;
 use ps_regions::refusal::{CheckRefusal, Fault, Rule};
 use ps_syntax::Program;
 use std::alloc::{AllocError, Global};
 
-/// The offset, if the rule of control variables is broken there.
-fn confirmed(reading: &Reading, points: &[Point], written: &Program, at: u32) -> Option<u32>
-    ensures { IfSome result (IsControl reading.now.source.now points.now (program_levels written.now)) }
+/// The offset, if there is one and the rule is broken there.
+fn confirmed(
+    asked: Asked,
+    reading: &Reading,
+    points: &[Point],
+    written: &Program,
+    at: Option<u32>,
+) -> Option<u32>
+    ensures { IfSome result (IsSomewhere asked reading.now.source.now points.now (program_levels written.now)) }
 {
-    if is_control_broken(reading, points, written, at) {
+    let at = at?;
+    if is_broken(asked, reading, points, written, at) {
         Some(at)
     } else {
         None
     }
 }
 
-/// Where a program breaks a rule that it is known to break: at its first token of the text that does, where the rule is
-/// `Twice` or `ForwardOpen`, and else where it is known to, which is looked at anew where the rule is `ControlVariable`.
+/// A rule that is broken at an offset, if there is one.
+fn with_rule(rule: Rule, at: Option<u32>) -> Option<(Rule, u32)>
+    ensures { (text : List ℕ) → (p : Program) → IfSome at (BrokenAt text p rule) → IfSome result (λ told. BrokenAt text p told.0 told.1) }
+{
+    match at {
+        None => None,
+        Some(at) => Some((rule, at)),
+    }
+}
+
+/// The first in the text of a name that isn't defined and one that is defined twice.
+fn first_of(
+    reading: &Reading,
+    written: &Program,
+    unknown: Option<u32>,
+    repeated: Option<u32>,
+) -> Option<(Rule, u32)>
+    requires unknown { IfSome unknown (BrokenAt reading.now.source.now written.now Unknown) }
+    requires repeated { IfSome repeated (BrokenAt reading.now.source.now written.now Twice) }
+    ensures { IfSome result (λ told. BrokenAt reading.now.source.now written.now told.0 told.1) }
+{
+    let _reading = reading;
+    let _written = written;
+    match unknown {
+        None => with_rule(Rule::Twice, repeated),
+        Some(at) => match repeated {
+            None => Some((Rule::Unknown, at)),
+            Some(other) => {
+                if other < at {
+                    Some((Rule::Twice, other))
+                } else {
+                    Some((Rule::Unknown, at))
+                }
+            }
+        },
+    }
+}
+
+/// Where a name is used that isn't defined: the first of the text that a search finds, or the one that is known, if that
+/// stands before it.
+fn first_unknown(
+    alloc: Global,
+    reading: &Reading,
+    points: &[Point],
+    written: &Program,
+    known: Option<u32>,
+) -> Result<Option<u32>, AllocError>
+    ensures { IfOk result (λ found. IfSome found (IsSomewhere OfUnknown reading.now.source.now points.now (program_levels written.now))) }
+{
+    let found = first_undefined(reading, alloc, points, written)?;
+    let sought = confirmed(Asked::OfUnknown, reading, points, written, found);
+    let known = confirmed(Asked::OfUnknown, reading, points, written, known);
+    Ok(earlier(sought, known))
+}
+
+/// The first name of the text that isn't defined, or is defined twice. One that isn't defined may be known.
+fn undefined_or_repeated(
+    alloc: Global,
+    reading: &Reading,
+    written: &Program,
+    known: Option<u32>,
+) -> Result<Option<(Rule, u32)>, AllocError>
+    ensures { IfOk result (λ found. IfSome found (λ told. BrokenAt reading.now.source.now written.now told.0 told.1)) }
+{
+    let points = program_points(alloc, written)?;
+    let unknown = first_unknown(alloc, reading, points.as_slice(), written, known)?;
+    let repeated = first_repeated(reading, alloc, points.as_slice())?;
+    Ok(first_of(reading, written, unknown, repeated))
+}
+
+/// A rule that a program breaks, and where, by one that it is known to break. Where that is `Unknown` or `Twice`, it is the
+/// one of both that is broken first in the text. It is broken at the first token of the text that breaks it, where it is
+/// `Unknown`, `Twice` or `ForwardOpen`, and else where it is known to, which is looked at anew where the rule is
+/// `ControlVariable` or `NoResultAssigned`.
 fn place(
     alloc: Global,
     reading: &Reading,
     written: &Program,
     rule: Rule,
     at: u32,
-) -> Result<Option<u32>, AllocError>
-    ensures { IfOk result (λ found. IfSome found (BrokenAt reading.now.source.now written.now rule)) }
+) -> Result<Option<(Rule, u32)>, AllocError>
+    ensures { IfOk result (λ found. IfSome found (λ told. BrokenAt reading.now.source.now written.now told.0 told.1)) }
 {
     match rule {
-        Rule::Twice => {
-            let points = program_points(alloc, written)?;
-            first_repeated(reading, alloc, points.as_slice())
-        }
+        Rule::Unknown => undefined_or_repeated(alloc, reading, written, Some(at)),
+        Rule::Twice => undefined_or_repeated(alloc, reading, written, None),
         Rule::ForwardOpen => {
             let points = program_points(alloc, written)?;
-            first_open(reading, alloc, points.as_slice())
+            let found = first_open(reading, alloc, points.as_slice())?;
+            Ok(with_rule(Rule::ForwardOpen, found))
         }
         Rule::ControlVariable => {
             let points = program_points(alloc, written)?;
-            Ok(confirmed(reading, points.as_slice(), written, at))
+            let found = confirmed(
+                Asked::OfControl,
+                reading,
+                points.as_slice(),
+                written,
+                Some(at),
+            );
+            Ok(with_rule(Rule::ControlVariable, found))
         }
         Rule::NoResultAssigned => {
             let points = program_points(alloc, written)?;
-            Ok(function_at(points.as_slice(), at))
+            let found = function_at(points.as_slice(), at);
+            Ok(with_rule(Rule::NoResultAssigned, found))
         }
         Rule::NotInProfile
-        | Rule::Unknown
         | Rule::UsedBefore
         | Rule::WrongKind
         | Rule::WrongType
@@ -68,7 +156,7 @@ fn place(
         | Rule::PackedVariable
         | Rule::NotCongruous
         | Rule::NoInputOutput
-        | Rule::Limit => Ok(Some(at)),
+        | Rule::Limit => Ok(Some((rule, at))),
     }
 }
 
@@ -77,7 +165,7 @@ fn told(alloc: Global, reading: &Reading, written: &Program, rule: Rule, at: u32
     ensures { IsToldOf reading.now.source.now written.now result }
 {
     match place(alloc, reading, written, rule, at) {
-        Ok(Some(found)) => CheckRefusal::Broken {
+        Ok(Some((rule, found))) => CheckRefusal::Broken {
             rule,
             line: u32::from(reading.line(found).number),
         },
@@ -85,9 +173,10 @@ fn told(alloc: Global, reading: &Reading, written: &Program, rule: Rule, at: u32
     }
 }
 
-/// What is told of a fault of a program: the rule, and the line of the token that breaks it, which is looked for anew
-/// where the rule is `Twice` or `ForwardOpen`, and looked at anew where it is `ControlVariable`. `OutOfMemory` is also
-/// answered where memory is wanting for that, or where no such token is found.
+/// What is told of a fault of a program: a rule, and the line of the token that breaks it. Where the fault is `Unknown` or
+/// `Twice`, the first name of the text that isn't defined or is defined twice is looked for anew and told; where it is
+/// `ForwardOpen`, the first heading; and where it is `ControlVariable` or `NoResultAssigned`, its token is looked at anew.
+/// `OutOfMemory` is also answered where memory is wanting for that, or where no such token is found.
 pub fn refusal(alloc: Global, reading: &Reading, written: &Program, fault: Fault) -> CheckRefusal
     ensures fault { IsRefusal result → IsFault fault }
     ensures told { IsToldOf reading.now.source.now written.now result }

@@ -3,22 +3,21 @@
 ghost use Rattle.std.specs.Prelude.{◌≡◌, ◌∷◌, true, Some, Contains};
 ghost use Rattle.ps_points.specs.declared.point.Form.TheVariants.{Constant, Field, VariableParameter};
 ghost use Rattle.ps_points.specs.Points.{point};
-ghost use Rattle.ps_points.specs.Levels.{own_level, levels_of, block_levels, routine_levels, routines_levels, program_levels};
-ghost use Rattle.ps_points.specs.Control.{Lacks, is_of, form_at, IsByVariable, IsRead, Takes, Threatens, IsInLoop, is_counted, IsCounted, IsCountedIn, IsInRoutine, IsField, IsForeign, IsNotLocal, IsControlIn, IsControl};
+ghost use Rattle.ps_points.specs.Levels.{own_level, levels_of};
+ghost use Rattle.ps_points.specs.Control.{Lacks, is_of, form_at, IsByVariable, IsRead, Takes, Threatens, IsInLoop, is_counted, IsCounted, IsCountedIn, IsInRoutine, IsField, IsForeign, IsNotLocal, IsControlIn};
 
 use crate::absent::{Kind, is_absent};
 use crate::bodies::{changed_in, in_statements};
-use crate::headings::heading_name;
 use crate::levels::Levels;
 use crate::point::{Form, Point, Region, within};
 use crate::twice::{are_alike, same_name};
 use crate::uses::{Sought, Use, Way};
 use ps_regions::reading::Reading;
-use ps_syntax::{Block, Program, Routine, Statement};
+use ps_syntax::Block;
 use ps_text::Span;
 
 /// A point of this name in a region.
-fn named(region: Region, name: Span) -> Point
+pub fn named(region: Region, name: Span) -> Point
     ensures { result ≡ point region name Constant }
 {
     Point {
@@ -28,7 +27,8 @@ fn named(region: Region, name: Span) -> Point
     }
 }
 
-fn lacks(reading: &Reading, points: &[Point], region: Region, name: Span) -> bool
+/// Whether the region has no point of the name.
+pub fn lacks(reading: &Reading, points: &[Point], region: Region, name: Span) -> bool
     ensures { result ≡ true → Lacks reading.now.source.now points.now region name }
 {
     is_absent(reading, points, Kind::Every, named(region, name))
@@ -116,6 +116,8 @@ fn threatens(reading: &Reading, points: &[Point], levels: &Levels, way: Way) -> 
 {
     match way {
         Way::Named => false,
+        Way::Selected => false,
+        Way::Completed => false,
         Way::Assigned | Way::Counted | Way::CountedWithin => true,
         Way::Passed { routine, index } => takes(reading, points, levels, routine, index),
     }
@@ -127,18 +129,18 @@ fn is_in_loop(
     reading: &Reading,
     points: &[Point],
     region: Region,
-    statements: &[Statement],
+    block: &Block,
     outer: &Levels,
     at: u32,
 ) -> bool
-    ensures { result ≡ true → IsInLoop reading.now.source.now points.now (own_level region statements.now) (levels_of outer.now) at }
+    ensures { result ≡ true → IsInLoop reading.now.source.now points.now (own_level region block.now) (levels_of outer.now) at }
 {
     let levels = Levels::Within {
         region,
-        statements,
+        block,
         outer,
     };
-    match changed_in(reading, statements, false, at) {
+    match changed_in(reading, block.statements.as_slice(), false, at) {
         None => false,
         Some(found) => {
             found.changed.name.from == at
@@ -153,16 +155,20 @@ fn is_counted(way: Way) -> bool
 {
     match way {
         Way::Counted | Way::CountedWithin => true,
-        Way::Named | Way::Assigned | Way::Passed { .. } => false,
+        Way::Named | Way::Selected | Way::Completed | Way::Assigned | Way::Passed { .. } => false,
     }
 }
 
 /// Whether a `for` statement of a block has a control variable with this name.
 #[tactic(auto, using(crate::proofs::ControlLemmas::counted))]
-fn has_control(reading: &Reading, region: Region, statements: &[Statement], name: Span) -> bool
-    ensures { result ≡ true → IsCounted reading.now.source.now (own_level region statements.now) name }
+fn has_control(reading: &Reading, region: Region, block: &Block, name: Span) -> bool
+    ensures { result ≡ true → IsCounted reading.now.source.now (own_level region block.now) name }
 {
-    match in_statements(statements, false, Sought::CountedAs(reading, name)) {
+    match in_statements(
+        block.statements.as_slice(),
+        false,
+        Sought::CountedAs(reading, name),
+    ) {
         None => false,
         Some(control) => is_counted(control.way) && same_name(reading, control.name, name),
     }
@@ -177,10 +183,10 @@ fn is_counted_in(reading: &Reading, points: &[Point], levels: &Levels, name: Spa
         Levels::Outside => false,
         Levels::Within {
             region,
-            statements,
+            block,
             outer,
         } => {
-            has_control(reading, *region, statements, name)
+            has_control(reading, *region, block, name)
                 || (lacks(reading, points, *region, name)
                     && is_counted_in(reading, points, outer, name))
         }
@@ -193,18 +199,18 @@ fn is_in_routine(
     reading: &Reading,
     points: &[Point],
     region: Region,
-    statements: &[Statement],
+    block: &Block,
     outer: &Levels,
     at: u32,
 ) -> bool
-    ensures { result ≡ true → IsInRoutine reading.now.source.now points.now (own_level region statements.now) (levels_of outer.now) at }
+    ensures { result ≡ true → IsInRoutine reading.now.source.now points.now (own_level region block.now) (levels_of outer.now) at }
 {
     let levels = Levels::Within {
         region,
-        statements,
+        block,
         outer,
     };
-    match in_statements(statements, false, Sought::At(at)) {
+    match in_statements(block.statements.as_slice(), false, Sought::At(at)) {
         None => false,
         Some(threat) => {
             threat.name.from == at
@@ -249,22 +255,16 @@ fn is_foreign(reading: &Reading, points: &[Point], region: Region, control: Use)
             is_absent(reading, points, Kind::OfVariable, like)
                 || has_field(reading, points, control.name)
         }
-        Way::Named | Way::Assigned | Way::Passed { .. } => false,
+        Way::Named | Way::Selected | Way::Completed | Way::Assigned | Way::Passed { .. } => false,
     }
 }
 
 /// Whether the use at an offset is a control variable that the block's variable part doesn't define.
 #[tactic(auto, using(crate::proofs::ControlLemmas::not_local))]
-fn is_not_local(
-    reading: &Reading,
-    points: &[Point],
-    region: Region,
-    statements: &[Statement],
-    at: u32,
-) -> bool
-    ensures { result ≡ true → IsNotLocal reading.now.source.now points.now (own_level region statements.now) at }
+fn is_not_local(reading: &Reading, points: &[Point], region: Region, block: &Block, at: u32) -> bool
+    ensures { result ≡ true → IsNotLocal reading.now.source.now points.now (own_level region block.now) at }
 {
-    match in_statements(statements, false, Sought::At(at)) {
+    match in_statements(block.statements.as_slice(), false, Sought::At(at)) {
         None => false,
         Some(control) => { control.name.from == at && is_foreign(reading, points, region, control) }
     }
@@ -272,112 +272,17 @@ fn is_not_local(
 
 /// Whether the rule is broken at an offset in the innermost of these blocks.
 #[tactic(auto, using(crate::proofs::ControlLemmas::broken_in_loop, crate::proofs::ControlLemmas::broken_in_routine, crate::proofs::ControlLemmas::broken_as_not_local))]
-fn is_broken_in(
+pub fn is_broken_in(
     reading: &Reading,
     points: &[Point],
     region: Region,
-    statements: &[Statement],
-    outer: &Levels,
-    at: u32,
-) -> bool
-    ensures { result ≡ true → IsControlIn reading.now.source.now points.now (own_level region statements.now ∷ levels_of outer.now) at }
-{
-    is_in_loop(reading, points, region, statements, outer, at)
-        || is_in_routine(reading, points, region, statements, outer, at)
-        || is_not_local(reading, points, region, statements, at)
-}
-
-/// Whether the rule is broken at an offset in a block or in one within it.
-#[cycle(control)]
-#[tactic(auto, using(crate::proofs::ControlLemmas::block_here, crate::proofs::ControlLemmas::block_within), unfolding(crate::specs::Levels::levels_of))]
-fn in_block(
-    reading: &Reading,
-    points: &[Point],
     block: &Block,
-    region: Region,
     outer: &Levels,
     at: u32,
 ) -> bool
-    ensures { result ≡ true → IsControl reading.now.source.now points.now (block_levels block.now region (levels_of outer.now)) at }
+    ensures { result ≡ true → IsControlIn reading.now.source.now points.now (own_level region block.now ∷ levels_of outer.now) at }
 {
-    let statements = (&*block).statements.as_slice();
-    if is_broken_in(&*reading, &*points, region, statements, &*outer, at) {
-        return true;
-    }
-    let levels = Levels::Within {
-        region,
-        statements,
-        outer: &*outer,
-    };
-    in_routines(
-        &*reading,
-        &*points,
-        block.routines.as_slice(),
-        region,
-        &levels,
-        at,
-    )
-}
-
-#[cycle(control)]
-#[tactic(auto, using(crate::proofs::ControlLemmas::routines_one))]
-fn in_routines(
-    reading: &Reading,
-    points: &[Point],
-    list: &[Routine],
-    region: Region,
-    outer: &Levels,
-    at: u32,
-) -> bool
-    ensures { result ≡ true → IsControl reading.now.source.now points.now (routines_levels region (levels_of outer.now) list.now) at }
-{
-    for routine in list {
-        if in_routine(reading, points, routine, region, outer, at) {
-            return true;
-        }
-    }
-    false
-}
-
-#[cycle(control)]
-#[tactic(auto, using(crate::proofs::ControlLemmas::routine_whole, crate::proofs::ControlLemmas::routine_completion))]
-fn in_routine(
-    reading: &Reading,
-    points: &[Point],
-    routine: &Routine,
-    region: Region,
-    outer: &Levels,
-    at: u32,
-) -> bool
-    ensures { result ≡ true → IsControl reading.now.source.now points.now (routine_levels routine.now region (levels_of outer.now)) at }
-{
-    match routine {
-        Routine::Whole(heading, block) => {
-            let inner = within(region, heading_name(heading));
-            in_block(reading, points, block, inner, outer, at)
-        }
-        Routine::Forward(_) => false,
-        Routine::Completion(name, block) => {
-            in_block(reading, points, block, within(region, *name), outer, at)
-        }
-    }
-}
-
-/// Whether the rule of control variables is broken at an offset of a program, whose defining points these are.
-#[tactic(auto, unfolding(crate::specs::Levels::program_levels, crate::specs::Levels::levels_of))]
-pub fn is_control_broken(reading: &Reading, points: &[Point], written: &Program, at: u32) -> bool
-    ensures { result ≡ true → IsControl reading.now.source.now points.now (program_levels written.now) at }
-{
-    let region = Region {
-        outer: 0,
-        owner: written.name,
-    };
-    in_block(
-        reading,
-        points,
-        &written.block,
-        region,
-        &Levels::Outside,
-        at,
-    )
+    is_in_loop(reading, points, region, block, outer, at)
+        || is_in_routine(reading, points, region, block, outer, at)
+        || is_not_local(reading, points, region, block, at)
 }

@@ -5,7 +5,7 @@ ghost use Rattle.ps_points.specs.Broken.{IsOpen, is_forward};
 
 use crate::absent::{Kind, has_block, is_absent};
 use crate::point::{Form, Point};
-use crate::twice::key;
+use crate::undefined::key;
 use ps_regions::reading::Reading;
 use ps_tree::names::Names;
 use std::alloc::{AllocError, Global};
@@ -24,7 +24,7 @@ fn blocks(reading: &Reading, alloc: Global, points: &[Point]) -> Result<Names, A
     let mut keys = Names::new(alloc);
     for point in points {
         if has_block(point.form) {
-            keys.add(key(reading, alloc, *point)?)?;
+            keys.add(key(reading, alloc, point.region, point.name)?)?;
         }
     }
     Ok(keys)
@@ -40,7 +40,9 @@ pub fn first_open(
 {
     let blocks = blocks(reading, alloc, points)?;
     for point in points {
-        if is_forward(point.form) && !blocks.contains(&key(reading, alloc, *point)?) {
+        if is_forward(point.form)
+            && !blocks.contains(&key(reading, alloc, point.region, point.name)?)
+        {
             if is_absent(reading, points, Kind::WithBlock, *point) {
                 return Ok(Some(point.name.from));
             }

@@ -6,6 +6,7 @@ ghost use Rattle.ps_points.specs.Absent.{AreAlike};
 ghost use Rattle.ps_points.specs.Broken.{IsTwice, completes};
 
 use crate::point::{Form, Point};
+use crate::undefined::key;
 use ps_regions::reading::Reading;
 use ps_text::Span;
 use ps_tree::names::Names;
@@ -58,20 +59,6 @@ fn repeated(reading: &Reading, points: &[Point], earlier: usize, later: usize) -
     }
 }
 
-/// What points are looked up by: the spelling, and what their region is known by.
-pub fn key(reading: &Reading, alloc: Global, point: Point) -> Result<Vec<u8>, AllocError> {
-    let mut key = reading.name(alloc, point.name)?;
-    key.push(b'/')?;
-    for byte in reading.bytes(point.region.owner) {
-        key.push(byte.to_ascii_lowercase())?;
-    }
-    key.push(b'/')?;
-    for byte in point.region.outer.to_le_bytes() {
-        key.push(byte)?;
-    }
-    Ok(key)
-}
-
 /// The latest place of each key.
 #[derive(Drop)]
 struct Latest {
@@ -109,7 +96,7 @@ pub fn first_repeated(
         places: Vec::new(alloc),
     };
     for (later, point) in points.iter().enumerate() {
-        let key = key(reading, alloc, *point)?;
+        let key = key(reading, alloc, point.region, point.name)?;
         if let Some(earlier) = latest.replace(key, later)? {
             let found = repeated(reading, points, earlier, later);
             if found.is_some() {

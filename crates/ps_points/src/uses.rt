@@ -4,6 +4,7 @@ ghost use Rattle.std.specs.Prelude.{◌≡◌, [], ◌∷◌, map};
 ghost use Rattle.ps_points.specs.Uses.{IsFound, either, used, all_uses, argument, arguments, assigned, expr_part, factor_part, member_uses, selector_uses, added_uses, multiplied_uses, simple_part, term_part, variable_part};
 ghost use Rattle.ps_points.specs.declared.uses.Way.TheVariants.{Named};
 
+use crate::undefined::{Open, is_undefined};
 use ps_regions::reading::Reading;
 use ps_syntax::{
     AddedTerm, Expr, Factor, Member, MultipliedFactor, Selector, Simple, Term, Variable,
@@ -15,6 +16,10 @@ use ps_text::Span;
 pub enum Way {
     /// Nothing.
     Named,
+    /// It is that of a field behind a point, and looked up in the record's type.
+    Selected,
+    /// The routine of this name, a function, has its block there, and its heading further up.
+    Completed,
     /// An assignment statement assigns to it.
     Assigned,
     /// It is the control variable of a `for` statement.
@@ -39,9 +44,20 @@ pub enum Sought<'a> {
     At(u32),
     /// One as a control variable with the spelling of this name.
     CountedAs(&'a Reading<'a>, Span),
+    /// One whose name is defined in none of the blocks that are open; whether names of records and of lists of formal
+    /// parameters may be meant, too, which are passed over then.
+    Undefined(Open<'a>, bool),
 }
 
-impl Sought<'_> {
+impl<'a> Sought<'a> {
+    /// The same within a `with` statement, where names of fields may be meant.
+    pub fn within_records(self) -> Sought<'a> {
+        match self {
+            Sought::At(_) | Sought::CountedAs(..) => self,
+            Sought::Undefined(open, _) => Sought::Undefined(open, true),
+        }
+    }
+
     fn is(self, found: Use) -> bool {
         match self {
             Sought::At(at) => found.name.from == at,
@@ -51,8 +67,10 @@ impl Sought<'_> {
                         .bytes(name)
                         .eq_ignore_ascii_case(reading.bytes(found.name))
                 }
-                Way::Named | Way::Assigned | Way::Passed { .. } => false,
+                Way::Named | Way::Selected | Way::Completed | Way::Assigned | Way::Passed { .. } =>
+                    false,
             },
+            Sought::Undefined(open, is_hiding) => is_undefined(open, found, is_hiding),
         }
     }
 }
@@ -306,13 +324,14 @@ fn in_selectors(list: &[Selector], sought: Sought<'_>) -> Option<Use>
 }
 
 #[cycle(uses)]
-#[tactic(auto, using(crate::proofs::Found::selector_found, crate::proofs::Found::found_none))]
+#[tactic(auto, using(crate::proofs::Found::selector_found, crate::proofs::Found::selector_found_field, crate::proofs::Found::found_none))]
 fn in_selector(selector: &Selector, sought: Sought<'_>) -> Option<Use>
     ensures { IsFound (selector_uses selector.now) result }
 {
     match selector {
         Selector::Index(list) => in_exprs(list.as_slice(), sought),
-        Selector::Field(_) | Selector::Content(_) => None,
+        Selector::Field(name) => one_use(*name, Way::Selected, sought),
+        Selector::Content(_) => None,
     }
 }
 

@@ -1,0 +1,36 @@
+-- Names without a defining point (6.2.2.1, 6.2.2.8).
+use Rattle.std.specs.Prelude.{◌≡◌, ℕ, List, [], ◌∷◌, ◌++◌, Contains}
+use Rattle.ps_text.specs.declared.Span.{Span}
+use Rattle.ps_points.specs.declared.uses.Way.{Way}
+use Rattle.ps_points.specs.declared.uses.Way.TheVariants.{Selected, Completed}
+use Rattle.ps_points.specs.declared.uses.Use.{Use}
+use Rattle.ps_points.specs.declared.point.Form.TheVariants.{Constant}
+use Rattle.ps_points.specs.declared.absent.Kind.TheVariants.{Ahead}
+use Rattle.ps_points.specs.Points.{Points, point}
+use Rattle.ps_points.specs.Absent.{IsAbsent}
+use Rattle.ps_points.specs.Levels.{Level, Nested}
+use Rattle.ps_points.specs.Control.{Lacks}
+
+-- none of the blocks' regions has the name
+abbrev pub AllLack : List ℕ → Points → Nested → Span → Type 0
+AllLack text points [] name = Unit {0}
+AllLack text points (l ∷ ls) name = Lacks text points l.region name × AllLack text points ls name
+
+-- 6.6.2: a block that stands behind a name alone belongs to a heading further up in the same block, which lacks any point of the name there
+abbrev pub HasNoHeading : List ℕ → Points → Nested → Span → Type 0
+HasNoHeading text points [] name = Unit {0}
+HasNoHeading text points (own ∷ outer) name = IsAbsent text points Ahead (point own.region name Constant)
+
+-- The name of a field behind a point is looked up in the type of the record before it (6.5.3.3), of which nothing is said.
+abbrev pub IsLacking : List ℕ → Points → Nested → Use → Way → Type 0
+IsLacking text points levels u Selected = Unit {0}
+IsLacking text points levels u Completed = HasNoHeading text points levels u.name
+IsLacking text points levels u _ = AllLack text points levels u.name
+
+-- The name is used in the declarations or the statements of the innermost of these blocks, and none of them defines it. Fields that a `with` statement opens,
+-- and the names of a record or formal parameter list round the use, aren't asked for, nor whether the name is a required one.
+pub record IsUnknown (text : List ℕ) (points : Points) (own : Level) (outer : Nested) (at : ℕ) : Type 0 where
+  pub occurrence : Use
+  pub stands : Contains (own.declared ++ own.body.uses) occurrence
+  pub lacks : IsLacking text points (own ∷ outer) occurrence occurrence.way
+  pub told : occurrence.name.from ≡ at

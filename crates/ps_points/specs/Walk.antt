@@ -1,0 +1,20 @@
+-- Rules that are broken in a block, by the blocks round it.
+use Rattle.std.specs.Prelude.{ℕ, List, [], ◌∷◌, Contains}
+use Rattle.ps_points.specs.declared.walk.Asked.{Asked}
+use Rattle.ps_points.specs.declared.walk.Asked.TheVariants.{OfControl, OfUnknown}
+use Rattle.ps_points.specs.Points.{Points}
+use Rattle.ps_points.specs.Levels.{Nested}
+use Rattle.ps_points.specs.Control.{IsControlIn}
+use Rattle.ps_points.specs.Unknown.{IsUnknown}
+
+-- the rule is broken in the innermost of these blocks
+abbrev pub IsIn : Asked → List ℕ → Points → Nested → ℕ → Type 0
+IsIn OfControl text points levels at = IsControlIn text points levels at
+IsIn OfUnknown text points [] at = ⊥
+IsIn OfUnknown text points (own ∷ outer) at = IsUnknown text points own outer at
+
+-- it is broken in one of the program's blocks
+pub record IsSomewhere (asked : Asked) (text : List ℕ) (points : Points) (blocks : List Nested) (at : ℕ) : Type 0 where
+  pub levels : Nested
+  pub stands : Contains blocks levels
+  pub broken : IsIn asked text points levels at

@@ -1,0 +1,162 @@
+//! Names that no region round their use has, looked up by their spelling. Nothing is asked of this search: what it finds
+//! is looked at anew.
+
+use crate::levels::Levels;
+use crate::point::{Form, Point, Region};
+use crate::uses::{Use, Way};
+use ps_regions::reading::Reading;
+use ps_text::Span;
+use ps_tree::names::Names;
+use std::alloc::{AllocError, Global};
+
+/// The required names, and those of the required files.
+const REQUIRED: [&[u8]; 40] = [
+    b"integer", b"char", b"boolean", b"maxint", b"false", b"true", b"abs", b"sqr", b"odd", b"chr",
+    b"ord", b"succ", b"pred", b"eof", b"eoln", b"read", b"readln", b"write", b"writeln", b"new",
+    b"pack", b"unpack", b"real", b"text", b"trunc", b"round", b"sin", b"cos", b"exp", b"ln",
+    b"sqrt", b"arctan", b"get", b"put", b"reset", b"rewrite", b"page", b"dispose", b"input",
+    b"output",
+];
+
+/// What a name in a region is looked up by: the spelling, and what the region is known by.
+pub fn key(
+    reading: &Reading,
+    alloc: Global,
+    region: Region,
+    name: Span,
+) -> Result<Vec<u8>, AllocError> {
+    let mut key = reading.name(alloc, name)?;
+    key.push(b'/')?;
+    for byte in reading.bytes(region.owner) {
+        key.push(byte.to_ascii_lowercase())?;
+    }
+    key.push(b'/')?;
+    for byte in region.outer.to_le_bytes() {
+        key.push(byte)?;
+    }
+    Ok(key)
+}
+
+/// The points of a program, to be looked up.
+#[derive(Drop)]
+pub struct Defined {
+    /// The keys of all.
+    keys: Names,
+    /// Where the first point of each key stands.
+    firsts: Vec<u32>,
+    /// The spellings of all fields and formal parameters.
+    hidden: Names,
+    required: Names,
+}
+
+/// The required names.
+fn required(alloc: Global) -> Result<Names, AllocError> {
+    let mut names = Names::new(alloc);
+    for name in &REQUIRED {
+        names.add(Vec::from_slice(alloc, name)?)?;
+    }
+    Ok(names)
+}
+
+/// Whether it is a field or a formal parameter.
+fn is_hidden(form: Form) -> bool {
+    match form {
+        Form::Field | Form::ValueParameter | Form::VariableParameter | Form::RoutineParameter =>
+            true,
+        _ => false,
+    }
+}
+
+impl Defined {
+    /// One more point, behind those before it in the text.
+    fn add(&mut self, reading: &Reading, alloc: Global, point: Point) -> Result<(), AllocError> {
+        let key = key(reading, alloc, point.region, point.name)?;
+        if self.keys.add(key)? {
+            self.firsts.push(point.name.from)?;
+        }
+        if is_hidden(point.form) {
+            self.hidden.add(reading.name(alloc, point.name)?)?;
+        }
+        Ok(())
+    }
+
+    /// These points, in the order of the text.
+    pub fn new(reading: &Reading, alloc: Global, points: &[Point]) -> Result<Defined, AllocError> {
+        let mut defined = Defined {
+            keys: Names::new(alloc),
+            firsts: Vec::new(alloc),
+            hidden: Names::new(alloc),
+            required: required(alloc)?,
+        };
+        for point in points {
+            defined.add(reading, alloc, *point)?;
+        }
+        Ok(defined)
+    }
+}
+
+/// The blocks round a use, and what a name is looked up in.
+#[derive(Clone, Copy)]
+pub struct Open<'a> {
+    pub reading: &'a Reading<'a>,
+    pub alloc: Global,
+    pub defined: &'a Defined,
+    pub levels: &'a Levels<'a>,
+}
+
+/// Where the first point of a name in a region stands.
+fn first_of(open: Open<'_>, region: Region, name: Span) -> Result<Option<u32>, AllocError> {
+    let key = key(open.reading, open.alloc, region, name)?;
+    match open.defined.keys.find(&key) {
+        None => Ok(None),
+        Some(index) => Ok(open.defined.firsts.get(index).copied()),
+    }
+}
+
+/// Whether none of these blocks has the name.
+fn all_lack(open: Open<'_>, levels: &Levels, name: Span) -> Result<bool, AllocError> {
+    match levels {
+        Levels::Outside => Ok(true),
+        Levels::Within { region, outer, .. } => match first_of(open, *region, name)? {
+            None => all_lack(open, outer, name),
+            Some(_) => Ok(false),
+        },
+    }
+}
+
+/// Whether no point of the name stands before it in the innermost of the blocks.
+fn has_no_heading(open: Open<'_>, name: Span) -> Result<bool, AllocError> {
+    match open.levels {
+        Levels::Outside => Ok(false),
+        Levels::Within { region, .. } => match first_of(open, *region, name)? {
+            None => Ok(true),
+            Some(first) => Ok(first >= name.from),
+        },
+    }
+}
+
+/// Whether the name is neither a required one nor defined in one of the blocks. Where names of records or of lists of
+/// formal parameters may be meant, as `is_hiding` tells, it is also none of these.
+fn is_undefined_name(open: Open<'_>, name: Span, is_hiding: bool) -> Result<bool, AllocError> {
+    let spelling = open.reading.name(open.alloc, name)?;
+    if open.defined.required.contains(&spelling) {
+        return Ok(false);
+    }
+    if is_hiding && open.defined.hidden.contains(&spelling) {
+        return Ok(false);
+    }
+    all_lack(open, open.levels, name)
+}
+
+/// Whether no point is found for a use; where memory is wanting for that, it isn't known.
+pub fn is_undefined(open: Open<'_>, found: Use, is_hiding: bool) -> bool {
+    let undefined = match found.way {
+        Way::Selected => Ok(false),
+        Way::Completed => has_no_heading(open, found.name),
+        _ => is_undefined_name(open, found.name, is_hiding),
+    };
+    match undefined {
+        Ok(undefined) => undefined,
+        Err(_) => false,
+    }
+}
