@@ -12,11 +12,11 @@ ghost use Rattle.risc_emit.specs.Frames.{context_of};
 
 use crate::frame::Frame;
 use crate::operands::{
-    fetch, fetch_length, put_divisor, put_operation, receive, right, save, target,
+    fetch, fetch_length, put_divisor, put_modulus, put_operation, receive, right, save, target,
 };
 use crate::pieces::{Piece, Pieces};
 use crate::words::{computed, constant, r12, r15, set, skip};
-use risc_word::{Condition, Instr, Operand as Right, Operation};
+use risc_word::{Condition, Instr, Operand as Right, Operation, Register};
 use tac_code::code::{BitOperator, Operand, Operator, OutOfMemory, Relation};
 
 fn is_divisor(operand: Operand) -> bool
@@ -150,14 +150,14 @@ fn put_product(
     pieces.push(Piece::Fails(Condition::NotEqual, error, line))
 }
 
-// The floored quotient in R12 rounded toward zero.
-fn put_rounded(pieces: &mut Pieces) -> Result<(), OutOfMemory>
-    ensures { OnOk result (pieces.new ≡ pieces.old ++ form.rounded) }
+// The floored quotient in a register rounded toward zero.
+fn put_rounded(pieces: &mut Pieces, register: Register) -> Result<(), OutOfMemory>
+    ensures { OnOk result (pieces.new ≡ pieces.old ++ form.rounded register) }
 {
     pieces.plain(skip(Condition::Plus, 3))?;
     pieces.plain(Instr::MoveHigh { to: r15() })?;
     pieces.plain(skip(Condition::Equal, 1))?;
-    pieces.plain(computed(Operation::Add, r12(), r12(), constant(1)))
+    pieces.plain(computed(Operation::Add, register, register, constant(1)))
 }
 
 // The quotient by R15.
@@ -166,7 +166,7 @@ fn put_quotient(frame: &Frame<'_>, pieces: &mut Pieces, left: u32) -> Result<(),
 {
     let dividend = fetch(frame, pieces, r12(), left)?;
     pieces.plain(computed(Operation::Div, r12(), dividend, Right::Content(r15())))?;
-    put_rounded(pieces)
+    put_rounded(pieces, r12())
 }
 
 // By the least integer: 1 or 0.
@@ -256,15 +256,16 @@ fn put_quotient_by_negative(
 fn put_division(
     frame: &Frame<'_>,
     pieces: &mut Pieces,
+    to: Register,
     left: u32,
     operand: Operand,
 ) -> Result<(), OutOfMemory>
     requires { form.is_divisor operand ≡ true }
-    ensures { OnOk result (pieces.new ≡ pieces.old ++ (form.fetch (context_of frame.now) frame.now.number 12 (home (context_of frame.now) frame.now.number left) ++ piece.Plain (word.Operate op.Div 12 (form.fetched (context_of frame.now) frame.now.number 12 (home (context_of frame.now) frame.now.number left)) (form.right_operand (context_of frame.now) frame.now.number operand)) ∷ [])) }
+    ensures { OnOk result (pieces.new ≡ pieces.old ++ (form.fetch (context_of frame.now) frame.now.number 12 (home (context_of frame.now) frame.now.number left) ++ piece.Plain (word.Operate op.Div to (form.fetched (context_of frame.now) frame.now.number 12 (home (context_of frame.now) frame.now.number left)) (form.right_operand (context_of frame.now) frame.now.number operand)) ∷ [])) }
 {
     let dividend = fetch(frame, pieces, r12(), left)?;
     let divisor = right(frame, pieces, operand)?;
-    pieces.plain(computed(Operation::Div, r12(), dividend, divisor))
+    pieces.plain(computed(Operation::Div, to, dividend, divisor))
 }
 
 fn put_divide_by_any(
@@ -302,9 +303,10 @@ fn put_divide(
     if !is_divisor(operand) {
         return put_divide_by_any(frame, pieces, to, left, operand, error, line);
     }
-    put_division(frame, pieces, left, operand)?;
-    put_rounded(pieces)?;
-    receive(frame, pieces, to)
+    let register = target(frame, to);
+    put_division(frame, pieces, register, left, operand)?;
+    put_rounded(pieces, register)?;
+    save(frame, pieces, to)
 }
 
 fn put_modulo_by_any(
@@ -318,11 +320,11 @@ fn put_modulo_by_any(
     requires { form.is_divisor operand ≡ false }
     ensures { OnOk result (pieces.new ≡ pieces.old ++ form.modulo_form (context_of frame.now) frame.now.number to left operand line) }
 {
-    put_divisor(frame, pieces, operand)?;
-    pieces.plain(computed(Operation::Sub, r12(), r15(), constant(1)))?;
+    let modulus = put_modulus(frame, pieces, operand)?;
+    pieces.plain(computed(Operation::Sub, r12(), modulus, constant(1)))?;
     pieces.push(Piece::Fails(Condition::Less, 3, line))?;
     let dividend = fetch(frame, pieces, r12(), left)?;
-    pieces.plain(computed(Operation::Div, r12(), dividend, Right::Content(r15())))?;
+    pieces.plain(computed(Operation::Div, r12(), dividend, Right::Content(modulus)))?;
     pieces.plain(Instr::MoveHigh {
         to: target(frame, to),
     })?;
@@ -343,7 +345,7 @@ fn put_modulo(
     if !is_divisor(operand) {
         return put_modulo_by_any(frame, pieces, to, left, operand, line);
     }
-    put_division(frame, pieces, left, operand)?;
+    put_division(frame, pieces, r12(), left, operand)?;
     pieces.plain(Instr::MoveHigh {
         to: target(frame, to),
     })?;

@@ -4,6 +4,7 @@ ghost use Rattle.std.specs.Prelude.{◌≡◌, ◌++◌, [], ◌∷◌, OnOk};
 ghost use Rattle.risc_word.specs.declared.instr.Condition.TheVariants as on;
 ghost use Rattle.risc_related.specs.Context.{home};
 ghost use Rattle.risc_steps.specs.Pieces as piece;
+ghost use Rattle.risc_steps.specs.Told.{told_at};
 ghost use Rattle.risc_steps.specs.Forms as form;
 ghost use Rattle.risc_emit.specs.Frames.{context_of};
 ghost use Rattle.risc_emit.specs.Meant.{label_of};
@@ -15,7 +16,7 @@ use crate::checks::{put_check, put_index, put_pointer_check};
 use crate::frame::Frame;
 use crate::memory::{put_label, put_load_form, put_offset, put_store_form};
 use crate::numbers::put_number;
-use crate::operands::{put_copy, save, target};
+use crate::operands::{is_told, put_copy, save, target};
 use crate::pieces::{Label, Piece, Pieces};
 use risc_word::{Condition, Width};
 use tac_code::code::{Instruction, Operand, OutOfMemory, Relation};
@@ -38,28 +39,73 @@ fn put_jump(pieces: &mut Pieces, label: Label) -> Result<(), OutOfMemory>
     pieces.push(Piece::Goes(Condition::Always, label))
 }
 
+fn is_null(operand: Operand) -> bool
+    ensures { result ≡ form.is_null operand }
+{
+    match operand {
+        Operand::Temporary(_) => false,
+        Operand::Number(value) => value == 0,
+    }
+}
+
+// The condition for a comparison with 0 by N and Z alone.
+fn brief(relation: Relation) -> Option<Condition>
+    ensures { result ≡ form.brief relation }
+{
+    match relation {
+        Relation::Equal => Some(Condition::Equal),
+        Relation::NotEqual => Some(Condition::NotEqual),
+        Relation::Less => Some(Condition::Minus),
+        Relation::GreaterEqual => Some(Condition::Plus),
+        Relation::LessEqual | Relation::Greater => None,
+    }
+}
+
+// The condition by which a branch goes where no difference is needed.
+fn branch_choice(
+    frame: &Frame<'_>,
+    told: Option<u32>,
+    relation: Relation,
+    left: u32,
+    right: Operand,
+) -> Option<Condition>
+    ensures { result ≡ form.branch_choice (context_of frame.now) frame.now.number told relation left right }
+{
+    if is_told(frame, told, left) && is_null(right) {
+        brief(relation)
+    } else {
+        None
+    }
+}
+
 fn put_branch(
     frame: &Frame<'_>,
     pieces: &mut Pieces,
+    told: Option<u32>,
     relation: Relation,
     left: u32,
     right: Operand,
     label: Label,
 ) -> Result<(), OutOfMemory>
-    ensures { OnOk result (pieces.new ≡ pieces.old ++ form.branch_form (context_of frame.now) frame.now.number relation left right (label_of label)) }
+    ensures { OnOk result (pieces.new ≡ pieces.old ++ form.branch_form (context_of frame.now) frame.now.number told relation left right (label_of label)) }
 {
+    if let Some(condition) = branch_choice(frame, told, relation, left, right) {
+        return pieces.push(Piece::Goes(condition, label));
+    }
     put_difference(frame, pieces, left, right)?;
     pieces.push(Piece::Goes(condition_of(relation), label))
 }
 
-/// The words of the instruction at a place.
+/// The words of the instruction at a place, where N and Z may be those of a temporary's register.
 pub(crate) fn put_instruction(
     frame: &Frame<'_>,
     pieces: &mut Pieces,
     place: usize,
+    told: Option<u32>,
     instruction: &Instruction,
 ) -> Result<(), OutOfMemory>
     requires few { PassesFew instruction.now }
+    requires told { told ≡ told_at (context_of frame.now) frame.now.number place }
     ensures { OnOk result (pieces.new ≡ pieces.old ++ form.form (context_of frame.now) frame.now.number place instruction.now) }
 {
     let r = frame.number();
@@ -97,7 +143,7 @@ pub(crate) fn put_instruction(
             pointer,
             error,
             line,
-        } => put_pointer_check(frame, pieces, *pointer, *error, *line),
+        } => put_pointer_check(frame, pieces, told, *pointer, *error, *line),
         Instruction::Text { to, .. } => put_label(frame, pieces, *to, Label::Text(r, place)),
         Instruction::Offset {
             to,
@@ -165,6 +211,7 @@ pub(crate) fn put_instruction(
         } => put_branch(
             frame,
             pieces,
+            told,
             *relation,
             *left,
             *right,
@@ -178,6 +225,7 @@ pub(crate) fn put_instruction(
         } => put_branch(
             frame,
             pieces,
+            told,
             *relation,
             *left,
             *right,

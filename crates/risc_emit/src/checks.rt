@@ -10,7 +10,7 @@ ghost use Rattle.risc_emit.specs.Frames.{context_of};
 use crate::frame::Frame;
 use crate::memory::put_base_address;
 use crate::numbers::put_exact;
-use crate::operands::{bring, fetch, natural_right, number_right, save, target};
+use crate::operands::{bring, fetch, is_told, natural_right, number_right, save, target};
 use crate::pieces::{Piece, Pieces};
 use crate::words::{computed, constant, r12, r15};
 use risc_word::{Condition, Operand as Right, Operation, Register};
@@ -96,13 +96,16 @@ pub(crate) fn put_check(
 pub(crate) fn put_pointer_check(
     frame: &Frame<'_>,
     pieces: &mut Pieces,
+    told: Option<u32>,
     pointer: u32,
     error: u8,
     line: u16,
 ) -> Result<(), OutOfMemory>
-    ensures { OnOk result (pieces.new ≡ pieces.old ++ (form.bring (context_of frame.now) frame.now.number 12 (home (context_of frame.now) frame.now.number pointer) ++ piece.Fails on.Equal error line ∷ [])) }
+    ensures { OnOk result (pieces.new ≡ pieces.old ++ form.pointer_form (context_of frame.now) frame.now.number told pointer error line) }
 {
-    bring(frame, pieces, r12(), pointer)?;
+    if !is_told(frame, told, pointer) {
+        bring(frame, pieces, r12(), pointer)?;
+    }
     pieces.push(Piece::Fails(Condition::Equal, error, line))
 }
 

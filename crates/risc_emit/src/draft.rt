@@ -4,6 +4,7 @@ ghost use Rattle.std.specs.Prelude.{◌≡◌, ◌+◌, ◌*◌, ◌≤◌, [], 
 ghost use Rattle.std.specs.Int.{w32, from_le_bytes};
 ghost use Rattle.tac_code.specs.Meaning.{routines};
 ghost use Rattle.risc_alloc.specs.Valid.{Valid};
+ghost use Rattle.risc_steps.specs.Told.{told_at};
 ghost use Rattle.risc_steps.specs.Forms as form;
 ghost use Rattle.risc_runs.specs.Drawn.{program_pieces, routine_pieces, entry_place, text_words, instruction_texts, body_texts, routines_texts};
 ghost use Rattle.risc_emit.specs.Frames.{context_of};
@@ -16,6 +17,7 @@ use crate::entry::{put_entry, put_start};
 use crate::frame::Frame;
 use crate::marks::{Mark, Marks};
 use crate::pieces::Pieces;
+use crate::told::{jumped_places, told};
 use risc_alloc::homes::Home;
 use std::alloc::Global;
 use tac_code::code::{Instruction, OutOfMemory, TacRoutine};
@@ -64,9 +66,11 @@ fn put_place(
     texts: &mut Vec<u32>,
     places: &mut Vec<Mark>,
     place: usize,
+    told: Option<u32>,
     instruction: &Instruction,
 ) -> Result<(), OutOfMemory>
     requires few { PassesFew instruction.now }
+    requires told { told ≡ told_at (context_of frame.now) frame.now.number place }
     ensures pieces { OnOk result (pieces.new ≡ pieces.old ++ form.form (context_of frame.now) frame.now.number place instruction.now) }
     ensures texts { OnOk result (texts.new.items ≡ texts.old.items ++ instruction_texts instruction.now) }
     ensures mark { OnOk result (places.new.items ≡ places.old.items ++ mark_of (length pieces.old) (length texts.old.items) ∷ []) }
@@ -75,7 +79,7 @@ fn put_place(
         site: pieces.len(),
         text: texts.len(),
     })?;
-    put_instruction(frame, pieces, place, instruction)?;
+    put_instruction(frame, pieces, place, told, instruction)?;
     put_text(texts, instruction)
 }
 
@@ -98,9 +102,11 @@ fn put_routine(
     let entry = pieces.len();
     put_entry(frame, pieces, routine)?;
     let body = routine.body.as_slice();
+    let jumped = jumped_places(alloc, body)?;
     let mut places = Vec::new(alloc);
     for place in 0..body.len() {
-        put_place(frame, pieces, texts, &mut places, place, &body[place])?;
+        let told = told(body, jumped.as_slice(), place);
+        put_place(frame, pieces, texts, &mut places, place, told, &body[place])?;
     }
     places.push(Mark {
         site: pieces.len(),

@@ -21,4 +21,5 @@ mod operands;
 mod pieces;
 mod resolve;
 mod seat;
+mod told;
 mod words;

@@ -213,3 +213,31 @@ pub(crate) fn put_divisor(
         Operand::Number(value) => put_number(pieces, r15(), value),
     }
 }
+
+/// A modulus in a register: a temporary's where it stands, or in R15. Gives the register.
+pub(crate) fn put_modulus(
+    frame: &Frame<'_>,
+    pieces: &mut Pieces,
+    operand: Operand,
+) -> Result<Register, OutOfMemory>
+    ensures words { OnOk result (pieces.new ≡ pieces.old ++ form.modulus (context_of frame.now) frame.now.number operand) }
+    ensures register { IfOk result (λ q. q ≡ form.modulus_register (context_of frame.now) frame.now.number operand) }
+{
+    match operand {
+        Operand::Temporary(temporary) => fetch(frame, pieces, r15(), temporary),
+        Operand::Number(value) => {
+            put_number(pieces, r15(), value)?;
+            Ok(r15())
+        }
+    }
+}
+
+/// Whether N and Z are those of a temporary's register, where they are told of one.
+pub(crate) fn is_told(frame: &Frame<'_>, told: Option<u32>, temporary: u32) -> bool
+    ensures { result ≡ form.is_told (context_of frame.now) frame.now.number told temporary }
+{
+    match told {
+        Some(it) => it == temporary && matches!(frame.seat(temporary), Seat::Register(_)),
+        None => false,
+    }
+}

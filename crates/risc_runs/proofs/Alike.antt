@@ -1,6 +1,7 @@
 -- The pieces of an instruction hang on the code, the homes and the layout alone: not on where words stand, on tables or on memory.
-use Rattle.std.proofs.Common.{◌≡◌, ℕ, zero, suc, List, [], ◌∷◌, None, refl, sym, ap, ◌∙◌}
+use Rattle.std.proofs.Common.{◌≡◌, ℕ, zero, suc, List, [], ◌∷◌, Option, Some, None, refl, sym, ap, ◌∙◌}
 use Rattle.risc_word.specs.declared.instr.Width.{Width}
+use Rattle.risc_word.specs.declared.instr.Condition.{Condition}
 use Rattle.tac_code.specs.declared.code.Operator.{Operator}
 use Rattle.tac_code.specs.declared.code.Operator.TheVariants.{Add, Subtract, Multiply, Divide, Modulo}
 use Rattle.tac_code.specs.declared.code.Relation.{Relation}
@@ -14,6 +15,7 @@ use Rattle.tac_code.specs.declared.code.TacRoutine.{TacRoutine}
 use Rattle.risc_alloc.specs.declared.homes.Home.{Home}
 use Rattle.risc_alloc.specs.declared.homes.Home.TheVariants.{Slot, Reg}
 use Rattle.risc_related.specs.Context.{Context, home}
+use Rattle.risc_steps.specs.Told.{told_at}
 use Rattle.risc_steps.specs.Forms as form
 use Rattle.risc_runs.specs.Emits.{start_form}
 use Rattle.risc_runs.specs.Drawn.{Alike}
@@ -102,6 +104,14 @@ module _ (c : Context) (r : ℕ) where
   divisor_bare (operand.Temporary t) = bring_bare 15 (home c r t)
   divisor_bare (operand.Number z) = refl
 
+  modulus_bare : (o : Operand) → form.modulus b r o ≡ form.modulus c r o
+  modulus_bare (operand.Temporary t) = fetch_bare 15 (home c r t)
+  modulus_bare (operand.Number z) = refl
+
+  modulus_register_bare : (o : Operand) → form.modulus_register b r o ≡ form.modulus_register c r o
+  modulus_register_bare (operand.Temporary t) = fetched_bare 15 (home c r t)
+  modulus_register_bare (operand.Number z) = refl
+
   load_bare : (width : Width) (t : ℕ) (a : Base) (n : ℕ) → form.load_form b r width t a n ≡ form.load_form c r width t a n
   load_bare width t a n =
       rw (base_code_bare a) (rw (base_register_bare a) (rw (base_offset_bare a n) (rw (target_bare (home c r t)) (rw (save_bare (home c r t)) refl))))
@@ -127,12 +137,13 @@ module _ (c : Context) (r : ℕ) where
   arithmetic_bare Multiply t a o error line =
       rw (fetch_bare 12 (home c r a)) (rw (fetched_bare 12 (home c r a)) (rw (right_bare o) (rw (right_operand_bare o) (rw (target_bare (home c r t)) (rw (save_bare (home c r t)) refl)))))
   arithmetic_bare Divide t a o error line =
-      rw (fetch_bare 12 (home c r a)) (rw (fetched_bare 12 (home c r a)) (rw (divisor_bare o) (rw (right_operand_bare o) (rw (receive_bare (home c r t)) refl))))
+      rw (fetch_bare 12 (home c r a)) (rw (fetched_bare 12 (home c r a)) (rw (divisor_bare o) (rw (right_operand_bare o) (rw (target_bare (home c r t)) (rw (save_bare (home c r t)) (rw (receive_bare (home c r t)) refl))))))
   arithmetic_bare Modulo t a o error line =
-      rw (fetch_bare 12 (home c r a)) (rw (fetched_bare 12 (home c r a)) (rw (divisor_bare o) (rw (right_operand_bare o) (rw (target_bare (home c r t)) (rw (save_bare (home c r t)) refl)))))
+      rw (fetch_bare 12 (home c r a)) (rw (fetched_bare 12 (home c r a)) (rw (modulus_bare o) (rw (modulus_register_bare o) (rw (right_operand_bare o) (rw (target_bare (home c r t)) (rw (save_bare (home c r t)) refl))))))
 
-  branch_bare : (relation : Relation) (a : ℕ) (o : Operand) (label : _) → form.branch_form b r relation a o label ≡ form.branch_form c r relation a o label
-  branch_bare relation a o label =
+  branch_bare : (q : Option Condition) (relation : Relation) (a : ℕ) (o : Operand) (label : _) → form.branch_by b r q relation a o label ≡ form.branch_by c r q relation a o label
+  branch_bare (Some told) relation a o label = refl
+  branch_bare None relation a o label =
       rw (fetch_bare 12 (home c r a)) (rw (fetched_bare 12 (home c r a)) (rw (right_bare o) (rw (right_operand_bare o) refl)))
 
   label_bare : (t : ℕ) (label : _) → form.label_form b r t label ≡ form.label_form c r t label
@@ -161,8 +172,8 @@ module _ (c : Context) (r : ℕ) where
   form_bare k (StoreByte a n u) = store_bare _ a n u
   form_bare k (Jump n) = refl
   form_bare k (JumpBack n) = refl
-  form_bare k (Branch relation a o n) = branch_bare relation a o _
-  form_bare k (BranchBack relation a o n) = branch_bare relation a o _
+  form_bare k (Branch relation a o n) = branch_bare (form.branch_choice c r (told_at c r k) relation a o) relation a o _
+  form_bare k (BranchBack relation a o n) = branch_bare (form.branch_choice c r (told_at c r k) relation a o) relation a o _
   form_bare k (Call t q us line) = rw (pass_bare 0 us) (rw (receive_bare (home c r t)) refl)
   form_bare k (CallValue t a us line) =
       rw (pass_bare 0 us) (rw (fetch_bare 12 (home c r a)) (rw (fetched_bare 12 (home c r a)) (rw (receive_bare (home c r t)) refl)))

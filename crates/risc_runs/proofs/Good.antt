@@ -1,9 +1,11 @@
 -- The numbers and lines in the pieces of sound code lie in their ranges.
-use Rattle.std.proofs.Common.{ℕ, zero, suc, Bool, true, false, cond, nat_eq, nat_lt, List, [], ◌∷◌, ◌++◌, ℤ, pos, arith}
+use Rattle.std.proofs.Common.{ℕ, zero, suc, Bool, true, false, cond, nat_eq, nat_lt, List, [], ◌∷◌, ◌++◌, Option, Some, None, ℤ, pos, arith}
 use Rattle.std.specs.Prelude.{int_lt}
 use Rattle.risc_word.specs.declared.instr.Width.{Width}
+use Rattle.risc_word.specs.declared.instr.Condition.{Condition}
 use Rattle.tac_code.specs.declared.code.Operator.{Operator}
 use Rattle.tac_code.specs.declared.code.Operator.TheVariants.{Add, Subtract, Multiply, Divide, Modulo}
+use Rattle.tac_code.specs.declared.code.Relation.{Relation}
 use Rattle.tac_code.specs.declared.code.Operand.{Operand}
 use Rattle.tac_code.specs.declared.code.Operand.TheVariants as operand
 use Rattle.tac_code.specs.declared.code.Base.{Base}
@@ -17,7 +19,8 @@ use Rattle.tac_code.specs.Sound.{IsErrorNumber, IsLine, IsSoundAt}
 use Rattle.risc_alloc.specs.declared.homes.Home.{Home}
 use Rattle.risc_alloc.specs.declared.homes.Home.TheVariants.{Slot, Reg}
 use Rattle.risc_related.specs.Context.{Context, home, is_program, slot_at}
-use Rattle.risc_steps.specs.Pieces.{Piece, Fails, Enters, Joins, EntersAt}
+use Rattle.risc_steps.specs.Pieces.{Label, Piece, Fails, Enters, Joins, EntersAt}
+use Rattle.risc_steps.specs.Told.{told_at}
 use Rattle.risc_steps.specs.Forms as form
 use Rattle.risc_steps.specs.Forms.{is_near, is_small, is_divisor}
 use Rattle.risc_runs.specs.Emits.{start_form}
@@ -116,6 +119,10 @@ module _ (c : Context) (r : ℕ) where
   divisor_good (operand.Temporary t) = bring_good 15 (home c r t)
   divisor_good (operand.Number z) = number_good 15 z
 
+  modulus_good : (o : Operand) → AreGood (form.modulus c r o)
+  modulus_good (operand.Temporary t) = fetch_good 15 (home c r t)
+  modulus_good (operand.Number z) = number_good 15 z
+
   quotient_good : (a : ℕ) → AreGood (form.quotient c r a)
   quotient_good a = good_append (form.fetch c r 12 (home c r a)) _ (fetch_good 12 (home c r a)) (tt, (tt, (tt, (tt, (tt, tt)))))
 
@@ -138,11 +145,11 @@ module _ (c : Context) (r : ℕ) where
 
   divide_good : (t a : ℕ) (o : Operand) (error line : ℕ) → IsErrorNumber error → IsLine line → AreGood (form.divide_form c r t a o error line)
   divide_good t a o error line e l =
-      by_test (is_divisor o) _ _ (good_append (form.fetch c r 12 (home c r a)) _ (fetch_good 12 (home c r a)) (tt, (tt, (tt, (tt, (tt, receive_good (home c r t))))))) (good_append (form.divisor c r o) _ (divisor_good o) ((error_two, l), (tt, good_append (form.quotient c r a) _ (quotient_good a) (tt, good_append (form.quotient_by_negative c r a error line) _ (negative_good a error line e l) (receive_good (home c r t))))))
+      by_test (is_divisor o) _ _ (good_append (form.fetch c r 12 (home c r a)) _ (fetch_good 12 (home c r a)) (tt, (tt, (tt, (tt, (tt, save_good (home c r t))))))) (good_append (form.divisor c r o) _ (divisor_good o) ((error_two, l), (tt, good_append (form.quotient c r a) _ (quotient_good a) (tt, good_append (form.quotient_by_negative c r a error line) _ (negative_good a error line e l) (receive_good (home c r t))))))
 
   modulo_good : (t a : ℕ) (o : Operand) (line : ℕ) → IsLine line → AreGood (form.modulo_form c r t a o line)
   modulo_good t a o line l =
-      by_test (is_divisor o) _ _ (good_append (form.fetch c r 12 (home c r a)) _ (fetch_good 12 (home c r a)) (tt, (tt, save_good (home c r t)))) (good_append (form.divisor c r o) _ (divisor_good o) (tt, ((error_three, l), good_append (form.fetch c r 12 (home c r a)) _ (fetch_good 12 (home c r a)) (tt, (tt, save_good (home c r t))))))
+      by_test (is_divisor o) _ _ (good_append (form.fetch c r 12 (home c r a)) _ (fetch_good 12 (home c r a)) (tt, (tt, save_good (home c r t)))) (good_append (form.modulus c r o) _ (modulus_good o) (tt, ((error_three, l), good_append (form.fetch c r 12 (home c r a)) _ (fetch_good 12 (home c r a)) (tt, (tt, save_good (home c r t))))))
 
   arithmetic_good : (operator : Operator) (t a : ℕ) (o : Operand) (error line : ℕ) → IsErrorNumber error → IsLine line → AreGood (form.arithmetic_form c r operator t a o error line)
   arithmetic_good Add t a o error line e l = both_good a o _ (tt, ((e, l), save_good (home c r t)))
@@ -184,6 +191,10 @@ module _ (c : Context) (r : ℕ) where
   return_good a =
       good_append (form.bring c r 12 (home c r a)) _ (bring_good 12 (home c r a)) (by_test (is_program c r) _ _ (tt, (tt, (tt, tt))) (tt, (tt, tt)))
 
+  branch_good : (q : Option Condition) (relation : Relation) (a : ℕ) (o : Operand) (label : Label) → AreGood (form.branch_by c r q relation a o label)
+  branch_good None relation a o label = both_good a o _ (tt, (tt, tt))
+  branch_good (Some told) relation a o label = (tt, tt)
+
   -- the words of an instruction that is sound
   pub form_good : (limits : Limits) (k : ℕ) (i : Instruction) → IsSoundAt limits k i → AreGood (form.form c r k i)
   form_good limits k (Literal t z) h =
@@ -195,7 +206,7 @@ module _ (c : Context) (r : ℕ) where
   form_good limits k (CheckRange a low high error line) h =
       check_good a low high error line h.3 h.4
   form_good limits k (CheckPointer a error line) h =
-      good_append (form.bring c r 12 (home c r a)) _ (bring_good 12 (home c r a)) ((h.1, h.2), tt)
+      by_test (form.is_told c r (told_at c r k) a) _ _ ((h.1, h.2), tt) (good_append (form.bring c r 12 (home c r a)) _ (bring_good 12 (home c r a)) ((h.1, h.2), tt))
   form_good limits k (Text t bytes) h = (tt, (tt, save_good (home c r t)))
   form_good limits k (Offset t a n extent) h =
       good_append (form.address c r (form.target c r (home c r t)) a n) _ (address_good _ a n) (save_good (home c r t))
@@ -208,8 +219,8 @@ module _ (c : Context) (r : ℕ) where
   form_good limits k (StoreByte a n u) h = store_form_good _ a n u
   form_good limits k (Jump n) h = (tt, tt)
   form_good limits k (JumpBack n) h = (tt, tt)
-  form_good limits k (Branch relation a o n) h = both_good a o _ (tt, (tt, tt))
-  form_good limits k (BranchBack relation a o n) h = both_good a o _ (tt, (tt, tt))
+  form_good limits k (Branch relation a o n) h = branch_good (form.branch_choice c r (told_at c r k) relation a o) relation a o _
+  form_good limits k (BranchBack relation a o n) h = branch_good (form.branch_choice c r (told_at c r k) relation a o) relation a o _
   form_good limits k (Call t q us line) h =
       good_append (form.pass c r 0 us) _ (pass_good 0 us) (call_piece (is_program c q) q line h.3, receive_good (home c r t))
   form_good limits k (CallValue t a us line) h =

@@ -38,6 +38,7 @@ use Rattle.risc_steps.specs.Pieces.{AtEntry, Piece, Plain, Goes, Fails, Stands, 
 use Rattle.risc_steps.specs.Forms.{frame_below, parameters, enter_form, join_form, is_entered, entry_form}
 use Rattle.risc_steps.specs.Follows.{machine_of, stub, Stood, Built, Belongs, Comes, Stops, trapped, told, tape_of}
 use Rattle.risc_steps.proofs.Basics.{left_after, left_next, left_at}
+use Rattle.risc_steps.proofs.Flags.{entered_silent}
 use Rattle.risc_steps.proofs.Runs.{step_to}
 use Rattle.risc_steps.proofs.Compares.{differs}
 use Rattle.risc_steps.proofs.Comes.{Arrives, come_to, come_step, arrive_to, arrive_here, goes_run, fails_not}
@@ -211,7 +212,7 @@ module _ (code : Code) (homes : List Home) (image : Image) (sound : IsSound code
         globals = z.registers 13 (omega arith) (omega arith) ∙ e13;
       } in
       let rel = related_starts c b.laid c.sizes stack heap input (machine_of v7) block is (omega (arith, room, b.laid.bottom)) starting in
-      let here : Belongs c words (started_places c) inside v7 c.bottom = record { related = rel; place = let e = l7.ends in omega (arith, e, no_more); input = bytes } in
+      let here : Belongs c words (started_places c) inside v7 c.bottom = record { related = rel; place = let e = l7.ends in omega (arith, e, no_more); input = bytes; flags = entered_silent c 0 v7 } in
       arrive_to c words b inside m z.view z.to (arrive_to c words b inside z.to.to v1 t1 (arrive_to c words b inside t1.to v5 t5 (arrive_to c words b inside t5.to v6 t6 (arrive_to c words b inside t6.to v7 t7 (arrive_here c words b (started_places c) inside t7.to v7 c.bottom t7.shows here)))))
     where
       not_full : (x y : ℕ) → y ≤ x → nat_lt x y ≡ false

@@ -1,12 +1,18 @@
 -- Branches and comparisons followed by their words.
-use Rattle.std.proofs.Common.{◌≡◌, ℕ, suc, ◌+◌, ◌-◌, ◌≤◌, Bool, true, false, cond, List, [], ◌∷◌, ◌++◌, Option, Some, None, pos, refl, sym, ap, ◌∙◌, subst, arith, length-append, append_assoc}
+use Rattle.std.specs.Prelude.{int_lt}
+use Rattle.std.proofs.lemmas.Int.{ints}
+use Rattle.std.proofs.Common.{◌≡◌, ℕ, zero, suc, ◌+◌, ◌-◌, ◌<◌, ◌≤◌, Bool, true, false, cond, ◌&&◌, not, nat_eq, nat_le, List, [], ◌∷◌, ◌++◌, Option, Some, None, pos, negsuc, refl, sym, ap, ◌∙◌, subst, arith, length-append, append_assoc}
 use Rattle.risc_word.specs.declared.instr.Operation.TheVariants as op
 use Rattle.risc_word.specs.declared.instr.Operand.TheVariants as instr_operand
 use Rattle.risc_word.specs.declared.instr.Condition.TheVariants as on
 use Rattle.risc_word.specs.declared.instr.Instr.TheVariants as word
 use Rattle.risc_machine.specs.Step as machine
+use Rattle.risc_machine.specs.Step.{word_of_int}
+use Rattle.risc_word.specs.declared.instr.Condition.{Condition}
 use Rattle.risc_view.specs.View.{View, Shows, after, at_view, holds_view}
 use Rattle.risc_view.specs.Runs.{To, Way, same_tape}
+use Rattle.risc_view.specs.Numbers.{difference_of}
+use Rattle.risc_view.proofs.Numbers.{minus_word}
 use Rattle.tac_code.specs.declared.code.Relation.{Relation}
 use Rattle.tac_code.specs.declared.code.Relation.TheVariants.{Equal, NotEqual, Less, LessEqual, Greater, GreaterEqual}
 use Rattle.tac_code.specs.declared.code.Operand.{Operand}
@@ -18,18 +24,24 @@ use Rattle.tac_code.specs.declared.code.Instruction.TheVariants.{Compare, Branch
 use Rattle.tac_code.specs.Numbers.{truth}
 use Rattle.tac_code.specs.Sound.{IsOperand}
 use Rattle.tac_code.specs.Meaning.{fetch, State, giving, operand_value, pointer_of, pointers_related, related}
-use Rattle.risc_alloc.specs.Flow.{in_operand, is_among}
-use Rattle.risc_related.specs.Context.{Context, home, reads, Places, Passes, IsNumber}
+use Rattle.risc_alloc.specs.declared.homes.Home.{Home}
+use Rattle.risc_alloc.specs.declared.homes.Home.TheVariants.{Slot, Reg}
+use Rattle.risc_alloc.specs.Flow.{in_operand, is_among, is_it}
+use Rattle.risc_related.specs.Context.{Context, home, reads, Places, Passes, IsNumber, IsValue}
+use Rattle.risc_related.specs.Context as ctx
 use Rattle.risc_related.specs.Changes.{Near}
-use Rattle.risc_related.proofs.Basics.{get_within, update_same, update_other}
+use Rattle.risc_related.specs.Related.{value_of}
+use Rattle.risc_related.proofs.Basics.{get_within, eq_of, update_same, update_other}
 use Rattle.risc_steps.specs.Pieces.{AtPlace, Piece, Plain, Goes, Left}
 use Rattle.risc_steps.specs.Forms as form
-use Rattle.risc_steps.specs.Forms.{fetched, right, right_operand, both, target, save, condition, skip, difference}
+use Rattle.risc_steps.specs.Told.{told_at}
+use Rattle.risc_steps.specs.Forms.{fetched, right, right_operand, both, target, save, condition, brief, is_null, is_register, skip, difference}
 use Rattle.risc_steps.specs.Follows.{machine_of, Built, Belongs, Comes}
 use Rattle.risc_steps.proofs.Basics.{left_after, left_next, left_at, is_read, passes, writes_it, among_first, among_rest, integer_is}
+use Rattle.risc_steps.proofs.Flags.{silent}
 use Rattle.risc_steps.proofs.Runs.{IsRight, step_to}
 use Rattle.risc_steps.proofs.Comes.{framed, fetched_is, come_to, come_way, arrive_to, goes_run, goes_not, skip_run, skip_not, goes_end, gives_end}
-use Rattle.risc_steps.proofs.Operands.{code, two_run}
+use Rattle.risc_steps.proofs.Operands.{code, stands_in, two_run}
 use Rattle.risc_steps.proofs.Compares.{related_flags}
 
 -- ---- both values are there
@@ -69,6 +81,26 @@ module _ (c : Context) (words : List ℕ) (b : Built c words) (p : Places) (s : 
   right_sound n (operand.Temporary t) h = tt
   right_sound n (operand.Number z) h = integer_is z h
 
+  -- the register that N and Z are told of
+  pub told_stands : (a : ℕ) → form.is_told c s.current.routine (told_at c s.current.routine s.current.place) a ≡ true → (q : ℕ) × (home c s.current.routine a ≡ Reg q) × (v.equal ≡ nat_eq (v.registers q) 0) × (v.negative ≡ nat_le 2147483648 (v.registers q))
+  told_stands a e =
+      let k = each (is_it a (told_at c s.current.routine s.current.place)) (is_register (home c s.current.routine a)) e in
+      let h = register_is (home c s.current.routine a) k.1 in
+      let flags = be.flags a h.0 (it_is (told_at c s.current.routine s.current.place) k.0) h.1 in
+      (h.0, h.1, flags.0, flags.1)
+    where
+      each : (t u : Bool) → t && u ≡ true → (t ≡ true) × (u ≡ true)
+      each true u e = (refl, e)
+      each false u e = absurd (cc e)
+
+      it_is : (o : Option ℕ) → is_it a o ≡ true → o ≡ Some a
+      it_is None e = absurd (cc e)
+      it_is (Some t) e = ap Some (sym (eq_of a t e))
+
+      register_is : (h : Home) → is_register h ≡ true → (q : ℕ) × (h ≡ Reg q)
+      register_is (Reg q) e = (q, refl)
+      register_is (Slot j) e = absurd (cc e)
+
   -- the difference of two operands, whose flags tell the relation
   pub record Told (relation : Relation) (a : ℕ) (o : Operand) (holds : Bool) (ps : List Piece) (next : ℕ) : Type 0 where
     pub view : View
@@ -104,10 +136,88 @@ module _ (c : Context) (words : List ℕ) (b : Built c words) (p : Places) (s : 
       way_to_way g t =
           record { to = t.to; shows = t.shows; runs = λ k q. let x = t.runs k q in let y = g.runs x.0 q in (y.0, omega (arith, x.1, y.1), y.2 ∙ x.2) }
 
-  -- a branch goes to its target where the relation holds, and else on
-  branch_follows : (i : Instruction) (relation : Relation) (a : ℕ) (o : Operand) (k' temporaries : ℕ) (holds : Bool) → Passes c s.current.routine s.current.place k' → Passes c s.current.routine s.current.place (suc s.current.place) → c.site s.current.routine k' ≤ 1048576 → IsOperand temporaries o → reads c s.current.routine s.current.place a ≡ true → ((t : ℕ) → is_among t (in_operand o) ≡ true → reads c s.current.routine s.current.place t ≡ true) → related relation (s.current.temporaries a) (operand_value s.current.temporaries o) ≡ Some holds → Left c words v.place (form.branch_form c s.current.routine relation a o (AtPlace s.current.routine k')) (c.site s.current.routine (suc s.current.place)) → Comes c words s (record s { current = record s.current { place = cond holds k' (suc s.current.place) } }) m
-  branch_follows i relation a o k' temporaries holds there next low so ra ro e l = go holds (told_run relation a o holds (Goes (condition relation) (AtPlace s.current.routine k') ∷ []) _ temporaries so ra ro e l)
+  -- ---- by the flags of an instruction in front
+
+  no_less : (n : ℕ) → n < 4294967296 → difference_of n (word_of_int (pos 0)) ≡ n
+  no_less n lt = omega (arith, lt)
+
+  -- N and Z of a value tell how it stands to 0
+  told_flags : (relation : Relation) (told : Condition) (x : Value) (holds : Bool) (q : ℕ) → brief relation ≡ Some told → IsValue c p x → v.registers q ≡ ctx.word c p x → v.registers q < 4294967296 → v.equal ≡ nat_eq (v.registers q) 0 → v.negative ≡ nat_le 2147483648 (v.registers q) → related relation (Some x) (Some (Number (pos 0))) ≡ Some holds → holds_view v told ≡ holds
+  told_flags relation told x holds q is good value low null minus e = go relation is e
     where
+      none : IsNumber (pos 0)
+      none = (omega (arith, ints), omega (arith, ints))
+
+      by_difference : (relation : Relation) → related relation (Some x) (Some (Number (pos 0))) ≡ Some holds → holds_view (after (word.Operate op.Sub 12 q (instr_operand.Constant (pos 0))) v) (condition relation) ≡ holds
+      by_difference relation e =
+          related_flags c b.laid p s v.words f be.related.held relation x (Number (pos 0)) holds 12 q (instr_operand.Constant (pos 0)) v good none value refl e
+
+      same : v.equal ≡ (after (word.Operate op.Sub 12 q (instr_operand.Constant (pos 0))) v).equal
+      same = null ∙ ap (λ n. nat_eq n 0) (sym (no_less (v.registers q) low))
+
+      go : (relation : Relation) → brief relation ≡ Some told → related relation (Some x) (Some (Number (pos 0))) ≡ Some holds → holds_view v told ≡ holds
+      go Equal is e = let z : on.Equal ≡ told = cc is in ap (holds_view v) (sym z) ∙ same ∙ by_difference Equal e
+      go NotEqual is e = let z : on.NotEqual ≡ told = cc is in ap (holds_view v) (sym z) ∙ ap not same ∙ by_difference NotEqual e
+      go Less is e = let z : on.Minus ≡ told = cc is in ap (holds_view v) (sym z) ∙ below x good value e
+        where
+          below : (x : Value) → IsValue c p x → v.registers q ≡ ctx.word c p x → related Less (Some x) (Some (Number (pos 0))) ≡ Some holds → v.negative ≡ holds
+          below (Number n) good value e = let h : int_lt n (pos 0) ≡ holds = cc e in minus ∙ ap (nat_le 2147483648) value ∙ minus_word n good ∙ h
+          below (Address block offset) good value e = absurd (cc e)
+          below (Routine r) good value e = absurd (cc e)
+      go GreaterEqual is e = let z : on.Plus ≡ told = cc is in ap (holds_view v) (sym z) ∙ above x good value e
+        where
+          above : (x : Value) → IsValue c p x → v.registers q ≡ ctx.word c p x → related GreaterEqual (Some x) (Some (Number (pos 0))) ≡ Some holds → not v.negative ≡ holds
+          above (Number n) good value e = let h : not (int_lt n (pos 0)) ≡ holds = cc e in ap not (minus ∙ ap (nat_le 2147483648) value ∙ minus_word n good) ∙ h
+          above (Address block offset) good value e = absurd (cc e)
+          above (Routine r) good value e = absurd (cc e)
+      go LessEqual is e = absurd (cc is)
+      go Greater is e = absurd (cc is)
+
+  -- where a branch is by those flags, they tell its relation
+  brief_flag : (relation : Relation) (a : ℕ) (o : Operand) (holds : Bool) (told : Condition) → cond (form.is_told c s.current.routine (told_at c s.current.routine s.current.place) a && is_null o) (brief relation) None ≡ Some told → reads c s.current.routine s.current.place a ≡ true → related relation (s.current.temporaries a) (operand_value s.current.temporaries o) ≡ Some holds → holds_view v told ≡ holds
+  brief_flag relation a o holds told is ra e =
+      let r = s.current.routine in
+      let k = chosen (form.is_told c r (told_at c r s.current.place) a) (is_null o) (brief relation) is in
+      let stood = told_stands a k.0 in
+      let q = stood.0 in
+      let xs = both_there relation (s.current.temporaries a) (operand_value s.current.temporaries o) holds e in
+      let x = xs.first in
+      let null = null_is o k.1 in
+      let e' : related relation (Some x) (Some (Number (pos 0))) ≡ Some holds = ap (related relation (Some x)) (sym null) ∙ ap (λ z. related relation z (operand_value s.current.temporaries o)) (sym xs.is) ∙ e in
+      let there = stands_in c words b p s f m v sh be a x ra xs.is in
+      let value : v.registers q ≡ ctx.word c p x = ap (value_of c r f (machine_of v)) (sym stood.1) ∙ there.1 in
+      let lt = b.placed.register r a q stood.1 in
+      told_flags relation told x holds q k.2 there.0 value (sh.narrow q (omega (arith, lt))) stood.2 stood.3 e'
+    where
+      chosen : (t u : Bool) (w : Option Condition) → cond (t && u) w None ≡ Some told → (t ≡ true) × (u ≡ true) × (w ≡ Some told)
+      chosen true true w is = (refl, refl, is)
+      chosen true false w is = absurd (cc is)
+      chosen false u w is = absurd (cc is)
+
+      null_is : (o : Operand) → is_null o ≡ true → operand_value s.current.temporaries o ≡ Some (Number (pos 0))
+      null_is (operand.Temporary t) e = absurd (cc e)
+      null_is (operand.Number (pos zero)) e = refl
+      null_is (operand.Number (pos (suc n))) e = absurd (cc e)
+      null_is (operand.Number (negsuc n)) e = absurd (cc e)
+
+  -- a branch goes to its target where the relation holds, and else on
+  branch_follows : (i : Instruction) (relation : Relation) (a : ℕ) (o : Operand) (k' temporaries : ℕ) (holds : Bool) → Passes c s.current.routine s.current.place k' → Passes c s.current.routine s.current.place (suc s.current.place) → c.site s.current.routine k' ≤ 1048576 → IsOperand temporaries o → reads c s.current.routine s.current.place a ≡ true → ((t : ℕ) → is_among t (in_operand o) ≡ true → reads c s.current.routine s.current.place t ≡ true) → related relation (s.current.temporaries a) (operand_value s.current.temporaries o) ≡ Some holds → Left c words v.place (form.branch_form c s.current.routine (told_at c s.current.routine s.current.place) relation a o (AtPlace s.current.routine k')) (c.site s.current.routine (suc s.current.place)) → Comes c words s (record s { current = record s.current { place = cond holds k' (suc s.current.place) } }) m
+  branch_follows i relation a o k' temporaries holds there next low so ra ro e l = by (cond (form.is_told c s.current.routine (told_at c s.current.routine s.current.place) a && is_null o) (brief relation) None) refl l
+    where
+      brief_goes : (told : Condition) (h : Bool) → holds_view v told ≡ h → Left c words v.place (Goes told (AtPlace s.current.routine k') ∷ []) (c.site s.current.routine (suc s.current.place)) → Comes c words s (record s { current = record s.current { place = cond h k' (suc s.current.place) } }) m
+      brief_goes told true flag l =
+          let r = s.current.routine in
+          let s' = record s { current = record s.current { place = k' } } in
+          let t1 = goes_run c words b told (AtPlace r k') [] _ m v sh l flag low in
+          let v1 = at_view (c.site r k') v in
+          come_to c words b s s' m same_tape v1 t1 refl (goes_end c words b p s (machine_of v) f k' t1.to v1 be.related be.input there t1.shows (record { registers = λ q n12 n15. refl; words = λ x. refl }) refl)
+      brief_goes told false flag l =
+          let r = s.current.routine in
+          let s' = record s { current = record s.current { place = suc s.current.place } } in
+          let t1 = goes_not c words b told (AtPlace r k') [] _ m v sh l flag in
+          let v1 = at_view (v.place + 1) v in
+          come_to c words b s s' m same_tape v1 t1 refl (goes_end c words b p s (machine_of v) f (suc s.current.place) t1.to v1 be.related be.input next t1.shows (record { registers = λ q n12 n15. refl; words = λ x. refl }) (sym l.ends))
+
       go : (h : Bool) → Told relation a o h (Goes (condition relation) (AtPlace s.current.routine k') ∷ []) (c.site s.current.routine (suc s.current.place)) → Comes c words s (record s { current = record s.current { place = cond h k' (suc s.current.place) } }) m
       go true d =
           let r = s.current.routine in
@@ -121,6 +231,10 @@ module _ (c : Context) (words : List ℕ) (b : Built c words) (p : Places) (s : 
           let t2 = goes_not c words b (condition relation) (AtPlace r k') [] _ d.way.to d.view d.way.shows d.left d.flag in
           let v2 = at_view (d.view.place + 1) d.view in
           come_way c words b s s' m d.view d.way (come_to c words b s s' d.way.to same_tape v2 t2 refl (goes_end c words b p s (machine_of v) f (suc s.current.place) t2.to v2 be.related be.input next t2.shows (record { registers = d.near.registers; words = d.near.words }) (sym d.left.ends)))
+
+      by : (q : Option Condition) → cond (form.is_told c s.current.routine (told_at c s.current.routine s.current.place) a && is_null o) (brief relation) None ≡ q → Left c words v.place (form.branch_by c s.current.routine q relation a o (AtPlace s.current.routine k')) (c.site s.current.routine (suc s.current.place)) → Comes c words s (record s { current = record s.current { place = cond holds k' (suc s.current.place) } }) m
+      by (Some told) is l = brief_goes told holds (brief_flag relation a o holds told is ra e) l
+      by None is l = go holds (told_run relation a o holds (Goes (condition relation) (AtPlace s.current.routine k') ∷ []) _ temporaries so ra ro e l)
 
   pub forward_branch_follows : (relation : Relation) (a : ℕ) (o : Operand) (n : ℕ) (holds : Bool) → fetch c.code s.current.routine s.current.place ≡ Some (Branch relation a o n) → related relation (s.current.temporaries a) (operand_value s.current.temporaries o) ≡ Some holds → Comes c words s (record s { current = record s.current { place = cond holds (suc s.current.place + n) (suc s.current.place) } }) m
   forward_branch_follows relation a o n holds here e =
@@ -171,7 +285,7 @@ module _ (c : Context) (words : List ℕ) (b : Built c words) (p : Places) (s : 
           let t3 = step_to c words b.stood i3 t2.to v2 t2.shows l4'.stands.0 tt in
           let v3 = after i3 v2 in
           let l5 = left_next c words v2.place _ _ _ l4' in
-          come_way c words b s s' m v1 w.way (come_to c words b s s' w.way.to same_tape v2 t2 refl (arrive_to c words b s' t2.to v3 t3 (gives_end c words b p s (machine_of v) f t (Number (pos 1)) t3.to v3 be.related be.input (writes_it c r s.current.place (Compare relation t a o) here t refl refl) (number_is true) t3.shows (record { here = update_same v2.registers hd _; registers = λ q n12 n15 nd. update_other v2.registers hd _ q nd ∙ w.near.registers q n12 n15; words = w.near.words }) l5)))
+          come_way c words b s s' m v1 w.way (come_to c words b s s' w.way.to same_tape v2 t2 refl (arrive_to c words b s' t2.to v3 t3 (gives_end c words b p s (machine_of v) f t (Number (pos 1)) t3.to v3 be.related be.input (writes_it c r s.current.place (Compare relation t a o) here t refl refl) (silent c r s.current.place (Compare relation t a o) here refl) (number_is true) t3.shows (record { here = update_same v2.registers hd _; registers = λ q n12 n15 nd. update_other v2.registers hd _ q nd ∙ w.near.registers q n12 n15; words = w.near.words }) l5)))
       go false w =
           let r = s.current.routine in
           let hd = target c r (home c r t) in
@@ -187,4 +301,4 @@ module _ (c : Context) (words : List ℕ) (b : Built c words) (p : Places) (s : 
           let t4 = skip_run c words b on.Always 1 _ _ t3.to v3 t3.shows l3 refl (omega arith) in
           let v4 = at_view (v3.place + 1 + 1) v3 in
           let l5 = left_next c words (v3.place + 1) _ _ _ (left_next c words v3.place _ _ _ l3) in
-          come_way c words b s s' m v1 w.way (come_to c words b s s' w.way.to same_tape v2 t2 refl (arrive_to c words b s' t2.to v3 t3 (arrive_to c words b s' t3.to v4 t4 (gives_end c words b p s (machine_of v) f t (Number (pos 0)) t4.to v4 be.related be.input (writes_it c r s.current.place (Compare relation t a o) here t refl refl) (number_is false) t4.shows (record { here = update_same v2.registers hd _; registers = λ q n12 n15 nd. update_other v2.registers hd _ q nd ∙ w.near.registers q n12 n15; words = w.near.words }) l5))))
+          come_way c words b s s' m v1 w.way (come_to c words b s s' w.way.to same_tape v2 t2 refl (arrive_to c words b s' t2.to v3 t3 (arrive_to c words b s' t3.to v4 t4 (gives_end c words b p s (machine_of v) f t (Number (pos 0)) t4.to v4 be.related be.input (writes_it c r s.current.place (Compare relation t a o) here t refl refl) (silent c r s.current.place (Compare relation t a o) here refl) (number_is false) t4.shows (record { here = update_same v2.registers hd _; registers = λ q n12 n15 nd. update_other v2.registers hd _ q nd ∙ w.near.registers q n12 n15; words = w.near.words }) l5))))

@@ -19,20 +19,23 @@ use Rattle.tac_code.specs.declared.code.Instruction.TheVariants.{CheckRange, Che
 use Rattle.tac_code.specs.Numbers.{is_zero, word_of, natural, steps_above, is_in_range}
 use Rattle.tac_code.specs.Meaning.{fetch, open_calls, State, checks, onward, pointer_of, is_nil}
 use Rattle.risc_related.specs.Context.{Context, home, Places, Passes, IsNumber}
-use Rattle.risc_related.specs.Related.{Machine, Related}
+use Rattle.risc_related.specs.Context as ctx
+use Rattle.risc_related.specs.Related.{Machine, Related, value_of}
 use Rattle.risc_related.specs.Changes.{Near}
 use Rattle.risc_related.proofs.Basics.{update_same, update_other}
 use Rattle.risc_related.specs.Walk.{walk}
 use Rattle.risc_view.proofs.Runs.{to_join, way_here, way_of, way_to}
 use Rattle.risc_steps.specs.Pieces as piece
 use Rattle.risc_steps.specs.Pieces.{Piece, Plain, Left}
+use Rattle.risc_steps.specs.Told.{told_at}
 use Rattle.risc_steps.specs.Forms as form
 use Rattle.risc_steps.specs.Forms.{exact, fetched, right, right_operand, bring, above, above_register, at_most, range_code}
 use Rattle.risc_steps.specs.Follows.{machine_of, Built, Belongs, Stops, Follows}
 use Rattle.risc_steps.proofs.Basics.{left_after, left_next, is_read, passes, among_first, integer_is}
 use Rattle.risc_steps.proofs.Runs.{step_to, exact_run, fetched_not, right_run}
 use Rattle.risc_steps.proofs.Comes.{failing, framed, left_whole, fetched_is, come_to, stop_to, stop_way, fails_not, fails_walked, walk_near, goes_end}
-use Rattle.risc_steps.proofs.Operands.{code, one_run, brought_run}
+use Rattle.risc_steps.proofs.Operands.{code, stands_in, one_run, brought_run}
+use Rattle.risc_steps.proofs.Branches.{told_stands}
 use Rattle.risc_steps.proofs.Compares.{not_not, pointer_word, points, object_high}
 use Rattle.risc_steps.proofs.Calls.{follows_way, follows_to}
 
@@ -279,15 +282,7 @@ module _ (c : Context) (words : List ℕ) (b : Built c words) (p : Places) (s : 
       let r = s.current.routine in
       let k = s.current.place in
       let i = CheckPointer a error line in
-      let rest = piece.Fails on.Equal error line ∷ [] in
-      let l = code c words b p s f m v sh be i here in
-      let g = brought_run c words b p s f m v sh be 12 a x rest _ (omega arith) (is_read c r k i here a (among_first a [])) ea l in
-      let v1 = g.view in
-      let l1 = left_after c words v.place v1.place _ (bring c r 12 (home c r a)) rest l g.place in
-      let near : Near (machine_of v) (machine_of v1) = record { registers = λ y n12 n15. g.moved.registers y n12; words = g.moved.words } in
-      let pt = points c b.laid p s v.words f be.related.held x q g.good eq in
-      let nil : v1.equal ≡ is_nil q = g.zero ∙ ap (λ y. nat_eq y 0) pt.is ∙ nil_word q pt.named in
-      follows_to c words b s m v1 g.to (checks c.code (not (is_nil q)) error line s) (go v1 g.to.to g.to.shows near l1 nil (is_nil q) refl)
+      by (form.is_told c r (told_at c r k) a) refl (code c words b p s f m v sh be i here)
     where
       nil_word : (q : Option ℕ) → ((n : ℕ) → q ≡ Some n → n < p.objects) → nat_eq (pointer_word c b.laid p s v.words f be.related.held q) 0 ≡ is_nil q
       nil_word None named = refl
@@ -304,3 +299,23 @@ module _ (c : Context) (words : List ℕ) (b : Built c words) (p : Places) (s : 
           let v2 = at_view (v1.place + 1) v1 in
           let ends = l1.ends in
           come_to c words b s (record s { current = onward s.current }) n same_tape v2 t2 refl (goes_end c words b p s (machine_of v) f (suc s.current.place) t2.to v2 be.related be.input (passes c s.current.routine s.current.place (CheckPointer a error line) here (suc s.current.place) refl (among_first (suc s.current.place) [])) t2.shows near (sym ends))
+
+      by : (told : Bool) → form.is_told c s.current.routine (told_at c s.current.routine s.current.place) a ≡ told → Left c words v.place (cond told (piece.Fails on.Equal error line ∷ []) (bring c s.current.routine 12 (home c s.current.routine a) ++ piece.Fails on.Equal error line ∷ [])) (c.site s.current.routine (suc s.current.place)) → Follows c words (checks c.code (not (is_nil q)) error line s) s m
+      by true told l =
+          let r = s.current.routine in
+          let there = stands_in c words b p s f m v sh be a x (is_read c r s.current.place (CheckPointer a error line) here a (among_first a [])) ea in
+          let stood = told_stands c words b p s f m v sh be a told in
+          let value : v.registers stood.0 ≡ ctx.word c p x = ap (value_of c r f (machine_of v)) (sym stood.1) ∙ there.1 in
+          let pt = points c b.laid p s v.words f be.related.held x q there.0 eq in
+          let nil : v.equal ≡ is_nil q = stood.2 ∙ ap (λ y. nat_eq y 0) (value ∙ pt.is) ∙ nil_word q pt.named in
+          go v m sh (record { registers = λ y n12 n15. refl; words = λ y. refl }) l nil (is_nil q) refl
+      by false told l =
+          let r = s.current.routine in
+          let rest = piece.Fails on.Equal error line ∷ [] in
+          let g = brought_run c words b p s f m v sh be 12 a x rest _ (omega arith) (is_read c r s.current.place (CheckPointer a error line) here a (among_first a [])) ea l in
+          let v1 = g.view in
+          let l1 = left_after c words v.place v1.place _ (bring c r 12 (home c r a)) rest l g.place in
+          let near : Near (machine_of v) (machine_of v1) = record { registers = λ y n12 n15. g.moved.registers y n12; words = g.moved.words } in
+          let pt = points c b.laid p s v.words f be.related.held x q g.good eq in
+          let nil : v1.equal ≡ is_nil q = g.zero ∙ ap (λ y. nat_eq y 0) pt.is ∙ nil_word q pt.named in
+          follows_to c words b s m v1 g.to (checks c.code (not (is_nil q)) error line s) (go v1 g.to.to g.to.shows near l1 nil (is_nil q) refl)

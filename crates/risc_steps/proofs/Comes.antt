@@ -1,5 +1,5 @@
 -- How an instruction's words are followed: parts joined, and the ends in which they come to the next state or to a stop.
-use Rattle.std.proofs.Common.{◌≡◌, ℕ, zero, suc, ◌+◌, ◌*◌, ◌%◌, ◌<◌, ◌≤◌, ◌⊎◌, inl, inr, true, false, cond, nat_eq, List, [], ◌∷◌, ◌++◌, length, take, Option, Some, None, slice_get, pos, negsuc, refl, sym, ap, ◌∙◌, subst, arith}
+use Rattle.std.proofs.Common.{◌≡◌, ℕ, zero, suc, ◌+◌, ◌*◌, ◌%◌, ◌<◌, ◌≤◌, ◌⊎◌, inl, inr, true, false, cond, nat_eq, nat_le, List, [], ◌∷◌, ◌++◌, length, take, Option, Some, None, slice_get, pos, negsuc, refl, sym, ap, ◌∙◌, subst, arith}
 use Rattle.std.proofs.lemmas.Int.{ints}
 use Rattle.behavior.specs.Endings.{Ending, Stack, Heap, Error, ending_by}
 use Rattle.behavior.specs.Transcripts.{AreBytes}
@@ -20,8 +20,9 @@ use Rattle.tac_code.specs.declared.code.Instruction.{Instruction}
 use Rattle.tac_code.specs.declared.code.TacRoutine.{TacRoutine}
 use Rattle.tac_code.specs.Meaning.{routines, body_at, fetch, State, giving, open_calls}
 use Rattle.tac_code.specs.Sound.{IsSoundAt, IsSoundRoutine, limits_of}
+use Rattle.risc_alloc.specs.declared.homes.Home.TheVariants.{Reg}
 use Rattle.risc_related.specs.Context.{Context, home, Places, word, IsValue, Passes, Writes}
-use Rattle.risc_related.specs.Related.{Machine, Related, owner_of}
+use Rattle.risc_related.specs.Related.{Machine, Related, value_of, owner_of}
 use Rattle.risc_related.specs.Changes.{Near, Settled}
 use Rattle.risc_related.specs.Walk.{walk}
 use Rattle.risc_related.proofs.Basics.{get_within}
@@ -30,7 +31,9 @@ use Rattle.risc_related.proofs.Steps.{related_goes, related_gives}
 use Rattle.risc_related.proofs.Walk.{walk_is, walk_same}
 use Rattle.risc_steps.specs.Pieces.{Label, label_place, Piece, Goes, Fails, Left}
 use Rattle.risc_steps.specs.Forms.{target, save, receive, skip}
-use Rattle.risc_steps.specs.Follows.{machine_of, stub, Built, tape_of, Belongs, Comes, Stops, trapped, told}
+use Rattle.risc_steps.specs.Told.{flagged_by}
+use Rattle.risc_steps.specs.Follows.{machine_of, stub, Built, tape_of, Flags, Belongs, Comes, Stops, trapped, told}
+use Rattle.risc_steps.proofs.Flags.{told_behind, passed_silent}
 use Rattle.risc_steps.proofs.Runs.{Aside, Framed, save_run, receive_run}
 
 -- ---- endings
@@ -281,23 +284,39 @@ module _ (c : Context) (words : List ℕ) (b : Built c words) where
   -- the instruction writes no temporary
   pub goes_end : (p : Places) (s : State) (m0 : Machine) (f k : ℕ) (m : machine.State) (v : View) → Related c p s m0 f → AreBytes s.tape.input → Passes c s.current.routine s.current.place k → Shows words c.size m v → Near m0 (machine_of v) → v.place ≡ c.site s.current.routine k → Arrives c words (record s { current = record s.current { place = k } }) m
   goes_end p s m0 f k m v h bytes g sh n e =
-      arrive_here p (record s { current = record s.current { place = k } }) m v f sh (record { related = related_goes c b.laid b.placed p s m0 (machine_of v) f k h g n; place = e; input = bytes })
+      arrive_here p (record s { current = record s.current { place = k } }) m v f sh (record { related = related_goes c b.laid b.placed p s m0 (machine_of v) f k h g n; place = e; input = bytes; flags = passed_silent c s.current.routine s.current.place k g v })
 
   -- it writes one, whose register holds its word
-  pub gives_end : (p : Places) (s : State) (m0 : Machine) (f t : ℕ) (x : Value) (m : machine.State) (v : View) → Related c p s m0 f → AreBytes s.tape.input → Writes c s.current.routine s.current.place t → IsValue c p x → Shows words c.size m v → Aside (target c s.current.routine (home c s.current.routine t)) (word c p x) m0 v → Left c words v.place (save c s.current.routine (home c s.current.routine t)) (c.site s.current.routine (suc s.current.place)) → Arrives c words (record s { current = giving t x s.current }) m
-  gives_end p s m0 f t x m v h bytes g good sh a l =
+  gives_by : (p : Places) (s : State) (m0 : Machine) (f t : ℕ) (x : Value) (m : machine.State) (v : View) → Related c p s m0 f → AreBytes s.tape.input → Writes c s.current.routine s.current.place t → ((w : View) → ((q : ℕ) → home c s.current.routine t ≡ Reg q → (w.equal ≡ v.equal) × (w.negative ≡ v.negative) × (w.registers q ≡ word c p x)) → Flags c s.current.routine (suc s.current.place) w) → IsValue c p x → Shows words c.size m v → Aside (target c s.current.routine (home c s.current.routine t)) (word c p x) m0 v → Left c words v.place (save c s.current.routine (home c s.current.routine t)) (c.site s.current.routine (suc s.current.place)) → Arrives c words (record s { current = giving t x s.current }) m
+  gives_by p s m0 f t x m v h bytes g flags good sh a l =
       let r = s.current.routine in
       let z = save_run c words b.stood b.laid b.placed r f (framed p s m0 f h) t (word c p x) [] _ m0 m v sh h.stack a (left_whole c words v.place _ (save c r (home c r t)) l) in
-      arrive_way (record s { current = giving t x s.current }) m z.view z.way (arrive_here p (record s { current = giving t x s.current }) z.way.to z.view f z.way.shows (record { related = related_gives c b.laid b.placed p s m0 (machine_of z.view) f t x h g good z.settled; place = z.place ∙ sym l.ends; input = bytes }))
+      let flagged = flags z.view (λ q is. let still = z.still q is in (still.0, still.1, ap (value_of c r f (machine_of z.view)) (sym is) ∙ z.settled.here)) in
+      arrive_way (record s { current = giving t x s.current }) m z.view z.way (arrive_here p (record s { current = giving t x s.current }) z.way.to z.view f z.way.shows (record { related = related_gives c b.laid b.placed p s m0 (machine_of z.view) f t x h g good z.settled; place = z.place ∙ sym l.ends; input = bytes; flags = flagged }))
+
+  -- and the flags are told of no temporary
+  pub gives_end : (p : Places) (s : State) (m0 : Machine) (f t : ℕ) (x : Value) (m : machine.State) (v : View) → Related c p s m0 f → AreBytes s.tape.input → Writes c s.current.routine s.current.place t → ((w : View) → Flags c s.current.routine (suc s.current.place) w) → IsValue c p x → Shows words c.size m v → Aside (target c s.current.routine (home c s.current.routine t)) (word c p x) m0 v → Left c words v.place (save c s.current.routine (home c s.current.routine t)) (c.site s.current.routine (suc s.current.place)) → Arrives c words (record s { current = giving t x s.current }) m
+  gives_end p s m0 f t x m v h bytes g silent good sh a l =
+      gives_by p s m0 f t x m v h bytes g (λ w stood. silent w) good sh a l
+
+  -- or N and Z are those of its word
+  pub tells_end : (p : Places) (s : State) (m0 : Machine) (f t : ℕ) (x : Value) (i : Instruction) (m : machine.State) (v : View) → Related c p s m0 f → AreBytes s.tape.input → Writes c s.current.routine s.current.place t → fetch c.code s.current.routine s.current.place ≡ Some i → flagged_by i ≡ Some t → (v.equal ≡ nat_eq (word c p x) 0) × (v.negative ≡ nat_le 2147483648 (word c p x)) → IsValue c p x → Shows words c.size m v → Aside (target c s.current.routine (home c s.current.routine t)) (word c p x) m0 v → Left c words v.place (save c s.current.routine (home c s.current.routine t)) (c.site s.current.routine (suc s.current.place)) → Arrives c words (record s { current = giving t x s.current }) m
+  tells_end p s m0 f t x i m v h bytes g here is flags good sh a l = gives_by p s m0 f t x m v h bytes g flagged good sh a l
+    where
+      flagged : (w : View) → ((q : ℕ) → home c s.current.routine t ≡ Reg q → (w.equal ≡ v.equal) × (w.negative ≡ v.negative) × (w.registers q ≡ word c p x)) → Flags c s.current.routine (suc s.current.place) w
+      flagged w stood u q e h =
+          let same : t ≡ u = cc (sym is ∙ told_behind c s.current.routine s.current.place i u here e) in
+          let k = stood q (ap (home c s.current.routine) same ∙ h) in
+          (k.0 ∙ flags.0 ∙ ap (λ n. nat_eq n 0) (sym k.2), k.1 ∙ flags.1 ∙ ap (nat_le 2147483648) (sym k.2))
 
   -- the same from R12
-  pub receives_end : (p : Places) (s : State) (m0 : Machine) (f t : ℕ) (x : Value) (m : machine.State) (v : View) → Related c p s m0 f → AreBytes s.tape.input → Writes c s.current.routine s.current.place t → IsValue c p x → Shows words c.size m v → Aside 12 (word c p x) m0 v → Left c words v.place (receive c s.current.routine (home c s.current.routine t)) (c.site s.current.routine (suc s.current.place)) → Arrives c words (record s { current = giving t x s.current }) m
-  receives_end p s m0 f t x m v h bytes g good sh a l =
+  pub receives_end : (p : Places) (s : State) (m0 : Machine) (f t : ℕ) (x : Value) (m : machine.State) (v : View) → Related c p s m0 f → AreBytes s.tape.input → Writes c s.current.routine s.current.place t → ((w : View) → Flags c s.current.routine (suc s.current.place) w) → IsValue c p x → Shows words c.size m v → Aside 12 (word c p x) m0 v → Left c words v.place (receive c s.current.routine (home c s.current.routine t)) (c.site s.current.routine (suc s.current.place)) → Arrives c words (record s { current = giving t x s.current }) m
+  receives_end p s m0 f t x m v h bytes g silent good sh a l =
       let r = s.current.routine in
       let z = receive_run c words b.stood b.laid b.placed r f (framed p s m0 f h) t (word c p x) [] _ m0 m v sh h.stack a (left_whole c words v.place _ (receive c r (home c r t)) l) in
-      arrive_to (record s { current = giving t x s.current }) m z.view z.to (arrive_here p (record s { current = giving t x s.current }) z.to.to z.view f z.to.shows (record { related = related_gives c b.laid b.placed p s m0 (machine_of z.view) f t x h g good z.settled; place = z.place ∙ sym l.ends; input = bytes }))
+      arrive_to (record s { current = giving t x s.current }) m z.view z.to (arrive_here p (record s { current = giving t x s.current }) z.to.to z.view f z.to.shows (record { related = related_gives c b.laid b.placed p s m0 (machine_of z.view) f t x h g good z.settled; place = z.place ∙ sym l.ends; input = bytes; flags = silent z.view }))
 
   -- its home took the word already
-  pub settles_end : (p : Places) (s : State) (m0 : Machine) (f t : ℕ) (x : Value) (m : machine.State) (v : View) → Related c p s m0 f → AreBytes s.tape.input → Writes c s.current.routine s.current.place t → IsValue c p x → Shows words c.size m v → Settled c s.current.routine f (home c s.current.routine t) (word c p x) m0 (machine_of v) → v.place ≡ c.site s.current.routine (suc s.current.place) → Arrives c words (record s { current = giving t x s.current }) m
-  settles_end p s m0 f t x m v h bytes g good sh d e =
-      arrive_here p (record s { current = giving t x s.current }) m v f sh (record { related = related_gives c b.laid b.placed p s m0 (machine_of v) f t x h g good d; place = e; input = bytes })
+  pub settles_end : (p : Places) (s : State) (m0 : Machine) (f t : ℕ) (x : Value) (m : machine.State) (v : View) → Related c p s m0 f → AreBytes s.tape.input → Writes c s.current.routine s.current.place t → ((w : View) → Flags c s.current.routine (suc s.current.place) w) → IsValue c p x → Shows words c.size m v → Settled c s.current.routine f (home c s.current.routine t) (word c p x) m0 (machine_of v) → v.place ≡ c.site s.current.routine (suc s.current.place) → Arrives c words (record s { current = giving t x s.current }) m
+  settles_end p s m0 f t x m v h bytes g silent good sh d e =
+      arrive_here p (record s { current = giving t x s.current }) m v f sh (record { related = related_gives c b.laid b.placed p s m0 (machine_of v) f t x h g good d; place = e; input = bytes; flags = silent v })

@@ -26,6 +26,7 @@ use Rattle.risc_steps.specs.Forms as form
 use Rattle.risc_steps.specs.Forms.{fetched, target, save, device}
 use Rattle.risc_steps.specs.Follows.{machine_of, Built, Belongs, Comes, Stops, Follows, tape_of}
 use Rattle.risc_steps.proofs.Basics.{left_after, left_next, is_read, passes, writes_it, among_first}
+use Rattle.risc_steps.proofs.Flags.{silent}
 use Rattle.risc_steps.proofs.Runs.{step_to, fetched_not, target_not}
 use Rattle.risc_steps.proofs.Comes.{framed, failing, come_to, come_way, stop_to, Arrives, goes_end, gives_end, fails_walked}
 use Rattle.risc_steps.proofs.Operands.{code, one_run}
@@ -117,7 +118,7 @@ module _ (c : Context) (words : List ℕ) (b : Built c words) (p : Places) (s : 
       let w2 = result_view d w w1 in
       let same : v2 ≡ w2 = e2 ∙ ap (result_view d w) e1 in
       let sh2 = subst (Shows words c.size n) same shows in
-      gives_end c words b p s1 (machine_of v) f t (Number z) n w2 (retaped tape) bytes (writes_it c r s.current.place (Take t) here t refl refl) is sh2 (record { here = update_same w1.registers d w ∙ sym e; registers = λ q n12 n15 nd. update_other w1.registers d w q nd ∙ update_other v.registers 15 _ q n15; words = λ a. refl }) (left_next c words (v.place + 1) _ _ (save c r (home c r t)) (left_next c words v.place _ _ _ l))
+      gives_end c words b p s1 (machine_of v) f t (Number z) n w2 (retaped tape) bytes (writes_it c r s.current.place (Take t) here t refl refl) (silent c r s.current.place (Take t) here refl) is sh2 (record { here = update_same w1.registers d w ∙ sym e; registers = λ q n12 n15 nd. update_other w1.registers d w q nd ∙ update_other v.registers 15 _ q n15; words = λ a. refl }) (left_next c words (v.place + 1) _ _ (save c r (home c r t)) (left_next c words v.place _ _ _ l))
 
   byte_follows : (t x : ℕ) (rest : List ℕ) → fetch c.code s.current.routine s.current.place ≡ Some (Take t) → s.tape.input ≡ x ∷ rest → Comes c words s (record s { current = giving t (Number (pos x)) s.current; tape = record { input = rest; ended = s.tape.ended; transcript = s.tape.transcript ++ mark ∷ [] } }) m
   byte_follows t x rest here e =

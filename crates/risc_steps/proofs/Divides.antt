@@ -33,11 +33,12 @@ use Rattle.risc_related.proofs.Steps.{value_near}
 use Rattle.risc_steps.specs.Pieces as piece
 use Rattle.risc_steps.specs.Pieces.{Piece, Plain, Left}
 use Rattle.risc_steps.specs.Forms as form
-use Rattle.risc_steps.specs.Forms.{is_near, fetched, right_operand, receive, divisor, is_divisor, skip, rounded, quotient, quotient_by_least, quotient_by_negative}
-use Rattle.risc_steps.specs.Follows.{machine_of, Built, Belongs, Comes, Follows}
+use Rattle.risc_steps.specs.Forms.{is_near, fetched, right_operand, target, save, receive, divisor, is_divisor, skip, rounded, quotient, quotient_by_least, quotient_by_negative}
+use Rattle.risc_steps.specs.Follows.{machine_of, Built, Flags, Belongs, Comes, Follows}
 use Rattle.risc_steps.proofs.Basics.{left_after, left_next, left_at, is_read, writes_it, among_first, among_rest}
-use Rattle.risc_steps.proofs.Runs.{Moved, step_to, fetch_run}
-use Rattle.risc_steps.proofs.Comes.{framed, fetched_is, come_to, Arrives, skip_run, skip_not, fails_not, fails_walked, walk_near, receives_end}
+use Rattle.risc_steps.proofs.Flags as flags
+use Rattle.risc_steps.proofs.Runs.{Moved, step_to, fetch_run, target_not}
+use Rattle.risc_steps.proofs.Comes.{framed, fetched_is, come_to, Arrives, skip_run, skip_not, fails_not, fails_walked, walk_near, gives_end, receives_end}
 use Rattle.risc_steps.proofs.Operands.{code, stands_in}
 use Rattle.risc_steps.proofs.Numbers.{overflow_is, number_of_integer}
 use Rattle.risc_steps.proofs.Compares.{differs}
@@ -65,7 +66,16 @@ integer_of (negsuc n) is = is_lt _ _ (omega (arith, ints, is))
     is_lt x y h = grind arith
 
 module _ (c : Context) (words : List ℕ) (b : Built c words) (p : Places) (s : State) (f : ℕ) (m : machine.State) (v : View) (sh : Shows words c.size m v) (be : Belongs c words p s v f) where
-  -- a quotient in R12
+  -- a quotient in register d
+  pub record MadeIn (d : ℕ) (z : ℤ) (ps : List Piece) (next : ℕ) (n : machine.State) : Type 0 where
+    pub view : View
+    pub to : To words c.size n same_tape view
+    pub value : view.registers d ≡ word_of z
+    pub registers : (q : ℕ) → q ≢ 12 → q ≢ 15 → q ≢ d → view.registers q ≡ v.registers q
+    pub memory : (q : ℕ) → view.words q ≡ v.words q
+    pub left : Left c words view.place ps next
+
+  -- in R12
   pub record Made (z : ℤ) (ps : List Piece) (next : ℕ) (n : machine.State) : Type 0 where
     pub view : View
     pub to : To words c.size n same_tape view
@@ -74,21 +84,19 @@ module _ (c : Context) (words : List ℕ) (b : Built c words) (p : Places) (s : 
     pub left : Left c words view.place ps next
 
   -- the quotient by a divisor above 0
-  pub quotient_run : (a : ℕ) (o : instr.Operand) (x y : ℤ) (ps : List Piece) (next : ℕ) (n : machine.State) (w : View) → Shows words c.size n w → Near (machine_of v) (machine_of w) → reads c s.current.routine s.current.place a ≡ true → s.current.temporaries a ≡ Some (Number x) → IsNumber x → IsNumber y → pos 0 <ℤ y → ((w1 : View) → Moved 12 w w1 → operand_view w1 o ≡ word_of y) → Left c words w.place (form.fetch c s.current.routine 12 (home c s.current.routine a) ++ (Plain (word.Operate op.Div 12 (fetched c s.current.routine 12 (home c s.current.routine a)) o) ∷ (rounded ++ ps))) next → Made (int_div x y) ps next n
-  quotient_run a o x y ps next n w sh1 near ra ea hx hy h0 second l =
-      let g = divided_run c words b p s f m v sh be a o x y (rounded ++ ps) next n w sh1 near ra ea hy h0 second l in
+  quotient_into : (d : ℕ) → d ≢ 15 → (a : ℕ) (o : instr.Operand) (x y : ℤ) (ps : List Piece) (next : ℕ) (n : machine.State) (w : View) → Shows words c.size n w → Near (machine_of v) (machine_of w) → reads c s.current.routine s.current.place a ≡ true → s.current.temporaries a ≡ Some (Number x) → IsNumber x → IsNumber y → pos 0 <ℤ y → ((w1 : View) → Moved 12 w w1 → operand_view w1 o ≡ word_of y) → Left c words w.place (form.fetch c s.current.routine 12 (home c s.current.routine a) ++ (Plain (word.Operate op.Div d (fetched c s.current.routine 12 (home c s.current.routine a)) o) ∷ (rounded d ++ ps))) next → MadeIn d (int_div x y) ps next n
+  quotient_into d not15 a o x y ps next n w sh1 near ra ea hx hy h0 second l =
+      let g = divided_run c words b p s f m v sh be d a o x y (rounded d ++ ps) next n w sh1 near ra ea hy h0 second l in
       let rm = remainder_pos x y h0 in
       let is : IsNumber (pos rm.0) = subst IsNumber rm.1 (remainder_is x y h0 hy) in
       let low : word_of (int_rem_euclid x y) ≡ rm.0 = ap word_of rm.1 ∙ word_is rm.0 is in
-      let z = rounded_run c words b (int_div_euclid x y) rm.0 ps next g.to.to g.view g.to.shows (floor_is x y h0 hx) (below rm.0 is) g.quotient g.negative (g.high ∙ low) g.left in
+      let z = rounded_run c words b d not15 (int_div_euclid x y) rm.0 ps next g.to.to g.view g.to.shows (floor_is x y h0 hx) (below rm.0 is) g.quotient g.negative (g.high ∙ low) g.left in
       record {
         view = z.view;
         to = to_join words c.size n same_tape same_tape g.view z.view g.to z.to;
         value = z.value ∙ ap word_of (sym (quotient_corrected x y h0 ∙ ap (toward_zero (int_div_euclid x y)) rm.1));
-        near = record {
-          registers = λ q n12 n15. z.registers q n12 n15 ∙ g.near.registers q n12 n15;
-          words = λ q. z.memory q ∙ g.near.words q;
-        };
+        registers = λ q n12 n15 nd. z.registers q nd n15 ∙ g.registers q n12 n15 nd;
+        memory = λ q. z.memory q ∙ g.memory q;
         left = z.left;
       }
     where
@@ -98,10 +106,21 @@ module _ (c : Context) (words : List ℕ) (b : Built c words) (p : Places) (s : 
       below : (r : ℕ) → IsNumber (pos r) → r < 4294967296
       below r is = omega (arith, ints, is)
 
+  pub quotient_run : (a : ℕ) (o : instr.Operand) (x y : ℤ) (ps : List Piece) (next : ℕ) (n : machine.State) (w : View) → Shows words c.size n w → Near (machine_of v) (machine_of w) → reads c s.current.routine s.current.place a ≡ true → s.current.temporaries a ≡ Some (Number x) → IsNumber x → IsNumber y → pos 0 <ℤ y → ((w1 : View) → Moved 12 w w1 → operand_view w1 o ≡ word_of y) → Left c words w.place (form.fetch c s.current.routine 12 (home c s.current.routine a) ++ (Plain (word.Operate op.Div 12 (fetched c s.current.routine 12 (home c s.current.routine a)) o) ∷ (rounded 12 ++ ps))) next → Made (int_div x y) ps next n
+  quotient_run a o x y ps next n w sh1 near ra ea hx hy h0 second l =
+      let g = quotient_into 12 (omega arith) a o x y ps next n w sh1 near ra ea hx hy h0 second l in
+      record {
+        view = g.view;
+        to = g.to;
+        value = g.value;
+        near = record { registers = λ q n12 n15. g.registers q n12 n15 n12; words = g.memory };
+        left = g.left;
+      }
+
   -- what is in R12 comes to the temporary
-  made_end : (t : ℕ) (z : ℤ) (n : machine.State) (w : View) → Shows words c.size n w → Near (machine_of v) (machine_of w) → Writes c s.current.routine s.current.place t → IsNumber z → w.registers 12 ≡ word_of z → Left c words w.place (receive c s.current.routine (home c s.current.routine t)) (c.site s.current.routine (suc s.current.place)) → Arrives c words (record s { current = giving t (Number z) s.current }) n
-  made_end t z n w sh1 near wr is e l =
-      receives_end c words b p s (machine_of v) f t (Number z) n w be.related be.input wr is sh1 (record { here = e; registers = λ q n12 n15 nd. near.registers q n12 n15; words = near.words }) l
+  made_end : (t : ℕ) (z : ℤ) (n : machine.State) (w : View) → ((u : View) → Flags c s.current.routine (suc s.current.place) u) → Shows words c.size n w → Near (machine_of v) (machine_of w) → Writes c s.current.routine s.current.place t → IsNumber z → w.registers 12 ≡ word_of z → Left c words w.place (receive c s.current.routine (home c s.current.routine t)) (c.site s.current.routine (suc s.current.place)) → Arrives c words (record s { current = giving t (Number z) s.current }) n
+  made_end t z n w silent sh1 near wr is e l =
+      receives_end c words b p s (machine_of v) f t (Number z) n w be.related be.input wr silent is sh1 (record { here = e; registers = λ q n12 n15 nd. near.registers q n12 n15; words = near.words }) l
 
   -- ---- lengths of skips
 
@@ -115,7 +134,7 @@ module _ (c : Context) (words : List ℕ) (b : Built c words) (p : Places) (s : 
 
   quotient_length : (a : ℕ) → length (quotient c s.current.routine a) ≡ length (form.fetch c s.current.routine 12 (home c s.current.routine a)) + 5
   quotient_length a =
-      length-append (form.fetch c s.current.routine 12 (home c s.current.routine a)) (Plain (word.Operate op.Div 12 (fetched c s.current.routine 12 (home c s.current.routine a)) (Content 15)) ∷ rounded)
+      length-append (form.fetch c s.current.routine 12 (home c s.current.routine a)) (Plain (word.Operate op.Div 12 (fetched c s.current.routine 12 (home c s.current.routine a)) (Content 15)) ∷ rounded 12)
 
   least_length : (a : ℕ) → length (quotient_by_least c s.current.routine a) ≡ length (form.fetch c s.current.routine 12 (home c s.current.routine a)) + 5
   least_length a =
@@ -128,16 +147,18 @@ module _ (c : Context) (words : List ℕ) (b : Built c words) (p : Places) (s : 
 
   -- ---- an immediate divisor
 
-  pub immediate_follows : (t a : ℕ) (o : Operand) (error line : ℕ) (x y : ℤ) → Writes c s.current.routine s.current.place t → reads c s.current.routine s.current.place a ≡ true → s.current.temporaries a ≡ Some (Number x) → operand_value s.current.temporaries o ≡ Some (Number y) → IsNumber x → is_divisor o ≡ true → Left c words v.place (form.fetch c s.current.routine 12 (home c s.current.routine a) ++ (Plain (word.Operate op.Div 12 (fetched c s.current.routine 12 (home c s.current.routine a)) (right_operand c s.current.routine o)) ∷ (rounded ++ receive c s.current.routine (home c s.current.routine t)))) (c.site s.current.routine (suc s.current.place)) → Follows c words (gives_computed c.code t (if is_zero y then Fails 2 else within error (int_div x y)) line s) s m
-  immediate_follows t a o error line x y wr ra ea eo hx ei l =
+  pub immediate_follows : (t a : ℕ) (o : Operand) (error line : ℕ) (x y : ℤ) → ((u : View) → Flags c s.current.routine (suc s.current.place) u) → Writes c s.current.routine s.current.place t → reads c s.current.routine s.current.place a ≡ true → s.current.temporaries a ≡ Some (Number x) → operand_value s.current.temporaries o ≡ Some (Number y) → IsNumber x → is_divisor o ≡ true → Left c words v.place (form.fetch c s.current.routine 12 (home c s.current.routine a) ++ (Plain (word.Operate op.Div (target c s.current.routine (home c s.current.routine t)) (fetched c s.current.routine 12 (home c s.current.routine a)) (right_operand c s.current.routine o)) ∷ (rounded (target c s.current.routine (home c s.current.routine t)) ++ save c s.current.routine (home c s.current.routine t)))) (c.site s.current.routine (suc s.current.place)) → Follows c words (gives_computed c.code t (if is_zero y then Fails 2 else within error (int_div x y)) line s) s m
+  immediate_follows t a o error line x y silent wr ra ea eo hx ei l =
       let k = immediate_is c words b p s f m v sh be o y ei eo in
       let hy : IsNumber y = subst IsNumber (sym k.2) (number_of_small c words b p s f m v sh be k.0 k.4) in
       let h0 : pos 0 <ℤ y = subst (λ q. pos 0 <ℤ q) (sym k.2) (above_of c words b p s f m v sh be k.0 k.3) in
-      let g = quotient_run a (right_operand c s.current.routine o) x y _ _ m v sh (record { registers = λ q n12 n15. refl; words = λ q. refl }) ra ea hx hy h0 (λ w1 mv. immediate_word c words b p s f m v sh be o y k.0 k.1 k.2 k.4 w1) l in
+      let d = target c s.current.routine (home c s.current.routine t) in
+      let n15 = target_not c words b.stood b.laid b.placed s.current.routine f (framed c words b p s (machine_of v) f be.related) t 15 (omega arith) in
+      let g = quotient_into d n15 a (right_operand c s.current.routine o) x y _ _ m v sh (record { registers = λ q n12 n15. refl; words = λ q. refl }) ra ea hx hy h0 (λ w1 mv. immediate_word c words b p s f m v sh be o y k.0 k.1 k.2 k.4 w1) l in
       let rm = remainder_pos x y h0 in
       let is = quotient_is x y h0 hx rm.0 rm.1 in
       let s' = record s { current = giving t (Number (int_div x y)) s.current } in
-      to_gives (is_zero y) (not_zero_above y h0) (is_integer (int_div x y)) (integer_of (int_div x y) is) (come_to c words b s s' m same_tape g.view g.to refl (made_end t (int_div x y) g.to.to g.view g.to.shows g.near wr is g.value g.left))
+      to_gives (is_zero y) (not_zero_above y h0) (is_integer (int_div x y)) (integer_of (int_div x y) is) (come_to c words b s s' m same_tape g.view g.to refl (gives_end c words b p s (machine_of v) f t (Number (int_div x y)) g.to.to g.view be.related be.input wr silent is g.to.shows (record { here = g.value; registers = g.registers; words = g.memory }) g.left))
     where
       not_zero_above : (y : ℤ) → pos 0 <ℤ y → is_zero y ≡ false
       not_zero_above (pos zero) h = absurd (omega (arith, ints, h))
@@ -276,17 +297,17 @@ module _ (c : Context) (words : List ℕ) (b : Built c words) (p : Places) (s : 
       Plain (word.Move 15 (Constant (pos 0))) ∷ Plain (word.Operate op.Sub 12 15 (Content 12)) ∷ piece.Fails on.OverflowSet error line ∷ skip on.Always (length (quotient_by_least c s.current.routine a)) ∷ (quotient_by_least c s.current.routine a ++ ps)
 
   -- the result comes to the temporary, or the error
-  pub given : (t error line : ℕ) (z : ℤ) (n : machine.State) → Writes c s.current.routine s.current.place t → is_integer z ≡ true → Made z (receive c s.current.routine (home c s.current.routine t)) (c.site s.current.routine (suc s.current.place)) n → Follows c words (gives_computed c.code t (within error z) line s) s n
-  given t error line z n wr e k = go (is_integer z) e
+  pub given : (t error line : ℕ) (z : ℤ) (n : machine.State) → Writes c s.current.routine s.current.place t → ((u : View) → Flags c s.current.routine (suc s.current.place) u) → is_integer z ≡ true → Made z (receive c s.current.routine (home c s.current.routine t)) (c.site s.current.routine (suc s.current.place)) n → Follows c words (gives_computed c.code t (within error z) line s) s n
+  given t error line z n wr silent e k = go (is_integer z) e
     where
       go : (q : Bool) → q ≡ true → Follows c words (gives_computed c.code t (cond q (Gives z) (Fails error)) line s) s n
       go false e' = absurd (cc e')
       go true e' =
-          come_to c words b s (record s { current = giving t (Number z) s.current }) n same_tape k.view k.to refl (made_end t z k.to.to k.view k.to.shows k.near wr (number_of_integer z e) k.value k.left)
+          come_to c words b s (record s { current = giving t (Number z) s.current }) n same_tape k.view k.to refl (made_end t z k.to.to k.view silent k.to.shows k.near wr (number_of_integer z e) k.value k.left)
 
   -- R12 negated, with the test of overflow
-  negated_end : (t a error line : ℕ) (q z : ℤ) (n : machine.State) (w : View) → Shows words c.size n w → Near (machine_of v) (machine_of w) → Writes c s.current.routine s.current.place t → IsNumber q → z ≡ pos 0 -ℤ q → w.registers 12 ≡ word_of q → Left c words w.place (behind_quotient a error line (receive c s.current.routine (home c s.current.routine t))) (c.site s.current.routine (suc s.current.place)) → Follows c words (gives_computed c.code t (within error z) line s) s n
-  negated_end t a error line q z n w sh1 near wr hq ez e12 l =
+  negated_end : (t a error line : ℕ) (q z : ℤ) (n : machine.State) (w : View) → Shows words c.size n w → Near (machine_of v) (machine_of w) → Writes c s.current.routine s.current.place t → ((u : View) → Flags c s.current.routine (suc s.current.place) u) → IsNumber q → z ≡ pos 0 -ℤ q → w.registers 12 ≡ word_of q → Left c words w.place (behind_quotient a error line (receive c s.current.routine (home c s.current.routine t))) (c.site s.current.routine (suc s.current.place)) → Follows c words (gives_computed c.code t (within error z) line s) s n
+  negated_end t a error line q z n w sh1 near wr silent hq ez e12 l =
       let i1 = word.Move 15 (Constant (pos 0)) in
       let t1 = step_to c words b.stood i1 n w sh1 l.stands.0 tt in
       let w1 = after i1 w in
@@ -311,7 +332,7 @@ module _ (c : Context) (words : List ℕ) (b : Built c words) (p : Places) (s : 
           let t2 = skip_run c words b on.Always (length (quotient_by_least c r a)) _ _ t1.to w1 t1.shows l1 refl (omega (arith, len, short)) in
           let w2 = at_view (w1.place + 1 + length (quotient_by_least c r a)) w1 in
           let l2 = left_after c words (w1.place + 1) w2.place _ (quotient_by_least c r a) (receive c r (home c r t)) (left_next c words w1.place _ _ _ l1) refl in
-          given t error line z n wr e (record { view = w2; to = to_join words c.size n same_tape same_tape w1 w2 t1 t2; value = value (number_of_integer z e); near = record { registers = near.registers; words = near.words }; left = l2 })
+          given t error line z n wr silent e (record { view = w2; to = to_join words c.size n same_tape same_tape w1 w2 t1 t2; value = value (number_of_integer z e); near = record { registers = near.registers; words = near.words }; left = l2 })
       ends n w sh1 near l over value false e = fail (is_integer z) e
         where
           fail : (i : Bool) → i ≡ false → Follows c words (gives_computed c.code t (cond i (Gives z) (Fails error)) line s) s n
@@ -319,8 +340,8 @@ module _ (c : Context) (words : List ℕ) (b : Built c words) (p : Places) (s : 
           fail false e' =
               inr (fails_walked c words b s on.OverflowSet error line _ _ n w (walk_near c words b p s (machine_of v) f w be.related (near.registers 14 (omega arith) (omega arith)) near.words) sh1 l (over ∙ overflow_is z ∙ ap not e))
 
-  pub negative_follows : (t a error line : ℕ) (x y : ℤ) (n : machine.State) (w : View) → Shows words c.size n w → Near (machine_of v) (machine_of w) → Writes c s.current.routine s.current.place t → reads c s.current.routine s.current.place a ≡ true → s.current.temporaries a ≡ Some (Number x) → IsNumber x → IsNumber y → y <ℤ pos 0 → w.registers 15 ≡ word_of y → Left c words w.place (quotient_by_negative c s.current.routine a error line ++ receive c s.current.routine (home c s.current.routine t)) (c.site s.current.routine (suc s.current.place)) → Follows c words (gives_computed c.code t (within error (int_div x y)) line s) s n
-  negative_follows t a error line x y n w sh1 near wr ra ea hx hy h0 e15 l =
+  pub negative_follows : (t a error line : ℕ) (x y : ℤ) (n : machine.State) (w : View) → Shows words c.size n w → Near (machine_of v) (machine_of w) → Writes c s.current.routine s.current.place t → ((u : View) → Flags c s.current.routine (suc s.current.place) u) → reads c s.current.routine s.current.place a ≡ true → s.current.temporaries a ≡ Some (Number x) → IsNumber x → IsNumber y → y <ℤ pos 0 → w.registers 15 ≡ word_of y → Left c words w.place (quotient_by_negative c s.current.routine a error line ++ receive c s.current.routine (home c s.current.routine t)) (c.site s.current.routine (suc s.current.place)) → Follows c words (gives_computed c.code t (within error (int_div x y)) line s) s n
+  negative_follows t a error line x y n w sh1 near wr silent ra ea hx hy h0 e15 l =
       let r = s.current.routine in
       let rc = receive c r (home c r t) in
       let i1 = word.Move 12 (Constant (pos 0)) in
@@ -348,7 +369,7 @@ module _ (c : Context) (words : List ℕ) (b : Built c words) (p : Places) (s : 
           let di = Plain (word.Operate op.Div 12 (fetched c r 12 (home c r a)) (Content 15)) in
           let behind = behind_quotient a error line rc in
           let la = subst (λ q. Left c words w1.place q (c.site r (suc s.current.place))) (append_assoc (quotient c r a) (Plain (word.Move 15 (Constant (pos 0))) ∷ Plain (word.Operate op.Sub 12 15 (Content 12)) ∷ piece.Fails on.OverflowSet error line ∷ skip on.Always (length (quotient_by_least c r a)) ∷ quotient_by_least c r a) rc) l1 in
-          let lb = subst (λ q. Left c words w1.place q (c.site r (suc s.current.place))) (append_assoc fa (di ∷ rounded) behind) la in
+          let lb = subst (λ q. Left c words w1.place q (c.site r (suc s.current.place))) (append_assoc fa (di ∷ rounded 12) behind) la in
           let hy' = number_of_integer (pos 0 -ℤ y) e in
           let above : pos 0 <ℤ (pos 0 -ℤ y) = omega (arith, ints, h0) in
           let near1 : Near (machine_of v) (machine_of w1) = record { registers = near.registers; words = near.words } in
@@ -356,7 +377,7 @@ module _ (c : Context) (words : List ℕ) (b : Built c words) (p : Places) (s : 
           let rm = remainder_pos x (pos 0 -ℤ y) above in
           let hq = quotient_is x (pos 0 -ℤ y) above hx rm.0 rm.1 in
           let step = gives_computed c.code t (within error (int_div x y)) line s in
-          follows_to c words b s n w1 t1 step (follows_to c words b s t1.to q.view q.to step (negated_end t a error line (int_div x (pos 0 -ℤ y)) (int_div x y) q.to.to q.view q.to.shows q.near wr hq (negated_is x y h0) q.value q.left))
+          follows_to c words b s n w1 t1 step (follows_to c words b s t1.to q.view q.to step (negated_end t a error line (int_div x (pos 0 -ℤ y)) (int_div x y) q.to.to q.view q.to.shows q.near wr silent hq (negated_is x y h0) q.value q.left))
       ends n w sh1 near l over value raw false e =
           let r = s.current.routine in
           let rc = receive c r (home c r t) in
@@ -374,7 +395,7 @@ module _ (c : Context) (words : List ℕ) (b : Built c words) (p : Places) (s : 
           let ly : y ≡ negsuc 2147483647 = least_of y e hy h0 in
           let k = least_run a x rc _ t1.to w1 t1.shows (record { registers = near.registers; words = near.words }) ra ea (raw ∙ ap (λ z. difference_of 0 (word_of z)) ly) ld in
           let whole : Made (int_div x y) rc (c.site r (suc s.current.place)) n = record { view = k.view; to = to_join words c.size n same_tape same_tape w1 k.view t1 k.to; value = k.value ∙ ap (λ z. word_of (int_div x z)) (sym ly); near = k.near; left = k.left } in
-          given t error line (int_div x y) n wr (ap (λ z. is_integer (int_div x z)) ly ∙ ap is_integer (least_quotient x hx) ∙ one_or_none (same_number x (negsuc 2147483647))) whole
+          given t error line (int_div x y) n wr silent (ap (λ z. is_integer (int_div x z)) ly ∙ ap is_integer (least_quotient x hx) ∙ one_or_none (same_number x (negsuc 2147483647))) whole
         where
           least_of : (y : ℤ) → is_integer (pos 0 -ℤ y) ≡ false → IsNumber y → y <ℤ pos 0 → y ≡ negsuc 2147483647
           least_of (pos k) e hy h = absurd (omega (arith, ints, h))
@@ -411,6 +432,9 @@ module _ (c : Context) (words : List ℕ) (b : Built c words) (p : Places) (s : 
       ra : reads c s.current.routine s.current.place a ≡ true
       ra = is_read c s.current.routine s.current.place (Arithmetic Divide t a o error line) here a (among_first a (in_operand o))
 
+      quiet : (u : View) → Flags c s.current.routine (suc s.current.place) u
+      quiet = flags.silent c s.current.routine s.current.place (Arithmetic Divide t a o error line) here refl
+
       hx : IsNumber x
       hx = (stands_in c words b p s f m v sh be a (Number x) ra ea).0
 
@@ -426,7 +450,7 @@ module _ (c : Context) (words : List ℕ) (b : Built c words) (p : Places) (s : 
           let at = w.place + 1 + length (quotient c r a) in
           let lb = left_after c words (w.place + 1) at _ (quotient c r a) (skip on.Always (length qn) ∷ (qn ++ rc)) (left_next c words w.place _ _ _ l) refl in
           let lc = left_at c words _ w1.place _ _ (left_next c words at _ _ _ lb) (omega arith) in
-          follows_to c words b s n w1 t1 (gives_computed c.code t (within error (int_div x y)) line s) (negative_follows t a error line x y t1.to w1 t1.shows (record { registers = near.registers; words = near.words }) wr ra ea hx hy h.1 e15 lc)
+          follows_to c words b s n w1 t1 (gives_computed c.code t (within error (int_div x y)) line s) (negative_follows t a error line x y t1.to w1 t1.shows (record { registers = near.registers; words = near.words }) wr quiet ra ea hx hy h.1 e15 lc)
       signed_ends n w sh1 near hy e15 neg l (inr h) =
           let r = s.current.routine in
           let rc = receive c r (home c r t) in
@@ -437,7 +461,7 @@ module _ (c : Context) (words : List ℕ) (b : Built c words) (p : Places) (s : 
           let fa = form.fetch c r 12 (home c r a) in
           let di = Plain (word.Operate op.Div 12 (fetched c r 12 (home c r a)) (Content 15)) in
           let behind = skip on.Always (length qn) ∷ (qn ++ rc) in
-          let la = subst (λ q. Left c words w1.place q (c.site r (suc s.current.place))) (append_assoc fa (di ∷ rounded) behind) l1 in
+          let la = subst (λ q. Left c words w1.place q (c.site r (suc s.current.place))) (append_assoc fa (di ∷ rounded 12) behind) l1 in
           let q = quotient_run a (Content 15) x y behind _ t1.to w1 t1.shows (record { registers = near.registers; words = near.words }) ra ea hx hy h.1 (λ w2 mv. mv.registers 15 (omega arith) ∙ e15) la in
           let v2 = q.view in
           let len1 = negative_length a error line in
@@ -450,7 +474,7 @@ module _ (c : Context) (words : List ℕ) (b : Built c words) (p : Places) (s : 
           let rm = remainder_pos x y h.1 in
           let is = quotient_is x y h.1 hx rm.0 rm.1 in
           let whole : Made (int_div x y) rc (c.site r (suc s.current.place)) n = record { view = w2; to = to_join words c.size n same_tape same_tape w1 w2 t1 (to_join words c.size t1.to same_tape same_tape v2 w2 q.to t2); value = q.value; near = record { registers = q.near.registers; words = q.near.words }; left = l2 } in
-          given t error line (int_div x y) n wr (integer_of (int_div x y) is) whole
+          given t error line (int_div x y) n wr quiet (integer_of (int_div x y) is) whole
 
       tested : (n : machine.State) (w : View) → Shows words c.size n w → Near (machine_of v) (machine_of w) → IsNumber y → w.registers 15 ≡ word_of y → w.equal ≡ is_zero y → w.negative ≡ int_lt y (pos 0) → Left c words w.place (piece.Fails on.Equal 2 line ∷ skip on.Minus (length (quotient c s.current.routine a) + 1) ∷ (quotient c s.current.routine a ++ (skip on.Always (length (quotient_by_negative c s.current.routine a error line)) ∷ (quotient_by_negative c s.current.routine a error line ++ receive c s.current.routine (home c s.current.routine t))))) (c.site s.current.routine (suc s.current.place)) → (z : Bool) → is_zero y ≡ z → Follows c words (gives_computed c.code t (cond z (Fails 2) (within error (int_div x y))) line s) s n
       tested n w sh1 near hy e15 eq neg l true ez =
@@ -460,8 +484,8 @@ module _ (c : Context) (words : List ℕ) (b : Built c words) (p : Places) (s : 
           let w1 = at_view (w.place + 1) w in
           follows_to c words b s n w1 t1 (gives_computed c.code t (within error (int_div x y)) line s) (signed_ends t1.to w1 t1.shows (record { registers = near.registers; words = near.words }) hy e15 neg (left_next c words w.place _ _ _ l) (sign_of_divisor y ez))
 
-      go : (imm : Bool) → is_divisor o ≡ imm → Left c words v.place (cond imm (form.fetch c s.current.routine 12 (home c s.current.routine a) ++ (Plain (word.Operate op.Div 12 (fetched c s.current.routine 12 (home c s.current.routine a)) (right_operand c s.current.routine o)) ∷ (rounded ++ receive c s.current.routine (home c s.current.routine t)))) (divisor c s.current.routine o ++ (piece.Fails on.Equal 2 line ∷ skip on.Minus (length (quotient c s.current.routine a) + 1) ∷ (quotient c s.current.routine a ++ (skip on.Always (length (quotient_by_negative c s.current.routine a error line)) ∷ (quotient_by_negative c s.current.routine a error line ++ receive c s.current.routine (home c s.current.routine t))))))) (c.site s.current.routine (suc s.current.place)) → Follows c words (gives_computed c.code t (if is_zero y then Fails 2 else within error (int_div x y)) line s) s m
-      go true ei l = immediate_follows t a o error line x y wr ra ea eo hx ei l
+      go : (imm : Bool) → is_divisor o ≡ imm → Left c words v.place (cond imm (form.fetch c s.current.routine 12 (home c s.current.routine a) ++ (Plain (word.Operate op.Div (target c s.current.routine (home c s.current.routine t)) (fetched c s.current.routine 12 (home c s.current.routine a)) (right_operand c s.current.routine o)) ∷ (rounded (target c s.current.routine (home c s.current.routine t)) ++ save c s.current.routine (home c s.current.routine t)))) (divisor c s.current.routine o ++ (piece.Fails on.Equal 2 line ∷ skip on.Minus (length (quotient c s.current.routine a) + 1) ∷ (quotient c s.current.routine a ++ (skip on.Always (length (quotient_by_negative c s.current.routine a error line)) ∷ (quotient_by_negative c s.current.routine a error line ++ receive c s.current.routine (home c s.current.routine t))))))) (c.site s.current.routine (suc s.current.place)) → Follows c words (gives_computed c.code t (if is_zero y then Fails 2 else within error (int_div x y)) line s) s m
+      go true ei l = immediate_follows t a o error line x y quiet wr ra ea eo hx ei l
       go false ei l =
           let so = fetched_is c words b s.current.routine s.current.place (Arithmetic Divide t a o error line) here in
           let g = divisor_run c words b p s f m v sh be o y _ _ _ so.sound.2 (λ u eu. is_read c s.current.routine s.current.place (Arithmetic Divide t a o error line) here u (among_rest u a (in_operand o) eu)) eo l in

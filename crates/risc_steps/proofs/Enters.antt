@@ -31,6 +31,7 @@ use Rattle.risc_steps.specs.Pieces.{Piece, Plain, Fails, Left}
 use Rattle.risc_steps.specs.Forms.{constant, parameters, frame_below, enter_form, join_form, is_entered, entry_form}
 use Rattle.risc_steps.specs.Follows.{machine_of, Stood, Built, Belongs, Comes, Stops, Follows}
 use Rattle.risc_steps.proofs.Basics.{left_after, left_next, left_at}
+use Rattle.risc_steps.proofs.Flags.{entered_silent}
 use Rattle.risc_steps.proofs.Runs.{Moved, step_to, constant_run}
 use Rattle.risc_steps.proofs.Comes.{left_whole, Arrives, come_to, arrive_to, arrive_way, arrive_here, stop_to, walk_near, fails_walked, fails_not}
 use Rattle.risc_steps.proofs.Compares.{differs}
@@ -231,7 +232,7 @@ module _ (c : Context) (words : List ℕ) (b : Built c words) (p : Places) (S H 
       } in
       let p' = entered_places c p s.count g q in
       let rel = related_enters c b.laid b.placed p c.sizes S H s (machine_of v) (machine_of rc.view) f g q t line l routine vs be.related entering in
-      arrive_to c words b inside n' v5 t5 (arrive_to c words b inside t5.to v6 t6 (arrive_to c words b inside t6.to v7 t7 (arrive_way c words b inside t7.to rc.view rc.way (arrive_here c words b p' inside rc.way.to rc.view g rc.way.shows (record { related = rel; place = rc.place ∙ sym l7.ends; input = be.input })))))
+      arrive_to c words b inside n' v5 t5 (arrive_to c words b inside t5.to v6 t6 (arrive_to c words b inside t6.to v7 t7 (arrive_way c words b inside t7.to rc.view rc.way (arrive_here c words b p' inside rc.way.to rc.view g rc.way.shows (record { related = rel; place = rc.place ∙ sym l7.ends; input = be.input; flags = entered_silent c q rc.view })))))
     where
       plus_zero : (g z : ℕ) → g ≡ z → g ≡ z + 0
       plus_zero g z e = omega (arith, e)
@@ -352,7 +353,7 @@ module _ (c : Context) (words : List ℕ) (b : Built c words) (p : Places) (S H 
       } in
       let p' = entered_places c p s.count f q in
       let rel = related_enters c b.laid b.placed p c.sizes S H s (machine_of v) (machine_of rc.view) f f q t line l routine vs be.related entering in
-      come_to c words b s inside n same_tape v1 t1 refl (arrive_way c words b inside t1.to rc.view rc.way (arrive_here c words b p' inside rc.way.to rc.view f rc.way.shows (record { related = rel; place = rc.place ∙ sym l1.ends; input = be.input })))
+      come_to c words b s inside n same_tape v1 t1 refl (arrive_way c words b inside t1.to rc.view rc.way (arrive_here c words b p' inside rc.way.to rc.view f rc.way.shows (record { related = rel; place = rc.place ∙ sym l1.ends; input = be.input; flags = entered_silent c q rc.view })))
     where
       by_kind : is_program c q ≡ false → Left c words w.place (entry_form c q routine) (c.site q 0) → Left c words w.place (join_form c q routine) (c.site q 0)
       by_kind e l' = subst (λ t. Left c words w.place (cond t (cond (is_entered c q routine) (enter_form c q routine) (Fails on.Always 12 routine.line ∷ [])) (join_form c q routine)) (c.site q 0)) e l'

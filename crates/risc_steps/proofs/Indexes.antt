@@ -35,6 +35,7 @@ use Rattle.risc_steps.specs.Forms as form
 use Rattle.risc_steps.specs.Forms.{constant, exact, fetched, target, save, right, right_operand, above_register, range_code, scaled, scaled_register, base_address, address_register, steps_form}
 use Rattle.risc_steps.specs.Follows.{machine_of, Built, Belongs, Follows}
 use Rattle.risc_steps.proofs.Basics.{left_after, left_next, is_read, writes_it, among_first, among_rest, integer_is}
+use Rattle.risc_steps.proofs.Flags.{silent}
 use Rattle.risc_steps.proofs.Runs.{Moved, step_to, constant_run, exact_run, fetch_run, fetched_not}
 use Rattle.risc_steps.proofs.Comes.{framed, fetched_is, come_to, come_way, come_step, gives_end}
 use Rattle.risc_steps.proofs.Operands.{code, one_run}
@@ -346,7 +347,7 @@ module _ (c : Context) (words : List ℕ) (b : Built c words) (p : Places) (s : 
               let s4 : v4.registers y ≡ steps_above low x * width = g4.moved.registers y (scaled_not q width n15) ∙ g3.value in
               let whole : v5.registers dd ≡ place c p block + (offset + steps_above low x * width) = update_same v4.registers dd _ ∙ sum (v4.registers ra) (v4.registers y) (steps_above low x * width) g4.value s4 lt in
               let s' = record s { current = giving t (Address block (offset + steps_above low x * width)) s.current } in
-              let done = come_to c words b s s' g4.way.to same_tape v5 t5 refl (gives_end c words b p s (machine_of v) f t (Address block (offset + steps_above low x * width)) t5.to v5 be.related be.input (writes_it c r s.current.place ins here t refl refl) (g4.good.0, lt) t5.shows (record { here = whole; registers = λ j n12 n15' nd. update_other v4.registers dd _ j nd ∙ g4.moved.registers j n15' ∙ near3.registers j n12 n15'; words = λ j. g4.moved.words j ∙ near3.words j }) (left_next c words v4.place _ (Plain i5) (save c r h) g4.left)) in
+              let done = come_to c words b s s' g4.way.to same_tape v5 t5 refl (gives_end c words b p s (machine_of v) f t (Address block (offset + steps_above low x * width)) t5.to v5 be.related be.input (writes_it c r s.current.place ins here t refl refl) (silent c r s.current.place ins here refl) (g4.good.0, lt) t5.shows (record { here = whole; registers = λ j n12 n15' nd. update_other v4.registers dd _ j nd ∙ g4.moved.registers j n15' ∙ near3.registers j n12 n15'; words = λ j. g4.moved.words j ∙ near3.words j }) (left_next c words v4.place _ (Plain i5) (save c r h) g4.left)) in
               come_step c words b s s' n v2 t2 (come_way c words b s s' t2.to v3 g3.way (come_way c words b s s' g3.way.to v4 g4.way done))
             where
               sum : (y z n : ℕ) → y ≡ place c p block + offset → z ≡ n → offset + n < 2147483648 → (y + z + 0) % 2 ^ 32 ≡ place c p block + (offset + n)

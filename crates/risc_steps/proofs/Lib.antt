@@ -1,4 +1,5 @@
 pub mod Basics
+pub mod Flags
 pub mod Runs
 pub mod Comes
 pub mod Operands

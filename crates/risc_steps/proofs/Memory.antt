@@ -1,5 +1,5 @@
 -- Words and bytes loaded and stored by address, and addresses.
-use Rattle.std.proofs.Common.{◌≡◌, ◌≢◌, ℕ, zero, suc, ◌+◌, ◌-◌, ◌*◌, ◌/◌, ◌%◌, ◌^◌, ◌<◌, Bool, true, false, cond, nat_eq, nat_lt, List, [], ◌∷◌, ◌++◌, length, Option, Some, None, slice_get, ℤ, pos, refl, sym, ap, ◌∙◌, subst, arith, length-append, append_assoc}
+use Rattle.std.proofs.Common.{◌≡◌, ◌≢◌, ℕ, zero, suc, ◌+◌, ◌-◌, ◌*◌, ◌/◌, ◌%◌, ◌^◌, ◌<◌, Bool, true, false, cond, nat_eq, nat_lt, nat_le, List, [], ◌∷◌, ◌++◌, length, Option, Some, None, slice_get, ℤ, pos, refl, sym, ap, ◌∙◌, subst, arith, length-append, append_assoc}
 use Rattle.std.proofs.lemmas.Int.{ints, of_z-to_z}
 use Rattle.std.specs.Int.{w32}
 use Rattle.risc_word.specs.declared.instr.Operation.TheVariants as op
@@ -37,8 +37,9 @@ use Rattle.risc_steps.specs.Forms as form
 use Rattle.risc_steps.specs.Forms.{is_near, constant, fetched, target, save, base_code, base_register, base_offset, reach, reach_register, reach_offset, load_form, store_form, address}
 use Rattle.risc_steps.specs.Follows.{machine_of, Stood, Built, Belongs, Comes}
 use Rattle.risc_steps.proofs.Basics.{left_after, left_next, is_read, passes, writes_it, among_first, among_rest}
+use Rattle.risc_steps.proofs.Flags.{silent}
 use Rattle.risc_steps.proofs.Runs.{step_to, constant_run, fetch_run, fetched_not}
-use Rattle.risc_steps.proofs.Comes.{framed, come_to, come_way, arrive_to, arrive_here, gives_end}
+use Rattle.risc_steps.proofs.Comes.{framed, come_to, come_way, arrive_to, arrive_here, gives_end, tells_end}
 use Rattle.risc_steps.proofs.Operands.{code, one_run, stands_in}
 
 -- ---- constants
@@ -256,9 +257,10 @@ module _ (c : Context) (words : List ℕ) (b : Built c words) (p : Places) (s : 
       let ok : IsReadable c.size (v1.registers q + o) = subst (IsReadable c.size) (sym g.at) (record { aligned = found.aligned; high = found.high }) in
       let t2 = step_to c words b.stood i g.way.to v1 g.way.shows l1.stands.0 (tt, ok) in
       let v2 = after i v1 in
-      let is : v2.registers (target c r h) ≡ related.word c p x = update_same v1.registers (target c r h) _ ∙ g.near.words _ ∙ ap v.words g.at ∙ found.is in
+      let loaded : v1.words (v1.registers q + o) ≡ related.word c p x = g.near.words _ ∙ ap v.words g.at ∙ found.is in
+      let is : v2.registers (target c r h) ≡ related.word c p x = update_same v1.registers (target c r h) _ ∙ loaded in
       let s' = record s { current = giving t x s.current } in
-      come_way c words b s s' m v1 g.way (come_to c words b s s' g.way.to same_tape v2 t2 refl (gives_end c words b p s (machine_of v) f t x t2.to v2 be.related be.input (writes_it c r k (Load t a n) here t refl refl) found.good t2.shows (record { here = is; registers = λ x n12 n15 nd. update_other v1.registers (target c r h) _ x nd ∙ g.near.registers x n12 n15; words = g.near.words }) (left_next c words v1.place _ _ (save c r h) l1)))
+      come_way c words b s s' m v1 g.way (come_to c words b s s' g.way.to same_tape v2 t2 refl (tells_end c words b p s (machine_of v) f t x (Load t a n) t2.to v2 be.related be.input (writes_it c r k (Load t a n) here t refl refl) here refl (ap (λ z. nat_eq z 0) loaded, ap (nat_le 2147483648) loaded) found.good t2.shows (record { here = is; registers = λ x n12 n15 nd. update_other v1.registers (target c r h) _ x nd ∙ g.near.registers x n12 n15; words = g.near.words }) (left_next c words v1.place _ _ (save c r h) l1)))
 
   -- a store's words, up to the store
   pub record Ready (a : Base) (n u len : ℕ) (block : Block) (offset : ℕ) (x : Value) : Type 0 where
@@ -318,7 +320,7 @@ module _ (c : Context) (words : List ℕ) (b : Built c words) (p : Places) (s : 
       let v2 = after i v1 in
       let s' = record s { current = onward s.current; memory = memory } in
       let rel = related_stores c b.laid b.placed p s (machine_of v) (machine_of v2) f (place c p block + (offset + n)) memory (IsStored (offset + n) x) be.related (passes c r k (Store a n u) here (suc k) refl (among_first (suc k) [])) kept (λ y n12 n15. g.near.registers y n12 n15) (λ j. update_eq v1.words v.words _ _ _ _ j g.at (g.value ∙ ap (related.word c p) (sym kept.why.1)) (g.near.words j)) in
-      come_way c words b s s' m v1 g.way (come_to c words b s s' g.way.to same_tape v2 t2 refl (arrive_here c words b p s' t2.to v2 f t2.shows (record { related = rel; place = sym l1.ends; input = be.input })))
+      come_way c words b s s' m v1 g.way (come_to c words b s s' g.way.to same_tape v2 t2 refl (arrive_here c words b p s' t2.to v2 f t2.shows (record { related = rel; place = sym l1.ends; input = be.input; flags = silent c r k (Store a n u) here refl v2 })))
 
   -- ---- bytes
 
@@ -348,8 +350,9 @@ module _ (c : Context) (words : List ℕ) (b : Built c words) (p : Places) (s : 
       let in_word : v1.words (word_place (v1.registers q + o)) ≡ word_of found.number = g.near.words _ ∙ ap v.words wp' ∙ found.word.is in
       let by : view.byte_at v1 (v1.registers q + o) ≡ byte = ap (λ w. view.byte_in w ((v1.registers q + o) % 4)) in_word ∙ ap (view.byte_in (word_of found.number)) (ap (λ x. x % 4) g.at ∙ wp.1) ∙ sym found.is in
       let low = byte_low byte (word_of found.number / 256 ^ ((offset + n) % 4)) found.is in
+      let loaded : view.byte_at v1 (v1.registers q + o) ≡ word_of (pos byte) = by ∙ sym (word_is byte low) in
       let s' = record s { current = giving t (Number (pos byte)) s.current } in
-      come_way c words b s s' m v1 g.way (come_to c words b s s' g.way.to same_tape v2 t2 refl (gives_end c words b p s (machine_of v) f t (Number (pos byte)) t2.to v2 be.related be.input (writes_it c r k (LoadByte t a n) here t refl refl) (number_is byte low) t2.shows (record { here = update_same v1.registers (target c r h) _ ∙ by ∙ sym (word_is byte low); registers = λ x n12 n15 nd. update_other v1.registers (target c r h) _ x nd ∙ g.near.registers x n12 n15; words = g.near.words }) (left_next c words v1.place _ _ (save c r h) l1)))
+      come_way c words b s s' m v1 g.way (come_to c words b s s' g.way.to same_tape v2 t2 refl (tells_end c words b p s (machine_of v) f t (Number (pos byte)) (LoadByte t a n) t2.to v2 be.related be.input (writes_it c r k (LoadByte t a n) here t refl refl) here refl (ap (λ z. nat_eq z 0) loaded, ap (nat_le 2147483648) loaded) (number_is byte low) t2.shows (record { here = update_same v1.registers (target c r h) _ ∙ loaded; registers = λ x n12 n15 nd. update_other v1.registers (target c r h) _ x nd ∙ g.near.registers x n12 n15; words = g.near.words }) (left_next c words v1.place _ _ (save c r h) l1)))
     where
       byte_low : (x y : ℕ) → x ≡ y % 256 → x < 256
       byte_low x y e = omega (arith, e)
@@ -398,7 +401,7 @@ module _ (c : Context) (words : List ℕ) (b : Built c words) (p : Places) (s : 
       let by : v1.registers d % 256 ≡ byte = ap (λ x. x % 256) g.value ∙ low_byte byte lt in
       let new : view.with_byte (v1.words (word_place (v1.registers q + o))) ((v1.registers q + o) % 4) (v1.registers d % 256) ≡ related.word c p kept.value = ap (λ w. view.with_byte w ((v1.registers q + o) % 4) (v1.registers d % 256)) in_word ∙ ap (λ j. view.with_byte (word_of z) j (v1.registers d % 256)) (ap (λ x. x % 4) g.at ∙ wp.1) ∙ ap (view.with_byte (word_of z) ((offset + n) % 4)) by ∙ byte_put (word_of z) ((offset + n) % 4) byte (word_narrow z old.0) lt (omega arith) ∙ ap (related.word c p) (sym kept.why.2) in
       let rel = related_stores c b.laid b.placed p s (machine_of v) (machine_of v2) f (at + 4 * ((offset + n) / 4)) memory (IsByteStored ((offset + n) % 4) byte) be.related (passes c r k (StoreByte a n u) here (suc k) refl (among_first (suc k) [])) kept (λ y n12 n15. g.near.registers y n12 n15) (λ j. update_eq v1.words v.words _ _ _ _ j wp' new (g.near.words j)) in
-      come_way c words b s s' m v1 g.way (come_to c words b s s' g.way.to same_tape v2 t2 refl (arrive_here c words b p s' t2.to v2 f t2.shows (record { related = rel; place = sym l1.ends; input = be.input })))
+      come_way c words b s s' m v1 g.way (come_to c words b s s' g.way.to same_tape v2 t2 refl (arrive_here c words b p s' t2.to v2 f t2.shows (record { related = rel; place = sym l1.ends; input = be.input; flags = silent c r k (StoreByte a n u) here refl v2 })))
     where
       low_byte : (x : ℕ) → x < 256 → word_of (pos x) % 256 ≡ x
       low_byte x lt = omega (arith, ints)
@@ -431,7 +434,7 @@ module _ (c : Context) (words : List ℕ) (b : Built c words) (p : Places) (s : 
           let low = named_low block in
           let is : v2.registers (target c r h) ≡ place c p block + (offset + n) = update_same v1.registers (target c r h) _ ∙ sum (v1.registers q) o g.at low in
           let s' = record s { current = giving t (Address block (offset + n)) s.current } in
-          come_way c words b s s' m v1 g.way (come_to c words b s s' g.way.to same_tape v2 t2 refl (gives_end c words b p s (machine_of v) f t (Address block (offset + n)) t2.to v2 be.related be.input (writes_it c r k (Offset t a n extent) here t refl refl) (g.good.0, lt) t2.shows (record { here = is; registers = λ x n12 n15 nd. update_other v1.registers (target c r h) _ x nd ∙ g.near.registers x n12 n15; words = g.near.words }) (left_next c words v1.place _ _ (save c r h) l1)))
+          come_way c words b s s' m v1 g.way (come_to c words b s s' g.way.to same_tape v2 t2 refl (gives_end c words b p s (machine_of v) f t (Address block (offset + n)) t2.to v2 be.related be.input (writes_it c r k (Offset t a n extent) here t refl refl) (silent c r k (Offset t a n extent) here refl) (g.good.0, lt) t2.shows (record { here = is; registers = λ x n12 n15 nd. update_other v1.registers (target c r h) _ x nd ∙ g.near.registers x n12 n15; words = g.near.words }) (left_next c words v1.place _ _ (save c r h) l1)))
         where
           sum : (x o : ℕ) → x + o ≡ place c p block + offset + n → place c p block < 16777216 → (x + word_of_int (pos o) + 0) % 2 ^ 32 ≡ place c p block + (offset + n)
           sum x o e low = omega (arith, ints, lt)
@@ -456,7 +459,7 @@ module _ (c : Context) (words : List ℕ) (b : Built c words) (p : Places) (s : 
           let eq : v2.registers q ≡ v1.registers q = z.moved.registers q g.apart in
           let is : v3.registers (target c r h) ≡ place c p block + (offset + n) = update_same v2.registers (target c r h) _ ∙ sum (v2.registers q) (v2.registers 15) (v1.registers q) o eq z.value g.at low in
           let s' = record s { current = giving t (Address block (offset + n)) s.current } in
-          come_way c words b s s' m v1 g.way (come_to c words b s s' g.way.to same_tape v2 z.to refl (arrive_to c words b s' z.to.to v3 t3 (gives_end c words b p s (machine_of v) f t (Address block (offset + n)) t3.to v3 be.related be.input (writes_it c r k (Offset t a n extent) here t refl refl) (g.good.0, lt) t3.shows (record { here = is; registers = λ x n12 n15 nd. update_other v2.registers (target c r h) _ x nd ∙ z.moved.registers x n15 ∙ g.near.registers x n12 n15; words = λ x. z.moved.words x ∙ g.near.words x }) (left_next c words v2.place _ _ (save c r h) l2))))
+          come_way c words b s s' m v1 g.way (come_to c words b s s' g.way.to same_tape v2 z.to refl (arrive_to c words b s' z.to.to v3 t3 (gives_end c words b p s (machine_of v) f t (Address block (offset + n)) t3.to v3 be.related be.input (writes_it c r k (Offset t a n extent) here t refl refl) (silent c r k (Offset t a n extent) here refl) (g.good.0, lt) t3.shows (record { here = is; registers = λ x n12 n15 nd. update_other v2.registers (target c r h) _ x nd ∙ z.moved.registers x n15 ∙ g.near.registers x n12 n15; words = λ x. z.moved.words x ∙ g.near.words x }) (left_next c words v2.place _ _ (save c r h) l2))))
         where
           sum : (x y x' y' : ℕ) → x ≡ x' → y ≡ y' → x' + y' ≡ place c p block + offset + n → place c p block < 16777216 → (x + y + 0) % 2 ^ 32 ≡ place c p block + (offset + n)
           sum x y x' y' e e' e'' low = omega (arith, lt, e, e', e'')

@@ -25,8 +25,9 @@ use Rattle.risc_steps.specs.Pieces.{Label, AtPlace, AtEntry, AtText, label_place
 use Rattle.risc_steps.specs.Pieces as piece
 use Rattle.risc_steps.specs.Forms.{number, store, fetched, bring, target, save, copy, label_form}
 use Rattle.risc_steps.specs.Forms as form
-use Rattle.risc_steps.specs.Follows.{machine_of, Built, Belongs, Comes}
+use Rattle.risc_steps.specs.Follows.{machine_of, Built, Flags, Belongs, Comes}
 use Rattle.risc_steps.proofs.Basics.{left_after, left_next, is_read, passes, writes_it, among_first, integer_is}
+use Rattle.risc_steps.proofs.Flags.{silent}
 use Rattle.risc_steps.proofs.Runs.{Moved, Aside, step_to, number_run, store_run, in_slot, fetched_not}
 use Rattle.risc_steps.proofs.Comes.{left_whole, fetched_is, framed, come_to, come_way, goes_run, goes_end, gives_end, settles_end}
 use Rattle.risc_steps.proofs.Operands.{code, one_run, brought_run}
@@ -46,12 +47,12 @@ module _ (c : Context) (words : List ℕ) (b : Built c words) (p : Places) (s : 
       let g = number_run c words b.stood (target c r h) z (save c r h) _ m v sh is l in
       let l1 = left_after c words v.place g.view.place _ (number (target c r h) z) (save c r h) l g.place in
       let s' = record s { current = giving t (Number z) s.current } in
-      come_to c words b s s' m same_tape g.view g.to refl (gives_end c words b p s (machine_of v) f t (Number z) g.to.to g.view be.related be.input (writes_it c r s.current.place (Literal t z) here t refl refl) is g.to.shows (moved_aside (target c r h) (word_of_int z) g.view g.moved g.value) l1)
+      come_to c words b s s' m same_tape g.view g.to refl (gives_end c words b p s (machine_of v) f t (Number z) g.to.to g.view be.related be.input (writes_it c r s.current.place (Literal t z) here t refl refl) (silent c r s.current.place (Literal t z) here refl) is g.to.shows (moved_aside (target c r h) (word_of_int z) g.view g.moved g.value) l1)
 
   -- ---- labels
 
-  label_follows : (t : ℕ) (label : Label) (x : Value) → IsValue c p x → related.Writes c s.current.routine s.current.place t → 4 * label_place c label < 4294967296 → related.word c p x ≡ 4 * label_place c label → Left c words v.place (label_form c s.current.routine t label) (c.site s.current.routine (suc s.current.place)) → Comes c words s (record s { current = giving t x s.current }) m
-  label_follows t label x good w low e l =
+  label_follows : (t : ℕ) (label : Label) (x : Value) → IsValue c p x → related.Writes c s.current.routine s.current.place t → ((w : View) → Flags c s.current.routine (suc s.current.place) w) → 4 * label_place c label < 4294967296 → related.word c p x ≡ 4 * label_place c label → Left c words v.place (label_form c s.current.routine t label) (c.site s.current.routine (suc s.current.place)) → Comes c words s (record s { current = giving t x s.current }) m
+  label_follows t label x good w quiet low e l =
       let r = s.current.routine in
       let h = home c r t in
       let d = target c r h in
@@ -67,7 +68,7 @@ module _ (c : Context) (words : List ℕ) (b : Built c words) (p : Places) (s : 
       let l2 = left_next c words (v.place + 1) _ _ (save c r h) (left_next c words v.place _ _ _ l) in
       let s' = record s { current = giving t x s.current } in
       let both = to_join words c.size m same_tape same_tape v1 v2 t1 t2 in
-      come_to c words b s s' m same_tape v2 both refl (gives_end c words b p s (machine_of v) f t x both.to v2 be.related be.input w good both.shows (record { here = is ∙ sym e; registers = λ q n12 n15 nd. update_other v1.registers d _ q nd ∙ update_other v.registers d _ q nd; words = λ a. refl }) l2)
+      come_to c words b s s' m same_tape v2 both refl (gives_end c words b p s (machine_of v) f t x both.to v2 be.related be.input w quiet good both.shows (record { here = is ∙ sym e; registers = λ q n12 n15 nd. update_other v1.registers d _ q nd ∙ update_other v.registers d _ q nd; words = λ a. refl }) l2)
     where
       sum : (w : ℕ) → w < 4294967296 → (w / 65536 * 65536 + word_of_int (pos (w % 65536)) + 0) % 2 ^ 32 ≡ w
       sum w lt = omega (arith, ints)
@@ -77,7 +78,7 @@ module _ (c : Context) (words : List ℕ) (b : Built c words) (p : Places) (s : 
       let r = s.current.routine in
       let k = s.current.place in
       let at = b.laid.constants r k in
-      label_follows t (AtText r k) (Address (Constant r k) 0) (tt, omega arith) (writes_it c r k (Text t bytes) here t refl refl) (omega (arith, at, b.laid.order.1, b.laid.order.2, b.laid.order.3)) (omega arith) (code c words b p s f m v sh be (Text t bytes) here)
+      label_follows t (AtText r k) (Address (Constant r k) 0) (tt, omega arith) (writes_it c r k (Text t bytes) here t refl refl) (silent c r k (Text t bytes) here refl) (omega (arith, at, b.laid.order.1, b.laid.order.2, b.laid.order.3)) (omega arith) (code c words b p s f m v sh be (Text t bytes) here)
 
   pub routine_follows : (t q : ℕ) → fetch c.code s.current.routine s.current.place ≡ Some (RoutineValue t q) → Comes c words s (record s { current = giving t (Routine q) s.current }) m
   routine_follows t q here =
@@ -87,7 +88,7 @@ module _ (c : Context) (words : List ℕ) (b : Built c words) (p : Places) (s : 
       let n = length-append c.code.program c.code.run_time in
       let is : q < length (routines c.code) = omega (arith, so.sound.1, n) in
       let at = b.stood.within_entry q is in
-      label_follows t (AtEntry q) (Routine q) is (writes_it c r k (RoutineValue t q) here t refl refl) (omega (arith, at)) refl (code c words b p s f m v sh be (RoutineValue t q) here)
+      label_follows t (AtEntry q) (Routine q) is (writes_it c r k (RoutineValue t q) here t refl refl) (silent c r k (RoutineValue t q) here refl) (omega (arith, at)) refl (code c words b p s f m v sh be (RoutineValue t q) here)
 
   -- ---- a temporary's value
 
@@ -103,7 +104,7 @@ module _ (c : Context) (words : List ℕ) (b : Built c words) (p : Places) (s : 
           let g = brought_run c words b p s f m v sh be q a x [] _ (omega arith) ra e (left_whole c words v.place _ (bring c r q (home c r a)) l) in
           let l1 = left_after c words v.place g.view.place _ (bring c r q (home c r a)) [] (left_whole c words v.place _ (bring c r q (home c r a)) l) g.place in
           let s' = record s { current = giving t x s.current } in
-          come_to c words b s s' m same_tape g.view g.to refl (gives_end c words b p s (machine_of v) f t x g.to.to g.view be.related be.input (writes_it c r k (Copy t a) here t refl refl) g.good g.to.shows (subst (λ h. Aside (target c r h) (related.word c p x) (machine_of v) g.view) (sym is) (moved_aside q (related.word c p x) g.view g.moved g.value)) (subst (λ h. Left c words g.view.place (save c r h) (c.site r (suc k))) (sym is) l1))
+          come_to c words b s s' m same_tape g.view g.to refl (gives_end c words b p s (machine_of v) f t x g.to.to g.view be.related be.input (writes_it c r k (Copy t a) here t refl refl) (silent c r k (Copy t a) here refl) g.good g.to.shows (subst (λ h. Aside (target c r h) (related.word c p x) (machine_of v) g.view) (sym is) (moved_aside q (related.word c p x) g.view g.moved g.value)) (subst (λ h. Left c words g.view.place (save c r h) (c.site r (suc k))) (sym is) l1))
       go (Slot j) is l =
           let r = s.current.routine in
           let k = s.current.place in
@@ -120,7 +121,7 @@ module _ (c : Context) (words : List ℕ) (b : Built c words) (p : Places) (s : 
           let st = store_run c words b.stood d 14 (slot_at c r j) [] _ g.way.to g.view g.way.shows n15 (omega arith) (subst (IsWritable words c.size) at (fr.writable t j is)) l2 in
           let settled = in_slot c words b.stood b.laid b.placed r f fr t j d (related.word c p x) (machine_of v) g.view st.view is be.related.stack near g.value st.registers st.memory in
           let s' = record s { current = giving t x s.current } in
-          come_way c words b s s' m g.view g.way (come_to c words b s s' g.way.to same_tape st.view st.to refl (settles_end c words b p s (machine_of v) f t x st.to.to st.view be.related be.input (writes_it c r k (Copy t a) here t refl refl) g.good st.to.shows (subst (λ h. Settled c r f h (related.word c p x) (machine_of v) (machine_of st.view)) (sym is) settled) (st.place ∙ sym l1.ends)))
+          come_way c words b s s' m g.view g.way (come_to c words b s s' g.way.to same_tape st.view st.to refl (settles_end c words b p s (machine_of v) f t x st.to.to st.view be.related be.input (writes_it c r k (Copy t a) here t refl refl) (silent c r k (Copy t a) here refl) g.good st.to.shows (subst (λ h. Settled c r f h (related.word c p x) (machine_of v) (machine_of st.view)) (sym is) settled) (st.place ∙ sym l1.ends)))
 
   -- ---- jumps
 

@@ -25,6 +25,7 @@ use Rattle.risc_steps.specs.Pieces.{Piece, Plain, Left}
 use Rattle.risc_steps.specs.Forms.{number, constant, receive}
 use Rattle.risc_steps.specs.Follows.{machine_of, Built, Belongs, Follows}
 use Rattle.risc_steps.proofs.Basics.{left_after, left_next, writes_it}
+use Rattle.risc_steps.proofs.Flags.{silent}
 use Rattle.risc_steps.proofs.Runs.{Aside, Gets, step_to, constant_run, receive_run}
 use Rattle.risc_steps.proofs.Comes.{left_whole, framed, come_to, arrive_to, arrive_here, fails_not, fails_walked, walk_near}
 use Rattle.risc_steps.proofs.Operands.{code}
@@ -188,4 +189,4 @@ module _ (c : Context) (words : List ℕ) (b : Built c words) (p : Places) (S H 
           let s' = made c.code c.costs c.sizes S H t type bytes s in
           let p' = made_places p (length s.memory.objects) next in
           let rel = related_makes c b.laid b.placed p c.sizes S H s (machine_of v) (machine_of z.view) f t type bytes be.related sz.0 sz.1 sz.2 sz.3 above (writes_it c r k (New t type line) here t refl refl) z.settled in
-          come_to c words b s s' n same_tape v10 run refl (arrive_to c words b s' run.to z.view z.to (arrive_here c words b p' s' z.to.to z.view f z.to.shows (record { related = rel; place = z.place ∙ sym l10.ends; input = be.input })))
+          come_to c words b s s' n same_tape v10 run refl (arrive_to c words b s' run.to z.view z.to (arrive_here c words b p' s' z.to.to z.view f z.to.shows (record { related = rel; place = z.place ∙ sym l10.ends; input = be.input; flags = silent c r k (New t type line) here refl z.view })))

@@ -1,5 +1,5 @@
 -- Sums, differences, products and bits followed by their words.
-use Rattle.std.proofs.Common.{◌≡◌, ◌≢◌, ℕ, suc, ◌+◌, ◌-◌, ◌/◌, ◌%◌, ◌^◌, ◌<◌, inr, Bool, true, false, cond, not, ◌||◌, nat_eq, nat_lt, List, [], ◌∷◌, ◌++◌, length, take, Some, ℤ, pos, negsuc, ◌+ℤ◌, ◌-ℤ◌, ◌*ℤ◌, refl, sym, ap, ◌∙◌, subst, arith, length-append, append_assoc}
+use Rattle.std.proofs.Common.{◌≡◌, ◌≢◌, ℕ, suc, ◌+◌, ◌-◌, ◌/◌, ◌%◌, ◌^◌, ◌<◌, inr, Bool, true, false, cond, not, ◌||◌, nat_eq, nat_lt, nat_le, List, [], ◌∷◌, ◌++◌, length, take, Some, ℤ, pos, negsuc, ◌+ℤ◌, ◌-ℤ◌, ◌*ℤ◌, refl, sym, ap, ◌∙◌, subst, arith, length-append, append_assoc}
 use Rattle.std.specs.Int.{w32, int_shr}
 use Rattle.std.proofs.lemmas.Int.{ints, of_z-to_z}
 use Rattle.risc_word.specs.declared.instr.Operation.TheVariants as op
@@ -36,10 +36,12 @@ use Rattle.risc_steps.specs.Pieces as piece
 use Rattle.risc_steps.specs.Pieces.{Piece, Plain, Left}
 use Rattle.risc_steps.specs.Forms as form
 use Rattle.risc_steps.specs.Forms.{fetched, right, right_operand, both, target, save, bit_operation}
+use Rattle.risc_steps.specs.Told.{flagged_by}
 use Rattle.risc_steps.specs.Follows.{machine_of, Built, Belongs, Comes, Follows}
 use Rattle.risc_steps.proofs.Basics.{left_after, left_next, left_at, is_read, writes_it, among_first, among_rest}
+use Rattle.risc_steps.proofs.Flags.{silent}
 use Rattle.risc_steps.proofs.Runs.{Aside, step_to, save_run, target_not}
-use Rattle.risc_steps.proofs.Comes.{framed, fetched_is, come_to, come_way, arrive_here, fails_not, fails_walked, walk_near, gives_end}
+use Rattle.risc_steps.proofs.Comes.{framed, fetched_is, come_to, come_way, arrive_here, fails_not, fails_walked, walk_near, tells_end}
 use Rattle.risc_steps.proofs.Operands.{code, two_run}
 use Rattle.risc_steps.proofs.Branches.{right_sound}
 use Rattle.risc_steps.proofs.Calls.{follows_way, follows_to}
@@ -102,8 +104,8 @@ module _ (c : Context) (words : List ℕ) (b : Built c words) (p : Places) (s : 
   -- ---- sums and differences
 
   -- a result in its register, or the overflow flag
-  checked_follows : (t error line : ℕ) (z : ℤ) (n : machine.State) (w : View) → Shows words c.size n w → Writes c s.current.routine s.current.place t → (IsNumber z → w.registers (target c s.current.routine (home c s.current.routine t)) ≡ word_of z) → w.overflow ≡ overflows z → ((q : ℕ) → q ≢ 12 → q ≢ 15 → q ≢ target c s.current.routine (home c s.current.routine t) → w.registers q ≡ v.registers q) → ((x : ℕ) → w.words x ≡ v.words x) → Left c words w.place (piece.Fails on.OverflowSet error line ∷ save c s.current.routine (home c s.current.routine t)) (c.site s.current.routine (suc s.current.place)) → Follows c words (gives_computed c.code t (within error z) line s) s n
-  checked_follows t error line z n w sh' wr value over regs mem l = go (is_integer z) refl
+  checked_follows : (i : Instruction) (t error line : ℕ) (z : ℤ) (n : machine.State) (w : View) → Shows words c.size n w → Writes c s.current.routine s.current.place t → fetch c.code s.current.routine s.current.place ≡ Some i → flagged_by i ≡ Some t → (w.equal ≡ nat_eq (w.registers (target c s.current.routine (home c s.current.routine t))) 0) × (w.negative ≡ nat_le 2147483648 (w.registers (target c s.current.routine (home c s.current.routine t)))) → (IsNumber z → w.registers (target c s.current.routine (home c s.current.routine t)) ≡ word_of z) → w.overflow ≡ overflows z → ((q : ℕ) → q ≢ 12 → q ≢ 15 → q ≢ target c s.current.routine (home c s.current.routine t) → w.registers q ≡ v.registers q) → ((x : ℕ) → w.words x ≡ v.words x) → Left c words w.place (piece.Fails on.OverflowSet error line ∷ save c s.current.routine (home c s.current.routine t)) (c.site s.current.routine (suc s.current.place)) → Follows c words (gives_computed c.code t (within error z) line s) s n
+  checked_follows i t error line z n w sh' wr here told flags value over regs mem l = go (is_integer z) refl
     where
       go : (fit : Bool) → is_integer z ≡ fit → Follows c words (gives_computed c.code t (cond fit (Gives z) (Fails error)) line s) s n
       go true e =
@@ -111,7 +113,7 @@ module _ (c : Context) (words : List ℕ) (b : Built c words) (p : Places) (s : 
           let t1 = fails_not c words b on.OverflowSet error line _ _ n w sh' l (over ∙ overflow_is z ∙ ap not e) in
           let w1 = at_view (w.place + 1) w in
           let is = number_of_integer z e in
-          come_to c words b s (record s { current = giving t (Number z) s.current }) n same_tape w1 t1 refl (gives_end c words b p s (machine_of v) f t (Number z) t1.to w1 be.related be.input wr is t1.shows (record { here = value is; registers = regs; words = mem }) (left_next c words w.place _ _ (save c r (home c r t)) l))
+          come_to c words b s (record s { current = giving t (Number z) s.current }) n same_tape w1 t1 refl (tells_end c words b p s (machine_of v) f t (Number z) i t1.to w1 be.related be.input wr here told (flags.0 ∙ ap (λ q. nat_eq q 0) (value is), flags.1 ∙ ap (nat_le 2147483648) (value is)) is t1.shows (record { here = value is; registers = regs; words = mem }) (left_next c words w.place _ _ (save c r (home c r t)) l))
       go false e =
           let r = s.current.routine in
           let n14 = target_not c words b.stood b.laid b.placed r f (framed c words b p s (machine_of v) f be.related) t 14 (omega arith) in
@@ -133,7 +135,7 @@ module _ (c : Context) (words : List ℕ) (b : Built c words) (p : Places) (s : 
       let step = gives_computed c.code t (within error (x +ℤ y)) line s in
       let sum : v2.registers d ≡ sum_of (word_of x) (word_of y) = update_same v1.registers d _ ∙ ap (λ q. (q + operand_view v1 (right_operand c r o) + 0) % 2 ^ 32) g.first ∙ ap (λ q. (word_of x + q + 0) % 2 ^ 32) g.second in
       let over : v2.overflow ≡ overflows (x +ℤ y) = ap (λ q. overflows (signed q +ℤ signed (operand_view v1 (right_operand c r o)) +ℤ pos 0)) g.first ∙ ap (λ q. overflows (signed (word_of x) +ℤ signed q +ℤ pos 0)) g.second ∙ ap (λ q. overflows (q +ℤ signed (word_of y) +ℤ pos 0)) (signed_word x g.good) ∙ ap (λ q. overflows (x +ℤ q +ℤ pos 0)) (signed_word y g.good_right) ∙ ap overflows (plus_zero (x +ℤ y)) in
-      follows_way c words b s m v1 g.way step (follows_to c words b s g.way.to v2 t2 step (checked_follows t error line (x +ℤ y) t2.to v2 t2.shows (writes_it c r k i here t refl refl) (λ is. sum ∙ sum_word x y g.good g.good_right is) over (λ q n12 n15 nd. update_other v1.registers d _ q nd ∙ g.near.registers q n12 n15) g.near.words (left_next c words v1.place _ _ rest g.left)))
+      follows_way c words b s m v1 g.way step (follows_to c words b s g.way.to v2 t2 step (checked_follows i t error line (x +ℤ y) t2.to v2 t2.shows (writes_it c r k i here t refl refl) here refl (ap (λ q. nat_eq q 0) (sym (update_same v1.registers d _)), ap (nat_le 2147483648) (sym (update_same v1.registers d _))) (λ is. sum ∙ sum_word x y g.good g.good_right is) over (λ q n12 n15 nd. update_other v1.registers d _ q nd ∙ g.near.registers q n12 n15) g.near.words (left_next c words v1.place _ _ rest g.left)))
     where
       plus_zero : (z : ℤ) → z +ℤ pos 0 ≡ z
       plus_zero z = omega (arith, ints)
@@ -154,7 +156,7 @@ module _ (c : Context) (words : List ℕ) (b : Built c words) (p : Places) (s : 
       let step = gives_computed c.code t (within error (x -ℤ y)) line s in
       let sum : v2.registers d ≡ difference_of (word_of x) (word_of y) = update_same v1.registers d _ ∙ ap (λ q. (q + 2 ^ 33 - operand_view v1 (right_operand c r o) - 0) % 2 ^ 32) g.first ∙ ap (λ q. (word_of x + 2 ^ 33 - q - 0) % 2 ^ 32) g.second in
       let over : v2.overflow ≡ overflows (x -ℤ y) = ap (λ q. overflows (signed q -ℤ signed (operand_view v1 (right_operand c r o)) -ℤ pos 0)) g.first ∙ ap (λ q. overflows (signed (word_of x) -ℤ signed q -ℤ pos 0)) g.second ∙ ap (λ q. overflows (q -ℤ signed (word_of y) -ℤ pos 0)) (signed_word x g.good) ∙ ap (λ q. overflows (x -ℤ q -ℤ pos 0)) (signed_word y g.good_right) ∙ ap overflows (minus_zero (x -ℤ y)) in
-      follows_way c words b s m v1 g.way step (follows_to c words b s g.way.to v2 t2 step (checked_follows t error line (x -ℤ y) t2.to v2 t2.shows (writes_it c r k i here t refl refl) (λ is. sum ∙ difference_word x y g.good g.good_right is) over (λ q n12 n15 nd. update_other v1.registers d _ q nd ∙ g.near.registers q n12 n15) g.near.words (left_next c words v1.place _ _ rest g.left)))
+      follows_way c words b s m v1 g.way step (follows_to c words b s g.way.to v2 t2 step (checked_follows i t error line (x -ℤ y) t2.to v2 t2.shows (writes_it c r k i here t refl refl) here refl (ap (λ q. nat_eq q 0) (sym (update_same v1.registers d _)), ap (nat_le 2147483648) (sym (update_same v1.registers d _))) (λ is. sum ∙ difference_word x y g.good g.good_right is) over (λ q n12 n15 nd. update_other v1.registers d _ q nd ∙ g.near.registers q n12 n15) g.near.words (left_next c words v1.place _ _ rest g.left)))
     where
       minus_zero : (z : ℤ) → z -ℤ pos 0 ≡ z
       minus_zero z = omega (arith, ints)
@@ -172,12 +174,12 @@ module _ (c : Context) (words : List ℕ) (b : Built c words) (p : Places) (s : 
   no_carry x y = omega arith
 
   -- what an operation on bits makes of its register
-  result : (operator : BitOperator) (d a : ℕ) (o : instr.Operand) (w : View) → ((after (word.Operate (bit_operation operator) d a o) w).registers d ≡ combined operator (w.registers a) (operand_view w o)) × ((q : ℕ) → q ≢ d → (after (word.Operate (bit_operation operator) d a o) w).registers q ≡ w.registers q) × ((x : ℕ) → (after (word.Operate (bit_operation operator) d a o) w).words x ≡ w.words x) × ((after (word.Operate (bit_operation operator) d a o) w).place ≡ w.place + 1)
-  result And d a o w = (update_same w.registers d _, λ q ne. update_other w.registers d _ q ne, λ x. refl, refl)
-  result Or d a o w = (update_same w.registers d _, λ q ne. update_other w.registers d _ q ne, λ x. refl, refl)
-  result AndNot d a o w = (update_same w.registers d _, λ q ne. update_other w.registers d _ q ne, λ x. refl, refl)
-  result ShiftLeft d a o w = (update_same w.registers d _, λ q ne. update_other w.registers d _ q ne, λ x. refl, refl)
-  result Plus d a o w = (update_same w.registers d _ ∙ no_carry (w.registers a) (operand_view w o), λ q ne. update_other w.registers d _ q ne, λ x. refl, refl)
+  result : (operator : BitOperator) (d a : ℕ) (o : instr.Operand) (w : View) → ((after (word.Operate (bit_operation operator) d a o) w).registers d ≡ combined operator (w.registers a) (operand_view w o)) × ((q : ℕ) → q ≢ d → (after (word.Operate (bit_operation operator) d a o) w).registers q ≡ w.registers q) × ((x : ℕ) → (after (word.Operate (bit_operation operator) d a o) w).words x ≡ w.words x) × ((after (word.Operate (bit_operation operator) d a o) w).place ≡ w.place + 1) × ((after (word.Operate (bit_operation operator) d a o) w).equal ≡ nat_eq ((after (word.Operate (bit_operation operator) d a o) w).registers d) 0) × ((after (word.Operate (bit_operation operator) d a o) w).negative ≡ nat_le 2147483648 ((after (word.Operate (bit_operation operator) d a o) w).registers d))
+  result And d a o w = (update_same w.registers d _, λ q ne. update_other w.registers d _ q ne, λ x. refl, refl, ap (λ x. nat_eq x 0) (sym (update_same w.registers d _)), ap (nat_le 2147483648) (sym (update_same w.registers d _)))
+  result Or d a o w = (update_same w.registers d _, λ q ne. update_other w.registers d _ q ne, λ x. refl, refl, ap (λ x. nat_eq x 0) (sym (update_same w.registers d _)), ap (nat_le 2147483648) (sym (update_same w.registers d _)))
+  result AndNot d a o w = (update_same w.registers d _, λ q ne. update_other w.registers d _ q ne, λ x. refl, refl, ap (λ x. nat_eq x 0) (sym (update_same w.registers d _)), ap (nat_le 2147483648) (sym (update_same w.registers d _)))
+  result ShiftLeft d a o w = (update_same w.registers d _, λ q ne. update_other w.registers d _ q ne, λ x. refl, refl, ap (λ x. nat_eq x 0) (sym (update_same w.registers d _)), ap (nat_le 2147483648) (sym (update_same w.registers d _)))
+  result Plus d a o w = (update_same w.registers d _ ∙ no_carry (w.registers a) (operand_view w o), λ q ne. update_other w.registers d _ q ne, λ x. refl, refl, ap (λ x. nat_eq x 0) (sym (update_same w.registers d _)), ap (nat_le 2147483648) (sym (update_same w.registers d _)))
 
   pub bits_follows : (operator : BitOperator) (t a : ℕ) (o : Operand) (x y : ℤ) → fetch c.code s.current.routine s.current.place ≡ Some (Bits operator t a o) → s.current.temporaries a ≡ Some (Number x) → operand_value s.current.temporaries o ≡ Some (Number y) → Comes c words s (record s { current = giving t (Number (bits operator x y)) s.current }) m
   bits_follows operator t a o x y here ea eo =
@@ -195,8 +197,9 @@ module _ (c : Context) (words : List ℕ) (b : Built c words) (p : Places) (s : 
       let made = result operator d q (right_operand c r o) v1 in
       let is : v2.registers d ≡ combined operator (word_of x) (word_of y) = made.0 ∙ ap (λ z. combined operator z (operand_view v1 (right_operand c r o))) g.first ∙ ap (combined operator (word_of x)) g.second in
       let n : combined operator (word_of x) (word_of y) < 4294967296 = subst (λ z. z < 4294967296) is (t2.shows.narrow d ((g.left.stands.0).ranges).0) in
+      let whole = is ∙ sym (read_back _ n) in
       let s' = record s { current = giving t (Number (bits operator x y)) s.current } in
-      come_way c words b s s' m v1 g.way (come_to c words b s s' g.way.to same_tape v2 t2 refl (gives_end c words b p s (machine_of v) f t (Number (bits operator x y)) t2.to v2 be.related be.input (writes_it c r k i here t refl refl) (number_in _) t2.shows (record { here = is ∙ sym (read_back _ n); registers = λ z n12 n15 nd. made.1 z nd ∙ g.near.registers z n12 n15; words = λ z. made.2 z ∙ g.near.words z }) (left_at c words _ v2.place _ (save c r (home c r t)) (left_next c words v1.place _ _ (save c r (home c r t)) g.left) made.3)))
+      come_way c words b s s' m v1 g.way (come_to c words b s s' g.way.to same_tape v2 t2 refl (tells_end c words b p s (machine_of v) f t (Number (bits operator x y)) i t2.to v2 be.related be.input (writes_it c r k i here t refl refl) here refl (made.4 ∙ ap (λ z. nat_eq z 0) whole, made.5 ∙ ap (nat_le 2147483648) whole) (number_in _) t2.shows (record { here = whole; registers = λ z n12 n15 nd. made.1 z nd ∙ g.near.registers z n12 n15; words = λ z. made.2 z ∙ g.near.words z }) (left_at c words _ v2.place _ (save c r (home c r t)) (left_next c words v1.place _ _ (save c r (home c r t)) g.left) made.3)))
 
   -- ---- products
 
@@ -274,6 +277,6 @@ module _ (c : Context) (words : List ℕ) (b : Built c words) (p : Places) (s : 
           let same : number_of (product_of (word_of x) (word_of y)) ≡ x *ℤ y = ap number_of (value is) ∙ signed_word (x *ℤ y) is in
           let s' = record s { current = giving t (Number (x *ℤ y)) s.current } in
           let rel' : Related c p s' (machine_of w1) f = subst (λ q. Related c p (record s { current = giving t (Number q) s.current }) (machine_of w1) f) same rel in
-          come_to c words b s s' n same_tape w1 t1 refl (arrive_here c words b p s' t1.to w1 f t1.shows (record { related = rel'; place = sym l.ends; input = be.input }))
+          come_to c words b s s' n same_tape w1 t1 refl (arrive_here c words b p s' t1.to w1 f t1.shows (record { related = rel'; place = sym l.ends; input = be.input; flags = silent c s.current.routine s.current.place (Arithmetic Multiply t a o error line) here refl w1 }))
       ends n w sh' l rel equal value wr false e =
           inr (fails_walked c words b s on.NotEqual error line [] _ n w (walk_is c b.laid p b.stood.unlinked 16 (record s { current = giving t (Number (number_of (product_of (word_of x) (word_of y)))) s.current }) (machine_of w) f rel ∙ ap (take 16) (open_same (length c.code.program) s.callers)) sh' l (ap not (equal ∙ ap not (overflow_is (x *ℤ y) ∙ ap not e))))

@@ -16,7 +16,7 @@ use Rattle.risc_view.specs.Numbers.{toward_zero}
 use Rattle.risc_view.proofs.Runs.{to_join}
 use Rattle.risc_view.proofs.Numbers.{minus_word, quotient_corrected}
 use Rattle.risc_related.specs.Context.{Context, IsNumber}
-use Rattle.risc_related.proofs.Basics.{update_other}
+use Rattle.risc_related.proofs.Basics.{update_same, update_other}
 use Rattle.risc_steps.specs.Pieces.{Piece, Left}
 use Rattle.risc_steps.specs.Forms.{rounded}
 use Rattle.risc_steps.specs.Follows.{Built}
@@ -63,29 +63,29 @@ not_below : (k : ℕ) → nat_lt k 0 ≡ false
 not_below k = grind arith
 
 module _ (c : Context) (words : List ℕ) (b : Built c words) where
-  -- four words round a floored quotient in R12 toward zero
-  pub record Rounds (z : ℤ) (ps : List Piece) (next : ℕ) (n : machine.State) (w : View) : Type 0 where
+  -- four words round a floored quotient in register d toward zero
+  pub record Rounds (d : ℕ) (z : ℤ) (ps : List Piece) (next : ℕ) (n : machine.State) (w : View) : Type 0 where
     pub view : View
     pub to : To words c.size n same_tape view
-    pub value : view.registers 12 ≡ word_of_int z
-    pub registers : (q : ℕ) → q ≢ 12 → q ≢ 15 → view.registers q ≡ w.registers q
+    pub value : view.registers d ≡ word_of_int z
+    pub registers : (q : ℕ) → q ≢ d → q ≢ 15 → view.registers q ≡ w.registers q
     pub memory : (x : ℕ) → view.words x ≡ w.words x
     pub left : Left c words view.place ps next
 
-  pub rounded_run : (q : ℤ) (r : ℕ) (ps : List Piece) (next : ℕ) (n : machine.State) (w : View) → Shows words c.size n w → IsNumber q → r < 4294967296 → w.registers 12 ≡ word_of_int q → w.negative ≡ nat_le 2147483648 (word_of_int q) → w.high ≡ r → Left c words w.place (rounded ++ ps) next → Rounds (toward_zero q (pos r)) ps next n w
-  rounded_run (pos k) r ps next n w sh is lr e12 neg high l =
+  pub rounded_run : (d : ℕ) → d ≢ 15 → (q : ℤ) (r : ℕ) (ps : List Piece) (next : ℕ) (n : machine.State) (w : View) → Shows words c.size n w → IsNumber q → r < 4294967296 → w.registers d ≡ word_of_int q → w.negative ≡ nat_le 2147483648 (word_of_int q) → w.high ≡ r → Left c words w.place (rounded d ++ ps) next → Rounds d (toward_zero q (pos r)) ps next n w
+  rounded_run d not15 (pos k) r ps next n w sh is lr ed neg high l =
       let t1 = skip_run c words b on.Plus 3 _ next n w sh l (ap not (neg ∙ minus_word (pos k) is ∙ not_below k)) (omega arith) in
       let w1 = at_view (w.place + 1 + 3) w in
       let l4 = left_next c words (w.place + 1 + 1 + 1) next _ ps (left_next c words (w.place + 1 + 1) next _ _ (left_next c words (w.place + 1) next _ _ (left_next c words w.place next _ _ l))) in
       record {
         view = w1;
         to = t1;
-        value = e12;
-        registers = λ q n12 n15. refl;
+        value = ed;
+        registers = λ q nd n15. refl;
         memory = λ x. refl;
         left = left_at c words _ w1.place next ps l4 (omega arith);
       }
-  rounded_run (negsuc k) zero ps next n w sh is lr e12 neg high l =
+  rounded_run d not15 (negsuc k) zero ps next n w sh is lr ed neg high l =
       let t1 = skip_not c words b on.Plus 3 _ next n w sh l (ap not (neg ∙ minus_word (negsuc k) is)) in
       let w1 = at_view (w.place + 1) w in
       let l1 = left_next c words w.place next _ _ l in
@@ -99,12 +99,12 @@ module _ (c : Context) (words : List ℕ) (b : Built c words) where
       record {
         view = w3;
         to = to_join words c.size n same_tape same_tape w1 w3 t1 (to_join words c.size t1.to same_tape same_tape w2 w3 t2 t3);
-        value = e12;
-        registers = λ q n12 n15. update_other w.registers 15 _ q n15;
+        value = update_other w.registers 15 _ d not15 ∙ ed;
+        registers = λ q nd n15. update_other w.registers 15 _ q n15;
         memory = λ x. refl;
         left = l4;
       }
-  rounded_run (negsuc k) (suc r) ps next n w sh is lr e12 neg high l =
+  rounded_run d not15 (negsuc k) (suc r) ps next n w sh is lr ed neg high l =
       let t1 = skip_not c words b on.Plus 3 _ next n w sh l (ap not (neg ∙ minus_word (negsuc k) is)) in
       let w1 = at_view (w.place + 1) w in
       let l1 = left_next c words w.place next _ _ l in
@@ -115,14 +115,14 @@ module _ (c : Context) (words : List ℕ) (b : Built c words) where
       let t3 = skip_not c words b on.Equal 1 _ next t2.to w2 t2.shows l2 (ap (λ x. nat_eq x 0) high ∙ not_zero r) in
       let w3 = at_view (w2.place + 1) w2 in
       let l3 = left_next c words w2.place next _ _ l2 in
-      let i4 = word.Operate op.Add 12 12 (Constant (pos 1)) in
+      let i4 = word.Operate op.Add d d (Constant (pos 1)) in
       let t4 = step_to c words b.stood i4 t3.to w3 t3.shows l3.stands.0 tt in
       let w4 = after i4 w3 in
       record {
         view = w4;
         to = to_join words c.size n same_tape same_tape w1 w4 t1 (to_join words c.size t1.to same_tape same_tape w2 w4 t2 (to_join words c.size t2.to same_tape same_tape w3 w4 t3 t4));
-        value = ap (λ x. (x + word_of_int (pos 1) + 0) % 2 ^ 32) e12 ∙ one_more k is ∙ ap word_of_int (sym (toward_suc k r));
-        registers = λ q n12 n15. update_other w3.registers 12 _ q n12 ∙ update_other w.registers 15 _ q n15;
+        value = update_same w3.registers d _ ∙ ap (λ x. (x + word_of_int (pos 1) + 0) % 2 ^ 32) (update_other w.registers 15 _ d not15 ∙ ed) ∙ one_more k is ∙ ap word_of_int (sym (toward_suc k r));
+        registers = λ q nd n15. update_other w3.registers d _ q nd ∙ update_other w.registers 15 _ q n15;
         memory = λ x. refl;
         left = left_next c words w3.place next _ ps l3;
       }

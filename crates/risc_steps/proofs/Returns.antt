@@ -26,6 +26,7 @@ use Rattle.risc_steps.specs.Pieces.{Plain, Left}
 use Rattle.risc_steps.specs.Forms.{is_near, constant, bring, receive}
 use Rattle.risc_steps.specs.Follows.{machine_of, Built, Belongs, Comes, tape_of}
 use Rattle.risc_steps.proofs.Basics.{left_after, left_next, left_at, is_read, among_first}
+use Rattle.risc_steps.proofs.Flags.{called_silent}
 use Rattle.risc_steps.proofs.Runs.{Framed, step_to, receive_run}
 use Rattle.risc_steps.proofs.Comes.{left_whole, place_low, come_to, arrive_to, arrive_here}
 use Rattle.risc_steps.proofs.Operands.{code, brought_run}
@@ -96,7 +97,7 @@ module _ (c : Context) (words : List ℕ) (b : Built c words) (p : Places) (s : 
         globals = k.settled.globals ∙ e13;
       } in
       let s' = left y x xs s in
-      come_to c words b s s' n same_tape w1 t1 refl (arrive_to c words b s' t1.to k.view k.to (arrive_here c words b p s' k.to.to k.view above k.to.shows (record { related = related_leaves c b.laid b.placed p s x xs (machine_of v) (machine_of k.view) f y be.related called leaving; place = k.place ∙ ap (λ z. z + length (receive c r h)) there ∙ sym l2.ends; input = be.input })))
+      come_to c words b s s' n same_tape w1 t1 refl (arrive_to c words b s' t1.to k.view k.to (arrive_here c words b p s' k.to.to k.view above k.to.shows (record { related = related_leaves c b.laid b.placed p s x xs (machine_of v) (machine_of k.view) f y be.related called leaving; place = k.place ∙ ap (λ z. z + length (receive c r h)) there ∙ sym l2.ends; input = be.input; flags = called_silent c r x.place s.current.result back.waits.call k.view })))
     where
       no_register : (j q : ℕ) → Slot j ≡ Reg q → q < 12
       no_register j q e = absurd (cc e)

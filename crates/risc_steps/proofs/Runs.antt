@@ -366,6 +366,8 @@ module _ (c : Context) (words : List ℕ) (stood : Stood c words) (laid : IsLaid
     pub settled : Settled c r f h n m0 (machine_of view)
     pub kept : view.registers (target c r h) ≡ n
     pub high : view.high ≡ v.high
+    -- no word follows where the home is a register
+    pub still : (q : ℕ) → h ≡ Reg q → (view.equal ≡ v.equal) × (view.negative ≡ v.negative)
     pub place : view.place ≡ v.place + len
 
   -- a home whose register holds its word already
@@ -426,6 +428,7 @@ module _ (c : Context) (words : List ℕ) (stood : Stood c words) (laid : IsLaid
             settled = in_register q n m0 v (placed.register r t q is) a;
             kept = a.here;
             high = refl;
+            still = λ x e. (refl, refl);
             place = omega arith;
           }
       go (Slot k) is a l =
@@ -438,6 +441,7 @@ module _ (c : Context) (words : List ℕ) (stood : Stood c words) (laid : IsLaid
             settled = in_slot t k 12 n m0 v g.view is e14 (near_aside n m0 v a) a.here g.registers g.memory;
             kept = g.registers 12 (omega arith) ∙ a.here;
             high = g.high;
+            still = λ x e. absurd (cc e);
             place = g.place;
           }
 

@@ -1,5 +1,5 @@
 -- An instruction of three-address code followed by its words.
-use Rattle.std.specs.Prelude.{◌≡◌, ℕ, zero, suc, ◌+◌, ◌*◌, ◌%◌, ◌<◌, ◌≤◌, ◌⊎◌, true, false, List, [], ◌∷◌, length, slice_get, Option, Some, None, ℤ, pos, negsuc}
+use Rattle.std.specs.Prelude.{◌≡◌, ℕ, zero, suc, ◌+◌, ◌*◌, ◌%◌, ◌<◌, ◌≤◌, ◌⊎◌, true, false, nat_eq, nat_le, List, [], ◌∷◌, length, slice_get, Option, Some, None, ℤ, pos, negsuc}
 use Rattle.behavior.specs.Endings.{Ending, Normal, Fault, UnknownTrap, Stuck, ending_by}
 use Rattle.behavior.specs.Transcripts.{AreBytes}
 use Rattle.risc_word.specs.declared.instr.Operand.TheVariants.{Constant}
@@ -16,10 +16,12 @@ use Rattle.tac_code.specs.Numbers.{word_of}
 use Rattle.tac_code.specs.Memory.{Words, constant_at}
 use Rattle.tac_code.specs.Meaning.{routines, fetch, text_at, Tape, State, Step, Goes, Over}
 use Rattle.tac_code.specs.Sound.{IsSound}
+use Rattle.risc_alloc.specs.declared.homes.Home.TheVariants.{Reg}
 use Rattle.risc_related.specs.Context.{Context, home, called, is_program, Places, IsLaid, IsPlaced}
 use Rattle.risc_related.specs.Related.{Machine, Related}
 use Rattle.risc_related.specs.Walk.{walk}
 use Rattle.risc_steps.specs.Pieces.{Left}
+use Rattle.risc_steps.specs.Told.{told_at}
 use Rattle.risc_steps.specs.Forms.{receive, form, entry_form}
 
 abbrev pub machine_of : View → Machine
@@ -64,11 +66,18 @@ pub record Built (c : Context) (words : List ℕ) : Type 0 where
 abbrev pub tape_of : Tape → run.Tape
 tape_of tape = record { input = tape.input; ended = tape.ended; transcript = tape.transcript }
 
+-- N and Z are those of the register of the temporary that they are said to be of at a place
+abbrev pub Flags : Context → ℕ → ℕ → View → Type 0
+Flags c r k v =
+    (t q : ℕ) → told_at c r k ≡ Some t → home c r t ≡ Reg q
+    → (v.equal ≡ nat_eq (v.registers q) 0) × (v.negative ≡ nat_le 2147483648 (v.registers q))
+
 -- a view, at the words of an instruction, belongs to a state
 pub record Belongs (c : Context) (words : List ℕ) (p : Places) (s : State) (v : View) (f : ℕ) : Type 0 where
   pub related : Related c p s (machine_of v) f
   pub place : v.place ≡ c.site s.current.routine s.current.place
   pub input : AreBytes s.tape.input
+  pub flags : Flags c s.current.routine s.current.place v
 
 -- from m, with the tape of s, the machine comes in one step or more to a state that belongs to t
 pub record Comes (c : Context) (words : List ℕ) (s t : State) (m : machine.State) : Type 0 where

@@ -1,6 +1,6 @@
 -- The words of each instruction of three-address code. R14 is the frame of the innermost activation and R13 that of the program block;
 -- R12 and R15 are scratch registers, and operands in other registers are used where they stand.
-use Rattle.std.specs.Prelude.{ℕ, zero, suc, ◌+◌, ◌-◌, ◌*◌, ◌/◌, ◌%◌, Bool, false, ◌&&◌, nat_eq, nat_lt, int_lt, if◌then◌else◌, List, [], ◌∷◌, ◌++◌, length, ℤ, pos, negsuc}
+use Rattle.std.specs.Prelude.{ℕ, zero, suc, ◌+◌, ◌-◌, ◌*◌, ◌/◌, ◌%◌, Bool, true, false, ◌&&◌, nat_eq, nat_lt, int_lt, if◌then◌else◌, List, [], ◌∷◌, ◌++◌, length, Option, Some, None, ℤ, pos, negsuc}
 use Rattle.risc_word.specs.declared.instr.Operation.{Operation}
 use Rattle.risc_word.specs.declared.instr.Operation.TheVariants as op
 use Rattle.risc_word.specs.declared.instr.Operand as machine
@@ -25,9 +25,11 @@ use Rattle.tac_code.specs.declared.code.Instruction.{Instruction}
 use Rattle.tac_code.specs.declared.code.Instruction.TheVariants.{Literal, Copy, Arithmetic, Bits, Compare, CheckRange, CheckPointer, Text, Offset, Index, RoutineValue, Load, Store, LoadByte, StoreByte, Jump, JumpBack, Branch, BranchBack, Call, CallValue, Return, Trap, Take, Put, New, End}
 use Rattle.tac_code.specs.declared.code.TacRoutine.{TacRoutine}
 use Rattle.tac_code.specs.Numbers.{is_zero, word_of, steps_above}
+use Rattle.risc_alloc.specs.Flow.{is_it}
 use Rattle.risc_alloc.specs.declared.homes.Home.{Home}
 use Rattle.risc_alloc.specs.declared.homes.Home.TheVariants.{Slot, Reg}
 use Rattle.risc_related.specs.Context.{Context, home, is_program, slot_at}
+use Rattle.risc_steps.specs.Told.{told_at}
 use Rattle.risc_steps.specs.Pieces.{Label, AtPlace, AtEntry, AtText, Piece, Plain, Goes, Fails, Enters, Joins, EntersAt, High, Low}
 
 -- ---- constants
@@ -95,10 +97,29 @@ is_divisor (operand.Temporary t) = false
 is_divisor (operand.Number (pos n)) = nat_lt 0 n && nat_lt n 65536
 is_divisor (operand.Number (negsuc n)) = false
 
--- the floored quotient in R12 rounded toward zero, in four words
-abbrev pub rounded : List Piece
-rounded =
-    skip on.Plus 3 ∷ Plain (word.MoveHigh 15) ∷ skip on.Equal 1 ∷ Plain (word.Operate op.Add 12 12 (Constant (pos 1))) ∷ []
+-- the floored quotient in register d rounded toward zero, in four words
+abbrev pub rounded : ℕ → List Piece
+rounded d =
+    skip on.Plus 3 ∷ Plain (word.MoveHigh 15) ∷ skip on.Equal 1 ∷ Plain (word.Operate op.Add d d (Constant (pos 1))) ∷ []
+
+-- whether a right operand is the number 0
+abbrev pub is_null : Operand → Bool
+is_null (operand.Temporary t) = false
+is_null (operand.Number z) = is_zero z
+
+-- the condition for a comparison with 0 by N and Z alone
+abbrev pub brief : Relation → Option Condition
+brief Equal = Some on.Equal
+brief NotEqual = Some on.NotEqual
+brief Less = Some on.Minus
+brief LessEqual = None
+brief Greater = None
+brief GreaterEqual = Some on.Plus
+
+-- whether a home is a register
+abbrev pub is_register : Home → Bool
+is_register (Reg q) = true
+is_register (Slot k) = false
 
 -- the device page is FFFFC0H
 abbrev pub device : ℕ → Piece
@@ -224,7 +245,7 @@ module _ (c : Context) (r : ℕ) where
   -- the quotient by R15
   abbrev pub quotient : ℕ → List Piece
   quotient a =
-      fetch 12 (home c r a) ++ (Plain (word.Operate op.Div 12 (fetched 12 (home c r a)) (Content 15)) ∷ rounded)
+      fetch 12 (home c r a) ++ (Plain (word.Operate op.Div 12 (fetched 12 (home c r a)) (Content 15)) ∷ rounded 12)
 
   -- by the least integer: 1 or 0
   abbrev pub quotient_by_least : ℕ → List Piece
@@ -238,14 +259,23 @@ module _ (c : Context) (r : ℕ) where
 
   abbrev pub divide_form : ℕ → ℕ → Operand → ℕ → ℕ → List Piece
   divide_form t a b error line =
-      if is_divisor b then fetch 12 (home c r a) ++ (Plain (word.Operate op.Div 12 (fetched 12 (home c r a)) (right_operand b)) ∷ (rounded ++ receive (home c r t)))
+      if is_divisor b then fetch 12 (home c r a) ++ (Plain (word.Operate op.Div (target (home c r t)) (fetched 12 (home c r a)) (right_operand b)) ∷ (rounded (target (home c r t)) ++ save (home c r t)))
       else divisor b ++ (Fails on.Equal 2 line ∷ skip on.Minus (length (quotient a) + 1) ∷ (quotient a ++ (skip on.Always (length (quotient_by_negative a error line)) ∷ (quotient_by_negative a error line ++ receive (home c r t)))))
+
+  -- a modulus in a register: a temporary's where it stands, or in R15
+  abbrev pub modulus : Operand → List Piece
+  modulus (operand.Temporary t) = fetch 15 (home c r t)
+  modulus (operand.Number z) = number 15 z
+
+  abbrev pub modulus_register : Operand → ℕ
+  modulus_register (operand.Temporary t) = fetched 15 (home c r t)
+  modulus_register (operand.Number z) = 15
 
   -- what H holds after a division is Pascal's mod
   abbrev pub modulo_form : ℕ → ℕ → Operand → ℕ → List Piece
   modulo_form t a b line =
       if is_divisor b then fetch 12 (home c r a) ++ (Plain (word.Operate op.Div 12 (fetched 12 (home c r a)) (right_operand b)) ∷ Plain (word.MoveHigh (target (home c r t))) ∷ save (home c r t))
-      else divisor b ++ (Plain (word.Operate op.Sub 12 15 (Constant (pos 1))) ∷ Fails on.Less 3 line ∷ (fetch 12 (home c r a) ++ (Plain (word.Operate op.Div 12 (fetched 12 (home c r a)) (Content 15)) ∷ Plain (word.MoveHigh (target (home c r t))) ∷ save (home c r t))))
+      else modulus b ++ (Plain (word.Operate op.Sub 12 (modulus_register b) (Constant (pos 1))) ∷ Fails on.Less 3 line ∷ (fetch 12 (home c r a) ++ (Plain (word.Operate op.Div 12 (fetched 12 (home c r a)) (Content (modulus_register b))) ∷ Plain (word.MoveHigh (target (home c r t))) ∷ save (home c r t))))
 
   abbrev pub arithmetic_form : Operator → ℕ → ℕ → Operand → ℕ → ℕ → List Piece
   arithmetic_form Add t a b error line =
@@ -363,8 +393,26 @@ module _ (c : Context) (r : ℕ) where
   new_form t bytes line =
       Plain (word.Load Word 15 13 (pos 268)) ∷ Plain (word.Load Word 12 13 (pos 272)) ∷ Plain (word.Operate op.Sub 15 15 (Content 12)) ∷ (number 12 (pos bytes) ++ (Plain (word.Operate op.Sub 15 15 (Content 12)) ∷ Fails on.CarrySet 13 line ∷ Plain (word.Load Word 15 13 (pos 272)) ∷ Plain (word.Operate op.Add 12 12 (Content 15)) ∷ Plain (word.Store Word 12 13 (pos 272)) ∷ Plain (word.Move 12 (Content 15)) ∷ receive (home c r t)))
 
-  abbrev pub branch_form : Relation → ℕ → Operand → Label → List Piece
-  branch_form relation a b label = both a b (difference a b ∷ Goes (condition relation) label ∷ [])
+  -- ---- comparisons
+
+  -- whether N and Z are those of a temporary's register, where they are told of one
+  abbrev pub is_told : Option ℕ → ℕ → Bool
+  is_told told a = is_it a told && is_register (home c r a)
+
+  -- by the flags as they are, or by a difference
+  abbrev pub branch_by : Option Condition → Relation → ℕ → Operand → Label → List Piece
+  branch_by None relation a b label = both a b (difference a b ∷ Goes (condition relation) label ∷ [])
+  branch_by (Some condition) relation a b label = Goes condition label ∷ []
+
+  abbrev pub branch_choice : Option ℕ → Relation → ℕ → Operand → Option Condition
+  branch_choice told relation a b = if is_told told a && is_null b then brief relation else None
+
+  abbrev pub branch_form : Option ℕ → Relation → ℕ → Operand → Label → List Piece
+  branch_form told relation a b label = branch_by (branch_choice told relation a b) relation a b label
+
+  abbrev pub pointer_form : Option ℕ → ℕ → ℕ → ℕ → List Piece
+  pointer_form told a error line =
+      if is_told told a then Fails on.Equal error line ∷ [] else bring 12 (home c r a) ++ Fails on.Equal error line ∷ []
 
   -- the words of the instruction at a place
   abbrev pub form : ℕ → Instruction → List Piece
@@ -374,7 +422,7 @@ module _ (c : Context) (r : ℕ) where
   form k (Bits operator t a b) = both a b (operate (bit_operation operator) (home c r t) a b ∷ save (home c r t))
   form k (Compare relation t a b) = compare_form relation t a b
   form k (CheckRange a low high error line) = check_form a low high error line
-  form k (CheckPointer a error line) = bring 12 (home c r a) ++ Fails on.Equal error line ∷ []
+  form k (CheckPointer a error line) = pointer_form (told_at c r k) a error line
   form k (Text t bytes) = label_form t (AtText r k)
   form k (Offset t a n extent) = address (target (home c r t)) a n ++ save (home c r t)
   form k (Index t a i low high width error line) = index_form t a i low high width error line
@@ -385,8 +433,8 @@ module _ (c : Context) (r : ℕ) where
   form k (StoreByte a n b) = store_form Byte a n b
   form k (Jump n) = Goes on.Always (AtPlace r (suc k + n)) ∷ []
   form k (JumpBack n) = Goes on.Always (AtPlace r (k - n)) ∷ []
-  form k (Branch relation a b n) = branch_form relation a b (AtPlace r (suc k + n))
-  form k (BranchBack relation a b n) = branch_form relation a b (AtPlace r (k - n))
+  form k (Branch relation a b n) = branch_form (told_at c r k) relation a b (AtPlace r (suc k + n))
+  form k (BranchBack relation a b n) = branch_form (told_at c r k) relation a b (AtPlace r (k - n))
   form k (Call t q us line) = call_form t q us line
   form k (CallValue t a us line) = call_value_form t a us line
   form k (Return a) = return_form a

@@ -1,4 +1,5 @@
 pub mod Pieces
+pub mod Told
 pub mod Forms
 pub mod Follows
 pub mod Laws

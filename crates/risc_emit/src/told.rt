@@ -1,0 +1,100 @@
+// Where the flags are those of a temporary: behind an instruction whose last word sets them by its result, if no jump leads there.
+
+ghost use Rattle.std.specs.Prelude.{◌≡◌, suc, ◌+◌, ◌-◌, true, if◌then◌else◌, Some, None, slice_set, IfOk};
+ghost use Rattle.risc_steps.specs.Told.{sets_flags, flagged_by, jump_of, set_in, jumped, told};
+
+use std::alloc::Global;
+use tac_code::code::{Instruction, Operator, OutOfMemory};
+
+fn sets_flags(operator: Operator) -> bool
+    ensures { result ≡ sets_flags operator }
+{
+    match operator {
+        Operator::Add | Operator::Subtract | Operator::Modulo => true,
+        Operator::Multiply | Operator::Divide => false,
+    }
+}
+
+// The result of an operation, where the flags are its.
+fn flagged_result(operator: Operator, to: u32) -> Option<u32>
+    ensures { result ≡ (if sets_flags operator then Some to else None) }
+{
+    if sets_flags(operator) { Some(to) } else { None }
+}
+
+// The temporary whose register N and Z are of behind an instruction.
+fn flagged_by(instruction: &Instruction) -> Option<u32>
+    ensures { result ≡ flagged_by instruction.now }
+{
+    match instruction {
+        Instruction::Arithmetic { operator, to, .. } => flagged_result(*operator, *to),
+        Instruction::Bits { to, .. }
+        | Instruction::Load { to, .. }
+        | Instruction::LoadByte { to, .. } => Some(*to),
+        _ => None,
+    }
+}
+
+fn set(jumped: &mut Vec<bool>, place: usize)
+    ensures { jumped.new.items ≡ slice_set jumped.old.items place true }
+{
+    if place < jumped.len() {
+        jumped[place] = true;
+    }
+}
+
+// The place so many on from the one behind a place.
+fn set_ahead(jumped: &mut Vec<bool>, place: usize, distance: u64)
+    ensures { jumped.new.items ≡ slice_set jumped.old.items (suc place + distance) true }
+{
+    if place < jumped.len() && distance < (jumped.len() - place - 1) as u64 {
+        set(jumped, place + 1 + distance as usize);
+    }
+}
+
+fn set_back(jumped: &mut Vec<bool>, place: usize, distance: u64)
+    ensures { jumped.new.items ≡ slice_set jumped.old.items (place - distance) true }
+{
+    let to = if distance < place as u64 {
+        place - distance as usize
+    } else {
+        0
+    };
+    set(jumped, to);
+}
+
+// The mark of the place that the instruction at a place jumps to.
+fn set_target(jumped: &mut Vec<bool>, place: usize, instruction: &Instruction)
+    ensures { jumped.new.items ≡ set_in (jump_of instruction.now place) jumped.old.items }
+{
+    match instruction {
+        Instruction::Jump { forward } | Instruction::Branch { forward, .. } => set_ahead(jumped, place, *forward),
+        Instruction::JumpBack { back } | Instruction::BranchBack { back, .. } => set_back(jumped, place, *back),
+        _ => {}
+    }
+}
+
+/// For each place of a body, whether a jump leads to it.
+pub(crate) fn jumped_places(alloc: Global, body: &[Instruction]) -> Result<Vec<bool>, OutOfMemory>
+    ensures { IfOk result (λ jumped. jumped.items ≡ jumped body.now) }
+{
+    let mut jumped = vec![in alloc; false; body.len()]?;
+    for place in 0..body.len() {
+        set_target(&mut jumped, place, &body[place]);
+    }
+    Ok(jumped)
+}
+
+/// The temporary whose register N and Z are of at a place, if they are one's.
+pub(crate) fn told(body: &[Instruction], jumped: &[bool], place: usize) -> Option<u32>
+    requires { jumped.now ≡ jumped body.now }
+    ensures { result ≡ told body.now place }
+{
+    if place == 0 || place >= jumped.len() || jumped[place] {
+        return None;
+    }
+    match body.get(place - 1) {
+        Some(instruction) => flagged_by(instruction),
+        None => None,
+    }
+}
