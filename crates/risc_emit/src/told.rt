@@ -68,8 +68,12 @@ fn set_target(jumped: &mut Vec<bool>, place: usize, instruction: &Instruction)
     ensures { jumped.new.items ≡ set_in (jump_of instruction.now place) jumped.old.items }
 {
     match instruction {
-        Instruction::Jump { forward } | Instruction::Branch { forward, .. } => set_ahead(jumped, place, *forward),
-        Instruction::JumpBack { back } | Instruction::BranchBack { back, .. } => set_back(jumped, place, *back),
+        Instruction::Jump { forward } | Instruction::Branch { forward, .. } => set_ahead(
+            jumped, place, *forward,
+        ),
+        Instruction::JumpBack { back } | Instruction::BranchBack { back, .. } => set_back(
+            jumped, place, *back,
+        ),
         _ => {}
     }
 }
