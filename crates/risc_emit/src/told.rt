@@ -35,44 +35,44 @@ fn flagged_by(instruction: &Instruction) -> Option<u32>
     }
 }
 
-fn set(jumped: &mut Vec<bool>, place: usize)
-    ensures { jumped.new.items ≡ slice_set jumped.old.items place true }
+fn set(marks: &mut Vec<bool>, place: usize)
+    ensures { marks.new.items ≡ slice_set marks.old.items place true }
 {
-    if place < jumped.len() {
-        jumped[place] = true;
+    if place < marks.len() {
+        marks[place] = true;
     }
 }
 
 // The place so many on from the one behind a place.
-fn set_ahead(jumped: &mut Vec<bool>, place: usize, distance: u64)
-    ensures { jumped.new.items ≡ slice_set jumped.old.items (suc place + distance) true }
+fn set_ahead(marks: &mut Vec<bool>, place: usize, distance: u64)
+    ensures { marks.new.items ≡ slice_set marks.old.items (suc place + distance) true }
 {
-    if place < jumped.len() && distance < (jumped.len() - place - 1) as u64 {
-        set(jumped, place + 1 + distance as usize);
+    if place < marks.len() && distance < (marks.len() - place - 1) as u64 {
+        set(marks, place + 1 + distance as usize);
     }
 }
 
-fn set_back(jumped: &mut Vec<bool>, place: usize, distance: u64)
-    ensures { jumped.new.items ≡ slice_set jumped.old.items (place - distance) true }
+fn set_back(marks: &mut Vec<bool>, place: usize, distance: u64)
+    ensures { marks.new.items ≡ slice_set marks.old.items (place - distance) true }
 {
     let to = if distance < place as u64 {
         place - distance as usize
     } else {
         0
     };
-    set(jumped, to);
+    set(marks, to);
 }
 
 // The mark of the place that the instruction at a place jumps to.
-fn set_target(jumped: &mut Vec<bool>, place: usize, instruction: &Instruction)
-    ensures { jumped.new.items ≡ set_in (jump_of instruction.now place) jumped.old.items }
+fn set_target(marks: &mut Vec<bool>, place: usize, instruction: &Instruction)
+    ensures { marks.new.items ≡ set_in (jump_of instruction.now place) marks.old.items }
 {
     match instruction {
         Instruction::Jump { forward } | Instruction::Branch { forward, .. } => set_ahead(
-            jumped, place, *forward,
+            marks, place, *forward,
         ),
         Instruction::JumpBack { back } | Instruction::BranchBack { back, .. } => set_back(
-            jumped, place, *back,
+            marks, place, *back,
         ),
         _ => {}
     }
@@ -80,21 +80,21 @@ fn set_target(jumped: &mut Vec<bool>, place: usize, instruction: &Instruction)
 
 /// For each place of a body, whether a jump leads to it.
 pub(crate) fn jumped_places(alloc: Global, body: &[Instruction]) -> Result<Vec<bool>, OutOfMemory>
-    ensures { IfOk result (λ jumped. jumped.items ≡ jumped body.now) }
+    ensures { IfOk result (λ marks. marks.items ≡ jumped body.now) }
 {
-    let mut jumped = vec![in alloc; false; body.len()]?;
+    let mut marks = vec![in alloc; false; body.len()]?;
     for place in 0..body.len() {
-        set_target(&mut jumped, place, &body[place]);
+        set_target(&mut marks, place, &body[place]);
     }
-    Ok(jumped)
+    Ok(marks)
 }
 
 /// The temporary whose register N and Z are of at a place, if they are one's.
-pub(crate) fn told(body: &[Instruction], jumped: &[bool], place: usize) -> Option<u32>
-    requires { jumped.now ≡ jumped body.now }
+pub(crate) fn told(body: &[Instruction], marks: &[bool], place: usize) -> Option<u32>
+    requires { marks.now ≡ jumped body.now }
     ensures { result ≡ told body.now place }
 {
-    if place == 0 || place >= jumped.len() || jumped[place] {
+    if place == 0 || place >= marks.len() || marks[place] {
         return None;
     }
     match body.get(place - 1) {
