@@ -10,3 +10,4 @@ mod Homes
 mod Texts
 mod Few
 mod Drafting
+mod Telling

@@ -2,12 +2,13 @@ use Rattle.std.proofs.Common.{slice_get, refl, sym, ap, ◌∙◌, rules}
 use Rattle.std.proofs.lemmas.Option.{slice_get_read}
 use Rattle.risc_emit.specs.Frames.{context_of}
 use Rattle.risc_emit.proofs.Few.{passes_few}
+use Rattle.risc_emit.proofs.Telling.{told_here}
 use Rattle.risc_emit.proofs.Drafting.{drafted_more, drafted_marks}
 use Rattle.risc_emit.proofs.draft.put_routine.Goals as goal
 
 pub put_place-requires : goal.put_place-requires
 put_place-requires c =
-    record { few = passes_few c.args.frame.now.code c.args.frame.now.number c.loop-place.place c.args.routine.now c.index-body-place.result c.keeps_invariant.ensures c.requires.own (ap (λ l. slice_get l c.loop-place.place) (sym c.as_slice-body.ensures) ∙ slice_get_read c.as_slice-body.result.now _ c.loop-place.place c.index-body-place.result refl c.loop-place-test.true c.index-body-place.is) }
+    record { few = passes_few c.args.frame.now.code c.args.frame.now.number c.loop-place.place c.args.routine.now c.index-body-place.result c.keeps_invariant.ensures c.requires.own (ap (λ l. slice_get l c.loop-place.place) (sym c.as_slice-body.ensures) ∙ slice_get_read c.as_slice-body.result.now _ c.loop-place.place c.index-body-place.result refl c.loop-place-test.true c.index-body-place.is); told = told_here (context_of c.args.frame.now) c.args.frame.now.number c.loop-place.place c.args.routine.now c.as_slice-body.result.now c.told-told.result c.requires.own c.as_slice-body.ensures c.told-told.ensures }
 
 pub loop-place-preserved : goal.loop-place-preserved
 loop-place-preserved c =
