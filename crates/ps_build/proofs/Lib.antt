@@ -2,6 +2,7 @@ pub mod Rows
 pub mod Asked
 pub mod Examples
 pub mod Told
+pub mod Short
 pub mod Compiled
 pub mod Results
 pub mod Unbudgeted

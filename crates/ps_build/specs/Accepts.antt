@@ -6,6 +6,10 @@ use Rattle.ps_scan.specs.declared.token.Token.{Token}
 use Rattle.ps_scan.specs.Lexis.{IsTokens}
 use Rattle.ps_syntax.specs.declared.program.Program.{Program}
 use Rattle.ps_grammar.specs.Trees.{IsTreeOf}
+use Rattle.ps_parse.specs.Untaken.{IsFirstUntakenOn}
+use Rattle.ps_regions.specs.declared.refusal.Rule.{Rule}
+use Rattle.ps_regions.specs.declared.refusal.CheckRefusal.TheVariants as refusal
+use Rattle.ps_points.specs.Broken.{IsToldOf}
 use Rattle.ps_build.specs.declared.refusal.Refusal.{Refusal}
 use Rattle.ps_build.specs.declared.refusal.Refusal.TheVariants.{TooLong, TooManyLines, OutOfMemory, BadByte, OpenComment, OpenString, EmptyString, SeparatorMissing, NumberTooLarge, RealNumber, NotAProgram, TooDeep, NotInProfile, Broken, CodeTooLarge}
 use Rattle.ps_tree.specs.Tree as Tree
@@ -46,19 +50,21 @@ pub record HasNoTokens (text : List ℕ) : Type 0 where
   pub limits : IsSource text
   pub none : (tokens : List Token) → IsTokens text tokens → ⊥
 
--- the text has tokens, of which no tree derives that is not too high
-pub record HasNoTree (text : List ℕ) : Type 0 where
+-- The text has tokens, of which no tree derives that is not too high. What is told is the first token that no derivation takes, by its number from 0, and its line.
+pub record HasNoTree (text : List ℕ) (line at : ℕ) : Type 0 where
   pub limits : IsSource text
   pub tokens : List Token
   pub scanned : IsTokens text tokens
   pub none : (others : List Token) (tree : Program) → IsTokens text others → IsTreeOf text others tree → ⊥
+  pub told : IsFirstUntakenOn text tokens line at
 
--- the text has a tree, which breaks a rule or a limit
-pub record HasNoProgram (text : List ℕ) : Type 0 where
+-- The text has a tree, which breaks a rule or a limit. The line is that of a token at which it breaks the rule, as far as ps_points tells of each rule.
+pub record HasNoProgram (text : List ℕ) (rule : Rule) (line : ℕ) : Type 0 where
   pub tokens : List Token
   pub tree : Program
   pub parsed : IsParsed text tokens tree
   pub none : (others : List Token) (other : Program) → IsParsed text others other → program text other ≡ None
+  pub told : IsToldOf text tree (refusal.Broken rule line)
 
 -- the most words of code
 abbrev pub most_words : ℕ
@@ -88,10 +94,10 @@ IsRefused text (EmptyString line) = HasNoTokens text
 IsRefused text (SeparatorMissing line) = HasNoTokens text
 IsRefused text (NumberTooLarge line) = HasNoTokens text
 IsRefused text (RealNumber line) = HasNoTokens text
-IsRefused text (NotAProgram line token) = HasNoTree text
-IsRefused text (TooDeep line) = HasNoTree text
-IsRefused text (NotInProfile line) = HasNoTree text
-IsRefused text (Broken rule line) = HasNoProgram text
+IsRefused text (NotAProgram line token) = HasNoTree text line token
+IsRefused text (TooDeep line) = (at : ℕ) × HasNoTree text line at
+IsRefused text (NotInProfile line) = (at : ℕ) × HasNoTree text line at
+IsRefused text (Broken rule line) = HasNoProgram text rule line
 IsRefused text CodeTooLarge = IsCodeTooLarge text
 IsRefused text _ = ⊥
 
