@@ -16,7 +16,7 @@ abbrev pub AllLack : List ℕ → Points → Nested → Span → Type 0
 AllLack text points [] name = Unit {0}
 AllLack text points (l ∷ ls) name = Lacks text points l.region name × AllLack text points ls name
 
--- 6.6.2: a block that stands behind a name alone belongs to a heading further up in the same block, which lacks any point of the name there
+-- 6.6.2: A function's block that stands behind the name alone needs a heading further up in the same block; but no point of the name stands there.
 abbrev pub HasNoHeading : List ℕ → Points → Nested → Span → Type 0
 HasNoHeading text points [] name = Unit {0}
 HasNoHeading text points (own ∷ outer) name = IsAbsent text points Ahead (point own.region name Constant)

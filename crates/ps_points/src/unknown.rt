@@ -41,7 +41,8 @@ fn has_no_heading(reading: &Reading, points: &[Point], levels: &Levels, name: Sp
     }
 }
 
-/// Whether none of them has the name that is used, or, where a block stands behind it, its heading; of the name of a field behind a point nothing is asked.
+/// Whether none of them has the name that is used; of that of a function's block, whether it lacks its heading. Of the name
+/// of a field behind a point nothing is asked.
 fn is_lacking(reading: &Reading, points: &[Point], levels: &Levels, found: Use) -> bool
     ensures { result ≡ true → IsLacking reading.now.source.now points.now (levels_of levels.now) found found.way }
 {
