@@ -169,7 +169,7 @@ fn in_statement(statement: &Statement, opened: bool, sought: Sought<'_>) -> Opti
         }
         Statement::With(list, body) => {
             first(
-                in_records(list.as_slice(), sought),
+                in_records(list.as_slice(), sought.within_records()),
                 in_statement(body.get(), true, sought.within_records()),
             )
         }

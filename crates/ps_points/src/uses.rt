@@ -50,7 +50,7 @@ pub enum Sought<'a> {
 }
 
 impl<'a> Sought<'a> {
-    /// The same within a `with` statement, where names of fields may be meant.
+    /// The same within a `with` statement, also in its list behind the first, where names of fields may be meant.
     pub fn within_records(self) -> Sought<'a> {
         match self {
             Sought::At(_) | Sought::CountedAs(..) => self,
