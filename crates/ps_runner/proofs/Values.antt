@@ -94,10 +94,9 @@ text_append : (bytes : List ℕ) (b : ℕ) → m.text_values (bytes ++ b ∷ [])
 text_append [] b = refl
 text_append (c ∷ cs) b = ap (m.value_before (m.OrdinalValue (pos c))) (text_append cs b)
 
-pub text_next : (bytes : List ℕ) (values : List Value) (i : ℕ) → i < length bytes → values_of values ≡ m.text_values (take i bytes) → values_of (values ++ Ordinal (pos (get_or bytes i 0)) ∷ []) ≡ m.text_values (take (i + 1) bytes)
-unfolding value_of
-text_next bytes values i lt before =
-    values_append values (Ordinal (pos (get_or bytes i 0))) ∙ ap (λ vs. and_value vs (m.OrdinalValue (pos (get_or bytes i 0)))) before ∙ sym (text_append (take i bytes) (get_or bytes i 0)) ∙ ap m.text_values (sym (take_more bytes i 0 lt))
+pub text_next : (bytes : List ℕ) (values : List Value) (i : ℕ) (v : Value) → i < length bytes → value_of v ≡ m.OrdinalValue (pos (get_or bytes i 0)) → values_of values ≡ m.text_values (take i bytes) → values_of (values ++ v ∷ []) ≡ m.text_values (take (i + 1) bytes)
+text_next bytes values i v lt is before =
+    values_append values v ∙ ap (and_value (values_of values)) is ∙ ap (λ vs. and_value vs (m.OrdinalValue (pos (get_or bytes i 0)))) before ∙ sym (text_append (take i bytes) (get_or bytes i 0)) ∙ ap m.text_values (sym (take_more bytes i 0 lt))
 
 -- components by their numbers
 pub nth_within : (values : List Value) (k : ℕ) (item : Value) → k < length values → item ≡ get_or values k item → m.nth (values_of values) k ≡ value_of item

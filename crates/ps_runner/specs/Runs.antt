@@ -4,7 +4,7 @@ use Rattle.behavior.specs.Transcripts.{Shown}
 use Rattle.ps_tree.specs.Tree as t
 use Rattle.ps_tree.specs.declared.tree.Direction.{Direction}
 use Rattle.ps_meaning.specs.Values as v
-use Rattle.ps_meaning.specs.Operators.{is_equal, is_true}
+use Rattle.ps_meaning.specs.Operators.{is_equal, is_true, truth}
 use Rattle.ps_meaning.specs.Worlds as m
 use Rattle.ps_meaning.specs.Expressions as e
 use Rattle.ps_meaning.specs.Statements as s
@@ -14,6 +14,8 @@ use Rattle.ps_runner.specs.Worlds.{Stopped, caller, ending_of, program_of, world
 use Rattle.ps_runner.specs.declared.stop.Halt.{Halt}
 use Rattle.ps_runner.specs.declared.stop.Halt.TheVariants.{Stopped as StoppedBy, TooDeep}
 use Rattle.ps_runner.specs.declared.run.Ran.{Ran}
+use Rattle.ps_runner.specs.declared.operators.Comparison.{Comparison}
+use Rattle.ps_runner.specs.View.{compared}
 use Rattle.ps_runner.specs.Heights.{highest}
 
 -- The levels that calls with so much fuel may take: each is no higher than the highest body. A part of a body needs
@@ -41,6 +43,10 @@ truth_in job n condition c = λ w. m.and_then (e.value (caller job n) condition 
 
 abbrev pub truth_of : Bool → Bool
 truth_of b = b
+
+-- two values are compared
+abbrev pub comparing : Job → ℕ → Comparison → t.Expr → t.Expr → m.Context → m.Act v.Value
+comparing job n comparison a b c = λ w. m.and_then (e.value (caller job n) a c w) (λ x u. m.and_then (e.value (caller job n) b c u) (λ y. m.give (v.OrdinalValue (truth (compared comparison x y)))))
 
 -- the control variable of a for statement goes on, and there is a further turn; or it had the last value
 abbrev pub advancing : v.Spot → Direction → (last : ℤ) → m.Act Bool

@@ -14,6 +14,8 @@ use Rattle.ps_runner.specs.declared.text.Reading.{Reading}
 use Rattle.ps_runner.specs.declared.text.Reading.TheVariants.{EndFound, NoInteger, Integer}
 use Rattle.ps_runner.specs.declared.operators.Computed.{Computed}
 use Rattle.ps_runner.specs.declared.operators.Computed.TheVariants.{Result, Fault}
+use Rattle.ps_runner.specs.declared.operators.Comparison.{Comparison}
+use Rattle.ps_runner.specs.declared.operators.Comparison.TheVariants.{Ordinals, Pointers}
 
 -- the set whose tests, from 0 on, are listed; a number past the list is no member
 abbrev pub listed : List Bool → ℕ → Bool
@@ -49,6 +51,11 @@ spot_of s = record { root = root_of s.root; path = s.path.items }
 abbrev pub computed_of : Computed → o.Computed
 computed_of (Result n) = o.Result n
 computed_of (Fault number) = o.Fault number
+
+-- a comparison of two values
+abbrev pub compared : Comparison → m.Value → m.Value → Bool
+compared (Ordinals relation) x y = o.holds relation (m.number_of x) (m.number_of y)
+compared (Pointers relation) x y = o.pointers_hold relation x y
 
 -- an operator on two sets at one number
 abbrev pub tested : SetOperator → Bool → Bool → Bool

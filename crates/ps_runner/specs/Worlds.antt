@@ -35,6 +35,8 @@ use Rattle.ps_runner.specs.declared.world.Input.{Input}
 use Rattle.ps_runner.specs.declared.world.World.{World}
 use Rattle.ps_runner.specs.declared.operands.Actual.{Actual}
 use Rattle.ps_runner.specs.declared.operands.Actual.TheVariants.{Value as ValueOf, Variable as VariableAt, Routine as RoutineIn}
+use Rattle.ps_runner.specs.declared.operands.Callee.{Callee}
+use Rattle.ps_runner.specs.declared.operands.Callee.TheVariants.{Declared, Formal}
 use Rattle.ps_runner.specs.declared.operands.Held.{Held}
 use Rattle.ps_runner.specs.declared.operands.Held.TheVariants.{Text, Place}
 use Rattle.ps_runner.specs.View.{value_of, spot_of}
@@ -171,6 +173,22 @@ module _ (job : Job) (n : ℕ) where
   -- a body, and then the further turns
   unfoldable pub turning : (variable : ℕ) → Direction → (last : ℤ) → Tree.Statement → m.Context → m.Act m.Done
   turning variable direction last s c = λ w. m.and_then (acting s c w) (λ _. next job n (st.Further variable direction last s) c)
+
+-- the routine that a call names, and the environment that this was declared in
+abbrev pub callee_routine : Callee → m.Context → ℕ
+callee_routine (Declared routine up) c = routine
+callee_routine (Formal up index) c = m.routine_in (m.frame_of (m.above c.env up)) index
+
+abbrev pub callee_env : Callee → m.Context → m.Env
+callee_env (Declared routine up) c = m.above c.env up
+callee_env (Formal up index) c = m.env_in (m.frame_of (m.above c.env up)) index
+
+-- a call of what was named, and the value of one
+abbrev pub called : Job → ℕ → Callee → Tree.Arguments → (line : ℕ) → m.Context → m.Act m.Done
+called job n callee arguments line c = λ w. m.and_then (e.actuals_of (caller job n) arguments c w) (λ actuals. caller job n (callee_routine callee c) (callee_env callee c) actuals (e.calling line c))
+
+abbrev pub called_value : Job → ℕ → Callee → Tree.Arguments → (line : ℕ) → m.Context → m.Act v.Value
+called_value job n callee arguments line c = λ w. m.and_then (e.actuals_of (caller job n) arguments c w) (λ actuals. e.function_value (caller job n) (callee_routine callee c) (callee_env callee c) actuals (e.calling line c))
 
 -- a for statement whose bounds were evaluated
 abbrev pub counting : Job → ℕ → (variable : ℕ) (low high : ℤ) → v.Value → (from_line : ℕ) → Direction → v.Value → (to_line : ℕ) → Tree.Statement → m.Context → m.Act m.Done

@@ -1,24 +1,23 @@
 // Calls.
 
 ghost use Rattle.std.specs.Prelude.{◌≡◌, ◌≤◌, map};
-ghost use Rattle.ps_tree.specs.Tree as Tree;
 ghost use Rattle.ps_tree.specs.View.{arguments_of, statements_of};
 ghost use Rattle.ps_meaning.specs.Expressions as e;
 ghost use Rattle.ps_meaning.specs.Expressions.{calling};
 ghost use Rattle.ps_meaning.specs.Statements.{Block};
 ghost use Rattle.ps_runner.specs.View.{value_of};
 ghost use Rattle.ps_runner.specs.Worlds as r;
-ghost use Rattle.ps_runner.specs.Worlds.{Stopped, acting, caller, next, program_of, context_of, world_of, env_of, actual_of, done_of};
+ghost use Rattle.ps_runner.specs.Worlds.{Stopped, called, called_value, caller, next, program_of, context_of, world_of, env_of, actual_of, done_of};
 ghost use Rattle.ps_runner.specs.Heights.{arguments_height, statements_height, highest};
 ghost use Rattle.ps_runner.specs.Runs.{Runs, levels};
 
 use crate::ending::Ending;
 use crate::expressions::take_actuals;
-use crate::operands::Actual;
+use crate::operands::{Actual, Callee};
 use crate::statements::act_all;
 use crate::stop::{Halt, Stop};
 use crate::value::{Root, Spot, Value};
-use crate::world::{Context, Env, World, above, routine_above};
+use crate::world::{Context, Env, World};
 use ps_tree::tree::{Argument, Statement};
 use std::rc::Rc;
 
@@ -67,83 +66,41 @@ fn call(
     do_block(world, body, &inner, fuel, depth)
 }
 
-/// Calls a procedure that is declared so many levels out.
+/// Calls a procedure, or a procedural parameter.
 #[cycle(run)]
 #[tactic(auto, using(crate::proofs::Answers::stopped_then, crate::proofs::Answers::halted_then, crate::proofs::Answers::runs_deeper))]
 pub fn call_procedure(
     world: &mut World,
-    routine: u32,
-    up: u32,
+    callee: Callee,
     arguments: &[Argument],
     line: u16,
     c: &Context,
     fuel: u64,
     depth: u32,
 ) -> Result<(), Halt>
-    ensures { Runs done_of (acting c.now.job.now fuel (Tree.CallProcedure routine up (arguments_of arguments.now) line) (context_of c.now) (world_of world.old)) depth (levels c.now.job.now fuel (arguments_height (arguments_of arguments.now))) result world.new }
+    ensures { Runs done_of (called c.now.job.now fuel callee (arguments_of arguments.now) line (context_of c.now) (world_of world.old)) depth (levels c.now.job.now fuel (arguments_height (arguments_of arguments.now))) result world.new }
 {
     let actuals = take_actuals(world, arguments, c, fuel, depth)?;
-    let parent = above(&c.env, up)?;
+    let (routine, parent) = callee.found(c)?;
     call(world, routine, parent, actuals, line, c, fuel, depth)
 }
 
-/// Calls a procedural parameter.
-#[cycle(run)]
-#[tactic(auto, using(crate::proofs::Answers::stopped_then, crate::proofs::Answers::halted_then, crate::proofs::Answers::runs_deeper))]
-pub fn call_formal_procedure(
-    world: &mut World,
-    up: u32,
-    index: u32,
-    arguments: &[Argument],
-    line: u16,
-    c: &Context,
-    fuel: u64,
-    depth: u32,
-) -> Result<(), Halt>
-    ensures { Runs done_of (acting c.now.job.now fuel (Tree.CallFormalProcedure up index (arguments_of arguments.now) line) (context_of c.now) (world_of world.old)) depth (levels c.now.job.now fuel (arguments_height (arguments_of arguments.now))) result world.new }
-{
-    let actuals = take_actuals(world, arguments, c, fuel, depth)?;
-    let (routine, parent) = routine_above(c, up, index)?;
-    call(world, routine, parent, actuals, line, c, fuel, depth)
-}
-
-/// The value of a function that is declared so many levels out.
+/// The value of a function, or of a functional parameter.
 #[cycle(run)]
 #[tactic(auto, using(crate::proofs::Answers::stopped_then, crate::proofs::Answers::halted_then, crate::proofs::Answers::runs_deeper))]
 pub fn call_value(
     world: &mut World,
-    routine: u32,
-    up: u32,
+    callee: Callee,
     arguments: &[Argument],
     line: u16,
     c: &Context,
     fuel: u64,
     depth: u32,
 ) -> Result<Value, Halt>
-    ensures { Runs value_of (e.value (caller c.now.job.now fuel) (Tree.Call routine up (arguments_of arguments.now) line) (context_of c.now) (world_of world.old)) depth (levels c.now.job.now fuel (arguments_height (arguments_of arguments.now))) result world.new }
+    ensures { Runs value_of (called_value c.now.job.now fuel callee (arguments_of arguments.now) line (context_of c.now) (world_of world.old)) depth (levels c.now.job.now fuel (arguments_height (arguments_of arguments.now))) result world.new }
 {
     let actuals = take_actuals(world, arguments, c, fuel, depth)?;
-    let parent = above(&c.env, up)?;
-    function_value(world, routine, parent, actuals, line, c, fuel, depth)
-}
-
-/// The value of a functional parameter.
-#[cycle(run)]
-#[tactic(auto, using(crate::proofs::Answers::stopped_then, crate::proofs::Answers::halted_then, crate::proofs::Answers::runs_deeper))]
-pub fn call_formal_value(
-    world: &mut World,
-    up: u32,
-    index: u32,
-    arguments: &[Argument],
-    line: u16,
-    c: &Context,
-    fuel: u64,
-    depth: u32,
-) -> Result<Value, Halt>
-    ensures { Runs value_of (e.value (caller c.now.job.now fuel) (Tree.CallFormal up index (arguments_of arguments.now) line) (context_of c.now) (world_of world.old)) depth (levels c.now.job.now fuel (arguments_height (arguments_of arguments.now))) result world.new }
-{
-    let actuals = take_actuals(world, arguments, c, fuel, depth)?;
-    let (routine, parent) = routine_above(c, up, index)?;
+    let (routine, parent) = callee.found(c)?;
     function_value(world, routine, parent, actuals, line, c, fuel, depth)
 }
 

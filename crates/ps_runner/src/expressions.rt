@@ -11,12 +11,10 @@ ghost use Rattle.ps_runner.specs.Worlds.{caller, context_of, world_of, actual_of
 ghost use Rattle.ps_runner.specs.Heights.{place_height, selector_height, selectors_height, expr_height, set_height, set_steps_height, member_height, members_height, structure_height, argument_height, arguments_height};
 ghost use Rattle.ps_runner.specs.Runs.{Runs, levels, truth_in, truth_of};
 
-use crate::calls::{call_formal_value, call_value};
-use crate::operands::{Actual, Held, index_of, keep, passed_on};
-use crate::operations::{
-    calculate, combine, compare, compare_pointers, compare_sets, compare_strings, test_member,
-};
-use crate::operators::{apply, combine_sets, is_true, negated};
+use crate::calls::call_value;
+use crate::operands::{Actual, Callee, Held, index_of, keep, passed_on};
+use crate::operations::{calculate, combine, compare, compare_sets, compare_strings, test_member};
+use crate::operators::{Comparison, apply, combine_sets, is_true, negated};
 use crate::stop::Halt;
 use crate::value::{Spot, Value};
 use crate::world::{Context, World, above};
@@ -102,55 +100,62 @@ pub fn evaluate(
     if depth == 0 {
         return Err(Halt::TooDeep);
     }
+    let below = depth - 1;
     match e {
         Expr::Number(number) => Ok(Value::Ordinal(*number)),
         Expr::Nil => Ok(Value::Nil),
         Expr::Load(place) => {
-            let spot = access(world, place, c, fuel, depth - 1)?;
+            let spot = access(world, place, c, fuel, below)?;
             Ok(world.contents(c.job.alloc, &spot)?)
         }
-        Expr::Plus(operand) => evaluate(world, operand, c, fuel, depth - 1),
+        Expr::Plus(operand) => evaluate(world, operand, c, fuel, below),
         Expr::Minus { operand, line } => {
-            let x = evaluate(world, operand, c, fuel, depth - 1)?.number();
+            let x = evaluate(world, operand, c, fuel, below)?.number();
             Ok(world.settled(negated(x), line.number, c)?)
         }
         Expr::Not(operand) => {
-            let x = evaluate(world, operand, c, fuel, depth - 1)?.number();
+            let x = evaluate(world, operand, c, fuel, below)?.number();
             Ok(Value::truth(!is_true(x)))
         }
-        Expr::Arithmetic { first, steps } => calculate(world, first, steps, c, fuel, depth - 1),
+        Expr::Arithmetic { first, steps } => calculate(world, first, steps, c, fuel, below),
         Expr::Logic {
             operator,
             first,
             rest,
-        } => combine(world, *operator, first, rest, c, fuel, depth - 1),
+        } => combine(world, *operator, first, rest, c, fuel, below),
         Expr::Compare {
             relation,
             left,
             right,
-        } => compare(world, *relation, left, right, c, fuel, depth - 1),
+        } => {
+            let comparison = Comparison::Ordinals(*relation);
+            compare(world, comparison, left, right, c, fuel, below)
+        }
         Expr::ComparePointers {
             relation,
             left,
             right,
-        } => compare_pointers(world, *relation, left, right, c, fuel, depth - 1),
+        } => {
+            let comparison = Comparison::Pointers(*relation);
+            compare(world, comparison, left, right, c, fuel, below)
+        }
         Expr::CompareSets {
             relation,
             left,
             right,
-        } => compare_sets(world, *relation, left, right, c, fuel, depth - 1),
+        } => compare_sets(world, *relation, left, right, c, fuel, below),
         Expr::CompareStrings {
             relation,
             left,
             right,
-        } => compare_strings(world, *relation, left, right, c, fuel, depth - 1),
-        Expr::In { left, right } => test_member(world, left, right, c, fuel, depth - 1),
+        } => compare_strings(world, *relation, left, right, c, fuel, below),
+        Expr::In { left, right } => test_member(world, left, right, c, fuel, below),
         Expr::Apply {
             function,
             operand,
             line,
         } => {
-            let x = evaluate(world, operand, c, fuel, depth - 1)?.number();
+            let x = evaluate(world, operand, c, fuel, below)?.number();
             Ok(world.settled(apply(*function, x), line.number, c)?)
         }
         Expr::Eof => Ok(world.eof()?),
@@ -161,16 +166,11 @@ pub fn evaluate(
             arguments,
             line,
         } => {
-            call_value(
-                world,
-                *routine,
-                *up,
-                arguments,
-                line.number,
-                c,
-                fuel,
-                depth - 1,
-            )
+            let callee = Callee::Declared {
+                routine: *routine,
+                up: *up,
+            };
+            call_value(world, callee, arguments, line.number, c, fuel, below)
         }
         Expr::CallFormal {
             up,
@@ -178,16 +178,11 @@ pub fn evaluate(
             arguments,
             line,
         } => {
-            call_formal_value(
-                world,
-                *up,
-                *index,
-                arguments,
-                line.number,
-                c,
-                fuel,
-                depth - 1,
-            )
+            let callee = Callee::Formal {
+                up: *up,
+                index: *index,
+            };
+            call_value(world, callee, arguments, line.number, c, fuel, below)
         }
     }
 }
@@ -233,15 +228,14 @@ pub fn evaluate_set(
     if depth == 0 {
         return Err(Halt::TooDeep);
     }
+    let below = depth - 1;
     match e {
         SetExpr::Load(place) => {
-            let spot = access(world, place, c, fuel, depth - 1)?;
+            let spot = access(world, place, c, fuel, below)?;
             Ok(world.set_at(&spot, c)?)
         }
-        SetExpr::Constructor(members) => evaluate_members(world, members, c, fuel, depth - 1),
-        SetExpr::Combine { first, steps } => {
-            combine_all(world, first, steps, c, fuel, depth - 1)
-        }
+        SetExpr::Constructor(members) => evaluate_members(world, members, c, fuel, below),
+        SetExpr::Combine { first, steps } => { combine_all(world, first, steps, c, fuel, below) }
     }
 }
 

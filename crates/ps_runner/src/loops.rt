@@ -4,7 +4,6 @@ ghost use Rattle.std.specs.Prelude.{◌≡◌, max, IfOk, OnOk, IfErr};
 ghost use Rattle.ps_tree.specs.Tree as Tree;
 ghost use Rattle.ps_tree.specs.View.{expr_of, statement_of, statements_of};
 ghost use Rattle.ps_meaning.specs.Values.{number_of};
-ghost use Rattle.ps_meaning.specs.Operators.{is_equal};
 ghost use Rattle.ps_meaning.specs.Expressions.{fitting};
 ghost use Rattle.ps_meaning.specs.Statements as m;
 ghost use Rattle.ps_meaning.specs.Statements.{own_spot};
@@ -17,7 +16,7 @@ ghost use Rattle.ps_runner.specs.Runs.{Runs, levels, advancing};
 
 use crate::calls::used_up;
 use crate::expressions::{evaluate, evaluate_truth};
-use crate::operators::fits;
+use crate::operators::{fits, is_equal};
 use crate::statements::{act, act_all};
 use crate::stop::{Halt, Stop};
 use crate::value::{Spot, Value};
@@ -218,15 +217,9 @@ fn advance(
     ensures { IfOk result (λ k. advancing (spot_of spot.now) direction (number_of (value_of last.now)) (world_of world.old) ≡ Gives k (world_of world.new)) }
 {
     let x = world.contents(c.job.alloc, spot)?.number();
-    if is_same(x, last.number()) {
+    if is_equal(x, last.number()) {
         return Ok(false);
     }
     world.put(spot, Value::Ordinal(succeeding(direction, x)))?;
     Ok(true)
-}
-
-fn is_same(x: i32, y: i32) -> bool
-    ensures { result ≡ is_equal x y }
-{
-    x == y
 }

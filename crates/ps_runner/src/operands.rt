@@ -6,12 +6,12 @@ ghost use Rattle.ps_meaning.specs.Worlds.{above, frame_of, routine_in, env_in, c
 ghost use Rattle.ps_meaning.specs.Expressions as m;
 ghost use Rattle.ps_meaning.specs.Statements.{index_place};
 ghost use Rattle.ps_runner.specs.View.{listed, members_of_set, number_of_place, value_of, spot_of, computed_of};
-ghost use Rattle.ps_runner.specs.Worlds.{Answers, context_of, env_of, world_of, actual_of, held_of, done_of, putting_fitting, putting_fitting_set, putting_contents, strings_compared};
+ghost use Rattle.ps_runner.specs.Worlds.{Answers, callee_env, callee_routine, context_of, env_of, world_of, actual_of, held_of, done_of, putting_fitting, putting_fitting_set, putting_contents, strings_compared};
 
 use crate::operators::{Computed, fits, interval, set_fits, strings_hold, truth};
 use crate::stop::Stop;
 use crate::value::{Root, Spot, Value, text_values};
-use crate::world::{Context, Env, World, routine_above, spot_above};
+use crate::world::{Context, Env, World, above, routine_above, spot_above};
 use ps_tree::tree::{PlaceBase, Range, Relation};
 use ps_tree::types::{Host, Ordinal, Ty};
 use std::alloc::AllocError;
@@ -23,6 +23,30 @@ pub enum Actual {
     Value(Value),
     Variable(Spot),
     Routine(u32, Rc<Env>),
+}
+
+/// What a call names: a routine that is declared so many frames out, or a procedural or functional parameter of the
+/// frame so many frames out.
+#[derive(Clone, Copy)]
+pub enum Callee {
+    Declared { routine: u32, up: u32 },
+    Formal { up: u32, index: u32 },
+}
+
+impl Callee {
+    /// Its routine, with the environment that this was declared in.
+    pub fn found(self, c: &Context) -> Result<(u32, Rc<Env>), AllocError>
+        ensures routine { IfOk result (λ r. r.0 ≡ callee_routine self (context_of c.now)) }
+        ensures env { IfOk result (λ r. env_of r.1.value ≡ callee_env self (context_of c.now)) }
+    {
+        match self {
+            Callee::Declared { routine, up } => {
+                let parent = above(&c.env, up)?;
+                Ok((routine, parent))
+            }
+            Callee::Formal { up, index } => routine_above(c, up, index),
+        }
+    }
 }
 
 /// An operand of an array or record type as it was taken: a string in the text, or a variable.

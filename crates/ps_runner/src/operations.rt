@@ -10,18 +10,15 @@ ghost use Rattle.ps_meaning.specs.Worlds.{settled};
 ghost use Rattle.ps_runner.specs.View.{value_of};
 ghost use Rattle.ps_runner.specs.Worlds.{Answers, caller, context_of, world_of};
 ghost use Rattle.ps_runner.specs.Heights.{expr_height, steps_height, operands_height, set_height, structure_height};
-ghost use Rattle.ps_runner.specs.Runs.{Runs, levels};
+ghost use Rattle.ps_runner.specs.Runs.{Runs, comparing, levels};
 
 use crate::expressions::{evaluate, evaluate_set, evaluate_truth, take_operand};
-use crate::operators::{
-    combine_truths, compute, holds, is_member, pointers_hold, sets_hold, truth,
-};
+use crate::operators::{Comparison, combine_truths, compute, is_member, sets_hold, truth};
 use crate::stop::{Halt, Stop};
 use crate::value::Value;
 use crate::world::{Context, World};
 use ps_tree::tree::{
-    ArithmeticStep, BooleanOperator, Expr, PointerRelation, Relation, SetExpr, SetRelation,
-    Structure,
+    ArithmeticStep, BooleanOperator, Expr, Relation, SetExpr, SetRelation, Structure,
 };
 
 impl Value {
@@ -99,42 +96,23 @@ pub fn combine(
     Ok(Value::truth(x))
 }
 
-/// A relation between two ordinals.
+/// A relation between two ordinals or two pointers.
 #[cycle(run)]
 #[tactic(auto, using(crate::proofs::Answers::stopped_then, crate::proofs::Answers::halted_then, crate::proofs::Answers::runs_deeper), unfolding(crate::specs::View::value_of))]
 pub fn compare(
     world: &mut World,
-    relation: Relation,
+    comparison: Comparison,
     left: &Expr,
     right: &Expr,
     c: &Context,
     fuel: u64,
     depth: u32,
 ) -> Result<Value, Halt>
-    ensures { Runs value_of (m.value (caller c.now.job.now fuel) (Tree.Compare relation (expr_of left.now) (expr_of right.now)) (context_of c.now) (world_of world.old)) depth (levels c.now.job.now fuel (max (expr_height (expr_of left.now)) (expr_height (expr_of right.now)))) result world.new }
-{
-    let x = evaluate(world, left, c, fuel, depth)?.number();
-    let y = evaluate(world, right, c, fuel, depth)?.number();
-    Ok(Value::truth(holds(relation, x, y)))
-}
-
-/// A relation between two pointers.
-#[cycle(run)]
-#[tactic(auto, using(crate::proofs::Answers::stopped_then, crate::proofs::Answers::halted_then, crate::proofs::Answers::runs_deeper), unfolding(crate::specs::View::value_of))]
-pub fn compare_pointers(
-    world: &mut World,
-    relation: PointerRelation,
-    left: &Expr,
-    right: &Expr,
-    c: &Context,
-    fuel: u64,
-    depth: u32,
-) -> Result<Value, Halt>
-    ensures { Runs value_of (m.value (caller c.now.job.now fuel) (Tree.ComparePointers relation (expr_of left.now) (expr_of right.now)) (context_of c.now) (world_of world.old)) depth (levels c.now.job.now fuel (max (expr_height (expr_of left.now)) (expr_height (expr_of right.now)))) result world.new }
+    ensures { Runs value_of (comparing c.now.job.now fuel comparison (expr_of left.now) (expr_of right.now) (context_of c.now) (world_of world.old)) depth (levels c.now.job.now fuel (max (expr_height (expr_of left.now)) (expr_height (expr_of right.now)))) result world.new }
 {
     let x = evaluate(world, left, c, fuel, depth)?;
     let y = evaluate(world, right, c, fuel, depth)?;
-    Ok(Value::truth(pointers_hold(relation, &x, &y)))
+    Ok(Value::truth(comparison.holds(&x, &y)))
 }
 
 /// A relation between two sets.

@@ -3,7 +3,7 @@
 ghost use Rattle.std.specs.Prelude.{◌≡◌, ◌<◌, ◌≤◌, ◌+◌, ◌-◌, ◌<ℤ◌, ◌*ℤ◌, ◌-ℤ◌, ◌≢◌, int_div, unsigned_abs, ℕ, pos, negsuc, not, ◌||◌, IfOk, length, get_or};
 ghost use Rattle.ps_meaning.specs.Operators as m;
 ghost use Rattle.ps_meaning.specs.Operators.{is_equal, is_between, is_true, truth, combine_truths, combine_sets, holds, pointers_hold, strings_hold, first_difference, sets_hold, is_included, is_member, interval, fits, set_fits, all_below, is_among, modulo, is_same_pointer};
-ghost use Rattle.ps_runner.specs.View.{listed, tested, value_of, values_of, computed_of, integer_of};
+ghost use Rattle.ps_runner.specs.View.{compared, listed, tested, value_of, values_of, computed_of, integer_of};
 
 use crate::value::Value;
 use ps_tree::tree::{
@@ -103,7 +103,7 @@ pub fn apply(function: RequiredFunction, x: i32) -> Computed
         RequiredFunction::Odd => Computed::Result(truth(x.unsigned_abs() % 2 == 1)),
         RequiredFunction::Ord => Computed::Result(x),
         RequiredFunction::Chr => {
-            if 0 <= x && x <= 255 {
+            if is_between(0, x, 255) {
                 Computed::Result(x)
             } else {
                 Computed::Fault(4)
@@ -151,7 +151,7 @@ pub fn combine_truths(operator: BooleanOperator, a: bool, b: bool) -> bool
 }
 
 /// A relation between two ordinals.
-pub fn holds(relation: Relation, x: i32, y: i32) -> bool
+fn holds(relation: Relation, x: i32, y: i32) -> bool
     ensures { result ≡ holds relation x y }
 {
     match relation {
@@ -180,12 +180,31 @@ fn is_same_pointer(a: &Value, b: &Value) -> bool
 }
 
 /// A relation between two pointers.
-pub fn pointers_hold(relation: PointerRelation, a: &Value, b: &Value) -> bool
+fn pointers_hold(relation: PointerRelation, a: &Value, b: &Value) -> bool
     ensures { result ≡ pointers_hold relation (value_of a.now) (value_of b.now) }
 {
     match relation {
         PointerRelation::Same => is_same_pointer(a, b),
         PointerRelation::Other => !is_same_pointer(a, b),
+    }
+}
+
+/// A relation between two values: of ordinals, or of pointers.
+#[derive(Clone, Copy)]
+pub enum Comparison {
+    Ordinals(Relation),
+    Pointers(PointerRelation),
+}
+
+impl Comparison {
+    /// It holds between two values.
+    pub fn holds(self, x: &Value, y: &Value) -> bool
+        ensures { result ≡ compared self (value_of x.now) (value_of y.now) }
+    {
+        match self {
+            Comparison::Ordinals(relation) => holds(relation, x.number(), y.number()),
+            Comparison::Pointers(relation) => pointers_hold(relation, x, y),
+        }
     }
 }
 
@@ -207,10 +226,14 @@ pub fn fits(range: Range, value: &Value) -> bool
 pub fn is_among(x: i32, constants: &[i32]) -> bool
     ensures { result ≡ is_among x constants.now }
 {
-    match constants {
-        [] => false,
-        [first, rest @ ..] => x == *first || is_among(x, rest),
+    let mut left = constants;
+    while let [first, rest @ ..] = left {
+        if x == *first {
+            return true;
+        }
+        left = rest;
     }
+    false
 }
 
 /// The number is a member of the listed set.
@@ -252,11 +275,14 @@ fn combine_tests(operator: SetOperator, a: bool, b: bool) -> bool
 fn are_included(below: usize, a: &[bool], b: &[bool]) -> bool
     ensures { result ≡ all_below below (λ k. not (listed a.now k) || listed b.now k) }
 {
-    below == 0
-        || {
-            let number = below - 1;
-            (!has(a, number) || has(b, number)) && are_included(number, a, b)
+    let mut left = below;
+    while left > 0 {
+        left -= 1;
+        if has(a, left) && !has(b, left) {
+            return false;
         }
+    }
+    true
 }
 
 /// Each member of a, up to 255, is one of b.
@@ -278,18 +304,33 @@ pub fn sets_hold(relation: SetRelation, a: &[bool], b: &[bool]) -> bool
     }
 }
 
+/// A number lies between two bounds.
+fn is_between(low: i32, x: i32, high: i32) -> bool
+    ensures { result ≡ is_between low x high }
+{
+    low <= x && x <= high
+}
+
+/// A number is no member of a set, or lies between two bounds.
+fn is_allowed(number: u16, low: i32, high: i32, tests: &[bool]) -> bool
+    ensures { result ≡ (not (listed tests.now number) || is_between low (pos number) high) }
+{
+    !has(tests, usize::from(number)) || is_between(low, i32::from(number), high)
+}
+
 /// Each member of a set below a number lies between two bounds.
 #[tactic(auto, unfolding(ps_meaning::specs::Operators::all_below))]
 fn are_between(below: u16, low: i32, high: i32, tests: &[bool]) -> bool
     ensures { result ≡ all_below below (λ k. not (listed tests.now k) || is_between low (pos k) high) }
 {
-    below == 0
-        || {
-            let number = below - 1;
-            let ordinal = i32::from(number);
-            (!has(tests, usize::from(number)) || (low <= ordinal && ordinal <= high))
-                && are_between(number, low, high, tests)
+    let mut left = below;
+    while left > 0 {
+        left -= 1;
+        if !is_allowed(left, low, high, tests) {
+            return false;
         }
+    }
+    true
 }
 
 /// Each member of a set, up to 255, lies between two bounds.
@@ -318,7 +359,8 @@ pub fn interval(alloc: Global, low: u8, high: u8) -> Result<Vec<bool>, AllocErro
     Ok(tests)
 }
 
-fn is_equal(x: i32, y: i32) -> bool
+/// Two ordinals are equal.
+pub fn is_equal(x: i32, y: i32) -> bool
     ensures { result ≡ is_equal x y }
 {
     x == y

@@ -8,11 +8,11 @@ ghost use Rattle.ps_runner.specs.Worlds.{context_of, world_of, done_of, acting, 
 ghost use Rattle.ps_runner.specs.Heights.{place_height, places_height, expr_height, set_height, structure_height, statement_height, statements_height};
 ghost use Rattle.ps_runner.specs.Runs.{Runs, levels};
 
-use crate::calls::{call_formal_procedure, call_procedure};
+use crate::calls::call_procedure;
 use crate::choices::{act_if, act_if_else, choose};
 use crate::expressions::{access, evaluate, evaluate_set, take_operand};
 use crate::loops::{count, repeat_until, repeat_while};
-use crate::operands::index_of;
+use crate::operands::{Callee, index_of};
 use crate::stop::Halt;
 use crate::transfers::{read_all, write_all};
 use crate::world::{Context, World};
@@ -34,6 +34,7 @@ pub fn act(
     if depth == 0 {
         return Err(Halt::TooDeep);
     }
+    let below = depth - 1;
     match statement {
         Statement::Empty => Ok(()),
         Statement::Assign {
@@ -41,16 +42,7 @@ pub fn act(
             range,
             value,
             line,
-        } => assign(
-            world,
-            target,
-            *range,
-            value,
-            line.number,
-            c,
-            fuel,
-            depth - 1,
-        ),
+        } => assign(world, target, *range, value, line.number, c, fuel, below),
         Statement::AssignSet {
             target,
             low,
@@ -66,58 +58,52 @@ pub fn act(
             line.number,
             c,
             fuel,
-            depth - 1,
+            below,
         ),
         Statement::AssignStructure { target, value } => {
-            assign_structure(world, target, value, c, fuel, depth - 1)
+            assign_structure(world, target, value, c, fuel, below)
         }
         Statement::Call {
             routine,
             up,
             arguments,
             line,
-        } => call_procedure(
-            world,
-            *routine,
-            *up,
-            arguments,
-            line.number,
-            c,
-            fuel,
-            depth - 1,
-        ),
+        } => {
+            let callee = Callee::Declared {
+                routine: *routine,
+                up: *up,
+            };
+            call_procedure(world, callee, arguments, line.number, c, fuel, below)
+        }
         Statement::CallFormal {
             up,
             index,
             arguments,
             line,
-        } => call_formal_procedure(
-            world,
-            *up,
-            *index,
-            arguments,
-            line.number,
-            c,
-            fuel,
-            depth - 1,
-        ),
-        Statement::Compound(body) => act_all(world, body, c, fuel, depth - 1),
-        Statement::If { condition, body } => act_if(world, condition, body, c, fuel, depth - 1),
+        } => {
+            let callee = Callee::Formal {
+                up: *up,
+                index: *index,
+            };
+            call_procedure(world, callee, arguments, line.number, c, fuel, below)
+        }
+        Statement::Compound(body) => act_all(world, body, c, fuel, below),
+        Statement::If { condition, body } => act_if(world, condition, body, c, fuel, below),
         Statement::IfElse {
             condition,
             body,
             otherwise,
-        } => act_if_else(world, condition, body, otherwise, c, fuel, depth - 1),
+        } => act_if_else(world, condition, body, otherwise, c, fuel, below),
         Statement::Case {
             index,
             elements,
             line,
-        } => choose(world, index, elements, line.number, c, fuel, depth - 1),
+        } => choose(world, index, elements, line.number, c, fuel, below),
         Statement::While { condition, body } => {
-            repeat_while(world, condition, body, c, fuel, depth - 1)
+            repeat_while(world, condition, body, c, fuel, below)
         }
         Statement::Repeat { body, condition } => {
-            repeat_until(world, body, condition, c, fuel, depth - 1)
+            repeat_until(world, body, condition, c, fuel, below)
         }
         Statement::For {
             variable,
@@ -144,15 +130,15 @@ pub fn act(
                 body,
                 c,
                 fuel,
-                depth - 1,
+                below,
             )
         }
-        Statement::With { places, body } => { act_with(world, places, body, c, fuel, depth - 1) }
+        Statement::With { places, body } => { act_with(world, places, body, c, fuel, below) }
         Statement::New {
             place,
             pointer,
             line,
-        } => make(world, place, *pointer, line.number, c, fuel, depth - 1),
+        } => make(world, place, *pointer, line.number, c, fuel, below),
         Statement::Pack {
             from,
             from_ty,
@@ -170,7 +156,7 @@ pub fn act(
             to_ty,
             c,
             fuel,
-            depth - 1,
+            below,
         ),
         Statement::Unpack {
             from,
@@ -189,16 +175,16 @@ pub fn act(
             line.number,
             c,
             fuel,
-            depth - 1,
+            below,
         ),
-        Statement::Read { variables } => read_all(world, variables, c, fuel, depth - 1),
+        Statement::Read { variables } => read_all(world, variables, c, fuel, below),
         Statement::Readln { variables, line } => {
-            read_all(world, variables, c, fuel, depth - 1)?;
+            read_all(world, variables, c, fuel, below)?;
             Ok(world.line_taken(line.number, c)?)
         }
-        Statement::Write { parameters } => write_all(world, parameters, c, fuel, depth - 1),
+        Statement::Write { parameters } => write_all(world, parameters, c, fuel, below),
         Statement::Writeln { parameters } => {
-            write_all(world, parameters, c, fuel, depth - 1)?;
+            write_all(world, parameters, c, fuel, below)?;
             Ok(world.write(&[10])?)
         }
     }

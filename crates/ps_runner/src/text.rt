@@ -61,16 +61,14 @@ pub fn as_character(byte: u8) -> u8
 fn after_blanks(bytes: &[u8]) -> &[u8]
     ensures { result.now ≡ after_blanks bytes.now }
 {
-    match bytes {
-        [] => bytes,
-        [first, rest @ ..] => {
-            if *first == 32 || *first == 10 {
-                after_blanks(rest)
-            } else {
-                bytes
-            }
+    let mut left = bytes;
+    while let [first, rest @ ..] = left {
+        if *first != 32 && *first != 10 {
+            return left;
         }
+        left = rest;
     }
+    left
 }
 
 /// The first byte is this sign.
@@ -253,26 +251,28 @@ pub fn scan_integer(bytes: &[u8]) -> (Reading, &[u8])
 fn has_line_end(bytes: &[u8]) -> bool
     ensures { result ≡ has_line_end bytes.now }
 {
-    match bytes {
-        [] => false,
-        [first, rest @ ..] => *first == 10 || has_line_end(rest),
+    let mut left = bytes;
+    while let [first, rest @ ..] = left {
+        if *first == 10 {
+            return true;
+        }
+        left = rest;
     }
+    false
 }
 
 /// The bytes after the first line end; none where there is none.
 fn after_line_end(bytes: &[u8]) -> &[u8]
     ensures { result.now ≡ after_line_end bytes.now }
 {
-    match bytes {
-        [] => bytes,
-        [first, rest @ ..] => {
-            if *first == 10 {
-                rest
-            } else {
-                after_line_end(rest)
-            }
+    let mut left = bytes;
+    while let [first, rest @ ..] = left {
+        left = rest;
+        if *first == 10 {
+            return left;
         }
     }
+    left
 }
 
 impl<'a> Input<'a> {

@@ -1,7 +1,7 @@
 // Values, first values, and the parts of variables.
 
-ghost use Rattle.std.specs.Prelude.{◌≡◌, IfOk, MatchOption};
-ghost use Rattle.ps_meaning.specs.Values.{number_of, set_of, components_of, component, first, first_fields, first_ordinal, copies, nth, with_nth, part, with_part, entire, step, text_values};
+ghost use Rattle.std.specs.Prelude.{◌≡◌, pos, IfOk, MatchOption};
+ghost use Rattle.ps_meaning.specs.Values.{OrdinalValue, StructureValue, number_of, set_of, components_of, component, first, first_fields, first_ordinal, copies, nth, with_nth, part, with_part, entire, step, text_values};
 ghost use Rattle.ps_meaning.specs.Worlds.{unset};
 ghost use Rattle.ps_tree.specs.View.{type_of};
 ghost use Rattle.ps_runner.specs.View.{listed, value_of, values_of, root_of, spot_of};
@@ -139,16 +139,16 @@ fn first_ordinal(ordinal: Ordinal) -> i32
     }
 }
 
-/// So many copies of a value.
-#[tactic(auto, using(crate::proofs::Values::copies_next), unfolding(crate::specs::View::values_of))]
-fn copies(alloc: Global, count: u64, value: &Value) -> Result<Vec<Value>, AllocError>
-    ensures { IfOk result (λ v. values_of v.items ≡ copies count (value_of value.now)) }
+/// The value of an array, of so many copies of a value.
+#[tactic(auto, using(crate::proofs::Values::copies_next, crate::proofs::Values::value_of_Structure), unfolding(crate::specs::View::values_of))]
+fn filled(alloc: Global, count: u64, value: &Value) -> Result<Value, AllocError>
+    ensures { IfOk result (λ v. value_of v ≡ StructureValue (copies count (value_of value.now))) }
 {
     let mut made = Vec::new(alloc);
     for _turn in 0..count {
         made.push(value.copy(alloc)?)?;
     }
-    Ok(made)
+    Ok(Value::Structure(made))
 }
 
 /// The first value of a type's variables.
@@ -161,47 +161,48 @@ pub fn first(alloc: Global, ty: &Ty) -> Result<Value, AllocError>
         Ty::Simple(ordinal) => Ok(Value::Ordinal(first_ordinal(*ordinal))),
         Ty::Pointer { .. } | Ty::Nil => Ok(Value::Nil),
         Ty::Set { .. } | Ty::EmptySet => Ok(Value::Set(Vec::new(alloc))),
-        Ty::Text { length } => {
-            let zeros = copies(alloc, u64::from(*length), &Value::Ordinal(0))?;
-            Ok(Value::Structure(zeros))
-        }
+        Ty::Text { length } => filled(alloc, u64::from(*length), &Value::Ordinal(0)),
         Ty::Array {
             index,
             component,
             ..
         } => {
             let value = first(alloc, component.ty())?;
-            let values = copies(alloc, index.value_count(), &value)?;
-            Ok(Value::Structure(values))
+            filled(alloc, index.value_count(), &value)
         }
-        Ty::Record { fields, .. } => {
-            let values = first_fields(alloc, fields)?;
-            Ok(Value::Structure(values))
-        }
+        Ty::Record { fields, .. } => first_fields(alloc, fields),
     }
 }
 
-/// The first values of the fields of a record type.
+/// The first value of the variables of a record type with these fields.
 #[cycle(first)]
 #[tactic(auto, using(crate::proofs::Values::types_next, crate::proofs::Values::types_all), unfolding(crate::specs::View::values_of))]
-fn first_fields(alloc: Global, fields: &Fields) -> Result<Vec<Value>, AllocError>
-    ensures { IfOk result (λ v. values_of v.items ≡ first_fields fields.now) }
+fn first_fields(alloc: Global, fields: &Fields) -> Result<Value, AllocError>
+    ensures { IfOk result (λ v. value_of v ≡ StructureValue (first_fields fields.now)) }
 {
     let mut values = Vec::new(alloc);
     for ty in fields.types() {
         values.push(first(alloc, ty)?)?;
     }
-    Ok(values)
+    Ok(Value::Structure(values))
+}
+
+/// The value of a character.
+#[tactic(auto, unfolding(crate::specs::View::value_of))]
+fn character_value(character: u8) -> Value
+    ensures { value_of result ≡ OrdinalValue (pos character) }
+{
+    Value::Ordinal(i32::from(character))
 }
 
 /// The value of a string.
-#[tactic(auto, using(crate::proofs::Values::text_next), unfolding(crate::specs::View::value_of, crate::specs::View::values_of))]
+#[tactic(auto, unfolding(crate::specs::View::values_of))]
 pub fn text_values(alloc: Global, characters: &[u8]) -> Result<Vec<Value>, AllocError>
     ensures { IfOk result (λ v. values_of v.items ≡ text_values characters.now) }
 {
     let mut values = Vec::new(alloc);
     for character in characters {
-        values.push(Value::Ordinal(i32::from(*character)))?;
+        values.push(character_value(*character))?;
     }
     Ok(values)
 }
@@ -221,13 +222,16 @@ impl Value {
 pub fn part(alloc: Global, value: &Value, path: &[u32]) -> Result<Value, AllocError>
     ensures { IfOk result (λ v. value_of v ≡ part (value_of value.now) path.now) }
 {
-    match path {
-        [] => value.copy(alloc),
-        [first, rest @ ..] => match value.component(*first) {
-            Some(component) => part(alloc, component, rest),
-            None => Ok(Value::Ordinal(0)),
-        },
+    let mut whole = value;
+    let mut left = path;
+    while let [first, rest @ ..] = left {
+        let Some(component) = whole.component(*first) else {
+            return Ok(Value::Ordinal(0));
+        };
+        whole = component;
+        left = rest;
     }
+    whole.copy(alloc)
 }
 
 /// The values with another in the place of the part at the end of a path, which begins with a number of theirs.

@@ -86,13 +86,16 @@ pub struct World<'a> {
 pub fn above(env: &Rc<Env>, up: u32) -> Result<Rc<Env>, AllocError>
     ensures { IfOk result (λ e. env_of e.value ≡ above (env_of env.now.value) up) }
 {
-    if up == 0 {
-        return env.clone();
+    let mut inner = env;
+    let mut left = up;
+    while left > 0 {
+        match &**inner {
+            Env::Outside => return inner.clone(),
+            Env::Within { outer, .. } => inner = outer,
+        }
+        left -= 1;
     }
-    match &**env {
-        Env::Outside => env.clone(),
-        Env::Within { outer, .. } => above(outer, up - 1),
-    }
+    inner.clone()
 }
 
 /// The entries of the innermost frame.

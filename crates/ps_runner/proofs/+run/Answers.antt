@@ -37,7 +37,7 @@ pub expressions::evaluate-returns-in-Call : goal.expressions::evaluate-returns-i
 expressions::evaluate-returns-in-Call t c = call_runs c.args.c.now.job.now c.args.fuel (context_of c.args.c.now) (world_of c.args.world.now) c.args.e.now _ _ _ _ _ c.call_value.result c.call_value.new.world c.args.depth c.in-Call.is c.deref-in-Call.ensures.value c.call_value.ensures
 
 pub expressions::evaluate-returns-in-CallFormal : goal.expressions::evaluate-returns-in-CallFormal
-expressions::evaluate-returns-in-CallFormal t c = call_formal_runs c.args.c.now.job.now c.args.fuel (context_of c.args.c.now) (world_of c.args.world.now) c.args.e.now _ _ _ _ _ c.call_formal_value.result c.call_formal_value.new.world c.args.depth c.in-CallFormal.is c.deref-in-CallFormal.ensures.value c.call_formal_value.ensures
+expressions::evaluate-returns-in-CallFormal t c = call_formal_runs c.args.c.now.job.now c.args.fuel (context_of c.args.c.now) (world_of c.args.world.now) c.args.e.now _ _ _ _ _ c.call_value-in-CallFormal.result c.call_value-in-CallFormal.new.world c.args.depth c.in-CallFormal.is c.deref-in-CallFormal.ensures.value c.call_value-in-CallFormal.ensures
 
 pub expressions::evaluate_members-returns-in_err-more : goal.expressions::evaluate_members-returns-in_err-more
 expressions::evaluate_members-returns-in_err-more t c =
@@ -330,7 +330,7 @@ pub expressions::evaluate-returns-in-Compare : goal.expressions::evaluate-return
 expressions::evaluate-returns-in-Compare t c = arm.expr_runs c.args.c.now.job.now c.args.fuel (context_of c.args.c.now) (world_of c.args.world.now) c.args.e.now _ _ c.compare.result c.compare.new.world c.args.depth (arm.compare_is _ _ _ _ _ _ c.in-Compare.is c.deref-in-Compare.ensures c.deref-in-Compare-2.ensures) refl c.compare.ensures
 
 pub expressions::evaluate-returns-in-ComparePointers : goal.expressions::evaluate-returns-in-ComparePointers
-expressions::evaluate-returns-in-ComparePointers t c = arm.expr_runs c.args.c.now.job.now c.args.fuel (context_of c.args.c.now) (world_of c.args.world.now) c.args.e.now _ _ c.compare_pointers.result c.compare_pointers.new.world c.args.depth (arm.compare_pointers_is _ _ _ _ _ _ c.in-ComparePointers.is c.deref-in-ComparePointers.ensures c.deref-in-ComparePointers-2.ensures) refl c.compare_pointers.ensures
+expressions::evaluate-returns-in-ComparePointers t c = arm.expr_runs c.args.c.now.job.now c.args.fuel (context_of c.args.c.now) (world_of c.args.world.now) c.args.e.now _ _ c.compare-in-ComparePointers.result c.compare-in-ComparePointers.new.world c.args.depth (arm.compare_pointers_is _ _ _ _ _ _ c.in-ComparePointers.is c.deref-in-ComparePointers.ensures c.deref-in-ComparePointers-2.ensures) refl c.compare-in-ComparePointers.ensures
 
 pub expressions::evaluate-returns-in-CompareSets : goal.expressions::evaluate-returns-in-CompareSets
 expressions::evaluate-returns-in-CompareSets t c = arm.expr_runs c.args.c.now.job.now c.args.fuel (context_of c.args.c.now) (world_of c.args.world.now) c.args.e.now _ _ c.compare_sets.result c.compare_sets.new.world c.args.depth (arm.compare_sets_is _ _ _ _ _ _ c.in-CompareSets.is c.deref-in-CompareSets.ensures c.deref-in-CompareSets-2.ensures) refl c.compare_sets.ensures
@@ -351,7 +351,7 @@ pub statements::act-returns-in-Call : goal.statements::act-returns-in-Call
 statements::act-returns-in-Call t c = arm.statement_runs c.args.c.now.job.now c.args.fuel (context_of c.args.c.now) (world_of c.args.world.now) c.args.statement.now _ _ c.call_procedure.result c.call_procedure.new.world c.args.depth (arm.call_is _ _ _ _ _ _ c.in-Call.is c.deref.ensures.value) refl c.call_procedure.ensures
 
 pub statements::act-returns-in-CallFormal : goal.statements::act-returns-in-CallFormal
-statements::act-returns-in-CallFormal t c = arm.statement_runs c.args.c.now.job.now c.args.fuel (context_of c.args.c.now) (world_of c.args.world.now) c.args.statement.now _ _ c.call_formal_procedure.result c.call_formal_procedure.new.world c.args.depth (arm.call_formal_is _ _ _ _ _ _ c.in-CallFormal.is c.deref-in-CallFormal.ensures.value) refl c.call_formal_procedure.ensures
+statements::act-returns-in-CallFormal t c = arm.statement_runs c.args.c.now.job.now c.args.fuel (context_of c.args.c.now) (world_of c.args.world.now) c.args.statement.now _ _ c.call_procedure-in-CallFormal.result c.call_procedure-in-CallFormal.new.world c.args.depth (arm.call_formal_is _ _ _ _ _ _ c.in-CallFormal.is c.deref-in-CallFormal.ensures.value) refl c.call_procedure-in-CallFormal.ensures
 
 pub statements::act-returns-in-Compound : goal.statements::act-returns-in-Compound
 statements::act-returns-in-Compound t c = arm.statement_runs c.args.c.now.job.now c.args.fuel (context_of c.args.c.now) (world_of c.args.world.now) c.args.statement.now _ _ c.act_all.result c.act_all.new.world c.args.depth (arm.compound_is _ _ _ c.in-Compound.is c.deref-in-Compound.ensures.value) refl c.act_all.ensures

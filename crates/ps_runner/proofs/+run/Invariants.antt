@@ -42,9 +42,6 @@ invariant-expressions::take_actuals-loop-argument l = actuals_left (caller l.c.j
 abbrev pub decreases-calls::call_value : goal.decreases-calls::call_value
 decreases-calls::call_value l = 16 * l.depth + 5
 
-abbrev pub decreases-calls::call_formal_value : goal.decreases-calls::call_formal_value
-decreases-calls::call_formal_value l = 16 * l.depth + 5
-
 abbrev pub decreases-statements::act : goal.decreases-statements::act
 decreases-statements::act l = 16 * l.depth + 0
 
@@ -166,9 +163,6 @@ decreases-operations::combine l = 16 * l.depth + 2
 abbrev pub decreases-operations::compare : goal.decreases-operations::compare
 decreases-operations::compare l = 16 * l.depth + 2
 
-abbrev pub decreases-operations::compare_pointers : goal.decreases-operations::compare_pointers
-decreases-operations::compare_pointers l = 16 * l.depth + 2
-
 abbrev pub decreases-operations::compare_sets : goal.decreases-operations::compare_sets
 decreases-operations::compare_sets l = 16 * l.depth + 2
 
@@ -192,9 +186,6 @@ decreases-statements::act_with l = 16 * l.depth + 2
 
 abbrev pub decreases-calls::call_procedure : goal.decreases-calls::call_procedure
 decreases-calls::call_procedure l = 16 * l.depth + 5
-
-abbrev pub decreases-calls::call_formal_procedure : goal.decreases-calls::call_formal_procedure
-decreases-calls::call_formal_procedure l = 16 * l.depth + 5
 
 abbrev pub decreases-choices::act_if : goal.decreases-choices::act_if
 decreases-choices::act_if l = 16 * l.depth + 2

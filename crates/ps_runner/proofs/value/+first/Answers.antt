@@ -1,7 +1,8 @@
 use Rattle.std.proofs.Common.{◌≡◌, ◌<◌, ◌+◌, ◌*◌, ap, ◌∙◌, subst, arith}
 use Rattle.ps_tree.specs.Sizes.{depth, depth_of_fields}
 use Rattle.ps_tree.specs.TypeView.{type_of}
-use Rattle.ps_runner.proofs.Values.{component_falls, fields_fall, field_falls, types_next, types_all}
+use Rattle.ps_meaning.specs.Values.{StructureValue}
+use Rattle.ps_runner.proofs.Values.{value_of_Structure, component_falls, fields_fall, field_falls, types_next, types_all}
 use Rattle.ps_runner.proofs.value.+first.Goals as goal
 
 pub first-first-requires : goal.first-first-requires
@@ -29,4 +30,4 @@ first_fields-loop-ty-preserved t c =
     rw c.in_ok-push.ensures.items (types_next c.types-ty-items.result.now c.loop-ty.values.items c.loop-ty.ty-index c.in_ok-first.field-0 c.ty-item.result c.loop-ty-test.true c.ty-item.is c.in_ok-first.ensures c.loop-ty.invariant)
 
 pub first_fields-returns : goal.first_fields-returns
-first_fields-returns t c = types_all c.args.fields.now c.types-ty-items.result.now c.loop-ty.values.items c.loop-ty.ty-index c.types-ty-items.ensures (omega arith) c.loop-ty.invariant
+first_fields-returns t c = value_of_Structure c.loop-ty.values ∙ ap StructureValue (types_all c.args.fields.now c.types-ty-items.result.now c.loop-ty.values.items c.loop-ty.ty-index c.types-ty-items.ensures (omega arith) c.loop-ty.invariant)
