@@ -23,7 +23,7 @@ use Rattle.ps_syntax.specs.declared.program.Routine.TheVariants as r
 use Rattle.ps_syntax.specs.declared.program.Block.{Block, out-Block}
 use Rattle.ps_syntax.specs.declared.program.Routine.TheOpen.{Routine-F}
 use Rattle.ps_syntax.specs.declared.program.Routine.TheFolds.{fold-roll-Routine}
-use Rattle.ps_points.specs.declared.uses.Way.TheVariants.{Named, Completed}
+use Rattle.ps_points.specs.declared.uses.Way.TheVariants.{Named, Pointed, Completed}
 use Rattle.ps_points.specs.declared.uses.Use.{Use}
 use Rattle.ps_points.specs.Uses.{Uses, IsFound, either, used, all_uses, constant_uses}
 use Rattle.ps_points.specs.DeclaredUses.{ordinal_uses, structure_uses_step, type_uses_step, fields_uses_step, type_uses, structure_uses, fields_uses, section_uses_step, heading_uses_step, heading_uses, section_uses, constant_definition_uses, type_definition_uses, variables_uses}
@@ -41,7 +41,7 @@ pub type_found_ordinal : (x : Ordinal) (r : Option Use) → IsFound (ordinal_use
 unfolding type_uses_step
 type_found_ordinal x r h = moved _ _ r (ap type_uses (sym (t.rolls-Ordinal x)) ∙ fold-roll-TypeDenoter Uses Uses Uses structure_uses_step type_uses_step fields_uses_step (TypeDenoter-F.Ordinal x) ∙ refl) h
 
-pub type_found_pointer : (at domain : Span) (r : Option Use) → IsFound (used domain Named ∷ []) r → IsFound (type_uses (t.Pointer at domain)) r
+pub type_found_pointer : (at domain : Span) (r : Option Use) → IsFound (used domain Pointed ∷ []) r → IsFound (type_uses (t.Pointer at domain)) r
 unfolding type_uses_step
 type_found_pointer at domain r h = moved _ _ r (ap type_uses (sym (t.rolls-Pointer at domain)) ∙ fold-roll-TypeDenoter Uses Uses Uses structure_uses_step type_uses_step fields_uses_step (TypeDenoter-F.Pointer at domain) ∙ refl) h
 

@@ -9,3 +9,5 @@ pub mod FunctionLemmas
 pub mod DeclaredFound
 pub mod UnknownLemmas
 pub mod WalkLemmas
+pub mod EarlyLemmas
+pub mod ListedLemmas

@@ -64,11 +64,11 @@ both_added_first b c xs ys e h = h ∙ ap (λ l. l ++ ys) e
 
 -- ---- a fact of each point of a list
 
-abbrev Each : {A : Type 0} → (A → Type 0) → List A → Type 0
+abbrev pub Each : {A : Type 0} → (A → Type 0) → List A → Type 0
 Each P [] = Unit {0}
 Each P (x ∷ xs) = P x × Each P xs
 
-each_at : {A : Type 0} (P : A → Type 0) (xs : List A) (x : A) → Each P xs → Contains xs x → P x
+pub each_at : {A : Type 0} (P : A → Type 0) (xs : List A) (x : A) → Each P xs → Contains xs x → P x
 each_at P [] x e (k, lt, at) = absurd (let q : k < 0 = lt in omega (arith, q))
 each_at P (y ∷ ys) x e (zero, lt, at) = subst P at e.0
 each_at P (y ∷ ys) x e (suc k, lt, at) = each_at P ys x e.1 (k, (let q : suc k < suc (length ys) = lt in omega (arith, q)), at)

@@ -1,13 +1,16 @@
 -- Names that no block defines.
-use Rattle.std.proofs.Common.{◌≡◌, ℕ, List, ◌∷◌, ◌++◌, Option, Some, sym, ◌∙◌, subst}
+use Rattle.std.proofs.Common.{◌≡◌, ℕ, List, [], ◌∷◌, ◌++◌, map, Option, Some, refl, sym, ◌∙◌, subst}
 use Rattle.std.specs.Prelude.{false}
+use Rattle.ps_text.specs.declared.Span.{Span}
 use Rattle.ps_syntax.specs.declared.program.Block.{Block, out-Block}
 use Rattle.ps_points.specs.declared.point.Region.{Region}
 use Rattle.ps_points.specs.declared.uses.Use.{Use}
 use Rattle.ps_points.specs.Points.{Points}
 use Rattle.ps_points.specs.Uses.{IsFound, either, statements_body}
 use Rattle.ps_points.specs.Levels.{Nested, own_level, block_declared_uses}
-use Rattle.ps_points.specs.Unknown.{IsLacking, IsUnknown}
+use Rattle.ps_points.specs.Control.{IsCalled}
+use Rattle.ps_points.specs.declared.undefined.TheConstants.{REQUIRED}
+use Rattle.ps_points.specs.Unknown.{required_names, IsNoneOf, IsLacking, IsUnknown}
 use Rattle.ps_points.proofs.Found.{found_both}
 
 pub unknown_found : (text : List ℕ) (points : Points) (region : Region) (b : Block) (outer : Nested) (at : ℕ) (x y r : Option Use) (u : Use) → IsFound (block_declared_uses b) x → IsFound (statements_body (out-Block b).statements false).uses y → r ≡ either x y → r ≡ Some u → u.name.from ≡ at → IsLacking text points (own_level region b ∷ outer) u u.way → IsUnknown text points (own_level region b) outer at
@@ -15,3 +18,18 @@ unknown_found text points region b outer at x y r u f g e is told lacks =
     let found : IsFound (block_declared_uses b ++ (statements_body (out-Block b).statements false).uses) (either x y) = found_both (block_declared_uses b) (statements_body (out-Block b).statements false).uses x y f g in
     let one : IsFound (block_declared_uses b ++ (statements_body (out-Block b).statements false).uses) (Some u) = subst (λ o. IsFound (block_declared_uses b ++ (statements_body (out-Block b).statements false).uses) o) (sym e ∙ is) found in
     record { occurrence = u; stands = one.stands; lacks = lacks; told = told }
+
+-- ---- required names
+
+pub none_of_none : (text : List ℕ) (at : Span) → IsNoneOf text [] at
+none_of_none text at = tt
+
+pub none_of_more : (text k : List ℕ) (ks : List (List ℕ)) (at : Span) → (IsCalled text k at → ⊥) → IsNoneOf text ks at → IsNoneOf text (k ∷ ks) at
+none_of_more text k ks at differs rest = (differs, rest)
+
+required_are : map (λ e. e.now) REQUIRED ≡ required_names
+unfolding required_names
+required_are = refl
+
+pub not_required : (text : List ℕ) (at : Span) → IsNoneOf text (map (λ e. e.now) REQUIRED) at → IsNoneOf text required_names at
+not_required text at h = subst (λ ks. IsNoneOf text ks at) required_are h

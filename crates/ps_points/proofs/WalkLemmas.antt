@@ -11,9 +11,9 @@ use Rattle.ps_syntax.specs.declared.program.Routine.TheFolds.{fold-roll-Routine,
 use Rattle.ps_points.specs.declared.point.Region.{Region}
 use Rattle.ps_points.specs.declared.walk.Asked.{Asked}
 use Rattle.ps_points.specs.Points.{Points, within, heading}
-use Rattle.ps_points.specs.Uses.{Uses, statements_body}
-use Rattle.ps_points.specs.DeclaredUses.{declared_uses}
-use Rattle.ps_points.specs.Levels.{Level, own_level, Nested, NestedIn, RoutineLevels, all_nested, routine_levels_step, block_levels_step, block_levels, routine_part, routine_levels, routines_levels}
+use Rattle.ps_points.specs.Uses.{Uses, all_uses, statements_body}
+use Rattle.ps_points.specs.DeclaredUses.{declared_uses, Definition, definitions}
+use Rattle.ps_points.specs.Levels.{Level, own_level, Nested, NestedIn, RoutineLevels, routine_definition, routine_heading, routine_heading_uses, all_nested, routine_levels_step, block_levels_step, block_levels, routine_part, routine_levels, routines_levels}
 use Rattle.ps_points.specs.Walk.{IsIn, IsSomewhere}
 use Rattle.ps_points.proofs.UseEquations.{all_uses-map}
 
@@ -39,12 +39,17 @@ module _ (asked : Asked) (text : List ℕ) (points : Points) where
   all_nested-map f g [] = refl
   all_nested-map f g (x ∷ xs) = ap (λ l. f (g x) ++ l) (all_nested-map f g xs)
 
+  definitions-map : {A : Type 0} (g : A → RoutineLevels) (xs : List A) → map routine_definition (map g xs) ≡ map (λ x. routine_definition (g x)) xs
+  definitions-map g [] = refl
+  definitions-map g (x ∷ xs) = ap (λ l. routine_definition (g x) ∷ l) (definitions-map g xs)
+
   block_is : (b : Block) (region : Region) (outer : Nested) → block_levels b region outer ≡ (own_level region b ∷ outer) ∷ all_nested (λ x. routine_levels x region (own_level region b ∷ outer)) (out-Block b).routines
   unfolding block_levels_step
   block_is b region outer =
-      let own : Uses → Level = λ headings. record { region = region; declared = declared_uses (out-Block b).constants (out-Block b).types (out-Block b).variables headings; body = statements_body (out-Block b).statements false } in
+      let own : Uses → List Definition → Level = λ headings ds. record { region = region; declared = declared_uses (out-Block b).constants (out-Block b).types (out-Block b).variables headings; definitions = definitions (out-Block b).constants (out-Block b).types ds; body = statements_body (out-Block b).statements false } in
       ap (λ (f : NestedIn). f region outer) (fold_out-Block RoutineLevels NestedIn routine_levels_step block_levels_step b)
-      ∙ ap (λ h. (own h ∷ outer) ∷ all_nested (λ (x : RoutineLevels). x.nested region (own h ∷ outer)) (map routine_part (out-Block b).routines)) (all_uses-map (λ (x : RoutineLevels). x.heading) routine_part (out-Block b).routines)
+      ∙ ap (λ h. (own h (map routine_definition (map routine_part (out-Block b).routines)) ∷ outer) ∷ all_nested (λ (x : RoutineLevels). x.nested region (own h (map routine_definition (map routine_part (out-Block b).routines)) ∷ outer)) (map routine_part (out-Block b).routines)) (all_uses-map (λ (x : RoutineLevels). x.heading) routine_part (out-Block b).routines)
+      ∙ ap (λ ds. (own (all_uses routine_heading_uses (out-Block b).routines) ds ∷ outer) ∷ all_nested (λ (x : RoutineLevels). x.nested region (own (all_uses routine_heading_uses (out-Block b).routines) ds ∷ outer)) (map routine_part (out-Block b).routines)) (definitions-map routine_part (out-Block b).routines)
       ∙ ap (λ l. (own_level region b ∷ outer) ∷ l) (all_nested-map (λ (x : RoutineLevels). x.nested region (own_level region b ∷ outer)) routine_part (out-Block b).routines)
 
   pub block_here : (b : Block) (region : Region) (outer : Nested) (at : ℕ) → IsIn asked text points (own_level region b ∷ outer) at → IsSomewhere asked text points (block_levels b region outer) at
@@ -78,3 +83,17 @@ module _ (asked : Asked) (text : List ℕ) (points : Points) where
 
   pub routine_completion : (name : Span) (b : Block) (region inner : Region) (outer : Nested) (at : ℕ) → inner ≡ within region name → IsSomewhere asked text points (block_levels b inner outer) at → IsSomewhere asked text points (routine_levels (r.Completion name b) region outer) at
   routine_completion name b region inner outer at is h = subst (λ l. IsSomewhere asked text points l at) (sym (completion_is name b region outer)) (subst (λ i. IsSomewhere asked text points (block_levels b i outer) at) is h)
+
+-- ---- the names of routines
+
+pub whole_name : (x : Heading) (b : Block) → (routine_heading (r.Whole x b)).name ≡ (heading x).0
+unfolding routine_levels_step
+whole_name x b = ap (λ w. (routine_heading w).name) (sym (r.rolls-Whole x b)) ∙ ap (λ (x : RoutineLevels). x.name) (fold-roll-Routine RoutineLevels NestedIn routine_levels_step block_levels_step (Routine-F.Whole x b))
+
+pub forward_name : (x : Heading) → (routine_heading (r.Forward x)).name ≡ (heading x).0
+unfolding routine_levels_step
+forward_name x = ap (λ w. (routine_heading w).name) (sym (r.rolls-Forward x)) ∙ ap (λ (x : RoutineLevels). x.name) (fold-roll-Routine RoutineLevels NestedIn routine_levels_step block_levels_step (Routine-F.Forward x))
+
+pub completion_name : (name : Span) (b : Block) → (routine_heading (r.Completion name b)).name ≡ name
+unfolding routine_levels_step
+completion_name name b = ap (λ w. (routine_heading w).name) (sym (r.rolls-Completion name b)) ∙ ap (λ (x : RoutineLevels). x.name) (fold-roll-Routine RoutineLevels NestedIn routine_levels_step block_levels_step (Routine-F.Completion name b))

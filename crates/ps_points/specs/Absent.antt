@@ -1,11 +1,11 @@
 -- Names that have no defining point of some kind in a region.
-use Rattle.std.specs.Prelude.{◌≡◌, ℕ, Bool, true, false, List, Contains, nat_lt}
+use Rattle.std.specs.Prelude.{◌≡◌, ℕ, Bool, true, false, ◌||◌, List, Contains, nat_lt}
 use Rattle.ps_regions.specs.Spelling.{spelled}
 use Rattle.ps_points.specs.declared.point.Point.{Point}
 use Rattle.ps_points.specs.declared.point.Form.{Form}
-use Rattle.ps_points.specs.declared.point.Form.TheVariants.{Variable, WholeProcedure, WholeFunction, ProcedureBlock, FunctionBlock}
+use Rattle.ps_points.specs.declared.point.Form.TheVariants.{TypeName, Variable, WholeProcedure, WholeFunction, ProcedureBlock, FunctionBlock}
 use Rattle.ps_points.specs.declared.absent.Kind.{Kind}
-use Rattle.ps_points.specs.declared.absent.Kind.TheVariants.{Every, Ahead, WithBlock, OfVariable}
+use Rattle.ps_points.specs.declared.absent.Kind.TheVariants.{Every, Ahead, AheadOrType, WithBlock, OfVariable}
 use Rattle.ps_points.specs.Points.{Points}
 
 -- both stand in one region, and are spelled alike
@@ -22,6 +22,10 @@ has_block ProcedureBlock = true
 has_block FunctionBlock = true
 has_block _ = false
 
+abbrev pub is_type : Form → Bool
+is_type TypeName = true
+is_type _ = false
+
 abbrev pub is_variable : Form → Bool
 is_variable Variable = true
 is_variable _ = false
@@ -30,6 +34,7 @@ is_variable _ = false
 abbrev pub is_kind : Kind → (p q : Point) → Bool
 is_kind Every p q = true
 is_kind Ahead p q = nat_lt q.name.from p.name.from
+is_kind AheadOrType p q = nat_lt q.name.from p.name.from || is_type q.form
 is_kind WithBlock p q = has_block q.form
 is_kind OfVariable p q = is_variable q.form
 

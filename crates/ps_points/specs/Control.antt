@@ -9,7 +9,7 @@ use Rattle.ps_points.specs.declared.point.Form.{Form}
 use Rattle.ps_points.specs.declared.point.Form.TheVariants.{Constant, Field, VariableParameter}
 use Rattle.ps_points.specs.declared.absent.Kind.TheVariants.{Every, OfVariable}
 use Rattle.ps_points.specs.declared.uses.Way.{Way}
-use Rattle.ps_points.specs.declared.uses.Way.TheVariants.{Named, Selected, Completed, Assigned, Counted, CountedWithin, Passed}
+use Rattle.ps_points.specs.declared.uses.Way.TheVariants.{Named, Pointed, Selected, Completed, Assigned, Counted, CountedWithin, Passed}
 use Rattle.ps_points.specs.declared.uses.Use.{Use}
 use Rattle.ps_points.specs.declared.bodies.Repeated.{Repeated}
 use Rattle.ps_points.specs.Points.{Points, point, within}
@@ -45,6 +45,10 @@ pub record IsByVariable (text : List ℕ) (points : Points) (region : Region) (r
   pub alike : AreAlike text (point region routine Constant) heading
   pub formal : form_at (within heading.region heading.name) (drop (suc place) points) index ≡ Some VariableParameter
 
+-- the name is spelled like this
+abbrev pub IsCalled : List ℕ → List ℕ → Span → Type 0
+IsCalled text name at = spelled text at ≡ spelling name
+
 -- 6.9.1, 6.9.2: `read` or `readln`
 abbrev pub IsRead : List ℕ → Span → Type 0
 IsRead text routine = (spelled text routine ≡ spelling (codes "read")) ⊎ (spelled text routine ≡ spelling (codes "readln"))
@@ -59,6 +63,7 @@ Takes text points (l ∷ ls) routine index = IsByVariable text points l.region r
 -- 6.8.3.9: The use threatens what its name denotes. Where it is passed to a routine, it stands in the innermost of these blocks.
 abbrev pub Threatens : List ℕ → Points → Nested → Way → Type 0
 Threatens text points levels Named = ⊥
+Threatens text points levels Pointed = ⊥
 Threatens text points levels Selected = ⊥
 Threatens text points levels Completed = ⊥
 Threatens text points levels Assigned = Unit {0}

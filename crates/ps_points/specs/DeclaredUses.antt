@@ -1,5 +1,6 @@
 -- The uses of names in the declarations of a block, in the order of the text: a walk over the tree. Those in the routines' blocks are of these blocks.
-use Rattle.std.specs.Prelude.{List, [], ◌∷◌, ◌++◌}
+use Rattle.std.specs.Prelude.{List, [], ◌∷◌, ◌++◌, map}
+use Rattle.ps_text.specs.declared.Span.{Span}
 use Rattle.ps_syntax.specs.declared.program.Ordinal.{Ordinal}
 use Rattle.ps_syntax.specs.declared.program.Ordinal.TheVariants as o
 use Rattle.ps_syntax.specs.declared.program.Structure.{Structure}
@@ -14,7 +15,7 @@ use Rattle.ps_syntax.specs.declared.program.Heading.{Heading}
 use Rattle.ps_syntax.specs.declared.program.Section.{Section}
 use Rattle.ps_syntax.specs.declared.program.Heading.TheOpen.{Heading-F, Section-F}
 use Rattle.ps_syntax.specs.declared.program.Heading.TheFolds.{fold-Heading, fold-Section}
-use Rattle.ps_points.specs.declared.uses.Way.TheVariants.{Named}
+use Rattle.ps_points.specs.declared.uses.Way.TheVariants.{Named, Pointed}
 use Rattle.ps_points.specs.Uses.{Uses, used, all_uses, constant_uses}
 
 -- ---- types (6.4)
@@ -31,7 +32,7 @@ structure_uses_step (Structure-F.Set at base) = ordinal_uses base
 
 unfoldable pub type_uses_step : TypeDenoter-F Uses Uses Uses → Uses
 type_uses_step (TypeDenoter-F.Ordinal x) = ordinal_uses x
-type_uses_step (TypeDenoter-F.Pointer at domain) = used domain Named ∷ []
+type_uses_step (TypeDenoter-F.Pointer at domain) = used domain Pointed ∷ []
 type_uses_step (TypeDenoter-F.Structure x) = x
 type_uses_step (TypeDenoter-F.Packed at x) = x
 
@@ -78,3 +79,20 @@ variables_uses v = type_uses v.ty
 -- of a block: of constants, types and variables, and of the headings of its routines
 abbrev pub declared_uses : List ConstantDefinition → List TypeDefinition → List Variables → (headings : Uses) → Uses
 declared_uses cs ts vs headings = (all_uses constant_definition_uses cs ++ all_uses type_definition_uses ts) ++ (all_uses variables_uses vs ++ headings)
+
+-- ---- names with what stands in their own definitions
+
+-- a definition of a constant or type, or the heading of a routine: its name, and the uses in it
+pub record Definition : Type 0 where
+  pub name : Span
+  pub uses : Uses
+
+abbrev pub constant_definition : ConstantDefinition → Definition
+constant_definition c = record { name = c.name; uses = constant_definition_uses c }
+
+abbrev pub type_definition : TypeDefinition → Definition
+type_definition t = record { name = t.name; uses = type_definition_uses t }
+
+-- those of a block
+abbrev pub definitions : List ConstantDefinition → List TypeDefinition → (routines : List Definition) → List Definition
+definitions cs ts routines = map constant_definition cs ++ (map type_definition ts ++ routines)

@@ -5,5 +5,7 @@ pub mod DeclaredUses
 pub mod Levels
 pub mod Control
 pub mod Unknown
+pub mod Early
+pub mod Listed
 pub mod Walk
 pub mod Broken

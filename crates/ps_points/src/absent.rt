@@ -1,7 +1,7 @@
 //! Names that have no defining point of some kind in a region.
 
 ghost use Rattle.std.specs.Prelude.{◌≡◌, true, false};
-ghost use Rattle.ps_points.specs.Absent.{AreAlike, IsAbsent, has_block, is_variable, is_kind};
+ghost use Rattle.ps_points.specs.Absent.{AreAlike, IsAbsent, has_block, is_type, is_variable, is_kind};
 
 use crate::point::{Form, Point};
 use crate::twice::are_alike;
@@ -14,6 +14,8 @@ pub enum Kind {
     Every,
     /// Those that stand before it in the text.
     Ahead,
+    /// Those, and those of types.
+    AheadOrType,
     /// Those of routines with their blocks.
     WithBlock,
     /// Those of variable parts.
@@ -27,6 +29,15 @@ pub fn has_block(form: Form) -> bool
     match form {
         Form::WholeProcedure | Form::WholeFunction | Form::ProcedureBlock | Form::FunctionBlock =>
             true,
+        _ => false,
+    }
+}
+
+fn is_type(form: Form) -> bool
+    ensures { result ≡ is_type form }
+{
+    match form {
+        Form::TypeName => true,
         _ => false,
     }
 }
@@ -47,6 +58,7 @@ fn is_kind(kind: Kind, like: Point, point: Point) -> bool
     match kind {
         Kind::Every => true,
         Kind::Ahead => point.name.from < like.name.from,
+        Kind::AheadOrType => point.name.from < like.name.from || is_type(point.form),
         Kind::WithBlock => has_block(point.form),
         Kind::OfVariable => is_variable(point.form),
     }

@@ -4,6 +4,7 @@ ghost use Rattle.std.specs.Prelude.{ℕ, List, IfOk, IfSome};
 ghost use Rattle.ps_regions.specs.Refusal.{IsFault, IsRefusal};
 ghost use Rattle.ps_regions.specs.declared.refusal.Rule.TheVariants.{Unknown, Twice};
 ghost use Rattle.ps_points.specs.declared.walk.Asked.TheVariants.{OfUnknown};
+ghost use Rattle.ps_points.specs.Points.{program_points};
 ghost use Rattle.ps_points.specs.Levels.{program_levels};
 ghost use Rattle.ps_points.specs.Walk.{IsSomewhere};
 ghost use Rattle.ps_points.specs.Broken.{BrokenAt, IsToldOf};
@@ -108,10 +109,24 @@ fn undefined_or_repeated(
     Ok(first_of(reading, written, unknown, repeated))
 }
 
+/// The offset, if the rule is broken there.
+fn looked_at(
+    alloc: Global,
+    asked: Asked,
+    reading: &Reading,
+    written: &Program,
+    at: u32,
+) -> Result<Option<u32>, AllocError>
+    ensures { IfOk result (λ found. IfSome found (IsSomewhere asked reading.now.source.now (program_points written.now) (program_levels written.now))) }
+{
+    let points = program_points(alloc, written)?;
+    Ok(confirmed(asked, reading, points.as_slice(), written, Some(at)))
+}
+
 /// A rule that a program breaks, and where, by one that it is known to break. Where that is `Unknown` or `Twice`, it is the
 /// one of both that is broken first in the text. It is broken at the first token of the text that breaks it, where it is
 /// `Unknown`, `Twice` or `ForwardOpen`, and else where it is known to, which is looked at anew where the rule is
-/// `ControlVariable` or `NoResultAssigned`.
+/// `UsedBefore`, `ControlVariable`, `NoInputOutput` or `NoResultAssigned`.
 fn place(
     alloc: Global,
     reading: &Reading,
@@ -129,16 +144,17 @@ fn place(
             let found = first_open(reading, alloc, points.as_slice())?;
             Ok(with_rule(Rule::ForwardOpen, found))
         }
+        Rule::UsedBefore => {
+            let found = looked_at(alloc, Asked::OfEarly, reading, written, at)?;
+            Ok(with_rule(Rule::UsedBefore, found))
+        }
         Rule::ControlVariable => {
-            let points = program_points(alloc, written)?;
-            let found = confirmed(
-                Asked::OfControl,
-                reading,
-                points.as_slice(),
-                written,
-                Some(at),
-            );
+            let found = looked_at(alloc, Asked::OfControl, reading, written, at)?;
             Ok(with_rule(Rule::ControlVariable, found))
+        }
+        Rule::NoInputOutput => {
+            let found = looked_at(alloc, Asked::OfFiles, reading, written, at)?;
+            Ok(with_rule(Rule::NoInputOutput, found))
         }
         Rule::NoResultAssigned => {
             let points = program_points(alloc, written)?;
@@ -146,7 +162,6 @@ fn place(
             Ok(with_rule(Rule::NoResultAssigned, found))
         }
         Rule::NotInProfile
-        | Rule::UsedBefore
         | Rule::WrongKind
         | Rule::WrongType
         | Rule::NotAssignable
@@ -155,7 +170,6 @@ fn place(
         | Rule::CaseTwice
         | Rule::PackedVariable
         | Rule::NotCongruous
-        | Rule::NoInputOutput
         | Rule::Limit => Ok(Some((rule, at))),
     }
 }
@@ -175,7 +189,8 @@ fn told(alloc: Global, reading: &Reading, written: &Program, rule: Rule, at: u32
 
 /// What is told of a fault of a program: a rule, and the line of the token that breaks it. Where the fault is `Unknown` or
 /// `Twice`, the first name of the text that isn't defined or is defined twice is looked for anew and told; where it is
-/// `ForwardOpen`, the first heading; and where it is `ControlVariable` or `NoResultAssigned`, its token is looked at anew.
+/// `ForwardOpen`, the first heading; and where it is `UsedBefore`, `ControlVariable`, `NoInputOutput` or `NoResultAssigned`,
+/// its token is looked at anew.
 /// `OutOfMemory` is also answered where memory is wanting for that, or where no such token is found.
 pub fn refusal(alloc: Global, reading: &Reading, written: &Program, fault: Fault) -> CheckRefusal
     ensures fault { IsRefusal result → IsFault fault }

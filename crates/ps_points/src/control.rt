@@ -88,7 +88,8 @@ fn is_by_variable(
     false
 }
 
-fn is_read(reading: &Reading, routine: Span) -> bool
+/// Whether it is the name of a required procedure that reads.
+pub fn is_read(reading: &Reading, routine: Span) -> bool
     ensures { result ≡ true → IsRead reading.now.source.now routine }
 {
     let name = reading.bytes(routine);
@@ -116,6 +117,7 @@ fn threatens(reading: &Reading, points: &[Point], levels: &Levels, way: Way) -> 
 {
     match way {
         Way::Named => false,
+        Way::Pointed => false,
         Way::Selected => false,
         Way::Completed => false,
         Way::Assigned | Way::Counted | Way::CountedWithin => true,
@@ -155,7 +157,12 @@ fn is_counted(way: Way) -> bool
 {
     match way {
         Way::Counted | Way::CountedWithin => true,
-        Way::Named | Way::Selected | Way::Completed | Way::Assigned | Way::Passed { .. } => false,
+        Way::Named
+        | Way::Pointed
+        | Way::Selected
+        | Way::Completed
+        | Way::Assigned
+        | Way::Passed { .. } => false,
     }
 }
 
@@ -255,7 +262,12 @@ fn is_foreign(reading: &Reading, points: &[Point], region: Region, control: Use)
             is_absent(reading, points, Kind::OfVariable, like)
                 || has_field(reading, points, control.name)
         }
-        Way::Named | Way::Selected | Way::Completed | Way::Assigned | Way::Passed { .. } => false,
+        Way::Named
+        | Way::Pointed
+        | Way::Selected
+        | Way::Completed
+        | Way::Assigned
+        | Way::Passed { .. } => false,
     }
 }
 

@@ -43,12 +43,12 @@ fn in_ordinals(list: &[Ordinal], sought: Sought<'_>) -> Option<Use>
 /// A use in a type denoter.
 #[cycle(denoted)]
 #[tactic(auto, using(crate::proofs::DeclaredFound::type_found_ordinal, crate::proofs::DeclaredFound::type_found_pointer, crate::proofs::DeclaredFound::type_found_structure, crate::proofs::DeclaredFound::type_found_packed))]
-fn in_type(ty: &TypeDenoter, sought: Sought<'_>) -> Option<Use>
+pub fn in_type(ty: &TypeDenoter, sought: Sought<'_>) -> Option<Use>
     ensures { IsFound (type_uses ty.now) result }
 {
     match ty {
         TypeDenoter::Ordinal(ordinal) => in_ordinal(ordinal, sought),
-        TypeDenoter::Pointer(_, domain) => one_use(*domain, Way::Named, sought),
+        TypeDenoter::Pointer(_, domain) => one_use(*domain, Way::Pointed, sought),
         TypeDenoter::Structure(structure) => in_structure(structure, sought),
         TypeDenoter::Packed(_, structure) => in_structure(structure, sought),
     }
@@ -166,7 +166,7 @@ fn in_section(section: &Section, sought: Sought<'_>) -> Option<Use>
 }
 
 #[tactic(auto, using(crate::proofs::DeclaredFound::routine_found_whole, crate::proofs::DeclaredFound::routine_found_forward, crate::proofs::DeclaredFound::routine_found_completion))]
-fn in_routine_heading(routine: &Routine, sought: Sought<'_>) -> Option<Use>
+pub fn in_routine_heading(routine: &Routine, sought: Sought<'_>) -> Option<Use>
     ensures { IsFound (routine_heading_uses routine.now) result }
 {
     match routine {

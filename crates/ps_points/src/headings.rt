@@ -2,9 +2,10 @@
 
 ghost use Rattle.std.specs.Prelude.{◌≡◌, ◌++◌, OnOk};
 ghost use Rattle.ps_points.specs.Points.{gathered, heading, heading_points, section_points, whole_form, forward_form};
+ghost use Rattle.ps_points.specs.Levels.{routine_heading};
 
 use crate::point::{Form, Point, Region, add_names, add_point, within};
-use ps_syntax::{Heading, Section};
+use ps_syntax::{Heading, Routine, Section};
 use ps_text::Span;
 use std::alloc::AllocError;
 
@@ -15,6 +16,18 @@ pub fn heading_name(written: &Heading) -> Span
 {
     match written {
         Heading::Procedure(name, _) | Heading::Function(name, ..) => *name,
+    }
+}
+
+/// The name of a routine.
+#[tactic(auto, using(crate::proofs::WalkLemmas::whole_name, crate::proofs::WalkLemmas::forward_name, crate::proofs::WalkLemmas::completion_name))]
+pub fn routine_name(written: &Routine) -> Span
+    ensures { result ≡ (routine_heading written.now).name }
+{
+    match written {
+        Routine::Whole(heading, _) => heading_name(heading),
+        Routine::Forward(heading) => heading_name(heading),
+        Routine::Completion(name, _) => *name,
     }
 }
 

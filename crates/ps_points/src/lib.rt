@@ -1,5 +1,5 @@
 //! The defining points of a program and the uses of its names, with their regions, and where a rule about them is broken (ISO
-//! 7185, 6.2.2, 6.6.1, 6.8.3.9).
+//! 7185, 6.2.2, 6.3, 6.4.1, 6.6.1, 6.8.3.9, 6.10).
 #![tactic(auto)]
 
 mod absent;
@@ -9,9 +9,11 @@ pub mod broken;
 mod control;
 mod declared;
 mod earliest;
+mod early;
 mod functions;
 mod headings;
 mod levels;
+mod listed;
 mod open;
 mod point;
 mod twice;

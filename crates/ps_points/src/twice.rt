@@ -1,8 +1,9 @@
 //! Names with two defining points in a region.
 
-ghost use Rattle.std.specs.Prelude.{◌≡◌, IfOk, IfSome, MatchBool};
+ghost use Rattle.std.specs.Prelude.{◌≡◌, true, false, IfOk, IfSome, MatchBool};
 ghost use Rattle.ps_regions.specs.Spelling.{spelled};
 ghost use Rattle.ps_points.specs.Absent.{AreAlike};
+ghost use Rattle.ps_points.specs.Control.{IsCalled};
 ghost use Rattle.ps_points.specs.Broken.{IsTwice, completes};
 
 use crate::point::{Form, Point};
@@ -18,6 +19,14 @@ pub fn same_name(reading: &Reading, a: Span, b: Span) -> bool
     ensures { MatchBool result (spelled reading.now.source.now a ≡ spelled reading.now.source.now b) (spelled reading.now.source.now a ≡ spelled reading.now.source.now b → ⊥) }
 {
     reading.bytes(a).eq_ignore_ascii_case(reading.bytes(b))
+}
+
+/// Whether a name is spelled like this.
+pub fn is_spelled(reading: &Reading, at: Span, name: &[u8]) -> bool
+    ensures yes { result ≡ true → IsCalled reading.now.source.now name.now at }
+    ensures no { result ≡ false → IsCalled reading.now.source.now name.now at → ⊥ }
+{
+    reading.bytes(at).eq_ignore_ascii_case(name)
 }
 
 /// Whether both stand in one region, and are spelled alike.

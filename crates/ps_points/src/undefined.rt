@@ -1,6 +1,9 @@
 //! Names that no region round their use has, looked up by their spelling. Nothing is asked of this search: what it finds
 //! is looked at anew.
 
+ghost use Rattle.std.specs.Prelude.{◌≡◌};
+ghost use Rattle.ps_points.specs.Early.{is_hidden};
+
 use crate::levels::Levels;
 use crate::point::{Form, Point, Region};
 use crate::uses::{Use, Way};
@@ -10,7 +13,7 @@ use ps_tree::names::Names;
 use std::alloc::{AllocError, Global};
 
 /// The required names, and those of the required files.
-const REQUIRED: [&[u8]; 40] = [
+pub const REQUIRED: [&[u8]; 40] = [
     b"integer", b"char", b"boolean", b"maxint", b"false", b"true", b"abs", b"sqr", b"odd", b"chr",
     b"ord", b"succ", b"pred", b"eof", b"eoln", b"read", b"readln", b"write", b"writeln", b"new",
     b"pack", b"unpack", b"real", b"text", b"trunc", b"round", b"sin", b"cos", b"exp", b"ln",
@@ -59,7 +62,9 @@ fn required(alloc: Global) -> Result<Names, AllocError> {
 }
 
 /// Whether it is a field or a formal parameter.
-fn is_hidden(form: Form) -> bool {
+pub fn is_hidden(form: Form) -> bool
+    ensures { result ≡ is_hidden form }
+{
     match form {
         Form::Field | Form::ValueParameter | Form::VariableParameter | Form::RoutineParameter =>
             true,

@@ -1,8 +1,8 @@
 //! Names without a defining point.
 
-ghost use Rattle.std.specs.Prelude.{◌≡◌, true};
+ghost use Rattle.std.specs.Prelude.{◌≡◌, true, map};
 ghost use Rattle.ps_points.specs.Levels.{own_level, levels_of};
-ghost use Rattle.ps_points.specs.Unknown.{AllLack, HasNoHeading, IsLacking, IsUnknown};
+ghost use Rattle.ps_points.specs.Unknown.{required_names, IsNoneOf, AllLack, HasNoHeading, IsNowhere, IsLacking, IsUnknown};
 
 use crate::absent::{Kind, is_absent};
 use crate::bodies::in_statements;
@@ -10,6 +10,8 @@ use crate::control::{lacks, named};
 use crate::declared::in_declarations;
 use crate::levels::Levels;
 use crate::point::{Point, Region};
+use crate::twice::is_spelled;
+use crate::undefined::REQUIRED;
 use crate::uses::{Sought, Use, Way, first};
 use ps_regions::reading::Reading;
 use ps_syntax::Block;
@@ -17,7 +19,7 @@ use ps_text::Span;
 
 /// Whether none of these blocks has the name.
 #[tactic(auto, unfolding(crate::specs::Levels::levels_of))]
-fn all_lack(reading: &Reading, points: &[Point], levels: &Levels, name: Span) -> bool
+pub fn all_lack(reading: &Reading, points: &[Point], levels: &Levels, name: Span) -> bool
     ensures { result ≡ true → AllLack reading.now.source.now points.now (levels_of levels.now) name }
 {
     match levels {
@@ -41,6 +43,32 @@ fn has_no_heading(reading: &Reading, points: &[Point], levels: &Levels, name: Sp
     }
 }
 
+/// Whether a name is spelled like none of these.
+#[tactic(auto, using(crate::proofs::UnknownLemmas::none_of_none, crate::proofs::UnknownLemmas::none_of_more))]
+fn is_none_of(reading: &Reading, at: Span, names: &[&[u8]]) -> bool
+    ensures { result ≡ true → IsNoneOf reading.now.source.now (map (λ name. name.now) names.now) at }
+{
+    match names {
+        [] => true,
+        [first, rest @ ..] => { !is_spelled(reading, at, first) && is_none_of(reading, at, rest) }
+    }
+}
+
+/// Whether a name is no required one.
+#[tactic(auto, using(crate::proofs::UnknownLemmas::not_required))]
+fn is_not_required(reading: &Reading, at: Span) -> bool
+    ensures { result ≡ true → IsNoneOf reading.now.source.now required_names at }
+{
+    is_none_of(reading, at, &REQUIRED)
+}
+
+/// Whether none of these blocks has the name, which is no required one.
+fn is_nowhere(reading: &Reading, points: &[Point], levels: &Levels, name: Span) -> bool
+    ensures { result ≡ true → IsNowhere reading.now.source.now points.now (levels_of levels.now) name }
+{
+    all_lack(reading, points, levels, name) && is_not_required(reading, name)
+}
+
 /// Whether none of them has the name that is used; of that of a function's block, whether it lacks its heading. Of the name
 /// of a field behind a point nothing is asked.
 fn is_lacking(reading: &Reading, points: &[Point], levels: &Levels, found: Use) -> bool
@@ -49,11 +77,12 @@ fn is_lacking(reading: &Reading, points: &[Point], levels: &Levels, found: Use) 
     match found.way {
         Way::Selected => true,
         Way::Completed => has_no_heading(reading, points, levels, found.name),
-        Way::Named => all_lack(reading, points, levels, found.name),
-        Way::Assigned => all_lack(reading, points, levels, found.name),
-        Way::Counted => all_lack(reading, points, levels, found.name),
-        Way::CountedWithin => all_lack(reading, points, levels, found.name),
-        Way::Passed { .. } => all_lack(reading, points, levels, found.name),
+        Way::Named => is_nowhere(reading, points, levels, found.name),
+        Way::Pointed => is_nowhere(reading, points, levels, found.name),
+        Way::Assigned => is_nowhere(reading, points, levels, found.name),
+        Way::Counted => is_nowhere(reading, points, levels, found.name),
+        Way::CountedWithin => is_nowhere(reading, points, levels, found.name),
+        Way::Passed { .. } => is_nowhere(reading, points, levels, found.name),
     }
 }
 

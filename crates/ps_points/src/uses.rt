@@ -16,6 +16,8 @@ use ps_text::Span;
 pub enum Way {
     /// Nothing.
     Named,
+    /// It is the domain type of a pointer type.
+    Pointed,
     /// It is that of a field behind a point, and looked up in the record's type.
     Selected,
     /// The routine of this name, a function, has its block there, and its heading further up.
@@ -67,8 +69,12 @@ impl<'a> Sought<'a> {
                         .bytes(name)
                         .eq_ignore_ascii_case(reading.bytes(found.name))
                 }
-                Way::Named | Way::Selected | Way::Completed | Way::Assigned | Way::Passed { .. } =>
-                    false,
+                Way::Named
+                | Way::Pointed
+                | Way::Selected
+                | Way::Completed
+                | Way::Assigned
+                | Way::Passed { .. } => false,
             },
             Sought::Undefined(open, is_hiding) => is_undefined(open, found, is_hiding),
         }

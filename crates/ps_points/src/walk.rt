@@ -5,8 +5,10 @@ ghost use Rattle.ps_points.specs.Levels.{own_level, levels_of, block_levels, rou
 ghost use Rattle.ps_points.specs.Walk.{IsIn, IsSomewhere};
 
 use crate::control::is_broken_in;
+use crate::early::is_early;
 use crate::headings::heading_name;
 use crate::levels::Levels;
+use crate::listed::is_unlisted;
 use crate::point::{Point, Region, within};
 use crate::unknown::is_unknown;
 use ps_regions::reading::Reading;
@@ -19,6 +21,10 @@ pub enum Asked {
     OfControl,
     /// That names have a defining point.
     OfUnknown,
+    /// That this stands before their uses.
+    OfEarly,
+    /// That of the required files, which the program heading lists.
+    OfFiles,
 }
 
 /// Whether the rule is broken at an offset in the innermost of these blocks.
@@ -36,6 +42,8 @@ fn is_in(
     match asked {
         Asked::OfControl => is_broken_in(reading, points, region, block, outer, at),
         Asked::OfUnknown => is_unknown(reading, points, region, block, outer, at),
+        Asked::OfEarly => is_early(reading, points, region, block, outer, at),
+        Asked::OfFiles => is_unlisted(reading, points, region, block, outer, at),
     }
 }
 
