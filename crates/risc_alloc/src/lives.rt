@@ -8,8 +8,8 @@ use crate::walk::settle;
 use std::alloc::Global;
 use tac_code::code::{Instruction, OutOfMemory, TacRoutine};
 
-/// A temporary's life: from the first to the last time at which it is alive, and whether it spans a call. The entry of a routine is
-/// time 0; what is alive before the instruction at a place is so at an odd time, what it writes begins at the even time behind.
+/// A temporary's life: from the first to the last time at which it is alive, whether it spans a call, and whether it is returned. The
+/// entry of a routine is time 0; what is alive before the instruction at a place is so at an odd time, what it writes begins at the even time behind.
 /// What is never alive begins after its end.
 #[derive(Clone, Copy)]
 pub(crate) struct Life {
@@ -17,6 +17,7 @@ pub(crate) struct Life {
     pub from: u64,
     pub to: u64,
     pub spans: bool,
+    pub returned: bool,
 }
 
 fn time_before(place: usize) -> u64 {
@@ -35,6 +36,7 @@ fn unborn(alloc: Global, temporaries: u32) -> Result<Vec<Life>, OutOfMemory> {
             from: u64::MAX,
             to: 0,
             spans: false,
+            returned: false,
         })?;
     }
     Ok(lives)
@@ -87,6 +89,15 @@ fn note_spans(lives: &mut [Life], table: &Table, taken: Option<u32>) {
     }
 }
 
+fn note_returned(lives: &mut [Life], instruction: &Instruction) {
+    if let Instruction::Return { from } = instruction {
+        let index = *from as usize;
+        if index < lives.len() {
+            lives[index].returned = true;
+        }
+    }
+}
+
 // From what is alive at the next place to what is alive behind an instruction.
 fn live_behind(
     lives: &mut [Life],
@@ -119,6 +130,7 @@ fn live_before(
     instruction: &Instruction,
     place: usize,
 ) {
+    note_returned(lives, instruction);
     if is_call(instruction) {
         note_spans(lives, table, written(instruction));
     }

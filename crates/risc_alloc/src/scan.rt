@@ -12,7 +12,7 @@ use tac_code::code::{OutOfMemory, TacRoutine};
 use tac_code::tac::Tac;
 
 /// Goes through each routine's temporaries in the order of their lives and gives registers 0 to 11, and the slot of its number to
-/// what finds none free or spans a call.
+/// what finds none free or spans a call. Register 0, in which results come, is kept for the first that is returned.
 #[derive(Clone, Copy, Drop)]
 pub struct Scan;
 
@@ -27,11 +27,37 @@ impl Placer for Scan {
     }
 }
 
-// The first register that is free from before a time on.
-fn free_register(busy: &[u64; REGISTERS], from: u64) -> Option<u8>
+// Whether a life may have a register at all.
+fn is_short(life: Life) -> bool {
+    !life.spans && life.from <= life.to
+}
+
+// The first life whose temporary is returned and may have a register.
+fn first_returned(lives: &[Life]) -> Option<Life> {
+    for life in lives {
+        if life.returned && is_short(*life) {
+            return Some(*life);
+        }
+    }
+    None
+}
+
+// The registers from this one on are open to a life: register 0 where what it is kept for isn't alive.
+fn lowest_for(kept: Option<Life>, life: Life) -> u8 {
+    match kept {
+        Some(other)
+            if other.temporary != life.temporary
+                && life.from <= other.to
+                && other.from <= life.to => 1,
+        _ => 0,
+    }
+}
+
+// The first register from a lowest one on that is free from before a time on.
+fn free_register(busy: &[u64; REGISTERS], lowest: u8, from: u64) -> Option<u8>
     ensures { IfSome result (λ register. register < 12) }
 {
-    for register in 0..12u8 {
+    for register in lowest..12 {
         if busy[register as usize] < from {
             return Some(register);
         }
@@ -40,11 +66,12 @@ fn free_register(busy: &[u64; REGISTERS], from: u64) -> Option<u8>
 }
 
 // Gives a register to a life, where it may have one and one is free.
-fn choose(homes: &mut [Home], busy: &mut [u64; REGISTERS], life: Life) {
-    if life.spans || life.to < life.from {
+fn choose(homes: &mut [Home], busy: &mut [u64; REGISTERS], kept: Option<Life>, life: Life) {
+    if !is_short(life) {
         return;
     }
-    let Some(register) = free_register(busy, life.from.saturating_add(1)) else {
+    let lowest = lowest_for(kept, life);
+    let Some(register) = free_register(busy, lowest, life.from.saturating_add(1)) else {
         return;
     };
     let index = life.temporary as usize;
@@ -66,9 +93,10 @@ fn scan_routine(
     let mut chosen = Vec::new(alloc);
     add_slots(&mut chosen, routine.temporaries)?;
     lives.sort_by_key(|life| life.from)?;
+    let kept = first_returned(lives.as_slice());
     let mut busy = [0; REGISTERS];
     for life in &lives {
-        choose(chosen.as_mut_slice(), &mut busy, *life);
+        choose(chosen.as_mut_slice(), &mut busy, kept, *life);
     }
     homes.extend_from_slice(chosen.as_slice())
 }

@@ -12,7 +12,8 @@ ghost use Rattle.risc_emit.specs.Frames.{context_of};
 
 use crate::frame::Frame;
 use crate::operands::{
-    fetch, fetch_length, put_divisor, put_modulus, put_operation, receive, right, save, target,
+    fetch, fetch_length, is_told, put_divisor, put_modulus, put_operation, receive, right, save,
+    target,
 };
 use crate::pieces::{Piece, Pieces};
 use crate::words::{computed, constant, r12, r15, set, skip};
@@ -25,6 +26,16 @@ fn is_divisor(operand: Operand) -> bool
     match operand {
         Operand::Temporary(_) => false,
         Operand::Number(value) => 0 < value && value < 65536,
+    }
+}
+
+/// Whether a right operand is the number 0.
+pub(crate) fn is_null(operand: Operand) -> bool
+    ensures { result ≡ form.is_null operand }
+{
+    match operand {
+        Operand::Temporary(_) => false,
+        Operand::Number(value) => value == 0,
     }
 }
 
@@ -93,7 +104,41 @@ pub(crate) fn put_bits(
     save(frame, pieces, to)
 }
 
-pub(crate) fn put_compare(
+// Whether a temporary's register holds its own difference from 0 already, with N and Z.
+fn is_own(frame: &Frame<'_>, told: Option<u32>, to: u32, left: u32, operand: Operand) -> bool
+    ensures { result ≡ form.is_own (context_of frame.now) frame.now.number told to left operand }
+{
+    is_told(frame, told, left) && (to == left && is_null(operand))
+}
+
+// A difference that is not 0 becomes 1.
+fn put_one(frame: &Frame<'_>, pieces: &mut Pieces, to: u32) -> Result<(), OutOfMemory>
+    ensures { OnOk result (pieces.new ≡ pieces.old ++ form.unlike (context_of frame.now) frame.now.number to) }
+{
+    pieces.plain(skip(Condition::Equal, 1))?;
+    pieces.plain(set(target(frame, to), 1))?;
+    save(frame, pieces, to)
+}
+
+// Whether two values differ.
+fn put_unlike(
+    frame: &Frame<'_>,
+    pieces: &mut Pieces,
+    told: Option<u32>,
+    to: u32,
+    left: u32,
+    operand: Operand,
+) -> Result<(), OutOfMemory>
+    ensures { OnOk result (pieces.new ≡ pieces.old ++ form.unlike_form (context_of frame.now) frame.now.number told to left operand) }
+{
+    if !is_own(frame, told, to, left, operand) {
+        put_operate(frame, pieces, Operation::Sub, to, left, operand)?;
+    }
+    put_one(frame, pieces, to)
+}
+
+// Whether a relation holds.
+fn put_truth(
     frame: &Frame<'_>,
     pieces: &mut Pieces,
     relation: Relation,
@@ -101,7 +146,7 @@ pub(crate) fn put_compare(
     left: u32,
     operand: Operand,
 ) -> Result<(), OutOfMemory>
-    ensures { OnOk result (pieces.new ≡ pieces.old ++ form.compare_form (context_of frame.now) frame.now.number relation to left operand) }
+    ensures { OnOk result (pieces.new ≡ pieces.old ++ form.truth_form (context_of frame.now) frame.now.number relation to left operand) }
 {
     let register = target(frame, to);
     put_difference(frame, pieces, left, operand)?;
@@ -110,6 +155,27 @@ pub(crate) fn put_compare(
     pieces.plain(skip(Condition::Always, 1))?;
     pieces.plain(set(register, 1))?;
     save(frame, pieces, to)
+}
+
+pub(crate) fn put_compare(
+    frame: &Frame<'_>,
+    pieces: &mut Pieces,
+    told: Option<u32>,
+    relation: Relation,
+    to: u32,
+    left: u32,
+    operand: Operand,
+) -> Result<(), OutOfMemory>
+    ensures { OnOk result (pieces.new ≡ pieces.old ++ form.compare_form (context_of frame.now) frame.now.number told relation to left operand) }
+{
+    match relation {
+        Relation::NotEqual => put_unlike(frame, pieces, told, to, left, operand),
+        Relation::Equal
+        | Relation::Less
+        | Relation::LessEqual
+        | Relation::Greater
+        | Relation::GreaterEqual => put_truth(frame, pieces, relation, to, left, operand),
+    }
 }
 
 // A sum or a difference.

@@ -10,7 +10,9 @@ ghost use Rattle.risc_emit.specs.Frames.{context_of};
 ghost use Rattle.risc_emit.specs.Meant.{label_of};
 ghost use Rattle.risc_emit.specs.Passes.{PassesFew};
 
-use crate::arithmetic::{condition_of, put_arithmetic, put_bits, put_compare, put_difference};
+use crate::arithmetic::{
+    condition_of, is_null, put_arithmetic, put_bits, put_compare, put_difference,
+};
 use crate::calls::{put_call, put_call_value, put_end, put_new, put_put, put_return, put_take};
 use crate::checks::{put_check, put_index, put_pointer_check};
 use crate::frame::Frame;
@@ -37,15 +39,6 @@ fn put_jump(pieces: &mut Pieces, label: Label) -> Result<(), OutOfMemory>
     ensures { OnOk result (pieces.new ≡ pieces.old ++ piece.Goes on.Always (label_of label) ∷ []) }
 {
     pieces.push(Piece::Goes(Condition::Always, label))
-}
-
-fn is_null(operand: Operand) -> bool
-    ensures { result ≡ form.is_null operand }
-{
-    match operand {
-        Operand::Temporary(_) => false,
-        Operand::Number(value) => value == 0,
-    }
 }
 
 // The condition for a comparison with 0 by N and Z alone.
@@ -131,7 +124,7 @@ pub(crate) fn put_instruction(
             to,
             left,
             right,
-        } => put_compare(frame, pieces, *relation, *to, *left, *right),
+        } => put_compare(frame, pieces, told, *relation, *to, *left, *right),
         Instruction::CheckRange {
             value,
             low,

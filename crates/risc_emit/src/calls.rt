@@ -11,7 +11,7 @@ ghost use Rattle.risc_emit.specs.Frames.{context_of};
 
 use crate::frame::Frame;
 use crate::numbers::put_natural;
-use crate::operands::{bring, fetch, receive, save, target};
+use crate::operands::{accept, fetch, hand, receive, save, target};
 use crate::pieces::{Piece, Pieces};
 use crate::words::{computed, copied, goes_to, loaded, r12, r13, r14, r15, set, stored};
 use risc_word::{Condition, Operand as Right, Operation, Register, Width};
@@ -58,7 +58,7 @@ pub(crate) fn put_call(
     } else {
         pieces.push(Piece::Joins(routine))?;
     }
-    receive(frame, pieces, to)
+    accept(frame, pieces, to)
 }
 
 pub(crate) fn put_call_value(
@@ -75,7 +75,7 @@ pub(crate) fn put_call_value(
     put_operands(frame, pieces, operands)?;
     let register = fetch(frame, pieces, r12(), callee)?;
     pieces.push(Piece::EntersAt(register, line))?;
-    receive(frame, pieces, to)
+    accept(frame, pieces, to)
 }
 
 pub(crate) fn put_return(
@@ -85,7 +85,7 @@ pub(crate) fn put_return(
 ) -> Result<(), OutOfMemory>
     ensures { OnOk result (pieces.new ≡ pieces.old ++ form.return_form (context_of frame.now) frame.now.number from) }
 {
-    bring(frame, pieces, r12(), from)?;
+    hand(frame, pieces, from)?;
     if frame.is_of_program() {
         pieces.plain(loaded(Width::Word, r15(), r14(), 0))?;
         pieces.plain(loaded(Width::Word, r14(), r14(), 4))?;

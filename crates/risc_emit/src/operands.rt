@@ -13,7 +13,7 @@ use crate::frame::Frame;
 use crate::numbers::{is_near, is_small, put_exact, put_load, put_number, put_store};
 use crate::pieces::Pieces;
 use crate::seat::Seat;
-use crate::words::{computed, constant, copied, r12, r14, r15};
+use crate::words::{computed, constant, copied, r0, r12, r14, r15};
 use risc_word::{Operand as Right, Operation, Register};
 use tac_code::code::{Operand, OutOfMemory};
 
@@ -109,6 +109,44 @@ pub(crate) fn receive(
     match frame.seat(temporary) {
         Seat::Register(register) => pieces.plain(copied(register, r12())),
         Seat::Slot(slot) => put_store(pieces, r12(), r14(), frame.slot_at(slot)),
+    }
+}
+
+/// R0 takes the result of a routine.
+pub(crate) fn hand(
+    frame: &Frame<'_>,
+    pieces: &mut Pieces,
+    temporary: u32,
+) -> Result<(), OutOfMemory>
+    ensures { OnOk result (pieces.new ≡ pieces.old ++ form.hand (context_of frame.now) frame.now.number (home (context_of frame.now) frame.now.number temporary)) }
+{
+    match frame.seat(temporary) {
+        Seat::Register(register) => {
+            if register.number() == 0 {
+                return Ok(());
+            }
+            pieces.plain(copied(r0(), register))
+        }
+        Seat::Slot(slot) => put_load(pieces, r0(), r14(), frame.slot_at(slot)),
+    }
+}
+
+/// It comes from there to its home.
+pub(crate) fn accept(
+    frame: &Frame<'_>,
+    pieces: &mut Pieces,
+    temporary: u32,
+) -> Result<(), OutOfMemory>
+    ensures { OnOk result (pieces.new ≡ pieces.old ++ form.accept (context_of frame.now) frame.now.number (home (context_of frame.now) frame.now.number temporary)) }
+{
+    match frame.seat(temporary) {
+        Seat::Register(register) => {
+            if register.number() == 0 {
+                return Ok(());
+            }
+            pieces.plain(copied(register, r0()))
+        }
+        Seat::Slot(slot) => put_store(pieces, r0(), r14(), frame.slot_at(slot)),
     }
 }
 

@@ -5,6 +5,7 @@ use Rattle.risc_word.specs.declared.instr.Condition.{Condition}
 use Rattle.tac_code.specs.declared.code.Operator.{Operator}
 use Rattle.tac_code.specs.declared.code.Operator.TheVariants.{Add, Subtract, Multiply, Divide, Modulo}
 use Rattle.tac_code.specs.declared.code.Relation.{Relation}
+use Rattle.tac_code.specs.declared.code.Relation.TheVariants.{Equal, NotEqual, Less, LessEqual, Greater, GreaterEqual}
 use Rattle.tac_code.specs.declared.code.Operand.{Operand}
 use Rattle.tac_code.specs.declared.code.Operand.TheVariants as operand
 use Rattle.tac_code.specs.declared.code.Base.{Base}
@@ -54,9 +55,17 @@ module _ (c : Context) (r : ℕ) where
   save_bare (Reg q) = refl
   save_bare (Slot k) = refl
 
-  pub receive_bare : (h : Home) → form.receive b r h ≡ form.receive c r h
+  receive_bare : (h : Home) → form.receive b r h ≡ form.receive c r h
   receive_bare (Reg q) = refl
   receive_bare (Slot k) = refl
+
+  hand_bare : (h : Home) → form.hand b r h ≡ form.hand c r h
+  hand_bare (Reg q) = refl
+  hand_bare (Slot k) = refl
+
+  accept_bare : (h : Home) → form.accept b r h ≡ form.accept c r h
+  accept_bare (Reg q) = refl
+  accept_bare (Slot k) = refl
 
   copy_bare : (h g : Home) → form.copy b r h g ≡ form.copy c r h g
   copy_bare (Reg q) g = bring_bare q g
@@ -146,6 +155,22 @@ module _ (c : Context) (r : ℕ) where
   branch_bare None relation a o label =
       rw (fetch_bare 12 (home c r a)) (rw (fetched_bare 12 (home c r a)) (rw (right_bare o) (rw (right_operand_bare o) refl)))
 
+  truth_bare : (relation : Relation) (t a : ℕ) (o : Operand) → form.truth_form b r relation t a o ≡ form.truth_form c r relation t a o
+  truth_bare relation t a o =
+      rw (fetch_bare 12 (home c r a)) (rw (fetched_bare 12 (home c r a)) (rw (right_bare o) (rw (right_operand_bare o) (rw (target_bare (home c r t)) (rw (save_bare (home c r t)) refl)))))
+
+  unlike_bare : (told : Option ℕ) (t a : ℕ) (o : Operand) → form.unlike_form b r told t a o ≡ form.unlike_form c r told t a o
+  unlike_bare told t a o =
+      rw (fetch_bare 12 (home c r a)) (rw (fetched_bare 12 (home c r a)) (rw (right_bare o) (rw (right_operand_bare o) (rw (target_bare (home c r t)) (rw (save_bare (home c r t)) refl)))))
+
+  compare_bare : (told : Option ℕ) (relation : Relation) (t a : ℕ) (o : Operand) → form.compare_form b r told relation t a o ≡ form.compare_form c r told relation t a o
+  compare_bare told NotEqual t a o = unlike_bare told t a o
+  compare_bare told Equal t a o = truth_bare Equal t a o
+  compare_bare told Less t a o = truth_bare Less t a o
+  compare_bare told LessEqual t a o = truth_bare LessEqual t a o
+  compare_bare told Greater t a o = truth_bare Greater t a o
+  compare_bare told GreaterEqual t a o = truth_bare GreaterEqual t a o
+
   label_bare : (t : ℕ) (label : _) → form.label_form b r t label ≡ form.label_form c r t label
   label_bare t label = rw (target_bare (home c r t)) (rw (save_bare (home c r t)) refl)
 
@@ -155,8 +180,7 @@ module _ (c : Context) (r : ℕ) where
   form_bare k (Arithmetic operator t a o error line) = arithmetic_bare operator t a o error line
   form_bare k (Bits operator t a o) =
       rw (fetch_bare 12 (home c r a)) (rw (fetched_bare 12 (home c r a)) (rw (right_bare o) (rw (right_operand_bare o) (rw (target_bare (home c r t)) (rw (save_bare (home c r t)) refl)))))
-  form_bare k (Compare relation t a o) =
-      rw (fetch_bare 12 (home c r a)) (rw (fetched_bare 12 (home c r a)) (rw (right_bare o) (rw (right_operand_bare o) (rw (target_bare (home c r t)) (rw (save_bare (home c r t)) refl)))))
+  form_bare k (Compare relation t a o) = compare_bare (told_at c r k) relation t a o
   form_bare k (CheckRange a low high error line) =
       rw (fetch_bare 12 (home c r a)) (rw (fetched_bare 12 (home c r a)) refl)
   form_bare k (CheckPointer a error line) = rw (bring_bare 12 (home c r a)) refl
@@ -174,10 +198,10 @@ module _ (c : Context) (r : ℕ) where
   form_bare k (JumpBack n) = refl
   form_bare k (Branch relation a o n) = branch_bare (form.branch_choice c r (told_at c r k) relation a o) relation a o _
   form_bare k (BranchBack relation a o n) = branch_bare (form.branch_choice c r (told_at c r k) relation a o) relation a o _
-  form_bare k (Call t q us line) = rw (pass_bare 0 us) (rw (receive_bare (home c r t)) refl)
+  form_bare k (Call t q us line) = rw (pass_bare 0 us) (rw (accept_bare (home c r t)) refl)
   form_bare k (CallValue t a us line) =
-      rw (pass_bare 0 us) (rw (fetch_bare 12 (home c r a)) (rw (fetched_bare 12 (home c r a)) (rw (receive_bare (home c r t)) refl)))
-  form_bare k (Return a) = rw (bring_bare 12 (home c r a)) refl
+      rw (pass_bare 0 us) (rw (fetch_bare 12 (home c r a)) (rw (fetched_bare 12 (home c r a)) (rw (accept_bare (home c r t)) refl)))
+  form_bare k (Return a) = rw (hand_bare (home c r a)) refl
   form_bare k (Trap error line) = refl
   form_bare k (Take t) = label_free t
     where
@@ -200,9 +224,9 @@ start_bare : (c : Context) (block : TacRoutine) → start_form (bare c) block �
 start_bare c block = refl
 
 module _ (c c' : Context) (alike : Alike c c') where
-  pub receives_alike : (r t : ℕ) → form.receive c' r (home c' r t) ≡ form.receive c r (home c r t)
-  receives_alike r t =
-      sym (receive_bare c' r (home c' r t)) ∙ ap (λ x. form.receive x r (home x r t)) (bare_same c c' alike) ∙ receive_bare c r (home c r t)
+  pub accepts_alike : (r t : ℕ) → form.accept c' r (home c' r t) ≡ form.accept c r (home c r t)
+  accepts_alike r t =
+      sym (accept_bare c' r (home c' r t)) ∙ ap (λ x. form.accept x r (home x r t)) (bare_same c c' alike) ∙ accept_bare c r (home c r t)
 
   pub forms_alike : (r k : ℕ) (i : Instruction) → form.form c' r k i ≡ form.form c r k i
   forms_alike r k i =

@@ -17,7 +17,7 @@ use Rattle.risc_image.specs.Table.{call_at}
 use Rattle.risc_load.specs.Shows.{IsBudget}
 use Rattle.risc_related.specs.Context.{Context, home, called, IsLaid}
 use Rattle.risc_steps.specs.Pieces.{Piece, EntersAt, Left}
-use Rattle.risc_steps.specs.Forms.{receive, fetched, pass, call_value_form}
+use Rattle.risc_steps.specs.Forms.{accept, fetched, pass, call_value_form}
 use Rattle.risc_steps.specs.Forms.{fetch as fetched_form}
 use Rattle.risc_steps.specs.Follows.{stub, Stood, Built}
 use Rattle.risc_steps.proofs.Basics.{left_after, left_next, left_at}
@@ -79,33 +79,33 @@ module _ (code : Code) (homes : List Home) (image : Image) (sound : IsSound code
       let st = stand.start first.0 first.1 in
       (st.2.0, (st.2.2.0, tt))
 
-  received : (r : ℕ) (h : Home) → length (receive (before_resumes code homes plan image heap stack) r h) ≡ length (receive c r h)
-  received r (Reg q) = refl
-  received r (Slot k) = refl
+  accepted : (r : ℕ) (h : Home) → length (accept (before_resumes code homes plan image heap stack) r h) ≡ length (accept c r h)
+  accepted r (Reg q) = refl
+  accepted r (Slot k) = refl
 
-  -- behind the words of a call, which end in the words that receive its result
-  resumed : (r j t : ℕ) (ps : List Piece) (p : Piece) → Left c words (c.site r j) (ps ++ (p ∷ receive c r (home c r t))) (c.site r (suc j)) → Left c words (c.resume r (suc j) t) (receive c r (home c r t)) (c.site r (suc j))
+  -- behind the words of a call, which end in the words that accept its result
+  resumed : (r j t : ℕ) (ps : List Piece) (p : Piece) → Left c words (c.site r j) (ps ++ (p ∷ accept c r (home c r t))) (c.site r (suc j)) → Left c words (c.resume r (suc j) t) (accept c r (home c r t)) (c.site r (suc j))
   resumed r j t ps p l =
-      let l1 = left_after c words (c.site r j) (c.site r j + length ps) _ ps (p ∷ receive c r (home c r t)) l refl in
-      let l2 = left_next c words (c.site r j + length ps) _ p (receive c r (home c r t)) l1 in
-      let n = received r (home c r t) in
-      left_at c words (c.site r j + length ps + 1) (c.resume r (suc j) t) _ (receive c r (home c r t)) l2 (omega (arith, n, l2.ends))
+      let l1 = left_after c words (c.site r j) (c.site r j + length ps) _ ps (p ∷ accept c r (home c r t)) l refl in
+      let l2 = left_next c words (c.site r j + length ps) _ p (accept c r (home c r t)) l1 in
+      let n = accepted r (home c r t) in
+      left_at c words (c.site r j + length ps + 1) (c.resume r (suc j) t) _ (accept c r (home c r t)) l2 (omega (arith, n, l2.ends))
 
-  resumes : (r k t : ℕ) → called c r k t ≡ true → Left c words (c.resume r k t) (receive c r (home c r t)) (c.site r k)
+  resumes : (r k t : ℕ) → called c r k t ≡ true → Left c words (c.resume r k t) (accept c r (home c r t)) (c.site r k)
   resumes r zero t e = absurd (cc e)
   resumes r (suc j) t e = go (fetch code r j) refl e
     where
-      moved : (t u : ℕ) → u ≡ t → Left c words (c.resume r (suc j) u) (receive c r (home c r u)) (c.site r (suc j)) → Left c words (c.resume r (suc j) t) (receive c r (home c r t)) (c.site r (suc j))
-      moved t u e l = subst (λ x. Left c words (c.resume r (suc j) x) (receive c r (home c r x)) (c.site r (suc j))) e l
+      moved : (t u : ℕ) → u ≡ t → Left c words (c.resume r (suc j) u) (accept c r (home c r u)) (c.site r (suc j)) → Left c words (c.resume r (suc j) t) (accept c r (home c r t)) (c.site r (suc j))
+      moved t u e l = subst (λ x. Left c words (c.resume r (suc j) x) (accept c r (home c r x)) (c.site r (suc j))) e l
 
-      go : (o : Option Instruction) → fetch code r j ≡ o → gives_to o t ≡ true → Left c words (c.resume r (suc j) t) (receive c r (home c r t)) (c.site r (suc j))
+      go : (o : Option Instruction) → fetch code r j ≡ o → gives_to o t ≡ true → Left c words (c.resume r (suc j) t) (accept c r (home c r t)) (c.site r (suc j))
       go None here e = absurd (cc e)
       go (Some (Call u q us line)) here e =
           moved t u (sym (same_number t u e)) (resumed r j u _ _ (stand.body r j (Call u q us line) here))
       go (Some (CallValue u a us line)) here e =
           moved t u (sym (same_number t u e)) (resumed r j u (pass c r 0 us ++ fetched_form c r 12 (home c r a)) _ (split (stand.body r j (CallValue u a us line) here)))
         where
-          split : Left c words (c.site r j) (call_value_form c r u a us line) (c.site r (suc j)) → Left c words (c.site r j) ((pass c r 0 us ++ fetched_form c r 12 (home c r a)) ++ (EntersAt (fetched c r 12 (home c r a)) line ∷ receive c r (home c r u))) (c.site r (suc j))
+          split : Left c words (c.site r j) (call_value_form c r u a us line) (c.site r (suc j)) → Left c words (c.site r j) ((pass c r 0 us ++ fetched_form c r 12 (home c r a)) ++ (EntersAt (fetched c r 12 (home c r a)) line ∷ accept c r (home c r u))) (c.site r (suc j))
           split l = subst (λ ps. Left c words (c.site r j) ps (c.site r (suc j))) (sym (append_assoc (pass c r 0 us) (fetched_form c r 12 (home c r a)) _)) l
       go (Some _) here e = absurd (cc e)
 

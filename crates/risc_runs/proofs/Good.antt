@@ -6,6 +6,7 @@ use Rattle.risc_word.specs.declared.instr.Condition.{Condition}
 use Rattle.tac_code.specs.declared.code.Operator.{Operator}
 use Rattle.tac_code.specs.declared.code.Operator.TheVariants.{Add, Subtract, Multiply, Divide, Modulo}
 use Rattle.tac_code.specs.declared.code.Relation.{Relation}
+use Rattle.tac_code.specs.declared.code.Relation.TheVariants.{Equal, NotEqual, Less, LessEqual, Greater, GreaterEqual}
 use Rattle.tac_code.specs.declared.code.Operand.{Operand}
 use Rattle.tac_code.specs.declared.code.Operand.TheVariants as operand
 use Rattle.tac_code.specs.declared.code.Base.{Base}
@@ -81,6 +82,14 @@ module _ (c : Context) (r : ℕ) where
   receive_good : (h : Home) → AreGood (form.receive c r h)
   receive_good (Reg q) = (tt, tt)
   receive_good (Slot k) = store_good 12 14 (slot_at c r k)
+
+  hand_good : (h : Home) → AreGood (form.hand c r h)
+  hand_good (Reg q) = by_test (nat_eq q 0) _ _ tt (tt, tt)
+  hand_good (Slot k) = load_good 0 14 (slot_at c r k)
+
+  accept_good : (h : Home) → AreGood (form.accept c r h)
+  accept_good (Reg q) = by_test (nat_eq q 0) _ _ tt (tt, tt)
+  accept_good (Slot k) = store_good 0 14 (slot_at c r k)
 
   copy_good : (h g : Home) → AreGood (form.copy c r h g)
   copy_good (Reg q) g = bring_good q g
@@ -189,11 +198,26 @@ module _ (c : Context) (r : ℕ) where
 
   return_good : (a : ℕ) → AreGood (form.return_form c r a)
   return_good a =
-      good_append (form.bring c r 12 (home c r a)) _ (bring_good 12 (home c r a)) (by_test (is_program c r) _ _ (tt, (tt, (tt, tt))) (tt, (tt, tt)))
+      good_append (form.hand c r (home c r a)) _ (hand_good (home c r a)) (by_test (is_program c r) _ _ (tt, (tt, (tt, tt))) (tt, (tt, tt)))
 
   branch_good : (q : Option Condition) (relation : Relation) (a : ℕ) (o : Operand) (label : Label) → AreGood (form.branch_by c r q relation a o label)
   branch_good None relation a o label = both_good a o _ (tt, (tt, tt))
   branch_good (Some told) relation a o label = (tt, tt)
+
+  truth_good : (relation : Relation) (t a : ℕ) (o : Operand) → AreGood (form.truth_form c r relation t a o)
+  truth_good relation t a o = both_good a o _ (tt, (tt, (tt, (tt, (tt, save_good (home c r t))))))
+
+  unlike_good : (told : Option ℕ) (t a : ℕ) (o : Operand) → AreGood (form.unlike_form c r told t a o)
+  unlike_good told t a o =
+      by_test (form.is_own c r told t a o) _ _ (tt, (tt, save_good (home c r t))) (both_good a o _ (tt, (tt, (tt, save_good (home c r t)))))
+
+  compare_good : (told : Option ℕ) (relation : Relation) (t a : ℕ) (o : Operand) → AreGood (form.compare_form c r told relation t a o)
+  compare_good told NotEqual t a o = unlike_good told t a o
+  compare_good told Equal t a o = truth_good Equal t a o
+  compare_good told Less t a o = truth_good Less t a o
+  compare_good told LessEqual t a o = truth_good LessEqual t a o
+  compare_good told Greater t a o = truth_good Greater t a o
+  compare_good told GreaterEqual t a o = truth_good GreaterEqual t a o
 
   -- the words of an instruction that is sound
   pub form_good : (limits : Limits) (k : ℕ) (i : Instruction) → IsSoundAt limits k i → AreGood (form.form c r k i)
@@ -202,7 +226,7 @@ module _ (c : Context) (r : ℕ) where
   form_good limits k (Copy t a) h = copy_good (home c r t) (home c r a)
   form_good limits k (Arithmetic operator t a o error line) h = arithmetic_good operator t a o error line h.3 h.4
   form_good limits k (Bits operator t a o) h = both_good a o _ (tt, save_good (home c r t))
-  form_good limits k (Compare relation t a o) h = both_good a o _ (tt, (tt, (tt, (tt, (tt, save_good (home c r t))))))
+  form_good limits k (Compare relation t a o) h = compare_good (told_at c r k) relation t a o
   form_good limits k (CheckRange a low high error line) h =
       check_good a low high error line h.3 h.4
   form_good limits k (CheckPointer a error line) h =
@@ -222,9 +246,9 @@ module _ (c : Context) (r : ℕ) where
   form_good limits k (Branch relation a o n) h = branch_good (form.branch_choice c r (told_at c r k) relation a o) relation a o _
   form_good limits k (BranchBack relation a o n) h = branch_good (form.branch_choice c r (told_at c r k) relation a o) relation a o _
   form_good limits k (Call t q us line) h =
-      good_append (form.pass c r 0 us) _ (pass_good 0 us) (call_piece (is_program c q) q line h.3, receive_good (home c r t))
+      good_append (form.pass c r 0 us) _ (pass_good 0 us) (call_piece (is_program c q) q line h.3, accept_good (home c r t))
   form_good limits k (CallValue t a us line) h =
-      good_append (form.pass c r 0 us) _ (pass_good 0 us) (good_append (form.fetch c r 12 (home c r a)) _ (fetch_good 12 (home c r a)) (h.3, receive_good (home c r t)))
+      good_append (form.pass c r 0 us) _ (pass_good 0 us) (good_append (form.fetch c r 12 (home c r a)) _ (fetch_good 12 (home c r a)) (h.3, accept_good (home c r t)))
   form_good limits k (Return a) h = return_good a
   form_good limits k (Trap error line) h = ((h.0, h.1), tt)
   form_good limits k (Take t) h = (tt, (tt, save_good (home c r t)))

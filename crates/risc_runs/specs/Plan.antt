@@ -7,7 +7,7 @@ use Rattle.risc_image.specs.Image.{Image}
 use Rattle.risc_image.specs.Table.{trap_at}
 use Rattle.risc_load.specs.Shows.{frame_bytes, object_bytes}
 use Rattle.risc_related.specs.Context.{Context}
-use Rattle.risc_steps.specs.Forms.{receive}
+use Rattle.risc_steps.specs.Forms.{accept}
 use Rattle.risc_runs.specs.Outcome.{line_of}
 
 -- the bytes that an activation of a routine and an object of a type are charged for
@@ -34,7 +34,7 @@ pub record Plan : Type 0 where
   pub scratch_at : ℕ → ℕ
   pub used : ℕ → ℕ
 
--- The code, with its temporaries' homes, as it stands in the image, with so many bytes of heap and stack. A call's last words receive its
+-- The code, with its temporaries' homes, as it stands in the image, with so many bytes of heap and stack. A call's last words accept its
 -- result, so it comes back to where these begin.
 abbrev pub before_resumes : Code → List Home → Plan → Image → (heap stack : ℕ) → Context
 before_resumes code homes plan image heap stack =
@@ -66,4 +66,4 @@ before_resumes code homes plan image heap stack =
 abbrev pub context : Code → List Home → Plan → Image → (heap stack : ℕ) → Context
 context code homes plan image heap stack =
     let c = before_resumes code homes plan image heap stack in
-    record c { resume = λ r k t. plan.site r k - length (receive c r (home_of code homes r t)) }
+    record c { resume = λ r k t. plan.site r k - length (accept c r (home_of code homes r t)) }

@@ -27,7 +27,7 @@ use Rattle.risc_related.proofs.Frames.{program_room, open_room}
 use Rattle.risc_related.proofs.Walk.{stack_free}
 use Rattle.risc_steps.specs.Pieces.{Piece, Enters, Joins, EntersAt, Left}
 use Rattle.risc_steps.specs.Forms as form
-use Rattle.risc_steps.specs.Forms.{fetched, receive, pass}
+use Rattle.risc_steps.specs.Forms.{fetched, accept, pass}
 use Rattle.risc_steps.specs.Follows.{machine_of, Built, Belongs, Follows}
 use Rattle.risc_steps.proofs.Basics.{left_after, is_read, writes_it, among_first, among_rest}
 use Rattle.risc_steps.proofs.Runs.{fetch_run}
@@ -131,17 +131,17 @@ module _ (c : Context) (words : List ℕ) (b : Built c words) (p : Places) (S H 
       let h = home c r t in
       let piece : Piece = cond (is_program c q) (Enters q line) (Joins q) in
       let l = code c words b p s f m v sh be i here in
-      let g = pass_run c words b p r f fr prog be.related.held.aligned be.related.held.low top 0 s.current.temporaries us vs (piece ∷ receive c r h) _ m v sh l be.related.stack (omega (arith, so.sound.2.0)) ev (λ j u x e e'. (stands_in c words b p s f m v sh be u x (is_read c r k i here u (among_at us j u e)) e').1) in
+      let g = pass_run c words b p r f fr prog be.related.held.aligned be.related.held.low top 0 s.current.temporaries us vs (piece ∷ accept c r h) _ m v sh l be.related.stack (omega (arith, so.sound.2.0)) ev (λ j u x e e'. (stands_in c words b p s f m v sh be u x (is_read c r k i here u (among_at us j u e)) e').1) in
       let v1 = g.view in
-      let l1 = left_after c words v.place v1.place _ (pass c r 0 us) (piece ∷ receive c r h) l g.place in
+      let l1 = left_after c words v.place v1.place _ (pass c r 0 us) (piece ∷ accept c r h) l g.place in
       follows_way c words b s m v1 g.way (enter c.code c.costs c.sizes S H q vs t line (onward s.current ∷ s.callers) s) (joins so.sound.1 so.sound.2.0 prog g.way.to v1 g.way.shows l1 g.registers g.same g.stored (is_program c q) refl)
     where
-      joins : q < length c.code.program + length c.code.run_time → length us ≤ 65 → is_program c s.current.routine ≡ true → (n : machine.State) (v1 : View) → Shows words c.size n v1 → Left c words v1.place (cond (is_program c q) (Enters q line) (Joins q) ∷ receive c s.current.routine (home c s.current.routine t)) (c.site s.current.routine (suc s.current.place)) → ((z : ℕ) → z ≢ 12 → v1.registers z ≡ v.registers z) → ((x : ℕ) → (x < f + 8 + 4 * 0) ⊎ (f + 268 ≤ x) → v1.words x ≡ v.words x) → ((j : ℕ) (x : Value) → slice_get vs j ≡ Some x → v1.words (f + 8 + 4 * (0 + j)) ≡ ctx.word c p x) → (x : Bool) → is_program c q ≡ x → Follows c words (enter c.code c.costs c.sizes S H q vs t line (onward s.current ∷ s.callers) s) s n
+      joins : q < length c.code.program + length c.code.run_time → length us ≤ 65 → is_program c s.current.routine ≡ true → (n : machine.State) (v1 : View) → Shows words c.size n v1 → Left c words v1.place (cond (is_program c q) (Enters q line) (Joins q) ∷ accept c s.current.routine (home c s.current.routine t)) (c.site s.current.routine (suc s.current.place)) → ((z : ℕ) → z ≢ 12 → v1.registers z ≡ v.registers z) → ((x : ℕ) → (x < f + 8 + 4 * 0) ⊎ (f + 268 ≤ x) → v1.words x ≡ v.words x) → ((j : ℕ) (x : Value) → slice_get vs j ≡ Some x → v1.words (f + 8 + 4 * (0 + j)) ≡ ctx.word c p x) → (x : Bool) → is_program c q ≡ x → Follows c words (enter c.code c.costs c.sizes S H q vs t line (onward s.current ∷ s.callers) s) s n
       joins hq few prog n v1 sh1 l1 regs same stored x ex =
           let r = s.current.routine in
           let k = s.current.place in
           let i = Call t q us line in
-          let l2 = subst (λ y. Left c words v1.place (cond y (Enters q line) (Joins q) ∷ receive c r (home c r t)) (c.site r (suc k))) ex l1 in
+          let l2 = subst (λ y. Left c words v1.place (cond y (Enters q line) (Joins q) ∷ accept c r (home c r t)) (c.site r (suc k))) ex l1 in
           let cl = call_known i t here (eqb_same t) in
           let rs = b.stood.resumes r (suc k) t cl in
           let inside = length-append c.code.program c.code.run_time in
@@ -154,7 +154,7 @@ module _ (c : Context) (words : List ℕ) (b : Built c words) (p : Places) (S H 
           let nv = values_length s.current.temporaries us vs ev in
           follows_to c words b s n (at_view (c.entry q) (link_view true v1)) t2' (enter c.code c.costs c.sizes S H q vs t line (onward s.current ∷ s.callers) s) (entered_follows q t line vs prog t2'.to v1 t2'.shows (writes_it c r k i here t refl refl) cl (omega (arith, few, nv)) (omega (arith, rs.ends, l1.ends)) (λ e. at.1 (sym ex ∙ e)) regs (λ a side. same a (wide a side)) (good_values ev) (λ j y e. ap v1.words (from_zero j) ∙ stored j y e))
         where
-          stands_call : (y : Bool) → Left c words v1.place (cond y (Enters q line) (Joins q) ∷ receive c s.current.routine (home c s.current.routine t)) (c.site s.current.routine (suc s.current.place)) → IsAt words v1.place (word.Branch on.Always true (Relative (distance v1.place (c.entry q)))) × (y ≡ true → c.line (4 * (v1.place + 1)) ≡ Some line)
+          stands_call : (y : Bool) → Left c words v1.place (cond y (Enters q line) (Joins q) ∷ accept c s.current.routine (home c s.current.routine t)) (c.site s.current.routine (suc s.current.place)) → IsAt words v1.place (word.Branch on.Always true (Relative (distance v1.place (c.entry q)))) × (y ≡ true → c.line (4 * (v1.place + 1)) ≡ Some line)
           stands_call true l = (l.stands.0, λ e. l.stands.1)
           stands_call false l = (l.stands.0, λ e. absurd (cc e))
 
@@ -181,7 +181,7 @@ module _ (c : Context) (words : List ℕ) (b : Built c words) (p : Places) (S H 
       let h = home c r t in
       let d = fetched c r 12 (home c r a) in
       let fa = form.fetch c r 12 (home c r a) in
-      let rest = EntersAt d line ∷ receive c r h in
+      let rest = EntersAt d line ∷ accept c r h in
       let l = code c words b p s f m v sh be i here in
       let reads_u : (u : ℕ) → is_among u us ≡ true → reads c r k u ≡ true = λ u e. is_read c r k i here u (among_rest u a us e) in
       let g = pass_run c words b p r f fr prog be.related.held.aligned be.related.held.low top 0 s.current.temporaries us vs (fa ++ rest) _ m v sh l be.related.stack (omega (arith, so.sound.2.0)) ev (λ j u x e e'. (stands_in c words b p s f m v sh be u x (reads_u u (among_at us j u e)) e').1) in

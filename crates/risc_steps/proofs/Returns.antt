@@ -1,7 +1,5 @@
 -- Returns followed by their words, up to the caller's next instruction.
-use Rattle.std.proofs.Common.{◌≡◌, ℕ, suc, ◌+◌, ◌*◌, ◌/◌, ◌%◌, ◌<◌, ◌≤◌, Bool, true, false, cond, List, [], ◌∷◌, ◌++◌, length, Some, pos, refl, sym, ap, ◌∙◌, subst, arith}
-use Rattle.risc_word.specs.declared.instr.Operation.TheVariants as op
-use Rattle.risc_word.specs.declared.instr.Operand.TheVariants.{Content}
+use Rattle.std.proofs.Common.{◌≡◌, ℕ, zero, suc, ◌+◌, ◌*◌, ◌/◌, ◌%◌, ◌<◌, ◌≤◌, Bool, true, false, cond, List, [], ◌∷◌, ◌++◌, length, Option, Some, None, pos, refl, sym, ap, ◌∙◌, subst, arith, append_assoc}
 use Rattle.risc_word.specs.declared.instr.Width.TheVariants.{Word}
 use Rattle.risc_word.specs.declared.instr.Condition.TheVariants as on
 use Rattle.risc_word.specs.declared.instr.Target.TheVariants.{Absolute}
@@ -11,25 +9,28 @@ use Rattle.risc_view.specs.View.{View, Shows, IsReadable, after, at_view, link_v
 use Rattle.risc_view.specs.Runs.{To, same_tape}
 use Rattle.risc_view.proofs.Runs.{branch_taken, to_join}
 use Rattle.tac_code.specs.declared.code.Value.{Value}
-use Rattle.tac_code.specs.declared.code.Instruction.TheVariants.{Return}
+use Rattle.tac_code.specs.declared.code.Instruction.{Instruction}
+use Rattle.tac_code.specs.declared.code.Instruction.TheVariants.{Call, CallValue, Return}
 use Rattle.tac_code.specs.Meaning.{fetch, Activation, State}
-use Rattle.risc_alloc.specs.declared.homes.Home.{Home}
 use Rattle.risc_alloc.specs.declared.homes.Home.TheVariants.{Slot, Reg}
-use Rattle.risc_related.specs.Context.{Context, home, is_program, cost, slot_at, Places, IsValue}
+use Rattle.risc_alloc.specs.Flow.{gives_to}
+use Rattle.risc_related.proofs.Basics.{eq_of}
+use Rattle.risc_related.specs.Context.{Context, home, called, is_program, cost, slot_at, Places, IsValue}
 use Rattle.risc_related.specs.Context as ctx
 use Rattle.risc_related.specs.Related.{owner_of, Open}
 use Rattle.risc_related.specs.Changes.{Leaving, left}
 use Rattle.risc_related.proofs.Frames.{program_room, leaf_room, open_room}
 use Rattle.risc_related.proofs.Found.{cost_aligned}
 use Rattle.risc_related.proofs.Calls.{Back, back_of, related_leaves}
-use Rattle.risc_steps.specs.Pieces.{Plain, Left}
-use Rattle.risc_steps.specs.Forms.{is_near, constant, bring, receive}
+use Rattle.risc_steps.specs.Pieces.{Piece, Plain, EntersAt, Left}
+use Rattle.risc_steps.specs.Forms.{fetched, pass, hand, accept, call_value_form}
+use Rattle.risc_steps.specs.Forms.{fetch as fetch_form}
 use Rattle.risc_steps.specs.Follows.{machine_of, Built, Belongs, Comes, tape_of}
 use Rattle.risc_steps.proofs.Basics.{left_after, left_next, left_at, is_read, among_first}
 use Rattle.risc_steps.proofs.Flags.{called_silent}
-use Rattle.risc_steps.proofs.Runs.{Framed, step_to, receive_run}
-use Rattle.risc_steps.proofs.Comes.{left_whole, place_low, come_to, arrive_to, arrive_here}
-use Rattle.risc_steps.proofs.Operands.{code, brought_run}
+use Rattle.risc_steps.proofs.Runs.{Framed, step_to, hand_run, accept_run}
+use Rattle.risc_steps.proofs.Comes.{left_whole, framed, place_low, come_to, come_way, arrive_way, arrive_here}
+use Rattle.risc_steps.proofs.Operands.{code, stands_in}
 
 module _ (c : Context) (words : List ℕ) (b : Built c words) where
   -- the slots of a frame that lies on the stack
@@ -49,14 +50,28 @@ module _ (c : Context) (words : List ℕ) (b : Built c words) where
             };
       }
 
-  -- a result is received within the words
-  receive_low : (r at next : ℕ) (h : Home) → Left c words at (receive c r h) next → at < 1048576
-  receive_low r at next (Reg q) l = place_low c words b at _ l.stands.0
-  receive_low r at next (Slot k) l = go (is_near (slot_at c r k)) l
+  -- a call comes back within the words, or right behind them
+  resume_low : (r k t : ℕ) → called c r k t ≡ true → c.resume r k t ≤ 1048576
+  resume_low r zero t e = absurd (cc e)
+  resume_low r (suc j) t e = go (fetch c.code r j) refl e
     where
-      go : (t : Bool) → Left c words at (cond t (Plain (word.Store Word 12 14 (pos (slot_at c r k))) ∷ []) (constant 15 (slot_at c r k) ++ (Plain (word.Operate op.Add 15 15 (Content 14)) ∷ Plain (word.Store Word 12 15 (pos 0)) ∷ []))) next → at < 1048576
-      go true l = place_low c words b at _ l.stands.0
-      go false l = place_low c words b at _ l.stands.0
+      low : (u : ℕ) (ps : List Piece) (piece : Piece) → t ≡ u → Left c words (c.site r j) (ps ++ (piece ∷ accept c r (home c r u))) (c.site r (suc j)) → c.resume r (suc j) t ≤ 1048576
+      low u ps piece same l =
+          let l1 = left_after c words (c.site r j) (c.site r j + length ps) _ ps (piece ∷ accept c r (home c r u)) l refl in
+          let lt = place_low c words b (c.site r j + length ps) _ l1.stands.0 in
+          let len = ap (λ x. length (accept c r (home c r x))) same in
+          omega (arith, lt, len, l1.ends, (b.stood.resumes r (suc j) t e).ends)
+
+      go : (o : Option Instruction) → fetch c.code r j ≡ o → gives_to o t ≡ true → c.resume r (suc j) t ≤ 1048576
+      go None here e = absurd (cc e)
+      go (Some (Call u q us line)) here e =
+          low u (pass c r 0 us) _ (eq_of t u e) (b.stood.body r j (Call u q us line) here)
+      go (Some (CallValue u a us line)) here e =
+          low u (pass c r 0 us ++ fetch_form c r 12 (home c r a)) _ (eq_of t u e) (split (b.stood.body r j (CallValue u a us line) here))
+        where
+          split : Left c words (c.site r j) (call_value_form c r u a us line) (c.site r (suc j)) → Left c words (c.site r j) ((pass c r 0 us ++ fetch_form c r 12 (home c r a)) ++ (EntersAt (fetched c r 12 (home c r a)) line ∷ accept c r (home c r u))) (c.site r (suc j))
+          split l = subst (λ ps. Left c words (c.site r j) ps (c.site r (suc j))) (sym (append_assoc (pass c r 0 us) (fetch_form c r 12 (home c r a)) _)) l
+      go (Some _) here e = absurd (cc e)
 
   link_place : (j : ℕ) → j < 4194304 → 4 * j % 16777216 / 4 ≡ j
   link_place j lt = omega arith
@@ -71,23 +86,23 @@ module _ (c : Context) (words : List ℕ) (b : Built c words) (p : Places) (s : 
   abbrev above : ℕ
   above = f + cost c s.current.routine
 
-  -- back at the caller, with its frame in R14, the link in R15 and the result in R12
-  pub returned_run : (y : Value) (n : machine.State) (w : View) → Shows words c.size n w → IsValue c p y → w.registers 12 ≡ ctx.word c p y → w.registers 15 ≡ v.words (f + c.link_at s.current.routine) → w.registers 14 ≡ above → w.registers 13 ≡ v.registers 13 → ((a : ℕ) → w.words a ≡ v.words a) → Left c words w.place (Plain (word.Branch on.Always false (Absolute 15)) ∷ []) (c.site s.current.routine (suc s.current.place)) → Comes c words s (left y x xs s) n
-  returned_run y n w shows good e12 e15 e14 e13 same l =
+  -- back at the caller, with its frame in R14, the link in R15 and the result in R0
+  pub returned_run : (y : Value) (n : machine.State) (w : View) → Shows words c.size n w → IsValue c p y → w.registers 0 ≡ ctx.word c p y → w.registers 15 ≡ v.words (f + c.link_at s.current.routine) → w.registers 14 ≡ above → w.registers 13 ≡ v.registers 13 → ((a : ℕ) → w.words a ≡ v.words a) → Left c words w.place (Plain (word.Branch on.Always false (Absolute 15)) ∷ []) (c.site s.current.routine (suc s.current.place)) → Comes c words s (left y x xs s) n
+  returned_run y n w shows good e0 e15 e14 e13 same l =
       let r = x.routine in
       let h = home c r s.current.result in
       let at = c.resume r x.place s.current.result in
       let t1 = branch_taken words c.size b.stood.fits on.Always false (Absolute 15) n w shows l.stands.0 refl in
       let w1 = at_view (target_view w (Absolute 15)) (link_view false w) in
       let l2 = b.stood.resumes r x.place s.current.result back.waits.call in
-      let low = receive_low c words b r at _ h l2 in
+      let low = resume_low c words b r x.place s.current.result back.waits.call in
       let e15' : w.registers 15 ≡ 4 * at = e15 ∙ back.waits.resume in
       let there : w1.place ≡ at = ap (λ z. z % 16777216 / 4) e15' ∙ link_place c words b at (omega (arith, low)) in
-      let l2' = left_whole c words w1.place _ (receive c r h) (left_at c words at w1.place _ (receive c r h) l2 there) in
+      let l2' = left_whole c words w1.place _ (accept c r h) (left_at c words at w1.place _ (accept c r h) l2 there) in
       let top = open_room c b.laid p v.words above (owner_of x) xs _ _ back.frames in
       let al = cost_aligned c b.laid p v.words s.current.routine in
       let fr = framed_at c words b r above (omega (arith, be.related.held.aligned, al)) (omega (arith, be.related.held.low)) top in
-      let k = receive_run c words b.stood b.laid b.placed r above fr s.current.result (ctx.word c p y) [] _ (machine_of w1) t1.to w1 t1.shows e14 (record { here = e12; registers = λ q n12 n15 nd. refl; words = λ a. refl }) l2' in
+      let k = accept_run c words b.stood b.laid b.placed r above fr s.current.result (ctx.word c p y) [] _ t1.to w1 t1.shows e14 e0 l2' in
       let leaving : Leaving c p s x (machine_of v) (machine_of k.view) above y = record {
         good = good;
         here = k.settled.here;
@@ -97,7 +112,7 @@ module _ (c : Context) (words : List ℕ) (b : Built c words) (p : Places) (s : 
         globals = k.settled.globals ∙ e13;
       } in
       let s' = left y x xs s in
-      come_to c words b s s' n same_tape w1 t1 refl (arrive_to c words b s' t1.to k.view k.to (arrive_here c words b p s' k.to.to k.view above k.to.shows (record { related = related_leaves c b.laid b.placed p s x xs (machine_of v) (machine_of k.view) f y be.related called leaving; place = k.place ∙ ap (λ z. z + length (receive c r h)) there ∙ sym l2.ends; input = be.input; flags = called_silent c r x.place s.current.result back.waits.call k.view })))
+      come_to c words b s s' n same_tape w1 t1 refl (arrive_way c words b s' t1.to k.view k.way (arrive_here c words b p s' k.way.to k.view above k.way.shows (record { related = related_leaves c b.laid b.placed p s x xs (machine_of v) (machine_of k.view) f y be.related called leaving; place = k.place ∙ ap (λ z. z + length (accept c r h)) there ∙ sym l2.ends; input = be.input; flags = called_silent c r x.place s.current.result back.waits.call k.view })))
     where
       no_register : (j q : ℕ) → Slot j ≡ Reg q → q < 12
       no_register j q e = absurd (cc e)
@@ -120,19 +135,21 @@ module _ (c : Context) (words : List ℕ) (b : Built c words) (p : Places) (s : 
             runs = λ k. let z = r.runs k in let u = a.runs z.0 (tape_of s.tape) in (u.0, omega (arith, z.1, u.1), u.2 ∙ z.2);
           }
 
-      go : (prog : Bool) → is_program c s.current.routine ≡ prog → Left c words v.place (bring c s.current.routine 12 (home c s.current.routine a) ++ cond prog (Plain (word.Load Word 15 14 (pos 0)) ∷ Plain (word.Load Word 14 14 (pos 4)) ∷ Plain (word.Branch on.Always false (Absolute 15)) ∷ []) (Plain (word.Load Word 15 14 (pos (c.link_at s.current.routine))) ∷ Plain (word.Branch on.Always false (Absolute 15)) ∷ [])) (c.site s.current.routine (suc s.current.place)) → Comes c words s (left y x xs s) m
+      go : (prog : Bool) → is_program c s.current.routine ≡ prog → Left c words v.place (hand c s.current.routine (home c s.current.routine a) ++ cond prog (Plain (word.Load Word 15 14 (pos 0)) ∷ Plain (word.Load Word 14 14 (pos 4)) ∷ Plain (word.Branch on.Always false (Absolute 15)) ∷ []) (Plain (word.Load Word 15 14 (pos (c.link_at s.current.routine))) ∷ Plain (word.Branch on.Always false (Absolute 15)) ∷ [])) (c.site s.current.routine (suc s.current.place)) → Comes c words s (left y x xs s) m
       go true prog l =
           let r = s.current.routine in
           let rest = Plain (word.Load Word 15 14 (pos 0)) ∷ Plain (word.Load Word 14 14 (pos 4)) ∷ Plain (word.Branch on.Always false (Absolute 15)) ∷ [] in
           let q = program_room c b.laid p r prog in
           let top = open_room c b.laid p v.words f (owner_of s.current) s.callers s.memory.frames s.memory.scratch be.related.held.frames in
-          let g = brought_run c words b p s f m v sh be 12 a y rest _ (omega arith) (is_read c r s.current.place (Return a) here a (among_first a [])) e l in
+          let fr = framed c words b p s (machine_of v) f be.related in
+          let g = hand_run c words b.stood b.laid b.placed r f fr a rest _ m v sh be.related.stack l in
+          let there = stands_in c words b p s f m v sh be a y (is_read c r s.current.place (Return a) here a (among_first a [])) e in
           let v1 = g.view in
-          let l1 = left_after c words v.place v1.place _ (bring c r 12 (home c r a)) rest l g.place in
+          let l1 = left_after c words v.place v1.place _ (hand c r (home c r a)) rest l g.place in
           let e14 : v1.registers 14 ≡ f = g.moved.registers 14 (omega arith) ∙ be.related.stack in
           let i2 = word.Load Word 15 14 (pos 0) in
           let r2 : IsReadable c.size (v1.registers 14 + 0) = record { aligned = omega (arith, e14, be.related.held.aligned); high = omega (arith, e14, top, q.0, q.1, q.2, q.3) } in
-          let t2 = step_to c words b.stood i2 g.to.to v1 g.to.shows l1.stands.0 (tt, r2) in
+          let t2 = step_to c words b.stood i2 g.way.to v1 g.way.shows l1.stands.0 (tt, r2) in
           let v2 = after i2 v1 in
           let i3 = word.Load Word 14 14 (pos 4) in
           let r3 : IsReadable c.size (v2.registers 14 + 4) = record { aligned = omega (arith, e14, be.related.held.aligned); high = omega (arith, e14, top, q.0, q.1, q.2, q.3) } in
@@ -141,24 +158,26 @@ module _ (c : Context) (words : List ℕ) (b : Built c words) (p : Places) (s : 
           let l3 = left_next c words v2.place _ _ _ (left_next c words v1.place _ _ _ l1) in
           let e15 : v3.registers 15 ≡ v.words (f + c.link_at r) = g.moved.words _ ∙ ap v.words (at_link (v1.registers 14) e14 q.5) in
           let f4 : v3.registers 14 ≡ f + cost c r = g.moved.words (v2.registers 14 + 4) ∙ ap v.words (ap (λ z. z + 4) e14) ∙ back.caller prog in
-          let both = to_join words c.size g.to.to same_tape same_tape v2 v3 t2 t3 in
+          let both = to_join words c.size g.way.to same_tape same_tape v2 v3 t2 t3 in
           let s' = left y x xs s in
-          come_to_come g.to (come_to_come both (returned_run y both.to v3 both.shows g.good g.value e15 f4 (g.moved.registers 13 (omega arith)) g.moved.words l3))
+          come_way c words b s (left y x xs s) m v1 g.way (come_to_come both (returned_run y both.to v3 both.shows there.0 (g.value ∙ there.1) e15 f4 (g.moved.registers 13 (omega arith)) g.moved.words l3))
       go false leaf l =
           let r = s.current.routine in
           let i2 = word.Load Word 15 14 (pos (c.link_at r)) in
           let rest = Plain i2 ∷ Plain (word.Branch on.Always false (Absolute 15)) ∷ [] in
           let q = leaf_room c b.laid p r leaf in
           let top = open_room c b.laid p v.words f (owner_of s.current) s.callers s.memory.frames s.memory.scratch be.related.held.frames in
-          let g = brought_run c words b p s f m v sh be 12 a y rest _ (omega arith) (is_read c r s.current.place (Return a) here a (among_first a [])) e l in
+          let fr = framed c words b p s (machine_of v) f be.related in
+          let g = hand_run c words b.stood b.laid b.placed r f fr a rest _ m v sh be.related.stack l in
+          let there = stands_in c words b p s f m v sh be a y (is_read c r s.current.place (Return a) here a (among_first a [])) e in
           let v1 = g.view in
-          let l1 = left_after c words v.place v1.place _ (bring c r 12 (home c r a)) rest l g.place in
+          let l1 = left_after c words v.place v1.place _ (hand c r (home c r a)) rest l g.place in
           let e14 : v1.registers 14 ≡ f = g.moved.registers 14 (omega arith) ∙ be.related.stack in
           let ar = b.laid.aligned r in
           let r2 : IsReadable c.size (v1.registers 14 + c.link_at r) = record { aligned = omega (arith, e14, be.related.held.aligned, ar.0); high = omega (arith, e14, top, q.1, q.2, q.3, q.4) } in
-          let t2 = step_to c words b.stood i2 g.to.to v1 g.to.shows l1.stands.0 (tt, r2) in
+          let t2 = step_to c words b.stood i2 g.way.to v1 g.way.shows l1.stands.0 (tt, r2) in
           let v2 = after i2 v1 in
           let l2 = left_next c words v1.place _ _ _ l1 in
           let e15 : v2.registers 15 ≡ v.words (f + c.link_at r) = g.moved.words _ ∙ ap (λ z. v.words (z + c.link_at r)) e14 in
           let f4 : v2.registers 14 ≡ f + cost c r = omega (arith, e14, q.6) in
-          come_to_come g.to (come_to_come t2 (returned_run y t2.to v2 t2.shows g.good g.value e15 f4 (g.moved.registers 13 (omega arith)) g.moved.words l2))
+          come_way c words b s (left y x xs s) m v1 g.way (come_to_come t2 (returned_run y t2.to v2 t2.shows there.0 (g.value ∙ there.1) e15 f4 (g.moved.registers 13 (omega arith)) g.moved.words l2))

@@ -20,9 +20,9 @@ use Rattle.risc_alloc.specs.declared.homes.Home.TheVariants.{Slot, Reg}
 use Rattle.risc_related.specs.Context.{Context, home, slot_at, IsNumber, IsLaid, IsPlaced}
 use Rattle.risc_related.specs.Related.{Machine, value_of}
 use Rattle.risc_related.specs.Changes.{update, Near, Settled}
-use Rattle.risc_related.proofs.Basics.{update_same, update_other}
+use Rattle.risc_related.proofs.Basics.{eq_of, update_same, update_other}
 use Rattle.risc_steps.specs.Pieces.{Piece, Plain, Left}
-use Rattle.risc_steps.specs.Forms.{is_near, is_small, constant, exact, number, load, store, fetch, fetched, bring, target, save, receive, right, right_operand}
+use Rattle.risc_steps.specs.Forms.{is_near, is_small, constant, exact, number, load, store, fetch, fetched, bring, target, save, receive, hand, accept, right, right_operand}
 use Rattle.risc_steps.specs.Follows.{machine_of, Stood}
 use Rattle.risc_steps.proofs.Basics.{left_after}
 
@@ -473,3 +473,74 @@ module _ (c : Context) (words : List ℕ) (stood : Stood c words) (laid : IsLaid
           let at : f + slot_at c r k ≡ v.registers 14 + slot_at c r k = ap (λ x. x + slot_at c r k) (sym e) in
           let g = store_run c words stood 12 14 (slot_at c r k) ps next m v sh (omega arith) (omega arith) (subst (IsWritable words c.size) at (framed.writable t k is)) l in
           record { view = g.view; to = g.to; settled = in_slot t k 12 n m0 v g.view is e14 (near_aside n m0 v a) a.here g.registers g.memory; place = g.place }
+
+  -- ---- the result of a routine
+
+  pub record Hands (n len : ℕ) (m : machine.State) (v : View) : Type 0 where
+    pub view : View
+    pub way : Way words c.size m same_tape view
+    pub value : view.registers 0 ≡ n
+    pub moved : Moved 0 v view
+    pub place : view.place ≡ v.place + len
+
+  pub hand_run : (t : ℕ) (ps : List Piece) (next : ℕ) (m : machine.State) (v : View) → Shows words c.size m v → v.registers 14 ≡ f → Left c words v.place (hand c r (home c r t) ++ ps) next → Hands (value_of c r f (machine_of v) (home c r t)) (length (hand c r (home c r t))) m v
+  hand_run t ps next m v sh e14 l = go (home c r t) refl l
+    where
+      by : (q : ℕ) (there : Bool) → nat_eq q 0 ≡ there → Left c words v.place (cond there [] (Plain (word.Move 0 (Content q)) ∷ []) ++ ps) next → Hands (v.registers q) (length (cond there [] (Plain (word.Move 0 (Content q)) ∷ []))) m v
+      by q true e l =
+          record {
+            view = v;
+            way = way_here words c.size m v sh;
+            value = ap v.registers (sym (eq_of q 0 e));
+            moved = record { registers = λ q ne. refl; words = λ a. refl; high = refl };
+            place = omega arith;
+          }
+      by q false e l =
+          let i = word.Move 0 (Content q) in
+          record {
+            view = after i v;
+            way = way_of words c.size m same_tape (after i v) (step_to c words stood i m v sh l.stands.0 tt);
+            value = update_same v.registers 0 _;
+            moved = record { registers = λ q ne. update_other v.registers 0 _ q ne; words = λ a. refl; high = refl };
+            place = refl;
+          }
+
+      go : (h : Home) → home c r t ≡ h → Left c words v.place (hand c r h ++ ps) next → Hands (value_of c r f (machine_of v) h) (length (hand c r h)) m v
+      go (Reg q) is l = by q (nat_eq q 0) refl l
+      go (Slot k) is l =
+          let at : f + slot_at c r k ≡ v.registers 14 + slot_at c r k = ap (λ x. x + slot_at c r k) (sym e14) in
+          let g = load_run c words stood 0 14 (slot_at c r k) ps next m v sh (omega arith) (subst (IsReadable c.size) at (framed.readable t k is)) l in
+          record { view = g.view; way = way_of words c.size m same_tape g.view g.to; value = g.value ∙ ap v.words (sym at); moved = g.moved; place = g.place }
+
+  pub record Accepts (h : Home) (n len : ℕ) (m : machine.State) (v : View) : Type 0 where
+    pub view : View
+    pub way : Way words c.size m same_tape view
+    pub settled : Settled c r f h n (machine_of v) (machine_of view)
+    pub place : view.place ≡ v.place + len
+
+  pub accept_run : (t n : ℕ) (ps : List Piece) (next : ℕ) (m : machine.State) (v : View) → Shows words c.size m v → v.registers 14 ≡ f → v.registers 0 ≡ n → Left c words v.place (accept c r (home c r t) ++ ps) next → Accepts (home c r t) n (length (accept c r (home c r t))) m v
+  accept_run t n ps next m v sh e14 e0 l = go (home c r t) refl l
+    where
+      by : (q : ℕ) → q < 12 → (there : Bool) → nat_eq q 0 ≡ there → Left c words v.place (cond there [] (Plain (word.Move q (Content 0)) ∷ []) ++ ps) next → Accepts (Reg q) n (length (cond there [] (Plain (word.Move q (Content 0)) ∷ []))) m v
+      by q lt true e l =
+          record {
+            view = v;
+            way = way_here words c.size m v sh;
+            settled = in_register q n (machine_of v) v lt (record { here = ap v.registers (eq_of q 0 e) ∙ e0; registers = λ x n12 n15 far. refl; words = λ a. refl });
+            place = omega arith;
+          }
+      by q lt false e l =
+          let i = word.Move q (Content 0) in
+          record {
+            view = after i v;
+            way = way_of words c.size m same_tape (after i v) (step_to c words stood i m v sh l.stands.0 tt);
+            settled = in_register q n (machine_of v) (after i v) lt (record { here = update_same v.registers q _ ∙ e0; registers = λ x n12 n15 far. update_other v.registers q _ x far; words = λ a. refl });
+            place = refl;
+          }
+
+      go : (h : Home) → home c r t ≡ h → Left c words v.place (accept c r h ++ ps) next → Accepts h n (length (accept c r h)) m v
+      go (Reg q) is l = by q (placed.register r t q is) (nat_eq q 0) refl l
+      go (Slot k) is l =
+          let at : f + slot_at c r k ≡ v.registers 14 + slot_at c r k = ap (λ x. x + slot_at c r k) (sym e14) in
+          let g = store_run c words stood 0 14 (slot_at c r k) ps next m v sh (omega arith) (omega arith) (subst (IsWritable words c.size) at (framed.writable t k is)) l in
+          record { view = g.view; way = way_of words c.size m same_tape g.view g.to; settled = in_slot t k 0 n (machine_of v) v g.view is e14 (record { registers = λ q n12 n15. refl; words = λ a. refl }) e0 g.registers g.memory; place = g.place }

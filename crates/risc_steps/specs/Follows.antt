@@ -22,7 +22,7 @@ use Rattle.risc_related.specs.Related.{Machine, Related}
 use Rattle.risc_related.specs.Walk.{walk}
 use Rattle.risc_steps.specs.Pieces.{Left}
 use Rattle.risc_steps.specs.Told.{told_at}
-use Rattle.risc_steps.specs.Forms.{receive, form, entry_form}
+use Rattle.risc_steps.specs.Forms.{accept, form, entry_form}
 
 abbrev pub machine_of : View → Machine
 machine_of v = record { registers = v.registers; words = v.words }
@@ -43,8 +43,8 @@ pub record Stood (c : Context) (words : List ℕ) : Type 0 where
   -- first words lie within the words
   pub within : (r k : ℕ) (routine : TacRoutine) → slice_get (routines c.code) r ≡ Some routine → k < length routine.body → c.site r k ≤ 1048576
   pub within_entry : (r : ℕ) → r < length (routines c.code) → c.entry r ≤ 1048576
-  -- behind each call the result is received
-  pub resumes : (r k t : ℕ) → called c r k t ≡ true → Left c words (c.resume r k t) (receive c r (home c r t)) (c.site r k)
+  -- behind each call the result is accepted
+  pub resumes : (r k t : ℕ) → called c r k t ≡ true → Left c words (c.resume r k t) (accept c r (home c r t)) (c.site r k)
   -- a run-time routine's parameters stand in front of its link
   pub parameters : (r : ℕ) (routine : TacRoutine) → is_program c r ≡ false → slice_get (routines c.code) r ≡ Some routine → 8 + 4 * routine.parameters ≤ c.link_at r
   -- the words of the constants

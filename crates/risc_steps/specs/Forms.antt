@@ -154,6 +154,16 @@ module _ (c : Context) (r : ℕ) where
   receive (Reg q) = Plain (word.Move q (Content 12)) ∷ []
   receive (Slot k) = store 12 14 (slot_at c r k)
 
+  -- R0 takes the result of a routine
+  abbrev pub hand : Home → List Piece
+  hand (Reg q) = if nat_eq q 0 then [] else Plain (word.Move 0 (Content q)) ∷ []
+  hand (Slot k) = load 0 14 (slot_at c r k)
+
+  -- which comes from there to its home
+  abbrev pub accept : Home → List Piece
+  accept (Reg q) = if nat_eq q 0 then [] else Plain (word.Move q (Content 0)) ∷ []
+  accept (Slot k) = store 0 14 (slot_at c r k)
+
   -- a right operand: a temporary's, an immediate, or a number in R15
   abbrev pub right : Operand → List Piece
   right (operand.Temporary t) = fetch 15 (home c r t)
@@ -226,9 +236,36 @@ module _ (c : Context) (r : ℕ) where
   abbrev pub difference : ℕ → Operand → Piece
   difference a b = Plain (word.Operate op.Sub 12 (fetched 12 (home c r a)) (right_operand b))
 
-  abbrev pub compare_form : Relation → ℕ → ℕ → Operand → List Piece
-  compare_form relation t a b =
+  -- whether N and Z are those of a temporary's register, where they are told of one
+  abbrev pub is_told : Option ℕ → ℕ → Bool
+  is_told told a = is_it a told && is_register (home c r a)
+
+  -- whether a temporary's register holds its own difference from 0 already, with N and Z
+  abbrev pub is_own : Option ℕ → ℕ → ℕ → Operand → Bool
+  is_own told t a b = is_told told a && (nat_eq t a && is_null b)
+
+  -- a difference that is not 0 becomes 1
+  abbrev pub unlike : ℕ → List Piece
+  unlike t = skip on.Equal 1 ∷ Plain (word.Move (target (home c r t)) (Constant (pos 1))) ∷ save (home c r t)
+
+  -- whether two values differ
+  abbrev pub unlike_form : Option ℕ → ℕ → ℕ → Operand → List Piece
+  unlike_form told t a b =
+      if is_own told t a b then unlike t
+      else both a b (operate op.Sub (home c r t) a b ∷ unlike t)
+
+  -- whether a relation holds
+  abbrev pub truth_form : Relation → ℕ → ℕ → Operand → List Piece
+  truth_form relation t a b =
       both a b (difference a b ∷ skip (condition relation) 2 ∷ Plain (word.Move (target (home c r t)) (Constant (pos 0))) ∷ skip on.Always 1 ∷ Plain (word.Move (target (home c r t)) (Constant (pos 1))) ∷ save (home c r t))
+
+  abbrev pub compare_form : Option ℕ → Relation → ℕ → ℕ → Operand → List Piece
+  compare_form told Equal t a b = truth_form Equal t a b
+  compare_form told NotEqual t a b = unlike_form told t a b
+  compare_form told Less t a b = truth_form Less t a b
+  compare_form told LessEqual t a b = truth_form LessEqual t a b
+  compare_form told Greater t a b = truth_form Greater t a b
+  compare_form told GreaterEqual t a b = truth_form GreaterEqual t a b
 
   -- ---- numbers
 
@@ -363,15 +400,15 @@ module _ (c : Context) (r : ℕ) where
 
   abbrev pub call_form : ℕ → ℕ → List ℕ → ℕ → List Piece
   call_form t q us line =
-      pass 0 us ++ ((if is_program c q then Enters q line else Joins q) ∷ receive (home c r t))
+      pass 0 us ++ ((if is_program c q then Enters q line else Joins q) ∷ accept (home c r t))
 
   abbrev pub call_value_form : ℕ → ℕ → List ℕ → ℕ → List Piece
   call_value_form t a us line =
-      pass 0 us ++ (fetch 12 (home c r a) ++ (EntersAt (fetched 12 (home c r a)) line ∷ receive (home c r t)))
+      pass 0 us ++ (fetch 12 (home c r a) ++ (EntersAt (fetched 12 (home c r a)) line ∷ accept (home c r t)))
 
   abbrev pub return_form : ℕ → List Piece
   return_form a =
-      bring 12 (home c r a) ++ (if is_program c r then Plain (word.Load Word 15 14 (pos 0)) ∷ Plain (word.Load Word 14 14 (pos 4)) ∷ Plain (word.Branch on.Always false (Absolute 15)) ∷ [] else Plain (word.Load Word 15 14 (pos (c.link_at r))) ∷ Plain (word.Branch on.Always false (Absolute 15)) ∷ [])
+      hand (home c r a) ++ (if is_program c r then Plain (word.Load Word 15 14 (pos 0)) ∷ Plain (word.Load Word 14 14 (pos 4)) ∷ Plain (word.Branch on.Always false (Absolute 15)) ∷ [] else Plain (word.Load Word 15 14 (pos (c.link_at r))) ∷ Plain (word.Branch on.Always false (Absolute 15)) ∷ [])
 
   abbrev pub label_form : ℕ → Label → List Piece
   label_form t label = High (target (home c r t)) label ∷ Low (target (home c r t)) label ∷ save (home c r t)
@@ -395,10 +432,6 @@ module _ (c : Context) (r : ℕ) where
 
   -- ---- comparisons
 
-  -- whether N and Z are those of a temporary's register, where they are told of one
-  abbrev pub is_told : Option ℕ → ℕ → Bool
-  is_told told a = is_it a told && is_register (home c r a)
-
   -- by the flags as they are, or by a difference
   abbrev pub branch_by : Option Condition → Relation → ℕ → Operand → Label → List Piece
   branch_by None relation a b label = both a b (difference a b ∷ Goes (condition relation) label ∷ [])
@@ -420,7 +453,7 @@ module _ (c : Context) (r : ℕ) where
   form k (Copy t a) = copy (home c r t) (home c r a)
   form k (Arithmetic operator t a b error line) = arithmetic_form operator t a b error line
   form k (Bits operator t a b) = both a b (operate (bit_operation operator) (home c r t) a b ∷ save (home c r t))
-  form k (Compare relation t a b) = compare_form relation t a b
+  form k (Compare relation t a b) = compare_form (told_at c r k) relation t a b
   form k (CheckRange a low high error line) = check_form a low high error line
   form k (CheckPointer a error line) = pointer_form (told_at c r k) a error line
   form k (Text t bytes) = label_form t (AtText r k)
