@@ -1,19 +1,21 @@
 // Calls and returns, devices and objects.
 
-ghost use Rattle.std.specs.Prelude.{◌≡◌, ◌≤◌, ◌++◌, length, [], ◌∷◌, pos, OnOk};
+ghost use Rattle.std.specs.Prelude.{◌≡◌, ◌<◌, ◌≤◌, ◌++◌, length, [], ◌∷◌, pos, OnOk};
 ghost use Rattle.risc_word.specs.declared.instr.Operation.TheVariants as op;
 ghost use Rattle.risc_word.specs.declared.instr.Operand.TheVariants.{Content};
 ghost use Rattle.risc_word.specs.declared.instr.Width.TheVariants.{Word};
 ghost use Rattle.risc_word.specs.declared.instr.Instr.TheVariants as word;
+ghost use Rattle.risc_related.specs.Context.{home};
 ghost use Rattle.risc_steps.specs.Pieces as piece;
 ghost use Rattle.risc_steps.specs.Forms as form;
 ghost use Rattle.risc_emit.specs.Frames.{context_of};
 
 use crate::frame::Frame;
 use crate::numbers::put_natural;
-use crate::operands::{accept, fetch, hand, receive, save, target};
+use crate::operands::{accept, bring, fetch, put_into, receive, save, target};
 use crate::pieces::{Piece, Pieces};
-use crate::words::{computed, copied, goes_to, loaded, r12, r13, r14, r15, set, stored};
+use crate::seat::Seat;
+use crate::words::{computed, copied, goes_to, loaded, r0, r12, r13, r14, r15, set, stored};
 use risc_word::{Condition, Operand as Right, Operation, Register, Width};
 use tac_code::code::OutOfMemory;
 
@@ -29,14 +31,109 @@ pub(crate) const LIMIT_AT: i32 = 268;
 
 pub(crate) const NEXT_AT: i32 = 272;
 
-// Operands go into the frame, behind its first two words.
-fn put_operands(frame: &Frame<'_>, pieces: &mut Pieces, operands: &[u32]) -> Result<(), OutOfMemory>
+/// The operands that come in registers have numbers below this one.
+pub(crate) const CARRIED: u32 = 8;
+
+// So many of the operands of a call come in registers.
+fn carried(count: usize) -> usize
+    ensures is { result ≡ form.carried count }
+    ensures few { result ≤ 8 }
+    ensures within { result ≤ count }
+{
+    if count < CARRIED as usize {
+        count
+    } else {
+        CARRIED as usize
+    }
+}
+
+// Whether the home of operand j of n is taken before its turn.
+fn is_taken(frame: &Frame<'_>, n: usize, j: usize, operand: u32) -> bool
+    ensures { result ≡ form.is_taken n j (home (context_of frame.now) frame.now.number operand) }
+{
+    match frame.seat(operand) {
+        Seat::Register(register) => {
+            let home = register.number() as usize;
+            j < home && home < n
+        }
+        Seat::Slot(_) => false,
+    }
+}
+
+// Whether it goes by way of the frame.
+fn is_stored(frame: &Frame<'_>, n: usize, j: usize, operand: u32) -> bool
+    ensures { result ≡ form.is_stored n j (home (context_of frame.now) frame.now.number operand) }
+{
+    j >= n || is_taken(frame, n, j, operand)
+}
+
+// There its place is behind the first two words.
+fn put_passed(
+    frame: &Frame<'_>,
+    pieces: &mut Pieces,
+    n: usize,
+    j: usize,
+    operand: u32,
+) -> Result<(), OutOfMemory>
+    requires few { j < 65 }
+    ensures { OnOk result (pieces.new ≡ pieces.old ++ form.pass_one (context_of frame.now) frame.now.number n j (home (context_of frame.now) frame.now.number operand)) }
+{
+    if !is_stored(frame, n, j, operand) {
+        return Ok(());
+    }
+    let register = fetch(frame, pieces, r12(), operand)?;
+    pieces.plain(stored(Width::Word, register, r14(), 8 + 4 * j as i32))
+}
+
+// The operands of which n are carried that go by way of the frame.
+fn put_operands(
+    frame: &Frame<'_>,
+    pieces: &mut Pieces,
+    n: usize,
+    operands: &[u32],
+) -> Result<(), OutOfMemory>
     requires few { length operands.now ≤ 65 }
-    ensures { OnOk result (pieces.new ≡ pieces.old ++ form.pass (context_of frame.now) frame.now.number 0 operands.now) }
+    ensures { OnOk result (pieces.new ≡ pieces.old ++ form.pass (context_of frame.now) frame.now.number n 0 operands.now) }
 {
     for j in 0..operands.len() {
-        let register = fetch(frame, pieces, r12(), operands[j])?;
-        pieces.plain(stored(Width::Word, register, r14(), 8 + 4 * j as i32))?;
+        put_passed(frame, pieces, n, j, operands[j])?;
+    }
+    Ok(())
+}
+
+// Register j takes operand j of n.
+fn put_carried(
+    frame: &Frame<'_>,
+    pieces: &mut Pieces,
+    n: usize,
+    j: usize,
+    operand: u32,
+) -> Result<(), OutOfMemory>
+    requires few { j < 8 }
+    ensures { OnOk result (pieces.new ≡ pieces.old ++ form.carry_one (context_of frame.now) frame.now.number n j (home (context_of frame.now) frame.now.number operand)) }
+{
+    let register = Register::new(j as u8);
+    if is_taken(frame, n, j, operand) {
+        return pieces.plain(loaded(Width::Word, register, r14(), 8 + 4 * j as i32));
+    }
+    put_into(frame, pieces, register, operand)
+}
+
+// The last of n operands goes to its register first.
+fn put_carry(
+    frame: &Frame<'_>,
+    pieces: &mut Pieces,
+    n: usize,
+    operands: &[u32],
+) -> Result<(), OutOfMemory>
+    requires few { n ≤ 8 }
+    requires within { n ≤ length operands.now }
+    ensures { OnOk result (pieces.new ≡ pieces.old ++ form.carry (context_of frame.now) frame.now.number n n operands.now) }
+{
+    let mut j = n;
+    while j > 0 {
+        j -= 1;
+        put_carried(frame, pieces, n, j, operands[j])?;
     }
     Ok(())
 }
@@ -52,7 +149,9 @@ pub(crate) fn put_call(
     requires few { length operands.now ≤ 65 }
     ensures { OnOk result (pieces.new ≡ pieces.old ++ form.call_form (context_of frame.now) frame.now.number to routine operands.now line) }
 {
-    put_operands(frame, pieces, operands)?;
+    let n = carried(operands.len());
+    put_operands(frame, pieces, n, operands)?;
+    put_carry(frame, pieces, n, operands)?;
     if frame.calls_program(routine) {
         pieces.push(Piece::Enters(routine, line))?;
     } else {
@@ -72,9 +171,11 @@ pub(crate) fn put_call_value(
     requires few { length operands.now ≤ 65 }
     ensures { OnOk result (pieces.new ≡ pieces.old ++ form.call_value_form (context_of frame.now) frame.now.number to callee operands.now line) }
 {
-    put_operands(frame, pieces, operands)?;
-    let register = fetch(frame, pieces, r12(), callee)?;
-    pieces.push(Piece::EntersAt(register, line))?;
+    let n = carried(operands.len());
+    put_operands(frame, pieces, n, operands)?;
+    bring(frame, pieces, r12(), callee)?;
+    put_carry(frame, pieces, n, operands)?;
+    pieces.push(Piece::EntersAt(r12(), line))?;
     accept(frame, pieces, to)
 }
 
@@ -85,7 +186,7 @@ pub(crate) fn put_return(
 ) -> Result<(), OutOfMemory>
     ensures { OnOk result (pieces.new ≡ pieces.old ++ form.return_form (context_of frame.now) frame.now.number from) }
 {
-    hand(frame, pieces, from)?;
+    put_into(frame, pieces, r0(), from)?;
     if frame.is_of_program() {
         pieces.plain(loaded(Width::Word, r15(), r14(), 0))?;
         pieces.plain(loaded(Width::Word, r14(), r14(), 4))?;

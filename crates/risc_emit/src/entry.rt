@@ -5,20 +5,22 @@ ghost use Rattle.risc_word.specs.declared.instr.Operand.TheVariants.{Constant};
 ghost use Rattle.risc_word.specs.declared.instr.Width.TheVariants.{Word};
 ghost use Rattle.risc_word.specs.declared.instr.Condition.TheVariants as on;
 ghost use Rattle.risc_word.specs.declared.instr.Instr.TheVariants as word;
+ghost use Rattle.risc_related.specs.Context.{home};
 ghost use Rattle.risc_steps.specs.Forms as form;
 ghost use Rattle.risc_steps.specs.Pieces as piece;
 ghost use Rattle.risc_runs.specs.Emits.{start_form};
 ghost use Rattle.risc_emit.specs.Frames.{context_of};
 
-use crate::calls::{LIMIT_AT, NEXT_AT};
+use crate::calls::{CARRIED, LIMIT_AT, NEXT_AT};
 use crate::frame::Frame;
-use crate::numbers::{put_constant, put_load};
+use crate::numbers::{put_constant, put_load, put_store};
 use crate::operands::{save, target};
 use crate::pieces::{Label, Piece, Pieces};
+use crate::seat::Seat;
 use crate::words::{
-    computed, constant, copied, loaded, r0, r1, r2, r12, r13, r14, r15, set, skip, stored,
+    computed, constant, copied, loaded, r0, r1, r2, r11, r12, r13, r14, r15, set, skip, stored,
 };
-use risc_word::{Condition, Operand as Right, Operation, Width};
+use risc_word::{Condition, Operand as Right, Operation, Register, Width};
 use tac_code::code::{OutOfMemory, TacRoutine};
 
 /// The first frame that no stack holds.
@@ -27,7 +29,69 @@ const TOO_LARGE: u64 = 16777153;
 /// More parameters than this no call passes.
 const PARAMETERS: u32 = 65;
 
-// Parameters come from the operands of the caller, so many bytes behind the frame.
+// Whether a parameter comes in its home.
+fn stands(frame: &Frame<'_>, j: u32) -> bool
+    ensures { result ≡ form.stands j (home (context_of frame.now) frame.now.number j) }
+{
+    match frame.seat(j) {
+        Seat::Register(register) => u32::from(register.number()) == j && j < CARRIED,
+        Seat::Slot(_) => false,
+    }
+}
+
+// A parameter that comes in another register goes to the operands of the caller, so many bytes behind the frame.
+fn put_spill(frame: &Frame<'_>, pieces: &mut Pieces, behind: u64, j: u32) -> Result<(), OutOfMemory>
+    requires { behind < 1099511627776 }
+    ensures { OnOk result (pieces.new ≡ pieces.old ++ form.spill_one (context_of frame.now) frame.now.number behind j (home (context_of frame.now) frame.now.number j)) }
+{
+    if j < CARRIED && !stands(frame, j) {
+        put_store(
+            pieces,
+            Register::new(j as u8),
+            r14(),
+            behind + 8 + 4 * u64::from(j),
+        )?;
+    }
+    Ok(())
+}
+
+fn put_spills(
+    frame: &Frame<'_>,
+    pieces: &mut Pieces,
+    behind: u64,
+    count: u32,
+) -> Result<(), OutOfMemory>
+    requires { behind < 1099511627776 }
+    ensures { OnOk result (pieces.new ≡ pieces.old ++ form.spill (context_of frame.now) frame.now.number behind 0 count) }
+{
+    for j in 0..count {
+        put_spill(frame, pieces, behind, j)?;
+    }
+    Ok(())
+}
+
+// And from there to its home.
+fn put_parameter(
+    frame: &Frame<'_>,
+    pieces: &mut Pieces,
+    behind: u64,
+    j: u32,
+) -> Result<(), OutOfMemory>
+    requires { behind < 1099511627776 }
+    ensures { OnOk result (pieces.new ≡ pieces.old ++ form.parameter (context_of frame.now) frame.now.number behind j (home (context_of frame.now) frame.now.number j)) }
+{
+    if stands(frame, j) {
+        return Ok(());
+    }
+    put_load(
+        pieces,
+        target(frame, j),
+        r14(),
+        behind + 8 + 4 * u64::from(j),
+    )?;
+    save(frame, pieces, j)
+}
+
 fn put_parameters(
     frame: &Frame<'_>,
     pieces: &mut Pieces,
@@ -38,13 +102,7 @@ fn put_parameters(
     ensures { OnOk result (pieces.new ≡ pieces.old ++ form.parameters (context_of frame.now) frame.now.number behind 0 count) }
 {
     for j in 0..count {
-        put_load(
-            pieces,
-            target(frame, j),
-            r14(),
-            behind + 8 + 4 * u64::from(j),
-        )?;
-        save(frame, pieces, j)?;
+        put_parameter(frame, pieces, behind, j)?;
     }
     Ok(())
 }
@@ -71,12 +129,13 @@ fn put_enter(
     ensures { OnOk result (pieces.new ≡ pieces.old ++ form.enter_form (context_of frame.now) frame.now.number routine.now) }
 {
     put_frame_below(frame, pieces, frame.cost())?;
-    pieces.plain(loaded(Width::Word, r0(), r13(), LIMIT_AT))?;
-    pieces.plain(computed(Operation::Sub, r0(), r12(), Right::Content(r0())))?;
+    pieces.plain(loaded(Width::Word, r11(), r13(), LIMIT_AT))?;
+    pieces.plain(computed(Operation::Sub, r11(), r12(), Right::Content(r11())))?;
     pieces.push(Piece::Fails(Condition::Less, 12, routine.line))?;
     pieces.plain(stored(Width::Word, r15(), r12(), 0))?;
     pieces.plain(stored(Width::Word, r14(), r12(), 4))?;
     pieces.plain(copied(r14(), r12()))?;
+    put_spills(frame, pieces, frame.cost(), routine.parameters)?;
     put_parameters(frame, pieces, frame.cost(), routine.parameters)
 }
 
@@ -85,6 +144,7 @@ fn put_join(frame: &Frame<'_>, pieces: &mut Pieces, routine: &TacRoutine) -> Res
     ensures { OnOk result (pieces.new ≡ pieces.old ++ form.join_form (context_of frame.now) frame.now.number routine.now) }
 {
     pieces.plain(stored(Width::Word, r15(), r14(), frame.link_at()))?;
+    put_spills(frame, pieces, 0, routine.parameters)?;
     put_parameters(frame, pieces, 0, routine.parameters)
 }
 

@@ -112,26 +112,27 @@ pub(crate) fn receive(
     }
 }
 
-/// R0 takes the result of a routine.
-pub(crate) fn hand(
+/// A register takes a temporary, where it isn't its home.
+pub(crate) fn put_into(
     frame: &Frame<'_>,
     pieces: &mut Pieces,
+    to: Register,
     temporary: u32,
 ) -> Result<(), OutOfMemory>
-    ensures { OnOk result (pieces.new ≡ pieces.old ++ form.hand (context_of frame.now) frame.now.number (home (context_of frame.now) frame.now.number temporary)) }
+    ensures { OnOk result (pieces.new ≡ pieces.old ++ form.into (context_of frame.now) frame.now.number to (home (context_of frame.now) frame.now.number temporary)) }
 {
     match frame.seat(temporary) {
         Seat::Register(register) => {
-            if register.number() == 0 {
+            if register.number() == to.number() {
                 return Ok(());
             }
-            pieces.plain(copied(r0(), register))
+            pieces.plain(copied(to, register))
         }
-        Seat::Slot(slot) => put_load(pieces, r0(), r14(), frame.slot_at(slot)),
+        Seat::Slot(slot) => put_load(pieces, to, r14(), frame.slot_at(slot)),
     }
 }
 
-/// It comes from there to its home.
+/// The result of a routine comes from R0 to its home.
 pub(crate) fn accept(
     frame: &Frame<'_>,
     pieces: &mut Pieces,

@@ -29,6 +29,13 @@ pub(crate) fn r2() -> Register
     Register::new(2)
 }
 
+/// A register that no operand comes in.
+pub(crate) fn r11() -> Register
+    ensures { result ≡ 11 }
+{
+    Register::new(11)
+}
+
 /// The scratch registers, the frame of the program block and the frame of the innermost activation.
 pub(crate) fn r12() -> Register
     ensures { result ≡ 12 }

@@ -1,5 +1,5 @@
 -- The pieces of an instruction hang on the code, the homes and the layout alone: not on where words stand, on tables or on memory.
-use Rattle.std.proofs.Common.{◌≡◌, ℕ, zero, suc, List, [], ◌∷◌, Option, Some, None, refl, sym, ap, ◌∙◌}
+use Rattle.std.proofs.Common.{◌≡◌, ℕ, zero, suc, List, [], ◌∷◌, length, slice_index, Option, Some, None, refl, sym, ap, ◌∙◌}
 use Rattle.risc_word.specs.declared.instr.Width.{Width}
 use Rattle.risc_word.specs.declared.instr.Condition.{Condition}
 use Rattle.tac_code.specs.declared.code.Operator.{Operator}
@@ -18,6 +18,7 @@ use Rattle.risc_alloc.specs.declared.homes.Home.TheVariants.{Slot, Reg}
 use Rattle.risc_related.specs.Context.{Context, home}
 use Rattle.risc_steps.specs.Told.{told_at}
 use Rattle.risc_steps.specs.Forms as form
+use Rattle.risc_steps.specs.Forms.{carried}
 use Rattle.risc_runs.specs.Emits.{start_form}
 use Rattle.risc_runs.specs.Drawn.{Alike}
 
@@ -59,9 +60,9 @@ module _ (c : Context) (r : ℕ) where
   receive_bare (Reg q) = refl
   receive_bare (Slot k) = refl
 
-  hand_bare : (h : Home) → form.hand b r h ≡ form.hand c r h
-  hand_bare (Reg q) = refl
-  hand_bare (Slot k) = refl
+  into_bare : (d : ℕ) (h : Home) → form.into b r d h ≡ form.into c r d h
+  into_bare d (Reg q) = refl
+  into_bare d (Slot k) = refl
 
   accept_bare : (h : Home) → form.accept b r h ≡ form.accept c r h
   accept_bare (Reg q) = refl
@@ -133,10 +134,22 @@ module _ (c : Context) (r : ℕ) where
   address_bare d a n =
       rw (base_code_bare a) (rw (base_register_bare a) (rw (base_offset_bare a n) refl))
 
-  pass_bare : (j : ℕ) (us : List ℕ) → form.pass b r j us ≡ form.pass c r j us
-  pass_bare j [] = refl
-  pass_bare j (u ∷ us) =
-      rw (fetch_bare 12 (home c r u)) (rw (fetched_bare 12 (home c r u)) (rw (pass_bare (suc j) us) refl))
+  pass_bare : (n j : ℕ) (us : List ℕ) → form.pass b r n j us ≡ form.pass c r n j us
+  pass_bare n j [] = refl
+  pass_bare n j (u ∷ us) =
+      rw (fetch_bare 12 (home c r u)) (rw (fetched_bare 12 (home c r u)) (rw (pass_bare n (suc j) us) refl))
+
+  carry_bare : (n j : ℕ) (us : List ℕ) → form.carry b r n j us ≡ form.carry c r n j us
+  carry_bare n zero us = refl
+  carry_bare n (suc j) us = rw (into_bare j (home c r (slice_index us j))) (rw (carry_bare n j us) refl)
+
+  offer_bare : (us : List ℕ) → form.offer b r us ≡ form.offer c r us
+  offer_bare us =
+      rw (pass_bare (carried (length us)) 0 us) (rw (carry_bare (carried (length us)) (carried (length us)) us) refl)
+
+  offer_by_bare : (a : ℕ) (us : List ℕ) → form.offer_by b r a us ≡ form.offer_by c r a us
+  offer_by_bare a us =
+      rw (pass_bare (carried (length us)) 0 us) (rw (bring_bare 12 (home c r a)) (rw (carry_bare (carried (length us)) (carried (length us)) us) refl))
 
   arithmetic_bare : (operator : Operator) (t a : ℕ) (o : Operand) (error line : ℕ) → form.arithmetic_form b r operator t a o error line ≡ form.arithmetic_form c r operator t a o error line
   arithmetic_bare Add t a o error line =
@@ -198,10 +211,9 @@ module _ (c : Context) (r : ℕ) where
   form_bare k (JumpBack n) = refl
   form_bare k (Branch relation a o n) = branch_bare (form.branch_choice c r (told_at c r k) relation a o) relation a o _
   form_bare k (BranchBack relation a o n) = branch_bare (form.branch_choice c r (told_at c r k) relation a o) relation a o _
-  form_bare k (Call t q us line) = rw (pass_bare 0 us) (rw (accept_bare (home c r t)) refl)
-  form_bare k (CallValue t a us line) =
-      rw (pass_bare 0 us) (rw (fetch_bare 12 (home c r a)) (rw (fetched_bare 12 (home c r a)) (rw (accept_bare (home c r t)) refl)))
-  form_bare k (Return a) = rw (hand_bare (home c r a)) refl
+  form_bare k (Call t q us line) = rw (offer_bare us) (rw (accept_bare (home c r t)) refl)
+  form_bare k (CallValue t a us line) = rw (offer_by_bare a us) (rw (accept_bare (home c r t)) refl)
+  form_bare k (Return a) = rw (into_bare 0 (home c r a)) refl
   form_bare k (Trap error line) = refl
   form_bare k (Take t) = label_free t
     where
@@ -211,6 +223,10 @@ module _ (c : Context) (r : ℕ) where
   form_bare k (New t type line) = rw (receive_bare (home c r t)) refl
   form_bare k End = refl
 
+  spill_bare : (n j count : ℕ) → form.spill b r n j count ≡ form.spill c r n j count
+  spill_bare n j zero = refl
+  spill_bare n j (suc count) = rw (spill_bare n (suc j) count) refl
+
   parameters_bare : (n j count : ℕ) → form.parameters b r n j count ≡ form.parameters c r n j count
   parameters_bare n j zero = refl
   parameters_bare n j (suc count) =
@@ -218,7 +234,7 @@ module _ (c : Context) (r : ℕ) where
 
   entry_bare : (routine : TacRoutine) → form.entry_form b r routine ≡ form.entry_form c r routine
   entry_bare routine =
-      rw (parameters_bare (c.costs r) 0 routine.parameters) (rw (parameters_bare 0 0 routine.parameters) refl)
+      rw (spill_bare (c.costs r) 0 routine.parameters) (rw (parameters_bare (c.costs r) 0 routine.parameters) (rw (spill_bare 0 0 routine.parameters) (rw (parameters_bare 0 0 routine.parameters) refl)))
 
 start_bare : (c : Context) (block : TacRoutine) → start_form (bare c) block ≡ start_form c block
 start_bare c block = refl

@@ -1,5 +1,5 @@
 -- What an image that was made of a code makes of it in a memory: all that steps ask.
-use Rattle.std.proofs.Common.{◌≡◌, ℕ, zero, suc, ◌+◌, ◌<◌, ◌≤◌, ◌⊎◌, inl, inr, true, false, nat_eq, nat_lt, List, [], ◌∷◌, ◌++◌, length, append_assoc, Option, Some, None, slice_get, refl, sym, subst, arith}
+use Rattle.std.proofs.Common.{◌≡◌, ℕ, zero, suc, ◌+◌, ◌<◌, ◌≤◌, ◌⊎◌, inl, inr, true, false, nat_eq, nat_lt, List, [], ◌∷◌, ◌++◌, length, Option, Some, None, slice_get, refl, sym, subst, arith}
 use Rattle.std.specs.Prelude.{option_map, All}
 use Rattle.tac_code.specs.declared.code.Instruction.{Instruction}
 use Rattle.tac_code.specs.declared.code.Instruction.TheVariants.{Call, CallValue}
@@ -16,9 +16,8 @@ use Rattle.risc_image.specs.Image.{Image, IsWellFormed, IsCall, code_end, call_r
 use Rattle.risc_image.specs.Table.{call_at}
 use Rattle.risc_load.specs.Shows.{IsBudget}
 use Rattle.risc_related.specs.Context.{Context, home, called, IsLaid}
-use Rattle.risc_steps.specs.Pieces.{Piece, EntersAt, Left}
-use Rattle.risc_steps.specs.Forms.{accept, fetched, pass, call_value_form}
-use Rattle.risc_steps.specs.Forms.{fetch as fetched_form}
+use Rattle.risc_steps.specs.Pieces.{Piece, Left}
+use Rattle.risc_steps.specs.Forms.{accept, offer, offer_by}
 use Rattle.risc_steps.specs.Follows.{stub, Stood, Built}
 use Rattle.risc_steps.proofs.Basics.{left_after, left_next, left_at}
 use Rattle.risc_steps.proofs.Comes.{get_append}
@@ -101,12 +100,9 @@ module _ (code : Code) (homes : List Home) (image : Image) (sound : IsSound code
       go : (o : Option Instruction) → fetch code r j ≡ o → gives_to o t ≡ true → Left c words (c.resume r (suc j) t) (accept c r (home c r t)) (c.site r (suc j))
       go None here e = absurd (cc e)
       go (Some (Call u q us line)) here e =
-          moved t u (sym (same_number t u e)) (resumed r j u _ _ (stand.body r j (Call u q us line) here))
+          moved t u (sym (same_number t u e)) (resumed r j u (offer c r us) _ (stand.body r j (Call u q us line) here))
       go (Some (CallValue u a us line)) here e =
-          moved t u (sym (same_number t u e)) (resumed r j u (pass c r 0 us ++ fetched_form c r 12 (home c r a)) _ (split (stand.body r j (CallValue u a us line) here)))
-        where
-          split : Left c words (c.site r j) (call_value_form c r u a us line) (c.site r (suc j)) → Left c words (c.site r j) ((pass c r 0 us ++ fetched_form c r 12 (home c r a)) ++ (EntersAt (fetched c r 12 (home c r a)) line ∷ accept c r (home c r u))) (c.site r (suc j))
-          split l = subst (λ ps. Left c words (c.site r j) ps (c.site r (suc j))) (sym (append_assoc (pass c r 0 us) (fetched_form c r 12 (home c r a)) _)) l
+          moved t u (sym (same_number t u e)) (resumed r j u (offer_by c r a us) _ (stand.body r j (CallValue u a us line) here))
       go (Some _) here e = absurd (cc e)
 
   laid_is : frame_cost image 0 ≤ c.size → IsLaid c

@@ -1,5 +1,5 @@
 -- The numbers and lines in the pieces of sound code lie in their ranges.
-use Rattle.std.proofs.Common.{ℕ, zero, suc, Bool, true, false, cond, nat_eq, nat_lt, List, [], ◌∷◌, ◌++◌, Option, Some, None, ℤ, pos, arith}
+use Rattle.std.proofs.Common.{ℕ, zero, suc, ◌+◌, ◌*◌, Bool, true, false, cond, ◌&&◌, not, nat_eq, nat_lt, List, [], ◌∷◌, ◌++◌, length, slice_index, Option, Some, None, ℤ, pos, arith}
 use Rattle.std.specs.Prelude.{int_lt}
 use Rattle.risc_word.specs.declared.instr.Width.{Width}
 use Rattle.risc_word.specs.declared.instr.Condition.{Condition}
@@ -23,7 +23,7 @@ use Rattle.risc_related.specs.Context.{Context, home, is_program, slot_at}
 use Rattle.risc_steps.specs.Pieces.{Label, Piece, Fails, Enters, Joins, EntersAt}
 use Rattle.risc_steps.specs.Told.{told_at}
 use Rattle.risc_steps.specs.Forms as form
-use Rattle.risc_steps.specs.Forms.{is_near, is_small, is_divisor}
+use Rattle.risc_steps.specs.Forms.{is_near, is_small, is_divisor, carried, is_taken, is_stored, stands}
 use Rattle.risc_runs.specs.Emits.{start_form}
 
 -- what a piece's row asks
@@ -83,9 +83,9 @@ module _ (c : Context) (r : ℕ) where
   receive_good (Reg q) = (tt, tt)
   receive_good (Slot k) = store_good 12 14 (slot_at c r k)
 
-  hand_good : (h : Home) → AreGood (form.hand c r h)
-  hand_good (Reg q) = by_test (nat_eq q 0) _ _ tt (tt, tt)
-  hand_good (Slot k) = load_good 0 14 (slot_at c r k)
+  into_good : (d : ℕ) (h : Home) → AreGood (form.into c r d h)
+  into_good d (Reg q) = by_test (nat_eq q d) _ _ tt (tt, tt)
+  into_good d (Slot k) = load_good d 14 (slot_at c r k)
 
   accept_good : (h : Home) → AreGood (form.accept c r h)
   accept_good (Reg q) = by_test (nat_eq q 0) _ _ tt (tt, tt)
@@ -188,9 +188,31 @@ module _ (c : Context) (r : ℕ) where
   steps_good t a q width =
       good_append (form.scaled c r q width) _ (scaled_good q width) (good_append (form.base_address c r a) _ (base_address_good a) (tt, save_good (home c r t)))
 
-  pass_good : (j : ℕ) (us : List ℕ) → AreGood (form.pass c r j us)
-  pass_good j [] = tt
-  pass_good j (u ∷ us) = good_append (form.fetch c r 12 (home c r u)) _ (fetch_good 12 (home c r u)) (tt, pass_good (suc j) us)
+  pass_one_good : (n j : ℕ) (h : Home) → AreGood (form.pass_one c r n j h)
+  pass_one_good n j h =
+      by_test (is_stored n j h) _ _ (good_append (form.fetch c r 12 h) _ (fetch_good 12 h) (tt, tt)) tt
+
+  pass_good : (n j : ℕ) (us : List ℕ) → AreGood (form.pass c r n j us)
+  pass_good n j [] = tt
+  pass_good n j (u ∷ us) = good_append (form.pass_one c r n j (home c r u)) _ (pass_one_good n j (home c r u)) (pass_good n (suc j) us)
+
+  carry_one_good : (n j : ℕ) (h : Home) → AreGood (form.carry_one c r n j h)
+  carry_one_good n j h = by_test (is_taken n j h) _ _ (tt, tt) (into_good j h)
+
+  carry_good : (n j : ℕ) (us : List ℕ) → AreGood (form.carry c r n j us)
+  carry_good n zero us = tt
+  carry_good n (suc j) us =
+      good_append (form.carry_one c r n j (home c r (slice_index us j))) _ (carry_one_good n j (home c r (slice_index us j))) (carry_good n j us)
+
+  offer_good : (us : List ℕ) → AreGood (form.offer c r us)
+  offer_good us =
+      let n = carried (length us) in
+      good_append (form.pass c r n 0 us) _ (pass_good n 0 us) (carry_good n n us)
+
+  offer_by_good : (a : ℕ) (us : List ℕ) → AreGood (form.offer_by c r a us)
+  offer_by_good a us =
+      let n = carried (length us) in
+      good_append (form.pass c r n 0 us) _ (pass_good n 0 us) (good_append (form.bring c r 12 (home c r a)) _ (bring_good 12 (home c r a)) (carry_good n n us))
 
   call_piece : (b : Bool) (q line : ℕ) → IsLine line → IsGood (cond b (Enters q line) (Joins q))
   call_piece true q line l = l
@@ -198,7 +220,7 @@ module _ (c : Context) (r : ℕ) where
 
   return_good : (a : ℕ) → AreGood (form.return_form c r a)
   return_good a =
-      good_append (form.hand c r (home c r a)) _ (hand_good (home c r a)) (by_test (is_program c r) _ _ (tt, (tt, (tt, tt))) (tt, (tt, tt)))
+      good_append (form.into c r 0 (home c r a)) _ (into_good 0 (home c r a)) (by_test (is_program c r) _ _ (tt, (tt, (tt, tt))) (tt, (tt, tt)))
 
   branch_good : (q : Option Condition) (relation : Relation) (a : ℕ) (o : Operand) (label : Label) → AreGood (form.branch_by c r q relation a o label)
   branch_good None relation a o label = both_good a o _ (tt, (tt, tt))
@@ -246,9 +268,9 @@ module _ (c : Context) (r : ℕ) where
   form_good limits k (Branch relation a o n) h = branch_good (form.branch_choice c r (told_at c r k) relation a o) relation a o _
   form_good limits k (BranchBack relation a o n) h = branch_good (form.branch_choice c r (told_at c r k) relation a o) relation a o _
   form_good limits k (Call t q us line) h =
-      good_append (form.pass c r 0 us) _ (pass_good 0 us) (call_piece (is_program c q) q line h.3, accept_good (home c r t))
+      good_append (form.offer c r us) _ (offer_good us) (call_piece (is_program c q) q line h.3, accept_good (home c r t))
   form_good limits k (CallValue t a us line) h =
-      good_append (form.pass c r 0 us) _ (pass_good 0 us) (good_append (form.fetch c r 12 (home c r a)) _ (fetch_good 12 (home c r a)) (h.3, accept_good (home c r t)))
+      good_append (form.offer_by c r a us) _ (offer_by_good a us) (h.3, accept_good (home c r t))
   form_good limits k (Return a) h = return_good a
   form_good limits k (Trap error line) h = ((h.0, h.1), tt)
   form_good limits k (Take t) h = (tt, (tt, save_good (home c r t)))
@@ -257,21 +279,35 @@ module _ (c : Context) (r : ℕ) where
       (tt, (tt, (tt, good_append (form.number 12 (pos (c.sizes type))) _ (number_good 12 (pos (c.sizes type))) (tt, ((error_heap, h.2), (tt, (tt, (tt, (tt, receive_good (home c r t))))))))))
   form_good limits k End h = (tt, (tt, (tt, tt)))
 
+  spill_one_good : (n j : ℕ) (h : Home) → AreGood (form.spill_one c r n j h)
+  spill_one_good n j h = by_test (nat_lt j 8 && not (stands j h)) _ _ (store_good j 14 (n + 8 + 4 * j)) tt
+
+  spill_good : (n j count : ℕ) → AreGood (form.spill c r n j count)
+  spill_good n j zero = tt
+  spill_good n j (suc count) = good_append (form.spill_one c r n j (home c r j)) _ (spill_one_good n j (home c r j)) (spill_good n (suc j) count)
+
+  parameter_good : (n j : ℕ) (h : Home) → AreGood (form.parameter c r n j h)
+  parameter_good n j h =
+      by_test (stands j h) _ _ tt (good_append (form.load (form.target c r h) 14 (n + 8 + 4 * j)) _ (load_good _ 14 _) (save_good h))
+
   parameters_good : (n j count : ℕ) → AreGood (form.parameters c r n j count)
   parameters_good n j zero = tt
   parameters_good n j (suc count) =
-      good_append (form.load _ 14 _) _ (load_good _ 14 _) (good_append (form.save c r (home c r j)) _ (save_good (home c r j)) (parameters_good n (suc j) count))
+      good_append (form.parameter c r n j (home c r j)) _ (parameter_good n j (home c r j)) (parameters_good n (suc j) count)
+
+  arrived_good : (n count : ℕ) → AreGood (form.spill c r n 0 count ++ form.parameters c r n 0 count)
+  arrived_good n count = good_append (form.spill c r n 0 count) _ (spill_good n 0 count) (parameters_good n 0 count)
 
   below_good : (n : ℕ) → AreGood (form.frame_below c r n)
   below_good n = by_test (nat_lt n 65536) _ _ (tt, tt) (tt, (tt, (tt, tt)))
 
   enter_good : (routine : TacRoutine) → IsLine routine.line → AreGood (form.enter_form c r routine)
   enter_good routine l =
-      good_append (form.frame_below c r (c.costs r)) _ (below_good (c.costs r)) (tt, (tt, ((error_stack, l), (tt, (tt, (tt, parameters_good (c.costs r) 0 routine.parameters))))))
+      good_append (form.frame_below c r (c.costs r)) _ (below_good (c.costs r)) (tt, (tt, ((error_stack, l), (tt, (tt, (tt, arrived_good (c.costs r) routine.parameters))))))
 
   pub entry_good : (routine : TacRoutine) → IsLine routine.line → AreGood (form.entry_form c r routine)
   entry_good routine l =
-      by_test (is_program c r) _ _ (by_test (form.is_entered c r routine) _ _ (enter_good routine l) ((error_stack, l), tt)) (tt, parameters_good 0 0 routine.parameters)
+      by_test (is_program c r) _ _ (by_test (form.is_entered c r routine) _ _ (enter_good routine l) ((error_stack, l), tt)) (tt, arrived_good 0 routine.parameters)
 
 pub start_good : (c : Context) (block : TacRoutine) → IsLine block.line → AreGood (start_form c block)
 start_good c block l =

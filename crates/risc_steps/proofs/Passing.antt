@@ -1,5 +1,5 @@
 -- Operands passed into the caller's frame, and parameters that come from there to their homes.
-use Rattle.std.proofs.Common.{◌≡◌, ◌≢◌, ℕ, zero, suc, ◌+◌, ◌*◌, ◌%◌, ◌<◌, ◌≤◌, ◌⊎◌, inl, inr, ⊎_elim, true, List, [], ◌∷◌, ◌++◌, length, Option, Some, None, slice_get, pos, refl, sym, ap, ◌∙◌, subst, arith, length-append}
+use Rattle.std.proofs.Common.{◌≡◌, ◌≢◌, ℕ, zero, suc, ◌+◌, ◌*◌, ◌%◌, ◌<◌, ◌≤◌, ◌⊎◌, inl, inr, ⊎_elim, Bool, true, false, cond, ◌&&◌, not, nat_eq, nat_lt, List, [], ◌∷◌, ◌++◌, length, Option, Some, None, slice_get, slice_index, pos, refl, sym, ap, ◌∙◌, subst, arith, length-append, append_assoc}
 use Rattle.std.proofs.lemmas.Bool.{cases_eq}
 use Rattle.risc_word.specs.declared.instr.Width.TheVariants.{Word}
 use Rattle.risc_word.specs.declared.instr.Instr.{Instr}
@@ -7,7 +7,7 @@ use Rattle.risc_word.specs.declared.instr.Instr.TheVariants as word
 use Rattle.risc_machine.specs.Step as machine
 use Rattle.risc_view.specs.View.{View, Shows, IsReadable, IsWritable, after}
 use Rattle.risc_view.specs.Runs.{To, Way, same_tape}
-use Rattle.risc_view.proofs.Runs.{way_here, way_then}
+use Rattle.risc_view.proofs.Runs.{way_here, way_of, way_then}
 use Rattle.tac_code.specs.declared.code.Value.{Value}
 use Rattle.tac_code.specs.declared.code.TacRoutine.{TacRoutine}
 use Rattle.tac_code.specs.Meaning.{State, Temporaries, and_more, values_of, routines}
@@ -16,15 +16,19 @@ use Rattle.risc_alloc.specs.declared.homes.Home.TheVariants.{Slot, Reg}
 use Rattle.risc_related.specs.Context.{Context, home, IsAlive, is_program, slot_at, Places}
 use Rattle.risc_related.specs.Context as ctx
 use Rattle.risc_related.specs.Related.{Machine, value_of, Related, owner_of}
-use Rattle.risc_related.proofs.Basics.{update_same, update_other}
+use Rattle.risc_related.proofs.Basics.{eq_of, update_same, update_at, update_other}
 use Rattle.risc_related.proofs.Frames.{program_room, open_bottom, inside_program}
 use Rattle.risc_related.proofs.Kept.{objects_keep}
 use Rattle.risc_steps.specs.Pieces.{Piece, Plain, Left}
-use Rattle.risc_steps.specs.Forms.{fetched, target, save, load, pass, parameters}
+use Rattle.risc_steps.specs.Forms.{is_taken, is_stored, stands, fetched, target, save, load, store, into, pass_one, pass, carry_one, carry, spill_one, spill, parameter, parameters}
 use Rattle.risc_steps.specs.Forms as form
 use Rattle.risc_steps.specs.Follows.{machine_of, Built}
-use Rattle.risc_steps.proofs.Basics.{left_after, left_next}
-use Rattle.risc_steps.proofs.Runs.{Framed, step_to, load_run, fetch_run, save_run, target_not}
+use Rattle.risc_steps.proofs.Basics.{left_after}
+use Rattle.risc_steps.proofs.Runs.{Framed, step_to, load_run, store_run, fetch_run, into_run, save_run, target_not}
+
+append_nil : (ps : List Piece) → ps ++ [] ≡ ps
+append_nil [] = refl
+append_nil (p ∷ ps) = ap (λ l. p ∷ l) (append_nil ps)
 
 pub and_more_some : (o : Option Value) (rest : Option (List Value)) (vs : List Value) → and_more o rest ≡ Some vs → (v : Value) × (ws : List Value) × (o ≡ Some v) × (rest ≡ Some ws) × (vs ≡ v ∷ ws)
 and_more_some None rest vs e = absurd (cc e)
@@ -47,15 +51,6 @@ value_of_operand ts (u ∷ us) vs (suc j) x e is =
     value_of_operand ts us b.1 j x b.3 (subst (λ l. slice_get l (suc j) ≡ Some x) b.4 is)
 
 module _ (c : Context) (words : List ℕ) (b : Built c words) (p : Places) (r f : ℕ) (framed : Framed c words r f) (prog : is_program c r ≡ true) (al : f % 4 ≡ 0) (low : c.base ≤ f) (top : f + c.used r ≤ c.size) where
-  -- operands from number k on stand in the frame
-  pub record Passed (k : ℕ) (vs : List Value) (len : ℕ) (m : machine.State) (v : View) : Type 0 where
-    pub view : View
-    pub way : Way words c.size m same_tape view
-    pub registers : (q : ℕ) → q ≢ 12 → view.registers q ≡ v.registers q
-    pub same : (a : ℕ) → (a < f + 8 + 4 * k) ⊎ (f + 268 ≤ a) → view.words a ≡ v.words a
-    pub stored : (j : ℕ) (x : Value) → slice_get vs j ≡ Some x → view.words (f + 8 + 4 * (k + j)) ≡ ctx.word c p x
-    pub place : view.place ≡ v.place + len
-
   pub home_on : (v v2 : View) (t : ℕ) → ((a : ℕ) → f + 276 ≤ a → v2.words a ≡ v.words a) → ((z : ℕ) → z ≢ 12 → v2.registers z ≡ v.registers z) → value_of c r f (machine_of v2) (home c r t) ≡ value_of c r f (machine_of v) (home c r t)
   home_on v v2 t same regs = go (home c r t) refl
     where
@@ -63,70 +58,221 @@ module _ (c : Context) (words : List ℕ) (b : Built c words) (p : Places) (r f 
       go (Slot j) e = let q = program_room c b.laid p r prog in same _ (omega (arith, q.0))
       go (Reg z) e = let lt = b.placed.register r t z e in regs z (omega arith)
 
-  pub pass_run : (k : ℕ) (ts : Temporaries) (us : List ℕ) (vs : List Value) (ps : List Piece) (next : ℕ) (m : machine.State) (v : View) → Shows words c.size m v → Left c words v.place (pass c r k us ++ ps) next → v.registers 14 ≡ f → k + length us ≤ 65 → values_of ts us ≡ Some vs → ((j u : ℕ) (x : Value) → slice_get us j ≡ Some u → ts u ≡ Some x → value_of c r f (machine_of v) (home c r u) ≡ ctx.word c p x) → Passed k vs (length (pass c r k us)) m v
-  pass_run k ts [] vs ps next m v sh l e14 room ev hv =
-      let none : [] ≡ vs = cc ev in
+  -- operand k went by way of the frame, if it does
+  pub record Stored (n k : ℕ) (h : Home) (x : Value) (len : ℕ) (m : machine.State) (v : View) : Type 0 where
+    pub view : View
+    pub way : Way words c.size m same_tape view
+    pub registers : (q : ℕ) → q ≢ 12 → view.registers q ≡ v.registers q
+    pub same : (a : ℕ) → a ≢ f + 8 + 4 * k → view.words a ≡ v.words a
+    pub there : is_stored n k h ≡ true → view.words (f + 8 + 4 * k) ≡ ctx.word c p x
+    pub place : view.place ≡ v.place + len
+
+  pass_one_run : (n k u : ℕ) (x : Value) (ps : List Piece) (next : ℕ) (m : machine.State) (v : View) → Shows words c.size m v → Left c words v.place (pass_one c r n k (home c r u) ++ ps) next → v.registers 14 ≡ f → k < 65 → value_of c r f (machine_of v) (home c r u) ≡ ctx.word c p x → Stored n k (home c r u) x (length (pass_one c r n k (home c r u))) m v
+  pass_one_run n k u x ps next m v sh l e14 room hv = go (is_stored n k (home c r u)) refl l
+    where
+      assoc : (xs : List Piece) (i : Instr) (zs : List Piece) → (xs ++ (Plain i ∷ [])) ++ zs ≡ xs ++ (Plain i ∷ zs)
+      assoc [] i zs = refl
+      assoc (x ∷ xs) i zs = ap (λ l. x ∷ l) (assoc xs i zs)
+
+      go : (t : Bool) → is_stored n k (home c r u) ≡ t → Left c words v.place (cond t (form.fetch c r 12 (home c r u) ++ (Plain (word.Store Word (fetched c r 12 (home c r u)) 14 (pos (8 + 4 * k))) ∷ [])) [] ++ ps) next → Stored n k (home c r u) x (length (cond t (form.fetch c r 12 (home c r u) ++ (Plain (word.Store Word (fetched c r 12 (home c r u)) 14 (pos (8 + 4 * k))) ∷ [])) [])) m v
+      go false is l =
+          record {
+            view = v;
+            way = way_here words c.size m v sh;
+            registers = λ q ne. refl;
+            same = λ a ne. refl;
+            there = λ e. let no : true ≡ false = sym e ∙ is in absurd (cc no);
+            place = omega arith;
+          }
+      go true is l =
+          let h = home c r u in
+          let q = program_room c b.laid p r prog in
+          let i = word.Store Word (fetched c r 12 h) 14 (pos (8 + 4 * k)) in
+          let l0 = subst (λ z. Left c words v.place z next) (assoc (form.fetch c r 12 h) i ps) l in
+          let f1 = fetch_run c words b.stood b.laid b.placed r f framed 12 u (Plain i ∷ ps) next m v sh (omega arith) e14 l0 in
+          let v1 = f1.view in
+          let l1 = left_after c words v.place v1.place next (form.fetch c r 12 h) (Plain i ∷ ps) l0 f1.place in
+          let e14' : v1.registers 14 ≡ f = f1.moved.registers 14 (omega arith) ∙ e14 in
+          let fine : IsWritable words c.size (v1.registers 14 + (8 + 4 * k)) = record { aligned = omega (arith, e14', al); low = omega (arith, e14', low, b.stood.code, b.laid.order.1); high = omega (arith, e14', top, q.0, q.1, q.2, q.3, room) } in
+          let t = step_to c words b.stood i f1.way.to v1 f1.way.shows l1.stands.0 (tt, fine) in
+          let aim : v1.registers 14 + (8 + 4 * k) ≡ f + 8 + 4 * k = omega (arith, e14') in
+          record {
+            view = after i v1;
+            way = way_then words c.size m same_tape same_tape v1 (after i v1) f1.way (way_of words c.size f1.way.to same_tape (after i v1) t);
+            registers = λ z ne. f1.moved.registers z ne;
+            same = λ a ne. let far : a ≢ v1.registers 14 + (8 + 4 * k) = omega (arith, aim) in update_other v1.words _ _ a far ∙ f1.moved.words a;
+            there = λ e. ap (after i v1).words (sym aim) ∙ update_same v1.words _ _ ∙ f1.value ∙ hv;
+            place = let z = length-append (form.fetch c r 12 h) (Plain i ∷ []) in omega (arith, f1.place, z);
+          }
+
+  -- so did those from number k on
+  pub record Passed (n k : ℕ) (us : List ℕ) (vs : List Value) (len : ℕ) (m : machine.State) (v : View) : Type 0 where
+    pub view : View
+    pub way : Way words c.size m same_tape view
+    pub registers : (q : ℕ) → q ≢ 12 → view.registers q ≡ v.registers q
+    pub same : (a : ℕ) → (a < f + 8 + 4 * k) ⊎ (f + 268 ≤ a) → view.words a ≡ v.words a
+    pub stored : (j u : ℕ) (x : Value) → slice_get us j ≡ Some u → slice_get vs j ≡ Some x → is_stored n (k + j) (home c r u) ≡ true → view.words (f + 8 + 4 * (k + j)) ≡ ctx.word c p x
+    pub place : view.place ≡ v.place + len
+
+  pub pass_run : (n k : ℕ) (ts : Temporaries) (us : List ℕ) (vs : List Value) (ps : List Piece) (next : ℕ) (m : machine.State) (v : View) → Shows words c.size m v → Left c words v.place (pass c r n k us ++ ps) next → v.registers 14 ≡ f → k + length us ≤ 65 → values_of ts us ≡ Some vs → ((j u : ℕ) (x : Value) → slice_get us j ≡ Some u → ts u ≡ Some x → value_of c r f (machine_of v) (home c r u) ≡ ctx.word c p x) → Passed n k us vs (length (pass c r n k us)) m v
+  pass_run n k ts [] vs ps next m v sh l e14 room ev hv =
       record {
         view = v;
         way = way_here words c.size m v sh;
         registers = λ q ne. refl;
         same = λ a side. refl;
-        stored = λ j x e. let e' : slice_get [] j ≡ Some x = subst (λ l. slice_get l j ≡ Some x) (sym none) e in absurd (cc e');
+        stored = λ j u x eu e st. absurd (cc eu);
         place = omega arith;
       }
-  pass_run k ts (u ∷ us) vs ps next m v sh l e14 room ev hv =
+  pass_run n k ts (u ∷ us) vs ps next m v sh l e14 room ev hv =
       let both = and_more_some (ts u) (values_of ts us) vs ev in
       let x = both.0 in
       let h = home c r u in
-      let q = program_room c b.laid p r prog in
-      let i = word.Store Word (fetched c r 12 h) 14 (pos (8 + 4 * k)) in
-      let rest = pass c r (suc k) us ++ ps in
-      let l0 = subst (λ z. Left c words v.place z next) (assoc (form.fetch c r 12 h) i (pass c r (suc k) us) ps) l in
-      let f1 = fetch_run c words b.stood b.laid b.placed r f framed 12 u (Plain i ∷ rest) next m v sh (omega arith) e14 l0 in
-      let v1 = f1.view in
-      let l1 = left_after c words v.place v1.place next (form.fetch c r 12 h) (Plain i ∷ rest) l0 f1.place in
-      let e14' : v1.registers 14 ≡ f = f1.moved.registers 14 (omega arith) ∙ e14 in
-      let fine : IsWritable words c.size (v1.registers 14 + (8 + 4 * k)) = record { aligned = omega (arith, e14', al); low = omega (arith, e14', low, b.stood.code, b.laid.order.1); high = omega (arith, e14', top, q.0, q.1, q.2, q.3, room) } in
-      let t = step_to c words b.stood i f1.way.to v1 f1.way.shows l1.stands.0 (tt, fine) in
-      let v2 = after i v1 in
-      let aim : v1.registers 14 + (8 + 4 * k) ≡ f + 8 + 4 * k = omega (arith, e14') in
-      let old : (a : ℕ) → (a < f + 8 + 4 * k) ⊎ (f + 8 + 4 * k < a) → v2.words a ≡ v.words a = λ a side. ⊎_elim (λ (lt : a < f + 8 + 4 * k). let ne : a ≢ v1.registers 14 + (8 + 4 * k) = omega (arith, aim) in update_other v1.words _ _ a ne ∙ f1.moved.words a) (λ (gt : f + 8 + 4 * k < a). let ne : a ≢ v1.registers 14 + (8 + 4 * k) = omega (arith, aim) in update_other v1.words _ _ a ne ∙ f1.moved.words a) side in
-      let regs : (z : ℕ) → z ≢ 12 → v2.registers z ≡ v.registers z = λ z ne. f1.moved.registers z ne in
-      let hv' : (j w : ℕ) (y : Value) → slice_get us j ≡ Some w → ts w ≡ Some y → value_of c r f (machine_of v2) (home c r w) ≡ ctx.word c p y = λ j w y e e'. home_on v v2 w (λ a le. old a (inr (omega (arith, room)))) regs ∙ hv (suc j) w y e e' in
-      let l2 = left_next c words v1.place next (Plain i) rest l1 in
-      let tail = pass_run (suc k) ts us both.1 ps next t.to v2 t.shows l2 e14' (omega (arith, room)) both.3 hv' in
-      let here : v2.words (f + 8 + 4 * k) ≡ ctx.word c p x = ap v2.words (sym aim) ∙ update_same v1.words _ _ ∙ f1.value ∙ hv 0 u x refl both.2 in
+      let first = pass_one c r n k h in
+      let rest = pass c r n (suc k) us in
+      let l0 = subst (λ z. Left c words v.place z next) (append_assoc first rest ps) l in
+      let o = pass_one_run n k u x (rest ++ ps) next m v sh l0 e14 (omega (arith, room)) (hv 0 u x refl both.2) in
+      let v2 = o.view in
+      let l2 = left_after c words v.place v2.place next first (rest ++ ps) l0 o.place in
+      let hv' : (j w : ℕ) (y : Value) → slice_get us j ≡ Some w → ts w ≡ Some y → value_of c r f (machine_of v2) (home c r w) ≡ ctx.word c p y = λ j w y e e'. home_on v v2 w (λ a le. o.same a (omega (arith, room))) o.registers ∙ hv (suc j) w y e e' in
+      let tail = pass_run n (suc k) ts us both.1 ps next o.way.to v2 o.way.shows l2 (o.registers 14 (omega arith) ∙ e14) (omega (arith, room)) both.3 hv' in
       record {
         view = tail.view;
-        way = way_then words c.size m same_tape same_tape v1 tail.view f1.way (step_way t tail.way);
-        registers = λ z ne. tail.registers z ne ∙ regs z ne;
-        same = λ a side. kept_outside v2 tail.view tail.same old a (omega (arith, room)) side;
-        stored = λ j y e. by_number v2 tail.view x both.1 tail.same tail.stored here both.4 j y e;
-        place = let n = length-append (form.fetch c r 12 h) (Plain i ∷ pass c r (suc k) us) in omega (arith, tail.place, f1.place, n);
+        way = way_then words c.size m same_tape same_tape v2 tail.view o.way tail.way;
+        registers = λ z ne. tail.registers z ne ∙ o.registers z ne;
+        same = λ a side. kept_outside v2 tail.view tail.same o.same a (omega (arith, room)) side;
+        stored = λ j w y ew e st. by_number v2 tail.view x both.1 tail.same tail.stored o.there both.4 j w y ew e st;
+        place = let z = length-append first rest in omega (arith, tail.place, o.place, z);
       }
     where
-      assoc : (xs : List Piece) (i : Instr) (ys zs : List Piece) → (xs ++ (Plain i ∷ ys)) ++ zs ≡ xs ++ (Plain i ∷ (ys ++ zs))
-      assoc [] i ys zs = refl
-      assoc (x ∷ xs) i ys zs = ap (λ l. x ∷ l) (assoc xs i ys zs)
+      kept_outside : (v2 v3 : View) → ((a : ℕ) → (a < f + 8 + 4 * (suc k)) ⊎ (f + 268 ≤ a) → v3.words a ≡ v2.words a) → ((a : ℕ) → a ≢ f + 8 + 4 * k → v2.words a ≡ v.words a) → (a : ℕ) → k < 65 → (a < f + 8 + 4 * k) ⊎ (f + 268 ≤ a) → v3.words a ≡ v.words a
+      kept_outside v2 v3 s o a lt (inl side) = s a (inl (omega arith)) ∙ o a (omega arith)
+      kept_outside v2 v3 s o a lt (inr side) = s a (inr side) ∙ o a (omega arith)
 
-      step_way : {n : machine.State} {v2 v3 : View} (t : To words c.size n same_tape v2) → Way words c.size t.to same_tape v3 → Way words c.size n same_tape v3
-      step_way t w =
-          record { to = w.to; shows = w.shows; runs = λ k y. let z = w.runs k y in let x = t.runs z.0 y in (x.0, omega (arith, z.1, x.1), x.2 ∙ z.2) }
-
-      kept_outside : (v2 v3 : View) → ((a : ℕ) → (a < f + 8 + 4 * (suc k)) ⊎ (f + 268 ≤ a) → v3.words a ≡ v2.words a) → ((a : ℕ) → (a < f + 8 + 4 * k) ⊎ (f + 8 + 4 * k < a) → v2.words a ≡ v.words a) → (a : ℕ) → k < 65 → (a < f + 8 + 4 * k) ⊎ (f + 268 ≤ a) → v3.words a ≡ v.words a
-      kept_outside v2 v3 s o a lt (inl side) = s a (inl (omega arith)) ∙ o a (inl side)
-      kept_outside v2 v3 s o a lt (inr side) = s a (inr side) ∙ o a (inr (omega arith))
-
-      by_number : (v2 v3 : View) (x : Value) (ws : List Value) → ((a : ℕ) → (a < f + 8 + 4 * (suc k)) ⊎ (f + 268 ≤ a) → v3.words a ≡ v2.words a) → ((j : ℕ) (y : Value) → slice_get ws j ≡ Some y → v3.words (f + 8 + 4 * (suc k + j)) ≡ ctx.word c p y) → v2.words (f + 8 + 4 * k) ≡ ctx.word c p x → vs ≡ x ∷ ws → (j : ℕ) (y : Value) → slice_get vs j ≡ Some y → v3.words (f + 8 + 4 * (k + j)) ≡ ctx.word c p y
-      by_number v2 v3 x ws s o here is zero y e =
+      by_number : (v2 v3 : View) (x : Value) (ws : List Value) → ((a : ℕ) → (a < f + 8 + 4 * (suc k)) ⊎ (f + 268 ≤ a) → v3.words a ≡ v2.words a) → ((j w : ℕ) (y : Value) → slice_get us j ≡ Some w → slice_get ws j ≡ Some y → is_stored n (suc k + j) (home c r w) ≡ true → v3.words (f + 8 + 4 * (suc k + j)) ≡ ctx.word c p y) → (is_stored n k (home c r u) ≡ true → v2.words (f + 8 + 4 * k) ≡ ctx.word c p x) → vs ≡ x ∷ ws → (j w : ℕ) (y : Value) → slice_get (u ∷ us) j ≡ Some w → slice_get vs j ≡ Some y → is_stored n (k + j) (home c r w) ≡ true → v3.words (f + 8 + 4 * (k + j)) ≡ ctx.word c p y
+      by_number v2 v3 x ws s o here is zero w y ew e st =
           let e' : slice_get (x ∷ ws) 0 ≡ Some y = subst (λ l. slice_get l 0 ≡ Some y) is e in
           let xy : x ≡ y = cc e' in
+          let uw : u ≡ w = cc ew in
+          let first : k + 0 ≡ k = omega arith in
           let at : f + 8 + 4 * (k + 0) ≡ f + 8 + 4 * k = omega arith in
-          ap v3.words at ∙ s (f + 8 + 4 * k) (inl (omega arith)) ∙ here ∙ ap (ctx.word c p) xy
-      by_number v2 v3 x ws s o here is (suc j) y e =
+          let st' : is_stored n k (home c r u) ≡ true = ap (λ z. is_stored n z (home c r u)) (sym first) ∙ ap (λ z. is_stored n (k + 0) (home c r z)) uw ∙ st in
+          ap v3.words at ∙ s (f + 8 + 4 * k) (inl (omega arith)) ∙ here st' ∙ ap (ctx.word c p) xy
+      by_number v2 v3 x ws s o here is (suc j) w y ew e st =
           let e' : slice_get (x ∷ ws) (suc j) ≡ Some y = subst (λ l. slice_get l (suc j) ≡ Some y) is e in
+          let after : k + suc j ≡ suc k + j = omega arith in
           let at : f + 8 + 4 * (k + suc j) ≡ f + 8 + 4 * (suc k + j) = omega arith in
-          ap v3.words at ∙ o j y e'
+          ap v3.words at ∙ o j w y ew e' (ap (λ z. is_stored n z (home c r w)) (sym after) ∙ st)
+
+  -- ---- operands that are carried in registers
+
+  module _ (n : ℕ) (few : n ≤ 8) (us : List ℕ) (vs : List Value) (v0 : View) (stored : (j : ℕ) (x : Value) → j < n → slice_get vs j ≡ Some x → is_taken n j (home c r (slice_index us j)) ≡ true → v0.words (f + 8 + 4 * j) ≡ ctx.word c p x) (hv : (j : ℕ) (x : Value) → j < n → slice_get vs j ≡ Some x → value_of c r f (machine_of v0) (home c r (slice_index us j)) ≡ ctx.word c p x) where
+    -- the words are as before, and so are the registers that have no operand of those from number j on
+    record Kept (j : ℕ) (v : View) : Type 0 where
+      memory : (a : ℕ) → v.words a ≡ v0.words a
+      registers : (q : ℕ) → (q < j) ⊎ (n ≤ q) → v.registers q ≡ v0.registers q
+
+    record CarriedOne (j len : ℕ) (m : machine.State) (v : View) : Type 0 where
+      view : View
+      way : Way words c.size m same_tape view
+      memory : (a : ℕ) → view.words a ≡ v.words a
+      registers : (q : ℕ) → q ≢ j → view.registers q ≡ v.registers q
+      value : (x : Value) → slice_get vs j ≡ Some x → view.registers j ≡ ctx.word c p x
+      place : view.place ≡ v.place + len
+
+    not_taken : (j q : ℕ) (s t : Bool) → nat_lt j q ≡ s → nat_lt q n ≡ t → s && t ≡ false → (q < suc j) ⊎ (n ≤ q)
+    not_taken j q true true es et e = absurd (cc e)
+    not_taken j q true false es et e = inr (not_less q n et)
+      where
+        not_less : (x y : ℕ) → nat_lt x y ≡ false → y ≤ x
+        not_less x y e = grind arith
+    not_taken j q false t es et e = inl (let le = not_less j q es in omega (arith, le))
+      where
+        not_less : (x y : ℕ) → nat_lt x y ≡ false → y ≤ x
+        not_less x y e = grind arith
+
+    -- what is not taken stands as it did
+    stood_on : (j : ℕ) (v : View) (h : Home) → Kept (suc j) v → is_taken n j h ≡ false → value_of c r f (machine_of v) h ≡ value_of c r f (machine_of v0) h
+    stood_on j v (Slot k) kept e = kept.memory _
+    stood_on j v (Reg q) kept e = kept.registers q (not_taken j q (nat_lt j q) (nat_lt q n) refl refl e)
+
+    carry_one_run : (j : ℕ) (ps : List Piece) (next : ℕ) (m : machine.State) (v : View) → Shows words c.size m v → Left c words v.place (carry_one c r n j (home c r (slice_index us j)) ++ ps) next → j < n → v.registers 14 ≡ f → Kept (suc j) v → CarriedOne j (length (carry_one c r n j (home c r (slice_index us j)))) m v
+    carry_one_run j ps next m v sh l lt e14 kept = go (is_taken n j (home c r (slice_index us j))) refl l
+      where
+        go : (t : Bool) → is_taken n j (home c r (slice_index us j)) ≡ t → Left c words v.place (cond t (Plain (word.Load Word j 14 (pos (8 + 4 * j))) ∷ []) (into c r j (home c r (slice_index us j))) ++ ps) next → CarriedOne j (length (cond t (Plain (word.Load Word j 14 (pos (8 + 4 * j))) ∷ []) (into c r j (home c r (slice_index us j))))) m v
+        go true is l =
+            let q = program_room c b.laid p r prog in
+            let i = word.Load Word j 14 (pos (8 + 4 * j)) in
+            let ok : IsReadable c.size (v.registers 14 + (8 + 4 * j)) = record { aligned = omega (arith, e14, al); high = omega (arith, e14, top, q.0, q.1, q.2, q.3, few, lt) } in
+            let aim : v.registers 14 + (8 + 4 * j) ≡ f + 8 + 4 * j = omega (arith, e14) in
+            record {
+              view = after i v;
+              way = way_of words c.size m same_tape (after i v) (step_to c words b.stood i m v sh l.stands.0 (tt, ok));
+              memory = λ a. refl;
+              registers = λ z ne. update_other v.registers j _ z ne;
+              value = λ x e. update_same v.registers j _ ∙ ap v.words aim ∙ kept.memory _ ∙ stored j x lt e is;
+              place = refl;
+            }
+        go false is l =
+            let g = into_run c words b.stood b.laid b.placed r f framed j (slice_index us j) ps next m v sh (omega (arith, lt, few)) e14 l in
+            record {
+              view = g.view;
+              way = g.way;
+              memory = g.moved.words;
+              registers = g.moved.registers;
+              value = λ x e. g.value ∙ stood_on j v (home c r (slice_index us j)) kept is ∙ hv j x lt e;
+              place = g.place;
+            }
+
+    pub record Carried (len : ℕ) (m : machine.State) (v : View) : Type 0 where
+      pub view : View
+      pub way : Way words c.size m same_tape view
+      pub memory : (a : ℕ) → view.words a ≡ v0.words a
+      pub registers : (q : ℕ) → n ≤ q → view.registers q ≡ v0.registers q
+      pub there : (j : ℕ) (x : Value) → j < n → slice_get vs j ≡ Some x → view.registers j ≡ ctx.word c p x
+      pub place : view.place ≡ v.place + len
+
+    carry_run : (j : ℕ) (ps : List Piece) (next : ℕ) (m : machine.State) (v : View) → Shows words c.size m v → Left c words v.place (carry c r n j us ++ ps) next → j ≤ n → v.registers 14 ≡ f → Kept j v → ((i : ℕ) (x : Value) → j ≤ i → i < n → slice_get vs i ≡ Some x → v.registers i ≡ ctx.word c p x) → Carried (length (carry c r n j us)) m v
+    carry_run zero ps next m v sh l le e14 kept done =
+        record {
+          view = v;
+          way = way_here words c.size m v sh;
+          memory = kept.memory;
+          registers = λ q ge. kept.registers q (inr ge);
+          there = λ i x lt e. done i x (omega arith) lt e;
+          place = omega arith;
+        }
+    carry_run (suc j) ps next m v sh l le e14 kept done =
+        let first = carry_one c r n j (home c r (slice_index us j)) in
+        let rest = carry c r n j us in
+        let l0 = subst (λ z. Left c words v.place z next) (append_assoc first rest ps) l in
+        let o = carry_one_run j (rest ++ ps) next m v sh l0 (omega (arith, le)) e14 kept in
+        let v2 = o.view in
+        let l2 = left_after c words v.place v2.place next first (rest ++ ps) l0 o.place in
+        let kept' : Kept j v2 = record { memory = λ a. o.memory a ∙ kept.memory a; registers = λ q side. o.registers q (apart q side) ∙ kept.registers q (wider q side) } in
+        let done' : (i : ℕ) (x : Value) → j ≤ i → i < n → slice_get vs i ≡ Some x → v2.registers i ≡ ctx.word c p x = λ i x ge lt e. ⊎_elim (λ (same : i ≡ j). ap v2.registers same ∙ o.value x (subst (λ z. slice_get vs z ≡ Some x) same e)) (λ (ne : i ≢ j). o.registers i ne ∙ done i x (omega arith) lt e) (cases_eq i j) in
+        let tail = carry_run j ps next o.way.to v2 o.way.shows l2 (omega (arith, le)) (o.registers 14 (omega (arith, le, few)) ∙ e14) kept' done' in
+        record {
+          view = tail.view;
+          way = way_then words c.size m same_tape same_tape v2 tail.view o.way tail.way;
+          memory = tail.memory;
+          registers = tail.registers;
+          there = tail.there;
+          place = let z = length-append first rest in omega (arith, tail.place, o.place, z);
+        }
+      where
+        apart : (q : ℕ) → (q < j) ⊎ (n ≤ q) → q ≢ j
+        apart q (inl lt) = omega arith
+        apart q (inr ge) = omega arith
+
+        wider : (q : ℕ) → (q < j) ⊎ (n ≤ q) → (q < suc j) ⊎ (n ≤ q)
+        wider q (inl lt) = inl (omega arith)
+        wider q (inr ge) = inr ge
+
+    -- all of them
+    pub carried_run : (ps : List Piece) (next : ℕ) (m : machine.State) → Shows words c.size m v0 → Left c words v0.place (carry c r n n us ++ ps) next → v0.registers 14 ≡ f → Carried (length (carry c r n n us)) m v0
+    carried_run ps next m sh l e14 =
+        carry_run n ps next m v0 sh l (omega arith) e14 (record { memory = λ a. refl; registers = λ q side. refl }) (λ i x ge lt e. absurd (omega (arith, ge, lt)))
 
 -- the relation is not touched by operands that were passed
 pub related_passed : (c : Context) (words : List ℕ) (b : Built c words) (p : Places) (s : State) (m m' : Machine) (f : ℕ) → Related c p s m f → is_program c s.current.routine ≡ true → ((q : ℕ) → q ≢ 12 → q ≢ 15 → m'.registers q ≡ m.registers q) → ((a : ℕ) → (a < f + 8) ⊎ (f + 268 ≤ a) → m'.words a ≡ m.words a) → Related c p s m' f
@@ -168,7 +314,105 @@ module _ (c : Context) (words : List ℕ) (b : Built c words) (p : Places) (q g 
   -- where operand j stands, apart from the slots
   pub record Offered : Type 0 where
     pub readable : (j : ℕ) → j < routine.parameters → IsReadable c.size (o + 4 * j)
+    pub writable : (j : ℕ) → j < routine.parameters → IsWritable words c.size (o + 4 * j)
     pub apart : (j : ℕ) → j < routine.parameters → (o + 4 * j < g + c.slots_at q) ⊎ (g + c.frame_at q ≤ o + 4 * j)
+
+  -- parameter k went from its register to the frame, if it doesn't come in its home
+  record SpilledOne (k len : ℕ) (m : machine.State) (v : View) : Type 0 where
+    view : View
+    way : Way words c.size m same_tape view
+    registers : (z : ℕ) → z ≢ 15 → view.registers z ≡ v.registers z
+    same : (a : ℕ) → a ≢ o + 4 * k → view.words a ≡ v.words a
+    aside : 8 ≤ k → (a : ℕ) → view.words a ≡ v.words a
+    stored : k < 8 → stands k (home c q k) ≡ false → view.words (o + 4 * k) ≡ v.registers k
+    place : view.place ≡ v.place + len
+
+  spill_one_run : (offered : Offered) (k : ℕ) (ps : List Piece) (next : ℕ) (m : machine.State) (v : View) → Shows words c.size m v → Left c words v.place (spill_one c q n k (home c q k) ++ ps) next → k < routine.parameters → v.registers 14 ≡ g → SpilledOne k (length (spill_one c q n k (home c q k))) m v
+  spill_one_run offered k ps next m v sh l count e14 = go (nat_lt k 8) (stands k (home c q k)) refl refl l
+    where
+      less : (x y : ℕ) → nat_lt x y ≡ true → x < y
+      less x y e = grind arith
+
+      not_less : (x y : ℕ) → nat_lt x y ≡ false → y ≤ x
+      not_less x y e = grind arith
+
+      go : (s t : Bool) → nat_lt k 8 ≡ s → stands k (home c q k) ≡ t → Left c words v.place (cond (s && not t) (store k 14 (n + 8 + 4 * k)) [] ++ ps) next → SpilledOne k (length (cond (s && not t) (store k 14 (n + 8 + 4 * k)) [])) m v
+      go true false is own l =
+          let lt = less k 8 is in
+          let aim : o + 4 * k ≡ v.registers 14 + (n + 8 + 4 * k) = omega (arith, e14, at) in
+          let st = store_run c words b.stood k 14 (n + 8 + 4 * k) ps next m v sh (omega (arith, lt)) (omega arith) (subst (IsWritable words c.size) aim (offered.writable k count)) l in
+          record {
+            view = st.view;
+            way = way_of words c.size m same_tape st.view st.to;
+            registers = st.registers;
+            same = λ a ne. let far : a ≢ v.registers 14 + (n + 8 + 4 * k) = omega (arith, aim) in st.memory a ∙ update_other v.words _ _ a far;
+            aside = λ ge. absurd (omega (arith, ge, lt));
+            stored = λ lt' own'. st.memory _ ∙ update_at v.words (v.registers 14 + (n + 8 + 4 * k)) (v.registers k) (o + 4 * k) aim;
+            place = st.place;
+          }
+      go true true is own l =
+          record {
+            view = v;
+            way = way_here words c.size m v sh;
+            registers = λ z ne. refl;
+            same = λ a ne. refl;
+            aside = λ ge a. refl;
+            stored = λ lt own'. let no : true ≡ false = sym own ∙ own' in absurd (cc no);
+            place = omega arith;
+          }
+      go false t is own l =
+          record {
+            view = v;
+            way = way_here words c.size m v sh;
+            registers = λ z ne. refl;
+            same = λ a ne. refl;
+            aside = λ ge a. refl;
+            stored = λ lt own'. let ge = not_less k 8 is in absurd (omega (arith, ge, lt));
+            place = omega arith;
+          }
+
+  -- so did those from number k on
+  pub record Spilled (k count : ℕ) (len : ℕ) (m : machine.State) (v : View) : Type 0 where
+    pub view : View
+    pub way : Way words c.size m same_tape view
+    pub registers : (z : ℕ) → z ≢ 15 → view.registers z ≡ v.registers z
+    pub same : (a : ℕ) → ((j : ℕ) → k ≤ j → j < k + count → j < 8 → a ≢ o + 4 * j) → view.words a ≡ v.words a
+    pub stored : (j : ℕ) → k ≤ j → j < k + count → j < 8 → stands j (home c q j) ≡ false → view.words (o + 4 * j) ≡ v.registers j
+    pub place : view.place ≡ v.place + len
+
+  pub spill_run : (offered : Offered) (k count : ℕ) (ps : List Piece) (next : ℕ) (m : machine.State) (v : View) → Shows words c.size m v → Left c words v.place (spill c q n k count ++ ps) next → k + count ≤ routine.parameters → v.registers 14 ≡ g → Spilled k count (length (spill c q n k count)) m v
+  spill_run offered k zero ps next m v sh l count e14 =
+      record {
+        view = v;
+        way = way_here words c.size m v sh;
+        registers = λ z ne. refl;
+        same = λ a far. refl;
+        stored = λ j ge lt few own. absurd (omega (arith, ge, lt));
+        place = omega arith;
+      }
+  spill_run offered k (suc more) ps next m v sh l count e14 =
+      let first = spill_one c q n k (home c q k) in
+      let rest = spill c q n (suc k) more in
+      let l0 = subst (λ z. Left c words v.place z next) (append_assoc first rest ps) l in
+      let s1 = spill_one_run offered k (rest ++ ps) next m v sh l0 (omega (arith, count)) e14 in
+      let v1 = s1.view in
+      let l1 = left_after c words v.place v1.place next first (rest ++ ps) l0 s1.place in
+      let tail = spill_run offered (suc k) more ps next s1.way.to v1 s1.way.shows l1 (omega (arith, count)) (s1.registers 14 (omega arith) ∙ e14) in
+      record {
+        view = tail.view;
+        way = way_then words c.size m same_tape same_tape v1 tail.view s1.way tail.way;
+        registers = λ z ne. tail.registers z ne ∙ s1.registers z ne;
+        same = λ a far. tail.same a (λ j ge lt few. far j (omega (arith, ge)) (omega (arith, lt)) few) ∙ by_size v1 s1.same s1.aside a far (few_or_more k);
+        stored = λ j ge lt few own. ⊎_elim (λ (here : j ≡ k). let few' : k < 8 = omega (arith, here, few) in let own' : stands k (home c q k) ≡ false = subst (λ z. stands z (home c q z) ≡ false) here own in ap (λ z. tail.view.words (o + 4 * z)) here ∙ tail.same (o + 4 * k) (λ i ge' lt' few''. omega (arith, ge')) ∙ s1.stored few' own' ∙ ap v.registers (sym here)) (λ (ne : j ≢ k). tail.stored j (omega arith) (omega (arith, lt)) few own ∙ s1.registers j (omega (arith, few))) (cases_eq j k);
+        place = let z = length-append first rest in omega (arith, tail.place, s1.place, z);
+      }
+    where
+      few_or_more : (x : ℕ) → (x < 8) ⊎ (8 ≤ x)
+      few_or_more x = grind arith
+
+      by_size : (v1 : View) → ((a : ℕ) → a ≢ o + 4 * k → v1.words a ≡ v.words a) → (8 ≤ k → (a : ℕ) → v1.words a ≡ v.words a) → (a : ℕ) → ((j : ℕ) → k ≤ j → j < k + suc more → j < 8 → a ≢ o + 4 * j) → (k < 8) ⊎ (8 ≤ k) → v1.words a ≡ v.words a
+      by_size v1 same aside a far (inl lt) = same a (far k (omega arith) (omega arith) lt)
+      by_size v1 same aside a far (inr ge) = aside ge a
 
   pub record Received (k : ℕ) (len : ℕ) (m : machine.State) (v : View) : Type 0 where
     pub view : View
@@ -179,8 +423,66 @@ module _ (c : Context) (words : List ℕ) (b : Built c words) (p : Places) (q g 
     pub homes : (u : ℕ) (x : Value) → u < k → IsAlive c q 0 u → slice_get vs u ≡ Some x → value_of c q g (machine_of view) (home c q u) ≡ ctx.word c p x
     pub place : view.place ≡ v.place + len
 
-  pub receive_run : (offered : Offered) (k count : ℕ) (ps : List Piece) (next : ℕ) (m : machine.State) (v : View) → Shows words c.size m v → Left c words v.place (parameters c q n k count ++ ps) next → k + count ≤ routine.parameters → v.registers 14 ≡ g → ((j : ℕ) (x : Value) → j < routine.parameters → slice_get vs j ≡ Some x → v.words (o + 4 * j) ≡ ctx.word c p x) → ((u : ℕ) (x : Value) → u < k → IsAlive c q 0 u → slice_get vs u ≡ Some x → value_of c q g (machine_of v) (home c q u) ≡ ctx.word c p x) → Received (k + count) (length (parameters c q n k count)) m v
-  receive_run offered k zero ps next m v sh l count e14 stored done =
+  -- what comes in its home stands there; the others stand in the frame
+  pub record Come (v : View) : Type 0 where
+    pub own : (u : ℕ) (x : Value) → u < routine.parameters → stands u (home c q u) ≡ true → IsAlive c q 0 u → slice_get vs u ≡ Some x → value_of c q g (machine_of v) (home c q u) ≡ ctx.word c p x
+    pub stored : (j : ℕ) (x : Value) → j < routine.parameters → stands j (home c q j) ≡ false → slice_get vs j ≡ Some x → v.words (o + 4 * j) ≡ ctx.word c p x
+
+  -- parameter k came to its home
+  record ReceivedOne (k len : ℕ) (m : machine.State) (v : View) : Type 0 where
+    view : View
+    way : Way words c.size m same_tape view
+    globals : view.registers 13 ≡ v.registers 13
+    stack : view.registers 14 ≡ v.registers 14
+    same : (a : ℕ) → (a < g + c.slots_at q) ⊎ (g + c.frame_at q ≤ a) → view.words a ≡ v.words a
+    here : (x : Value) → IsAlive c q 0 k → slice_get vs k ≡ Some x → value_of c q g (machine_of view) (home c q k) ≡ ctx.word c p x
+    others : (u : ℕ) → IsAlive c q 0 u → u ≢ k → value_of c q g (machine_of view) (home c q u) ≡ value_of c q g (machine_of v) (home c q u)
+    place : view.place ≡ v.place + len
+
+  receive_one_run : (offered : Offered) (k : ℕ) (ps : List Piece) (next : ℕ) (m : machine.State) (v : View) → Shows words c.size m v → Left c words v.place (parameter c q n k (home c q k) ++ ps) next → k < routine.parameters → v.registers 14 ≡ g → Come v → ReceivedOne k (length (parameter c q n k (home c q k))) m v
+  receive_one_run offered k ps next m v sh l count e14 come = go (stands k (home c q k)) refl l
+    where
+      step_way : {n : machine.State} {v2 v3 : View} (t : To words c.size n same_tape v2) → Way words c.size t.to same_tape v3 → Way words c.size n same_tape v3
+      step_way t w =
+          record { to = w.to; shows = w.shows; runs = λ k y. let z = w.runs k y in let x = t.runs z.0 y in (x.0, omega (arith, z.1, x.1), x.2 ∙ z.2) }
+
+      go : (t : Bool) → stands k (home c q k) ≡ t → Left c words v.place (cond t [] (load (target c q (home c q k)) 14 (n + 8 + 4 * k) ++ save c q (home c q k)) ++ ps) next → ReceivedOne k (length (cond t [] (load (target c q (home c q k)) 14 (n + 8 + 4 * k) ++ save c q (home c q k)))) m v
+      go true own l =
+          record {
+            view = v;
+            way = way_here words c.size m v sh;
+            globals = refl;
+            stack = refl;
+            same = λ a side. refl;
+            here = λ x live e. come.own k x count own live e;
+            others = λ u live ne. refl;
+            place = omega arith;
+          }
+      go false own l =
+          let h = home c q k in
+          let d = target c q h in
+          let l0 = subst (λ z. Left c words v.place z next) (append_assoc (load d 14 (n + 8 + 4 * k)) (save c q h) ps) l in
+          let aim : o + 4 * k ≡ v.registers 14 + (n + 8 + 4 * k) = omega (arith, e14, at) in
+          let ok : IsReadable c.size (v.registers 14 + (n + 8 + 4 * k)) = subst (IsReadable c.size) aim (offered.readable k count) in
+          let n14 = target_not c words b.stood b.laid b.placed q g framed k 14 (omega arith) in
+          let g1 = load_run c words b.stood d 14 (n + 8 + 4 * k) (save c q h ++ ps) next m v sh (λ e. n14 (sym e)) ok l0 in
+          let v1 = g1.view in
+          let l1 = left_after c words v.place v1.place next (load d 14 (n + 8 + 4 * k)) (save c q h ++ ps) l0 g1.place in
+          let word = v.words (v.registers 14 + (n + 8 + 4 * k)) in
+          let s2 = save_run c words b.stood b.laid b.placed q g framed k word ps next (machine_of v) g1.to.to v1 g1.to.shows e14 (record { here = g1.value; registers = λ z n12 n15 nd. g1.moved.registers z nd; words = g1.moved.words }) l1 in
+          record {
+            view = s2.view;
+            way = step_way g1.to s2.way;
+            globals = s2.settled.globals;
+            stack = s2.settled.stack;
+            same = s2.settled.words;
+            here = λ x live e. s2.settled.here ∙ ap v.words (sym aim) ∙ come.stored k x count own e;
+            others = λ u live ne. s2.settled.others (home c q u) (b.placed.entered q k u routine is count live ne) (λ z e. b.placed.register q u z e);
+            place = let z = length-append (load d 14 (n + 8 + 4 * k)) (save c q h) in omega (arith, s2.place, g1.place, z);
+          }
+
+  pub receive_run : (offered : Offered) (k count : ℕ) (ps : List Piece) (next : ℕ) (m : machine.State) (v : View) → Shows words c.size m v → Left c words v.place (parameters c q n k count ++ ps) next → k + count ≤ routine.parameters → v.registers 14 ≡ g → Come v → ((u : ℕ) (x : Value) → u < k → IsAlive c q 0 u → slice_get vs u ≡ Some x → value_of c q g (machine_of v) (home c q u) ≡ ctx.word c p x) → Received (k + count) (length (parameters c q n k count)) m v
+  receive_run offered k zero ps next m v sh l count e14 come done =
       record {
         view = v;
         way = way_here words c.size m v sh;
@@ -190,39 +492,78 @@ module _ (c : Context) (words : List ℕ) (b : Built c words) (p : Places) (q g 
         homes = λ u x lt live e. done u x (omega (arith, lt)) live e;
         place = omega arith;
       }
-  receive_run offered k (suc more) ps next m v sh l count e14 stored done =
-      let h = home c q k in
-      let d = target c q h in
-      let rest = parameters c q n (suc k) more ++ ps in
-      let l0 = subst (λ z. Left c words v.place z next) (assoc (load d 14 (n + 8 + 4 * k)) (save c q h) (parameters c q n (suc k) more) ps) l in
-      let aim : o + 4 * k ≡ v.registers 14 + (n + 8 + 4 * k) = omega (arith, e14, at) in
-      let ok : IsReadable c.size (v.registers 14 + (n + 8 + 4 * k)) = subst (IsReadable c.size) aim (offered.readable k (omega (arith, count))) in
-      let n14 = target_not c words b.stood b.laid b.placed q g framed k 14 (omega arith) in
-      let g1 = load_run c words b.stood d 14 (n + 8 + 4 * k) (save c q h ++ rest) next m v sh (λ e. n14 (sym e)) ok l0 in
-      let v1 = g1.view in
-      let l1 = left_after c words v.place v1.place next (load d 14 (n + 8 + 4 * k)) (save c q h ++ rest) l0 g1.place in
-      let word = v.words (v.registers 14 + (n + 8 + 4 * k)) in
-      let s2 = save_run c words b.stood b.laid b.placed q g framed k word rest next (machine_of v) g1.to.to v1 g1.to.shows e14 (record { here = g1.value; registers = λ z n12 n15 nd. g1.moved.registers z nd; words = g1.moved.words }) l1 in
-      let v2 = s2.view in
-      let l2 = left_after c words v1.place v2.place next (save c q h) rest l1 s2.place in
-      let stored' : (j : ℕ) (x : Value) → j < routine.parameters → slice_get vs j ≡ Some x → v2.words (o + 4 * j) ≡ ctx.word c p x = λ j x lt e. s2.settled.words (o + 4 * j) (offered.apart j lt) ∙ stored j x lt e in
-      let done' : (u : ℕ) (x : Value) → u < suc k → IsAlive c q 0 u → slice_get vs u ≡ Some x → value_of c q g (machine_of v2) (home c q u) ≡ ctx.word c p x = λ u x lt live e. ⊎_elim (λ (same : u ≡ k). ap (λ z. value_of c q g (machine_of v2) (home c q z)) same ∙ s2.settled.here ∙ ap v.words (sym aim) ∙ stored k x (omega (arith, count)) (subst (λ z. slice_get vs z ≡ Some x) same e)) (λ (ne : u ≢ k). s2.settled.others (home c q u) (b.placed.entered q k u routine is (omega (arith, count)) live ne) (λ z e'. b.placed.register q u z e') ∙ done u x (omega arith) live e) (cases_eq u k) in
-      let tail = receive_run offered (suc k) more ps next s2.way.to v2 s2.way.shows l2 (omega (arith, count)) (s2.settled.stack ∙ e14) stored' done' in
+  receive_run offered k (suc more) ps next m v sh l count e14 come done =
+      let first = parameter c q n k (home c q k) in
+      let rest = parameters c q n (suc k) more in
+      let l0 = subst (λ z. Left c words v.place z next) (append_assoc first rest ps) l in
+      let o1 = receive_one_run offered k (rest ++ ps) next m v sh l0 (omega (arith, count)) e14 come in
+      let v1 = o1.view in
+      let l1 = left_after c words v.place v1.place next first (rest ++ ps) l0 o1.place in
+      let come' : Come v1 = record {
+        own = λ u x lt own live e. ⊎_elim (λ (same : u ≡ k). let live' : IsAlive c q 0 k = subst (IsAlive c q 0) same live in let e' : slice_get vs k ≡ Some x = subst (λ z. slice_get vs z ≡ Some x) same e in ap (λ z. value_of c q g (machine_of v1) (home c q z)) same ∙ o1.here x live' e') (λ (ne : u ≢ k). o1.others u live ne ∙ come.own u x lt own live e) (cases_eq u k);
+        stored = λ j x lt own e. o1.same (o + 4 * j) (offered.apart j lt) ∙ come.stored j x lt own e;
+      } in
+      let done' : (u : ℕ) (x : Value) → u < suc k → IsAlive c q 0 u → slice_get vs u ≡ Some x → value_of c q g (machine_of v1) (home c q u) ≡ ctx.word c p x = λ u x lt live e. ⊎_elim (λ (same : u ≡ k). let live' : IsAlive c q 0 k = subst (IsAlive c q 0) same live in let e' : slice_get vs k ≡ Some x = subst (λ z. slice_get vs z ≡ Some x) same e in ap (λ z. value_of c q g (machine_of v1) (home c q z)) same ∙ o1.here x live' e') (λ (ne : u ≢ k). o1.others u live ne ∙ done u x (omega arith) live e) (cases_eq u k) in
+      let tail = receive_run offered (suc k) more ps next o1.way.to v1 o1.way.shows l1 (omega (arith, count)) (o1.stack ∙ e14) come' done' in
       record {
         view = tail.view;
-        way = step_way g1.to (way_then words c.size g1.to.to same_tape same_tape v2 tail.view s2.way tail.way);
-        globals = tail.globals ∙ s2.settled.globals;
-        stack = tail.stack ∙ s2.settled.stack;
-        same = λ a side. tail.same a side ∙ s2.settled.words a side;
+        way = way_then words c.size m same_tape same_tape v1 tail.view o1.way tail.way;
+        globals = tail.globals ∙ o1.globals;
+        stack = tail.stack ∙ o1.stack;
+        same = λ a side. tail.same a side ∙ o1.same a side;
         homes = λ u x lt live e. tail.homes u x (omega (arith, lt)) live e;
-        place = let z1 = length-append (load d 14 (n + 8 + 4 * k)) (save c q h ++ parameters c q n (suc k) more) in let z2 = length-append (save c q h) (parameters c q n (suc k) more) in omega (arith, tail.place, s2.place, g1.place, z1, z2);
+        place = let z = length-append first rest in omega (arith, tail.place, o1.place, z);
+      }
+
+  -- ---- both
+
+  stands_is : (j : ℕ) (h : Home) → stands j h ≡ true → (h ≡ Reg j) × (j < 8)
+  stands_is j (Slot k) e = absurd (cc e)
+  stands_is j (Reg z) e = go (nat_eq z j) (nat_lt j 8) refl refl e
+    where
+      less : (x y : ℕ) → nat_lt x y ≡ true → x < y
+      less x y e = grind arith
+
+      go : (s t : Bool) → nat_eq z j ≡ s → nat_lt j 8 ≡ t → s && t ≡ true → (Reg z ≡ Reg j) × (j < 8)
+      go true true es et e = (ap Reg (eq_of z j es), less j 8 et)
+      go true false es et e = absurd (cc e)
+      go false t es et e = absurd (cc e)
+
+  -- from the registers and the frame of the caller to their homes
+  pub record Arrived (len : ℕ) (m : machine.State) (v : View) : Type 0 where
+    pub view : View
+    pub way : Way words c.size m same_tape view
+    pub globals : view.registers 13 ≡ v.registers 13
+    pub stack : view.registers 14 ≡ v.registers 14
+    pub same : (a : ℕ) → (a < g + c.slots_at q) ⊎ (g + c.frame_at q ≤ a) → (a < o) ⊎ (o + 4 * routine.parameters ≤ a) → view.words a ≡ v.words a
+    pub homes : (u : ℕ) (x : Value) → u < routine.parameters → IsAlive c q 0 u → slice_get vs u ≡ Some x → value_of c q g (machine_of view) (home c q u) ≡ ctx.word c p x
+    pub place : view.place ≡ v.place + len
+
+  pub arrive_run : (offered : Offered) (next : ℕ) (m : machine.State) (v : View) → Shows words c.size m v → Left c words v.place (spill c q n 0 routine.parameters ++ parameters c q n 0 routine.parameters) next → v.registers 14 ≡ g → ((j : ℕ) (x : Value) → j < 8 → slice_get vs j ≡ Some x → v.registers j ≡ ctx.word c p x) → ((j : ℕ) (x : Value) → 8 ≤ j → slice_get vs j ≡ Some x → v.words (o + 4 * j) ≡ ctx.word c p x) → Arrived (length (spill c q n 0 routine.parameters ++ parameters c q n 0 routine.parameters)) m v
+  arrive_run offered next m v sh l e14 low high =
+      let first = spill c q n 0 routine.parameters in
+      let rest = parameters c q n 0 routine.parameters in
+      let s1 = spill_run offered 0 routine.parameters rest next m v sh l (omega arith) e14 in
+      let v1 = s1.view in
+      let l1 = left_after c words v.place v1.place next first rest l s1.place in
+      let come : Come v1 = record {
+        own = λ u x lt own live e. let k = stands_is u (home c q u) own in ap (value_of c q g (machine_of v1)) k.0 ∙ s1.registers u (omega (arith, k.1)) ∙ low u x k.1 e;
+        stored = λ j x lt own e. ⊎_elim (λ (few : j < 8). s1.stored j (omega arith) (omega (arith, lt)) few own ∙ low j x few e) (λ (ge : 8 ≤ j). s1.same (o + 4 * j) (λ i a1 a2 few. omega (arith, few, ge)) ∙ high j x ge e) (few_or_more j);
+      } in
+      let r1 = receive_run offered 0 routine.parameters [] next s1.way.to v1 s1.way.shows (subst (λ z. Left c words v1.place z next) (sym (append_nil rest)) l1) (omega arith) (s1.registers 14 (omega arith) ∙ e14) come (λ u x lt. absurd (omega (arith, lt))) in
+      record {
+        view = r1.view;
+        way = way_then words c.size m same_tape same_tape v1 r1.view s1.way r1.way;
+        globals = r1.globals ∙ s1.registers 13 (omega arith);
+        stack = r1.stack ∙ s1.registers 14 (omega arith);
+        same = λ a side far. r1.same a side ∙ s1.same a (λ j ge lt few. beside a j lt far);
+        homes = λ u x lt live e. r1.homes u x (omega (arith, lt)) live e;
+        place = let z = length-append first rest in omega (arith, r1.place, s1.place, z);
       }
     where
-      assoc : (xs ys zs us : List Piece) → (xs ++ (ys ++ zs)) ++ us ≡ xs ++ (ys ++ (zs ++ us))
-      assoc [] [] zs us = refl
-      assoc [] (y ∷ ys) zs us = ap (λ l. y ∷ l) (assoc [] ys zs us)
-      assoc (x ∷ xs) ys zs us = ap (λ l. x ∷ l) (assoc xs ys zs us)
+      few_or_more : (x : ℕ) → (x < 8) ⊎ (8 ≤ x)
+      few_or_more x = grind arith
 
-      step_way : {n : machine.State} {v2 v3 : View} (t : To words c.size n same_tape v2) → Way words c.size t.to same_tape v3 → Way words c.size n same_tape v3
-      step_way t w =
-          record { to = w.to; shows = w.shows; runs = λ k y. let z = w.runs k y in let x = t.runs z.0 y in (x.0, omega (arith, z.1, x.1), x.2 ∙ z.2) }
+      beside : (a j : ℕ) → j < 0 + routine.parameters → (a < o) ⊎ (o + 4 * routine.parameters ≤ a) → a ≢ o + 4 * j
+      beside a j lt (inl side) = omega arith
+      beside a j lt (inr side) = omega arith

@@ -1,5 +1,5 @@
 -- Returns followed by their words, up to the caller's next instruction.
-use Rattle.std.proofs.Common.{◌≡◌, ℕ, zero, suc, ◌+◌, ◌*◌, ◌/◌, ◌%◌, ◌<◌, ◌≤◌, Bool, true, false, cond, List, [], ◌∷◌, ◌++◌, length, Option, Some, None, pos, refl, sym, ap, ◌∙◌, subst, arith, append_assoc}
+use Rattle.std.proofs.Common.{◌≡◌, ℕ, zero, suc, ◌+◌, ◌*◌, ◌/◌, ◌%◌, ◌<◌, ◌≤◌, Bool, true, false, cond, List, [], ◌∷◌, ◌++◌, length, Option, Some, None, pos, refl, sym, ap, ◌∙◌, subst, arith}
 use Rattle.risc_word.specs.declared.instr.Width.TheVariants.{Word}
 use Rattle.risc_word.specs.declared.instr.Condition.TheVariants as on
 use Rattle.risc_word.specs.declared.instr.Target.TheVariants.{Absolute}
@@ -22,13 +22,12 @@ use Rattle.risc_related.specs.Changes.{Leaving, left}
 use Rattle.risc_related.proofs.Frames.{program_room, leaf_room, open_room}
 use Rattle.risc_related.proofs.Found.{cost_aligned}
 use Rattle.risc_related.proofs.Calls.{Back, back_of, related_leaves}
-use Rattle.risc_steps.specs.Pieces.{Piece, Plain, EntersAt, Left}
-use Rattle.risc_steps.specs.Forms.{fetched, pass, hand, accept, call_value_form}
-use Rattle.risc_steps.specs.Forms.{fetch as fetch_form}
+use Rattle.risc_steps.specs.Pieces.{Piece, Plain, Left}
+use Rattle.risc_steps.specs.Forms.{into, accept, offer, offer_by}
 use Rattle.risc_steps.specs.Follows.{machine_of, Built, Belongs, Comes, tape_of}
 use Rattle.risc_steps.proofs.Basics.{left_after, left_next, left_at, is_read, among_first}
 use Rattle.risc_steps.proofs.Flags.{called_silent}
-use Rattle.risc_steps.proofs.Runs.{Framed, step_to, hand_run, accept_run}
+use Rattle.risc_steps.proofs.Runs.{Framed, step_to, into_run, accept_run}
 use Rattle.risc_steps.proofs.Comes.{left_whole, framed, place_low, come_to, come_way, arrive_way, arrive_here}
 use Rattle.risc_steps.proofs.Operands.{code, stands_in}
 
@@ -65,12 +64,9 @@ module _ (c : Context) (words : List ℕ) (b : Built c words) where
       go : (o : Option Instruction) → fetch c.code r j ≡ o → gives_to o t ≡ true → c.resume r (suc j) t ≤ 1048576
       go None here e = absurd (cc e)
       go (Some (Call u q us line)) here e =
-          low u (pass c r 0 us) _ (eq_of t u e) (b.stood.body r j (Call u q us line) here)
+          low u (offer c r us) _ (eq_of t u e) (b.stood.body r j (Call u q us line) here)
       go (Some (CallValue u a us line)) here e =
-          low u (pass c r 0 us ++ fetch_form c r 12 (home c r a)) _ (eq_of t u e) (split (b.stood.body r j (CallValue u a us line) here))
-        where
-          split : Left c words (c.site r j) (call_value_form c r u a us line) (c.site r (suc j)) → Left c words (c.site r j) ((pass c r 0 us ++ fetch_form c r 12 (home c r a)) ++ (EntersAt (fetched c r 12 (home c r a)) line ∷ accept c r (home c r u))) (c.site r (suc j))
-          split l = subst (λ ps. Left c words (c.site r j) ps (c.site r (suc j))) (sym (append_assoc (pass c r 0 us) (fetch_form c r 12 (home c r a)) _)) l
+          low u (offer_by c r a us) _ (eq_of t u e) (b.stood.body r j (CallValue u a us line) here)
       go (Some _) here e = absurd (cc e)
 
   link_place : (j : ℕ) → j < 4194304 → 4 * j % 16777216 / 4 ≡ j
@@ -135,17 +131,17 @@ module _ (c : Context) (words : List ℕ) (b : Built c words) (p : Places) (s : 
             runs = λ k. let z = r.runs k in let u = a.runs z.0 (tape_of s.tape) in (u.0, omega (arith, z.1, u.1), u.2 ∙ z.2);
           }
 
-      go : (prog : Bool) → is_program c s.current.routine ≡ prog → Left c words v.place (hand c s.current.routine (home c s.current.routine a) ++ cond prog (Plain (word.Load Word 15 14 (pos 0)) ∷ Plain (word.Load Word 14 14 (pos 4)) ∷ Plain (word.Branch on.Always false (Absolute 15)) ∷ []) (Plain (word.Load Word 15 14 (pos (c.link_at s.current.routine))) ∷ Plain (word.Branch on.Always false (Absolute 15)) ∷ [])) (c.site s.current.routine (suc s.current.place)) → Comes c words s (left y x xs s) m
+      go : (prog : Bool) → is_program c s.current.routine ≡ prog → Left c words v.place (into c s.current.routine 0 (home c s.current.routine a) ++ cond prog (Plain (word.Load Word 15 14 (pos 0)) ∷ Plain (word.Load Word 14 14 (pos 4)) ∷ Plain (word.Branch on.Always false (Absolute 15)) ∷ []) (Plain (word.Load Word 15 14 (pos (c.link_at s.current.routine))) ∷ Plain (word.Branch on.Always false (Absolute 15)) ∷ [])) (c.site s.current.routine (suc s.current.place)) → Comes c words s (left y x xs s) m
       go true prog l =
           let r = s.current.routine in
           let rest = Plain (word.Load Word 15 14 (pos 0)) ∷ Plain (word.Load Word 14 14 (pos 4)) ∷ Plain (word.Branch on.Always false (Absolute 15)) ∷ [] in
           let q = program_room c b.laid p r prog in
           let top = open_room c b.laid p v.words f (owner_of s.current) s.callers s.memory.frames s.memory.scratch be.related.held.frames in
           let fr = framed c words b p s (machine_of v) f be.related in
-          let g = hand_run c words b.stood b.laid b.placed r f fr a rest _ m v sh be.related.stack l in
+          let g = into_run c words b.stood b.laid b.placed r f fr 0 a rest _ m v sh (omega arith) be.related.stack l in
           let there = stands_in c words b p s f m v sh be a y (is_read c r s.current.place (Return a) here a (among_first a [])) e in
           let v1 = g.view in
-          let l1 = left_after c words v.place v1.place _ (hand c r (home c r a)) rest l g.place in
+          let l1 = left_after c words v.place v1.place _ (into c r 0 (home c r a)) rest l g.place in
           let e14 : v1.registers 14 ≡ f = g.moved.registers 14 (omega arith) ∙ be.related.stack in
           let i2 = word.Load Word 15 14 (pos 0) in
           let r2 : IsReadable c.size (v1.registers 14 + 0) = record { aligned = omega (arith, e14, be.related.held.aligned); high = omega (arith, e14, top, q.0, q.1, q.2, q.3) } in
@@ -168,10 +164,10 @@ module _ (c : Context) (words : List ℕ) (b : Built c words) (p : Places) (s : 
           let q = leaf_room c b.laid p r leaf in
           let top = open_room c b.laid p v.words f (owner_of s.current) s.callers s.memory.frames s.memory.scratch be.related.held.frames in
           let fr = framed c words b p s (machine_of v) f be.related in
-          let g = hand_run c words b.stood b.laid b.placed r f fr a rest _ m v sh be.related.stack l in
+          let g = into_run c words b.stood b.laid b.placed r f fr 0 a rest _ m v sh (omega arith) be.related.stack l in
           let there = stands_in c words b p s f m v sh be a y (is_read c r s.current.place (Return a) here a (among_first a [])) e in
           let v1 = g.view in
-          let l1 = left_after c words v.place v1.place _ (hand c r (home c r a)) rest l g.place in
+          let l1 = left_after c words v.place v1.place _ (into c r 0 (home c r a)) rest l g.place in
           let e14 : v1.registers 14 ≡ f = g.moved.registers 14 (omega arith) ∙ be.related.stack in
           let ar = b.laid.aligned r in
           let r2 : IsReadable c.size (v1.registers 14 + c.link_at r) = record { aligned = omega (arith, e14, be.related.held.aligned, ar.0); high = omega (arith, e14, top, q.1, q.2, q.3, q.4) } in

@@ -22,7 +22,7 @@ use Rattle.risc_related.specs.Related.{Machine, value_of}
 use Rattle.risc_related.specs.Changes.{update, Near, Settled}
 use Rattle.risc_related.proofs.Basics.{eq_of, update_same, update_other}
 use Rattle.risc_steps.specs.Pieces.{Piece, Plain, Left}
-use Rattle.risc_steps.specs.Forms.{is_near, is_small, constant, exact, number, load, store, fetch, fetched, bring, target, save, receive, hand, accept, right, right_operand}
+use Rattle.risc_steps.specs.Forms.{is_near, is_small, constant, exact, number, load, store, fetch, fetched, bring, target, save, receive, into, accept, right, right_operand}
 use Rattle.risc_steps.specs.Follows.{machine_of, Stood}
 use Rattle.risc_steps.proofs.Basics.{left_after}
 
@@ -476,40 +476,42 @@ module _ (c : Context) (words : List ℕ) (stood : Stood c words) (laid : IsLaid
 
   -- ---- the result of a routine
 
-  pub record Hands (n len : ℕ) (m : machine.State) (v : View) : Type 0 where
+  -- register d took an operand
+  pub record Takes (d n len : ℕ) (m : machine.State) (v : View) : Type 0 where
     pub view : View
     pub way : Way words c.size m same_tape view
-    pub value : view.registers 0 ≡ n
-    pub moved : Moved 0 v view
+    pub value : view.registers d ≡ n
+    pub moved : Moved d v view
     pub place : view.place ≡ v.place + len
 
-  pub hand_run : (t : ℕ) (ps : List Piece) (next : ℕ) (m : machine.State) (v : View) → Shows words c.size m v → v.registers 14 ≡ f → Left c words v.place (hand c r (home c r t) ++ ps) next → Hands (value_of c r f (machine_of v) (home c r t)) (length (hand c r (home c r t))) m v
-  hand_run t ps next m v sh e14 l = go (home c r t) refl l
+  pub into_run : (d t : ℕ) (ps : List Piece) (next : ℕ) (m : machine.State) (v : View) → Shows words c.size m v → d ≢ 14 → v.registers 14 ≡ f → Left c words v.place (into c r d (home c r t) ++ ps) next → Takes d (value_of c r f (machine_of v) (home c r t)) (length (into c r d (home c r t))) m v
+  into_run d t ps next m v sh ne e14 l = go (home c r t) refl l
     where
-      by : (q : ℕ) (there : Bool) → nat_eq q 0 ≡ there → Left c words v.place (cond there [] (Plain (word.Move 0 (Content q)) ∷ []) ++ ps) next → Hands (v.registers q) (length (cond there [] (Plain (word.Move 0 (Content q)) ∷ []))) m v
+      by : (q : ℕ) (there : Bool) → nat_eq q d ≡ there → Left c words v.place (cond there [] (Plain (word.Move d (Content q)) ∷ []) ++ ps) next → Takes d (v.registers q) (length (cond there [] (Plain (word.Move d (Content q)) ∷ []))) m v
       by q true e l =
           record {
             view = v;
             way = way_here words c.size m v sh;
-            value = ap v.registers (sym (eq_of q 0 e));
+            value = ap v.registers (sym (eq_of q d e));
             moved = record { registers = λ q ne. refl; words = λ a. refl; high = refl };
             place = omega arith;
           }
       by q false e l =
-          let i = word.Move 0 (Content q) in
+          let i = word.Move d (Content q) in
           record {
             view = after i v;
             way = way_of words c.size m same_tape (after i v) (step_to c words stood i m v sh l.stands.0 tt);
-            value = update_same v.registers 0 _;
-            moved = record { registers = λ q ne. update_other v.registers 0 _ q ne; words = λ a. refl; high = refl };
+            value = update_same v.registers d _;
+            moved = record { registers = λ q ne. update_other v.registers d _ q ne; words = λ a. refl; high = refl };
             place = refl;
           }
 
-      go : (h : Home) → home c r t ≡ h → Left c words v.place (hand c r h ++ ps) next → Hands (value_of c r f (machine_of v) h) (length (hand c r h)) m v
-      go (Reg q) is l = by q (nat_eq q 0) refl l
+      go : (h : Home) → home c r t ≡ h → Left c words v.place (into c r d h ++ ps) next → Takes d (value_of c r f (machine_of v) h) (length (into c r d h)) m v
+      go (Reg q) is l = by q (nat_eq q d) refl l
       go (Slot k) is l =
           let at : f + slot_at c r k ≡ v.registers 14 + slot_at c r k = ap (λ x. x + slot_at c r k) (sym e14) in
-          let g = load_run c words stood 0 14 (slot_at c r k) ps next m v sh (omega arith) (subst (IsReadable c.size) at (framed.readable t k is)) l in
+          let ne' : 14 ≢ d = λ e. ne (sym e) in
+          let g = load_run c words stood d 14 (slot_at c r k) ps next m v sh ne' (subst (IsReadable c.size) at (framed.readable t k is)) l in
           record { view = g.view; way = way_of words c.size m same_tape g.view g.to; value = g.value ∙ ap v.words (sym at); moved = g.moved; place = g.place }
 
   pub record Accepts (h : Home) (n len : ℕ) (m : machine.State) (v : View) : Type 0 where

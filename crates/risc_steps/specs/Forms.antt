@@ -1,6 +1,6 @@
 -- The words of each instruction of three-address code. R14 is the frame of the innermost activation and R13 that of the program block;
 -- R12 and R15 are scratch registers, and operands in other registers are used where they stand.
-use Rattle.std.specs.Prelude.{ℕ, zero, suc, ◌+◌, ◌-◌, ◌*◌, ◌/◌, ◌%◌, Bool, true, false, ◌&&◌, nat_eq, nat_lt, int_lt, if◌then◌else◌, List, [], ◌∷◌, ◌++◌, length, Option, Some, None, ℤ, pos, negsuc}
+use Rattle.std.specs.Prelude.{ℕ, zero, suc, ◌+◌, ◌-◌, ◌*◌, ◌/◌, ◌%◌, Bool, true, false, ◌&&◌, ◌||◌, not, nat_eq, nat_lt, int_lt, if◌then◌else◌, List, [], ◌∷◌, ◌++◌, length, slice_index, Option, Some, None, ℤ, pos, negsuc}
 use Rattle.risc_word.specs.declared.instr.Operation.{Operation}
 use Rattle.risc_word.specs.declared.instr.Operation.TheVariants as op
 use Rattle.risc_word.specs.declared.instr.Operand as machine
@@ -121,6 +121,26 @@ abbrev pub is_register : Home → Bool
 is_register (Reg q) = true
 is_register (Slot k) = false
 
+-- ---- operands
+
+-- so many of the operands of a call come in registers, operand j in register j; the others stand in the caller's frame
+abbrev pub carried : ℕ → ℕ
+carried count = if nat_lt count 8 then count else 8
+
+-- The last of n operands goes to its register first. A home is taken then before the turn of operand j.
+abbrev pub is_taken : ℕ → ℕ → Home → Bool
+is_taken n j (Reg q) = nat_lt j q && nat_lt q n
+is_taken n j (Slot k) = false
+
+-- it goes by way of the frame, as what comes in no register does
+abbrev pub is_stored : ℕ → ℕ → Home → Bool
+is_stored n j h = not (nat_lt j n) || is_taken n j h
+
+-- parameter j comes in its home
+abbrev pub stands : ℕ → Home → Bool
+stands j (Reg q) = nat_eq q j && nat_lt j 8
+stands j (Slot k) = false
+
 -- the device page is FFFFC0H
 abbrev pub device : ℕ → Piece
 device d = Plain (word.Move d (Constant (negsuc 63)))
@@ -154,12 +174,12 @@ module _ (c : Context) (r : ℕ) where
   receive (Reg q) = Plain (word.Move q (Content 12)) ∷ []
   receive (Slot k) = store 12 14 (slot_at c r k)
 
-  -- R0 takes the result of a routine
-  abbrev pub hand : Home → List Piece
-  hand (Reg q) = if nat_eq q 0 then [] else Plain (word.Move 0 (Content q)) ∷ []
-  hand (Slot k) = load 0 14 (slot_at c r k)
+  -- register d takes an operand, where it isn't the operand's own
+  abbrev pub into : ℕ → Home → List Piece
+  into d (Reg q) = if nat_eq q d then [] else Plain (word.Move d (Content q)) ∷ []
+  into d (Slot k) = load d 14 (slot_at c r k)
 
-  -- which comes from there to its home
+  -- the result of a routine comes from R0 to its home
   abbrev pub accept : Home → List Piece
   accept (Reg q) = if nat_eq q 0 then [] else Plain (word.Move q (Content 0)) ∷ []
   accept (Slot k) = store 0 14 (slot_at c r k)
@@ -392,23 +412,43 @@ module _ (c : Context) (r : ℕ) where
 
   -- ---- devices, calls, objects
 
-  -- operands from number j on go to bytes 8 + 4 * j of the frame
-  abbrev pub pass : ℕ → List ℕ → List Piece
-  pass j [] = []
-  pass j (u ∷ us) =
-      fetch 12 (home c r u) ++ (Plain (word.Store Word (fetched 12 (home c r u)) 14 (pos (8 + 4 * j))) ∷ pass (suc j) us)
+  -- operand j, of which n are carried, goes to bytes 8 + 4 * j of the frame if it goes by way of the frame
+  abbrev pub pass_one : ℕ → ℕ → Home → List Piece
+  pass_one n j h =
+      if is_stored n j h then fetch 12 h ++ (Plain (word.Store Word (fetched 12 h) 14 (pos (8 + 4 * j))) ∷ []) else []
+
+  -- so do those from number j on
+  abbrev pub pass : ℕ → ℕ → List ℕ → List Piece
+  pass n j [] = []
+  pass n j (u ∷ us) = pass_one n j (home c r u) ++ pass n (suc j) us
+
+  -- register j takes operand j
+  abbrev pub carry_one : ℕ → ℕ → Home → List Piece
+  carry_one n j h = if is_taken n j h then Plain (word.Load Word j 14 (pos (8 + 4 * j))) ∷ [] else into j h
+
+  -- and each lower one its own, from the highest on
+  abbrev pub carry : ℕ → ℕ → List ℕ → List Piece
+  carry n zero us = []
+  carry n (suc j) us = carry_one n j (home c r (slice_index us j)) ++ carry n j us
+
+  abbrev pub offer : List ℕ → List Piece
+  offer us = pass (carried (length us)) 0 us ++ carry (carried (length us)) (carried (length us)) us
 
   abbrev pub call_form : ℕ → ℕ → List ℕ → ℕ → List Piece
   call_form t q us line =
-      pass 0 us ++ ((if is_program c q then Enters q line else Joins q) ∷ accept (home c r t))
+      offer us ++ ((if is_program c q then Enters q line else Joins q) ∷ accept (home c r t))
+
+  -- R12 holds the address of the callee
+  abbrev pub offer_by : ℕ → List ℕ → List Piece
+  offer_by a us =
+      pass (carried (length us)) 0 us ++ (bring 12 (home c r a) ++ carry (carried (length us)) (carried (length us)) us)
 
   abbrev pub call_value_form : ℕ → ℕ → List ℕ → ℕ → List Piece
-  call_value_form t a us line =
-      pass 0 us ++ (fetch 12 (home c r a) ++ (EntersAt (fetched 12 (home c r a)) line ∷ accept (home c r t)))
+  call_value_form t a us line = offer_by a us ++ (EntersAt 12 line ∷ accept (home c r t))
 
   abbrev pub return_form : ℕ → List Piece
   return_form a =
-      hand (home c r a) ++ (if is_program c r then Plain (word.Load Word 15 14 (pos 0)) ∷ Plain (word.Load Word 14 14 (pos 4)) ∷ Plain (word.Branch on.Always false (Absolute 15)) ∷ [] else Plain (word.Load Word 15 14 (pos (c.link_at r))) ∷ Plain (word.Branch on.Always false (Absolute 15)) ∷ [])
+      into 0 (home c r a) ++ (if is_program c r then Plain (word.Load Word 15 14 (pos 0)) ∷ Plain (word.Load Word 14 14 (pos 4)) ∷ Plain (word.Branch on.Always false (Absolute 15)) ∷ [] else Plain (word.Load Word 15 14 (pos (c.link_at r))) ∷ Plain (word.Branch on.Always false (Absolute 15)) ∷ [])
 
   abbrev pub label_form : ℕ → Label → List Piece
   label_form t label = High (target (home c r t)) label ∷ Low (target (home c r t)) label ∷ save (home c r t)
@@ -479,11 +519,22 @@ module _ (c : Context) (r : ℕ) where
 
   -- ---- entries
 
-  -- parameters from number j on come from the operands of the caller, n bytes behind the frame
+  -- parameter j goes from its register to the operands of the caller, n bytes behind the frame
+  abbrev pub spill_one : ℕ → ℕ → Home → List Piece
+  spill_one n j h = if nat_lt j 8 && not (stands j h) then store j 14 (n + 8 + 4 * j) else []
+
+  abbrev pub spill : ℕ → ℕ → ℕ → List Piece
+  spill n j zero = []
+  spill n j (suc count) = spill_one n j (home c r j) ++ spill n (suc j) count
+
+  -- and from there to its home
+  abbrev pub parameter : ℕ → ℕ → Home → List Piece
+  parameter n j h = if stands j h then [] else load (target h) 14 (n + 8 + 4 * j) ++ save h
+
+  -- those from number j on
   abbrev pub parameters : ℕ → ℕ → ℕ → List Piece
   parameters n j zero = []
-  parameters n j (suc count) =
-      load (target (home c r j)) 14 (n + 8 + 4 * j) ++ (save (home c r j) ++ parameters n (suc j) count)
+  parameters n j (suc count) = parameter n j (home c r j) ++ parameters n (suc j) count
 
   -- R12 takes the new frame's address
   abbrev pub frame_below : ℕ → List Piece
@@ -493,11 +544,11 @@ module _ (c : Context) (r : ℕ) where
 
   abbrev pub enter_form : TacRoutine → List Piece
   enter_form routine =
-      frame_below (c.costs r) ++ (Plain (word.Load Word 0 13 (pos 268)) ∷ Plain (word.Operate op.Sub 0 12 (Content 0)) ∷ Fails on.Less 12 routine.line ∷ Plain (word.Store Word 15 12 (pos 0)) ∷ Plain (word.Store Word 14 12 (pos 4)) ∷ Plain (word.Move 14 (Content 12)) ∷ parameters (c.costs r) 0 routine.parameters)
+      frame_below (c.costs r) ++ (Plain (word.Load Word 11 13 (pos 268)) ∷ Plain (word.Operate op.Sub 11 12 (Content 11)) ∷ Fails on.Less 12 routine.line ∷ Plain (word.Store Word 15 12 (pos 0)) ∷ Plain (word.Store Word 14 12 (pos 4)) ∷ Plain (word.Move 14 (Content 12)) ∷ (spill (c.costs r) 0 routine.parameters ++ parameters (c.costs r) 0 routine.parameters))
 
   abbrev pub join_form : TacRoutine → List Piece
   join_form routine =
-      Plain (word.Store Word 15 14 (pos (c.link_at r))) ∷ parameters 0 0 routine.parameters
+      Plain (word.Store Word 15 14 (pos (c.link_at r))) ∷ (spill 0 0 routine.parameters ++ parameters 0 0 routine.parameters)
 
   -- a frame that no stack holds, and parameters that no call passes
   abbrev pub is_entered : TacRoutine → Bool

@@ -4,4 +4,4 @@ use Rattle.risc_emit.proofs.entry.put_parameters.Goals as goal
 
 pub loop-j-preserved : goal.loop-j-preserved
 loop-j-preserved c =
-    parameter_more (context_of c.args.frame.now) c.args.frame.now.number c.args.behind c.loop-j.j c.args.count _ _ _ _ _ _ _ c.loop-j-test.true c.target.ensures c.r14.ensures c.from.ensures c.in_ok-put_load.ensures c.in_ok-save.ensures c.loop-j.invariant
+    parameter_more (context_of c.args.frame.now) c.args.frame.now.number c.args.behind c.loop-j.j c.args.count _ _ _ c.loop-j-test.true c.in_ok-put_parameter.ensures c.loop-j.invariant
