@@ -8,8 +8,8 @@ use crate::walk::settle;
 use std::alloc::Global;
 use tac_code::code::{Instruction, OutOfMemory, TacRoutine};
 
-/// A temporary's life: from the first to the last time at which it is alive, whether it spans a call, and whether it is returned. The
-/// entry of a routine is time 0; what is alive before the instruction at a place is so at an odd time, what it writes begins at the even time behind.
+/// A temporary's life: from the first to the last time at which it is alive, and whether it spans a call. The entry of a routine is
+/// time 0; what is alive before the instruction at a place is so at an odd time, what it writes begins at the even time behind.
 /// What is never alive begins after its end.
 #[derive(Clone, Copy)]
 pub(crate) struct Life {
@@ -17,8 +17,12 @@ pub(crate) struct Life {
     pub from: u64,
     pub to: u64,
     pub spans: bool,
-    pub returned: bool,
+    /// The register in which it comes as a parameter, goes as an operand, or else comes or goes as a result.
+    pub wish: Option<u8>,
 }
+
+// So many operands come in registers.
+const CARRIED: u8 = 8;
 
 fn time_before(place: usize) -> u64 {
     (place as u64).wrapping_mul(2).wrapping_add(1)
@@ -36,7 +40,7 @@ fn unborn(alloc: Global, temporaries: u32) -> Result<Vec<Life>, OutOfMemory> {
             from: u64::MAX,
             to: 0,
             spans: false,
-            returned: false,
+            wish: None,
         })?;
     }
     Ok(lives)
@@ -89,12 +93,32 @@ fn note_spans(lives: &mut [Life], table: &Table, taken: Option<u32>) {
     }
 }
 
-fn note_returned(lives: &mut [Life], instruction: &Instruction) {
-    if let Instruction::Return { from } = instruction {
-        let index = *from as usize;
-        if index < lives.len() {
-            lives[index].returned = true;
+fn wish(lives: &mut [Life], temporary: u32, register: u8) {
+    let index = temporary as usize;
+    if index < lives.len() {
+        lives[index].wish = Some(register);
+    }
+}
+
+// The first operands of a call go in the registers of their numbers.
+fn wish_passed(lives: &mut [Life], list: &[u32]) {
+    for j in 0..CARRIED {
+        if (j as usize) < list.len() {
+            wish(lives, list[j as usize], j);
         }
+    }
+}
+
+// What is returned, and the result of a call, in register 0.
+fn wish_result(lives: &mut [Life], instruction: &Instruction) {
+    let result = match instruction {
+        Instruction::Return { from } => *from,
+        Instruction::Call { to, .. } | Instruction::CallValue { to, .. } => *to,
+        _ => return,
+    };
+    let index = result as usize;
+    if index < lives.len() && lives[index].wish.is_none() {
+        lives[index].wish = Some(0);
     }
 }
 
@@ -130,7 +154,8 @@ fn live_before(
     instruction: &Instruction,
     place: usize,
 ) {
-    note_returned(lives, instruction);
+    wish_result(lives, instruction);
+    wish_passed(lives, read_passed(instruction));
     if is_call(instruction) {
         note_spans(lives, table, written(instruction));
     }
@@ -193,6 +218,11 @@ pub(crate) fn lives_of(
     note_held(lives.as_mut_slice(), &table, 0);
     for parameter in 0..routine.parameters {
         note(lives.as_mut_slice(), parameter, 0);
+    }
+    for parameter in 0..CARRIED {
+        if u32::from(parameter) < routine.parameters {
+            wish(lives.as_mut_slice(), u32::from(parameter), parameter);
+        }
     }
     Ok(Some(lives))
 }

@@ -12,7 +12,8 @@ use tac_code::code::{OutOfMemory, TacRoutine};
 use tac_code::tac::Tac;
 
 /// Goes through each routine's temporaries in the order of their lives and gives registers 0 to 11, and the slot of its number to
-/// what finds none free or spans a call. Register 0, in which results come, is kept for the first that is returned.
+/// what finds none free or spans a call. A life gets the register in which it comes or goes at a call, where that is free, and else
+/// the lowest one.
 #[derive(Clone, Copy, Drop)]
 pub struct Scan;
 
@@ -27,37 +28,11 @@ impl Placer for Scan {
     }
 }
 
-// Whether a life may have a register at all.
-fn is_short(life: Life) -> bool {
-    !life.spans && life.from <= life.to
-}
-
-// The first life whose temporary is returned and may have a register.
-fn first_returned(lives: &[Life]) -> Option<Life> {
-    for life in lives {
-        if life.returned && is_short(*life) {
-            return Some(*life);
-        }
-    }
-    None
-}
-
-// The registers from this one on are open to a life: register 0 where what it is kept for isn't alive.
-fn lowest_for(kept: Option<Life>, life: Life) -> u8 {
-    match kept {
-        Some(other)
-            if other.temporary != life.temporary
-                && life.from <= other.to
-                && other.from <= life.to => 1,
-        _ => 0,
-    }
-}
-
-// The first register from a lowest one on that is free from before a time on.
-fn free_register(busy: &[u64; REGISTERS], lowest: u8, from: u64) -> Option<u8>
+// The first register that is free from before a time on.
+fn free_register(busy: &[u64; REGISTERS], from: u64) -> Option<u8>
     ensures { IfSome result (λ register. register < 12) }
 {
-    for register in lowest..12 {
+    for register in 0..12u8 {
         if busy[register as usize] < from {
             return Some(register);
         }
@@ -65,13 +40,26 @@ fn free_register(busy: &[u64; REGISTERS], lowest: u8, from: u64) -> Option<u8>
     None
 }
 
+// The register that a life wishes for, if it is free, or else the first that is.
+fn register_for(busy: &[u64; REGISTERS], life: Life) -> Option<u8>
+    ensures { IfSome result (λ register. register < 12) }
+{
+    let from = life.from.saturating_add(1);
+    if let Some(register) = life.wish
+        && register < 12
+        && busy[register as usize] < from
+    {
+        return Some(register);
+    }
+    free_register(busy, from)
+}
+
 // Gives a register to a life, where it may have one and one is free.
-fn choose(homes: &mut [Home], busy: &mut [u64; REGISTERS], kept: Option<Life>, life: Life) {
-    if !is_short(life) {
+fn choose(homes: &mut [Home], busy: &mut [u64; REGISTERS], life: Life) {
+    if life.spans || life.to < life.from {
         return;
     }
-    let lowest = lowest_for(kept, life);
-    let Some(register) = free_register(busy, lowest, life.from.saturating_add(1)) else {
+    let Some(register) = register_for(busy, life) else {
         return;
     };
     let index = life.temporary as usize;
@@ -93,10 +81,9 @@ fn scan_routine(
     let mut chosen = Vec::new(alloc);
     add_slots(&mut chosen, routine.temporaries)?;
     lives.sort_by_key(|life| life.from)?;
-    let kept = first_returned(lives.as_slice());
     let mut busy = [0; REGISTERS];
     for life in &lives {
-        choose(chosen.as_mut_slice(), &mut busy, kept, *life);
+        choose(chosen.as_mut_slice(), &mut busy, *life);
     }
     homes.extend_from_slice(chosen.as_slice())
 }
