@@ -1,14 +1,14 @@
 // The words of each instruction.
 
-ghost use Rattle.std.specs.Prelude.{◌≡◌, ◌++◌, [], ◌∷◌, OnOk};
+ghost use Rattle.std.specs.Prelude.{◌≡◌, suc, ◌++◌, [], ◌∷◌, OnOk};
 ghost use Rattle.risc_word.specs.declared.instr.Condition.TheVariants as on;
 ghost use Rattle.risc_related.specs.Context.{home};
 ghost use Rattle.risc_steps.specs.Pieces as piece;
-ghost use Rattle.risc_steps.specs.Told.{told_at};
+ghost use Rattle.risc_steps.specs.Told.{told_at, bent_at};
 ghost use Rattle.risc_steps.specs.Forms as form;
 ghost use Rattle.risc_emit.specs.Frames.{context_of};
 ghost use Rattle.risc_emit.specs.Meant.{label_of};
-ghost use Rattle.risc_emit.specs.Passes.{PassesFew};
+ghost use Rattle.risc_emit.specs.Passes.{PassesFew, LoadsNear};
 
 use crate::arithmetic::{
     condition_of, is_null, put_arithmetic, put_bits, put_compare, put_difference,
@@ -16,11 +16,11 @@ use crate::arithmetic::{
 use crate::calls::{put_call, put_call_value, put_end, put_new, put_put, put_return, put_take};
 use crate::checks::{put_check, put_index, put_pointer_check};
 use crate::frame::Frame;
-use crate::memory::{put_label, put_load_form, put_offset, put_store_form};
+use crate::memory::{put_label, put_load_form, put_offset, put_store_form, put_word_form};
 use crate::numbers::put_number;
 use crate::operands::{is_told, put_copy, save, target};
 use crate::pieces::{Label, Piece, Pieces};
-use risc_word::{Condition, Width};
+use risc_word::{Condition, Register, Width};
 use tac_code::code::{Instruction, Operand, OutOfMemory, Relation};
 
 fn put_literal(
@@ -89,16 +89,22 @@ fn put_branch(
     pieces.push(Piece::Goes(condition_of(relation), label))
 }
 
-/// The words of the instruction at a place, where N and Z may be those of a temporary's register.
+/// The words of the instruction at a place, where N and Z may be those of a temporary's register, and a register may be short of an offset,
+/// there or at the next place.
 pub(crate) fn put_instruction(
     frame: &Frame<'_>,
     pieces: &mut Pieces,
     place: usize,
     told: Option<u32>,
+    bent: Option<(Register, u64)>,
+    next: Option<(Register, u64)>,
     instruction: &Instruction,
 ) -> Result<(), OutOfMemory>
     requires few { PassesFew instruction.now }
     requires told { told ≡ told_at (context_of frame.now) frame.now.number place }
+    requires bent { bent ≡ bent_at (context_of frame.now) frame.now.number place }
+    requires next { next ≡ bent_at (context_of frame.now) frame.now.number (suc place) }
+    requires near { LoadsNear instruction.now bent }
     ensures { OnOk result (pieces.new ≡ pieces.old ++ form.form (context_of frame.now) frame.now.number place instruction.now) }
 {
     let r = frame.number();
@@ -154,7 +160,7 @@ pub(crate) fn put_instruction(
             error,
             line,
         } => put_index(
-            frame, pieces, *to, *base, *index, *low, *high, *width, *error, *line,
+            frame, pieces, next, *to, *base, *index, *low, *high, *width, *error, *line,
         ),
         Instruction::RoutineValue { to, routine } => put_label(
             frame,
@@ -162,13 +168,8 @@ pub(crate) fn put_instruction(
             *to,
             Label::Entry(*routine),
         ),
-        Instruction::Load { to, base, offset } => put_load_form(
-            frame,
-            pieces,
-            Width::Word,
-            *to,
-            *base,
-            *offset,
+        Instruction::Load { to, base, offset } => put_word_form(
+            frame, pieces, bent, *to, *base, *offset,
         ),
         Instruction::Store { base, offset, from } => put_store_form(
             frame,

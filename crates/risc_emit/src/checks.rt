@@ -8,7 +8,7 @@ ghost use Rattle.risc_steps.specs.Forms as form;
 ghost use Rattle.risc_emit.specs.Frames.{context_of};
 
 use crate::frame::Frame;
-use crate::memory::put_base_address;
+use crate::memory::{base_register, put_base_address};
 use crate::numbers::put_exact;
 use crate::operands::{bring, fetch, is_told, natural_right, number_right, save, target};
 use crate::pieces::{Piece, Pieces};
@@ -127,16 +127,22 @@ fn put_scaled(
     Ok(r12())
 }
 
-// The address so far behind a base as a register tells.
+// The address so far behind a base as a register tells, or what is short of the offset of the base's block.
 fn put_component(
     frame: &Frame<'_>,
     pieces: &mut Pieces,
+    bent: Option<(Register, u64)>,
     to: u32,
     base: Base,
     distance: Register,
 ) -> Result<(), OutOfMemory>
-    ensures { OnOk result (pieces.new ≡ pieces.old ++ form.component (context_of frame.now) frame.now.number to base distance) }
+    ensures { OnOk result (pieces.new ≡ pieces.old ++ form.component (context_of frame.now) frame.now.number bent to base distance) }
 {
+    if let Some((register, _)) = bent {
+        let near = base_register(frame, base);
+        let sum = computed(Operation::Add, register, near, Right::Content(distance));
+        return pieces.plain(sum);
+    }
     let address = put_base_address(frame, pieces, base)?;
     let sum = computed(
         Operation::Add,
@@ -152,21 +158,23 @@ fn put_component(
 fn put_steps(
     frame: &Frame<'_>,
     pieces: &mut Pieces,
+    bent: Option<(Register, u64)>,
     to: u32,
     base: Base,
     steps: Register,
     width: u32,
 ) -> Result<(), OutOfMemory>
-    ensures { OnOk result (pieces.new ≡ pieces.old ++ form.steps_form (context_of frame.now) frame.now.number to base steps width) }
+    ensures { OnOk result (pieces.new ≡ pieces.old ++ form.steps_form (context_of frame.now) frame.now.number bent to base steps width) }
 {
     let distance = put_scaled(frame, pieces, steps, width)?;
-    put_component(frame, pieces, to, base, distance)
+    put_component(frame, pieces, bent, to, base, distance)
 }
 
 /// The address of a component.
 pub(crate) fn put_index(
     frame: &Frame<'_>,
     pieces: &mut Pieces,
+    bent: Option<(Register, u64)>,
     to: u32,
     base: Base,
     index: u32,
@@ -176,9 +184,9 @@ pub(crate) fn put_index(
     error: u8,
     line: u16,
 ) -> Result<(), OutOfMemory>
-    ensures { OnOk result (pieces.new ≡ pieces.old ++ form.index_form (context_of frame.now) frame.now.number to base index low high width error line) }
+    ensures { OnOk result (pieces.new ≡ pieces.old ++ form.index_form (context_of frame.now) frame.now.number bent to base index low high width error line) }
 {
     let register = fetch(frame, pieces, r12(), index)?;
     let steps = put_range(frame, pieces, register, low, high, error, line)?;
-    put_steps(frame, pieces, to, base, steps, width)
+    put_steps(frame, pieces, bent, to, base, steps, width)
 }

@@ -1,17 +1,18 @@
 // The pieces of a whole code, with the words of its constants, and where each stands.
 
-ghost use Rattle.std.specs.Prelude.{◌≡◌, ◌+◌, ◌*◌, ◌≤◌, [], ◌∷◌, ◌++◌, length, take, slice_get, get_or, Some, OnOk, IfOk};
+ghost use Rattle.std.specs.Prelude.{◌≡◌, suc, ◌+◌, ◌*◌, ◌≤◌, [], ◌∷◌, ◌++◌, length, take, slice_get, get_or, Some, OnOk, IfOk};
 ghost use Rattle.std.specs.Int.{w32, from_le_bytes};
 ghost use Rattle.tac_code.specs.Meaning.{routines};
 ghost use Rattle.risc_alloc.specs.Valid.{Valid};
-ghost use Rattle.risc_steps.specs.Told.{told_at};
+ghost use Rattle.risc_steps.specs.Told.{told_at, bent_at};
 ghost use Rattle.risc_steps.specs.Forms as form;
 ghost use Rattle.risc_runs.specs.Drawn.{program_pieces, routine_pieces, entry_place, text_words, instruction_texts, body_texts, routines_texts};
 ghost use Rattle.risc_emit.specs.Frames.{context_of};
 ghost use Rattle.risc_emit.specs.Layout.{laid_out};
-ghost use Rattle.risc_emit.specs.Passes.{PassesFew};
+ghost use Rattle.risc_emit.specs.Passes.{PassesFew, LoadsNear};
 ghost use Rattle.risc_emit.specs.Marked.{mark_of, AreMarksOf, AreMarked};
 
+use crate::bent::bent;
 use crate::body::put_instruction;
 use crate::entry::{put_entry, put_start};
 use crate::frame::Frame;
@@ -19,6 +20,7 @@ use crate::marks::{Mark, Marks};
 use crate::pieces::Pieces;
 use crate::told::{jumped_places, told};
 use risc_alloc::homes::Home;
+use risc_word::Register;
 use std::alloc::Global;
 use tac_code::code::{Instruction, OutOfMemory, TacRoutine};
 use tac_code::tac::Tac;
@@ -67,10 +69,15 @@ fn put_place(
     places: &mut Vec<Mark>,
     place: usize,
     told: Option<u32>,
+    bent: Option<(Register, u64)>,
+    next: Option<(Register, u64)>,
     instruction: &Instruction,
 ) -> Result<(), OutOfMemory>
     requires few { PassesFew instruction.now }
     requires told { told ≡ told_at (context_of frame.now) frame.now.number place }
+    requires bent { bent ≡ bent_at (context_of frame.now) frame.now.number place }
+    requires next { next ≡ bent_at (context_of frame.now) frame.now.number (suc place) }
+    requires near { LoadsNear instruction.now bent }
     ensures pieces { OnOk result (pieces.new ≡ pieces.old ++ form.form (context_of frame.now) frame.now.number place instruction.now) }
     ensures texts { OnOk result (texts.new.items ≡ texts.old.items ++ instruction_texts instruction.now) }
     ensures mark { OnOk result (places.new.items ≡ places.old.items ++ mark_of (length pieces.old) (length texts.old.items) ∷ []) }
@@ -79,7 +86,7 @@ fn put_place(
         site: pieces.len(),
         text: texts.len(),
     })?;
-    put_instruction(frame, pieces, place, told, instruction)?;
+    put_instruction(frame, pieces, place, told, bent, next, instruction)?;
     put_text(texts, instruction)
 }
 
@@ -106,7 +113,19 @@ fn put_routine(
     let mut places = Vec::new(alloc);
     for place in 0..body.len() {
         let told = told(body, jumped.as_slice(), place);
-        put_place(frame, pieces, texts, &mut places, place, told, &body[place])?;
+        let here = bent(frame, body, jumped.as_slice(), place);
+        let next = bent(frame, body, jumped.as_slice(), place + 1);
+        put_place(
+            frame,
+            pieces,
+            texts,
+            &mut places,
+            place,
+            told,
+            here,
+            next,
+            &body[place],
+        )?;
     }
     places.push(Mark {
         site: pieces.len(),

@@ -6,6 +6,7 @@
 #![tactic(auto)]
 
 mod arithmetic;
+mod bent;
 mod body;
 mod calls;
 mod checks;

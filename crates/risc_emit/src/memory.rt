@@ -5,6 +5,7 @@ ghost use Rattle.risc_related.specs.Context.{home};
 ghost use Rattle.risc_steps.specs.Forms as form;
 ghost use Rattle.risc_emit.specs.Frames.{context_of};
 ghost use Rattle.risc_emit.specs.Meant.{label_of};
+ghost use Rattle.risc_emit.specs.Passes.{IsNear};
 
 use crate::frame::Frame;
 use crate::numbers::{is_near, put_constant};
@@ -23,6 +24,17 @@ fn put_base(frame: &Frame<'_>, pieces: &mut Pieces, base: Base) -> Result<Regist
         Base::Frame | Base::Scratch => Ok(r14()),
         Base::Program => Ok(r13()),
         Base::Temporary(temporary) => fetch(frame, pieces, r12(), temporary),
+    }
+}
+
+/// That register, fetched or not.
+pub(crate) fn base_register(frame: &Frame<'_>, base: Base) -> Register
+    ensures { result ≡ form.base_register (context_of frame.now) frame.now.number base }
+{
+    match base {
+        Base::Frame | Base::Scratch => r14(),
+        Base::Program => r13(),
+        Base::Temporary(temporary) => target(frame, temporary),
     }
 }
 
@@ -59,6 +71,27 @@ fn put_reach(
     put_constant(pieces, r15(), offset)?;
     pieces.plain(computed(Operation::Add, r12(), register, Right::Content(r15())))?;
     Ok((r12(), 0))
+}
+
+/// A word from behind a base, or from behind a register that is short of an offset.
+pub(crate) fn put_word_form(
+    frame: &Frame<'_>,
+    pieces: &mut Pieces,
+    bent: Option<(Register, u64)>,
+    to: u32,
+    base: Base,
+    bytes: u32,
+) -> Result<(), OutOfMemory>
+    requires near { IsNear bent bytes }
+    ensures { OnOk result (pieces.new ≡ pieces.old ++ form.word_form (context_of frame.now) frame.now.number bent to base bytes) }
+{
+    match bent {
+        Some((register, offset)) => {
+            let whole = (offset + u64::from(bytes)) as i32;
+            pieces.plain(loaded(Width::Word, register, register, whole))
+        }
+        None => put_load_form(frame, pieces, Width::Word, to, base, bytes),
+    }
 }
 
 pub(crate) fn put_load_form(

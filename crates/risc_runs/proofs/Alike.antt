@@ -1,5 +1,5 @@
 -- The pieces of an instruction hang on the code, the homes and the layout alone: not on where words stand, on tables or on memory.
-use Rattle.std.proofs.Common.{◌≡◌, ℕ, zero, suc, List, [], ◌∷◌, length, slice_index, Option, Some, None, refl, sym, ap, ◌∙◌}
+use Rattle.std.proofs.Common.{◌≡◌, ℕ, ℤ, zero, suc, List, [], ◌∷◌, length, slice_index, Option, Some, None, refl, sym, ap, ◌∙◌}
 use Rattle.risc_word.specs.declared.instr.Width.{Width}
 use Rattle.risc_word.specs.declared.instr.Condition.{Condition}
 use Rattle.tac_code.specs.declared.code.Operator.{Operator}
@@ -16,7 +16,7 @@ use Rattle.tac_code.specs.declared.code.TacRoutine.{TacRoutine}
 use Rattle.risc_alloc.specs.declared.homes.Home.{Home}
 use Rattle.risc_alloc.specs.declared.homes.Home.TheVariants.{Slot, Reg}
 use Rattle.risc_related.specs.Context.{Context, home}
-use Rattle.risc_steps.specs.Told.{told_at}
+use Rattle.risc_steps.specs.Told.{told_at, bent_at}
 use Rattle.risc_steps.specs.Forms as form
 use Rattle.risc_steps.specs.Forms.{carried}
 use Rattle.risc_runs.specs.Emits.{start_form}
@@ -126,6 +126,16 @@ module _ (c : Context) (r : ℕ) where
   load_bare width t a n =
       rw (base_code_bare a) (rw (base_register_bare a) (rw (base_offset_bare a n) (rw (target_bare (home c r t)) (rw (save_bare (home c r t)) refl))))
 
+  word_bare : (o : Option (ℕ × ℕ)) (t : ℕ) (a : Base) (n : ℕ) → form.word_form b r o t a n ≡ form.word_form c r o t a n
+  word_bare None t a n = load_bare _ t a n
+  word_bare (Some bent) t a n = refl
+
+  index_bare : (o : Option (ℕ × ℕ)) (t : ℕ) (a : Base) (i : ℕ) (low high : ℤ) (width error line : ℕ) → form.index_form b r o t a i low high width error line ≡ form.index_form c r o t a i low high width error line
+  index_bare None t a i low high width error line =
+      rw (fetch_bare 12 (home c r i)) (rw (fetched_bare 12 (home c r i)) (rw (base_address_bare a) (rw (address_register_bare a) (rw (target_bare (home c r t)) (rw (save_bare (home c r t)) refl)))))
+  index_bare (Some bent) t a i low high width error line =
+      rw (fetch_bare 12 (home c r i)) (rw (fetched_bare 12 (home c r i)) (rw (base_register_bare a) refl))
+
   store_bare : (width : Width) (a : Base) (n u : ℕ) → form.store_form b r width a n u ≡ form.store_form c r width a n u
   store_bare width a n u =
       rw (base_code_bare a) (rw (base_register_bare a) (rw (base_offset_bare a n) (rw (fetch_bare 15 (home c r u)) (rw (fetched_bare 15 (home c r u)) refl))))
@@ -200,10 +210,9 @@ module _ (c : Context) (r : ℕ) where
   form_bare k (Text t bytes) = label_bare t _
   form_bare k (Offset t a n extent) =
       rw (target_bare (home c r t)) (rw (save_bare (home c r t)) (rw (address_bare (form.target c r (home c r t)) a n) refl))
-  form_bare k (Index t a i low high width error line) =
-      rw (fetch_bare 12 (home c r i)) (rw (fetched_bare 12 (home c r i)) (rw (base_address_bare a) (rw (address_register_bare a) (rw (target_bare (home c r t)) (rw (save_bare (home c r t)) refl)))))
+  form_bare k (Index t a i low high width error line) = index_bare (bent_at c r (suc k)) t a i low high width error line
   form_bare k (RoutineValue t q) = label_bare t _
-  form_bare k (Load t a n) = load_bare _ t a n
+  form_bare k (Load t a n) = word_bare (bent_at c r k) t a n
   form_bare k (Store a n u) = store_bare _ a n u
   form_bare k (LoadByte t a n) = load_bare _ t a n
   form_bare k (StoreByte a n u) = store_bare _ a n u

@@ -21,7 +21,7 @@ use Rattle.risc_alloc.specs.declared.homes.Home.{Home}
 use Rattle.risc_alloc.specs.declared.homes.Home.TheVariants.{Slot, Reg}
 use Rattle.risc_related.specs.Context.{Context, home, is_program, slot_at}
 use Rattle.risc_steps.specs.Pieces.{Label, Piece, Fails, Enters, Joins, EntersAt}
-use Rattle.risc_steps.specs.Told.{told_at}
+use Rattle.risc_steps.specs.Told.{told_at, bent_at}
 use Rattle.risc_steps.specs.Forms as form
 use Rattle.risc_steps.specs.Forms.{is_near, is_small, is_divisor, carried, is_taken, is_stored, stands}
 use Rattle.risc_runs.specs.Emits.{start_form}
@@ -184,9 +184,17 @@ module _ (c : Context) (r : ℕ) where
   scaled_good q width =
       by_test (nat_eq width 1) _ _ tt (good_append (form.right c r (operand.Number (pos width))) _ (right_good (operand.Number (pos width))) (tt, tt))
 
-  steps_good : (t : ℕ) (a : Base) (q width : ℕ) → AreGood (form.steps_form c r t a q width)
-  steps_good t a q width =
-      good_append (form.scaled c r q width) _ (scaled_good q width) (good_append (form.base_address c r a) _ (base_address_good a) (tt, save_good (home c r t)))
+  component_good : (bent : Option (ℕ × ℕ)) (t : ℕ) (a : Base) (q : ℕ) → AreGood (form.component c r bent t a q)
+  component_good None t a q = good_append (form.base_address c r a) _ (base_address_good a) (tt, save_good (home c r t))
+  component_good (Some bent) t a q = (tt, tt)
+
+  steps_good : (bent : Option (ℕ × ℕ)) (t : ℕ) (a : Base) (q width : ℕ) → AreGood (form.steps_form c r bent t a q width)
+  steps_good bent t a q width =
+      good_append (form.scaled c r q width) _ (scaled_good q width) (component_good bent t a (form.scaled_register c r q width))
+
+  word_good : (bent : Option (ℕ × ℕ)) (t : ℕ) (a : Base) (n : ℕ) → AreGood (form.word_form c r bent t a n)
+  word_good None t a n = load_form_good _ t a n
+  word_good (Some bent) t a n = (tt, tt)
 
   pass_one_good : (n j : ℕ) (h : Home) → AreGood (form.pass_one c r n j h)
   pass_one_good n j h =
@@ -257,9 +265,9 @@ module _ (c : Context) (r : ℕ) where
   form_good limits k (Offset t a n extent) h =
       good_append (form.address c r (form.target c r (home c r t)) a n) _ (address_good _ a n) (save_good (home c r t))
   form_good limits k (Index t a i low high width error line) h =
-      good_append (form.check_form c r i low high error line) _ (check_good i low high error line h.5 h.6) (steps_good t a (form.above_register c r (form.fetched c r 12 (home c r i)) low) width)
+      good_append (form.check_form c r i low high error line) _ (check_good i low high error line h.5 h.6) (steps_good (bent_at c r (suc k)) t a (form.above_register c r (form.fetched c r 12 (home c r i)) low) width)
   form_good limits k (RoutineValue t q) h = (tt, (tt, save_good (home c r t)))
-  form_good limits k (Load t a n) h = load_form_good _ t a n
+  form_good limits k (Load t a n) h = word_good (bent_at c r k) t a n
   form_good limits k (Store a n u) h = store_form_good _ a n u
   form_good limits k (LoadByte t a n) h = load_form_good _ t a n
   form_good limits k (StoreByte a n u) h = store_form_good _ a n u

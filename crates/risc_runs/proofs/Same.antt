@@ -21,7 +21,7 @@ use Rattle.risc_image.specs.Table.{call_at}
 use Rattle.risc_load.specs.Shows.{trap_rows, IsBudget}
 use Rattle.risc_related.specs.Context.{Context, Places}
 use Rattle.risc_related.specs.Walk.{and_on, is_frame, walk}
-use Rattle.risc_steps.specs.Follows.{Built, Belongs, Stops, Follows, tape_of}
+use Rattle.risc_steps.specs.Follows.{Built, Meets, Stops, Follows, tape_of}
 use Rattle.risc_steps.proofs.Steps.{step_follows}
 use Rattle.risc_runs.specs.Outcome.{line_of, outcome_of, image_outcome}
 use Rattle.risc_runs.specs.Plan.{frame_cost, context}
@@ -50,14 +50,14 @@ module _ (code : Code) (homes : List Home) (image : Image) (sound : IsSound code
       let told = told_is c words image (λ link. refl) refl r.word r.at r.view r.shows in
       (x.0, omega (arith, x.1), ap (outcome_of image) x.2 ∙ ap (λ e. (s.tape.transcript, e)) (sym told ∙ sym r.is))
 
-  same_from : (b : Built c words) (k : ℕ) (s : State) (m : machine.State) (p : Places) (v : View) (f : ℕ) → Shows words c.size m v → Belongs c words p s v f → ((j : ℕ) → (tac.run code c.costs c.sizes stack heap j s).1 ≡ Stuck → ⊥) → Reaches image m s k (tac.run code c.costs c.sizes stack heap k s)
+  same_from : (b : Built c words) (k : ℕ) (s : State) (m : machine.State) (p : Places) (v : View) (f : ℕ) → Shows words c.size m v → Meets c words p s v f → ((j : ℕ) → (tac.run code c.costs c.sizes stack heap j s).1 ≡ Stuck → ⊥) → Reaches image m s k (tac.run code c.costs c.sizes stack heap k s)
   same_from b zero s m p v f sh be never = (0, omega arith, refl)
   same_from b (suc k) s m p v f sh be never =
       go (step code c.costs c.sizes stack heap s) refl (step_follows c words b p stack heap (omega arith) (omega arith) s f m v sh be) (λ t m' p' v' f' sh' be' never'. same_from b k t m' p' v' f' sh' be' never')
     where
-      go : (x : Step) → step code c.costs c.sizes stack heap s ≡ x → Follows c words x s m → ((t : State) (m' : machine.State) (p' : Places) (v' : View) (f' : ℕ) → Shows words c.size m' v' → Belongs c words p' t v' f' → ((j : ℕ) → (tac.run code c.costs c.sizes stack heap j t).1 ≡ Stuck → ⊥) → Reaches image m' t k (tac.run code c.costs c.sizes stack heap k t)) → Reaches image m s (suc k) (tac.after x s (tac.run code c.costs c.sizes stack heap k))
+      go : (x : Step) → step code c.costs c.sizes stack heap s ≡ x → Follows c words x s m → ((t : State) (m' : machine.State) (p' : Places) (v' : View) (f' : ℕ) → Shows words c.size m' v' → Meets c words p' t v' f' → ((j : ℕ) → (tac.run code c.costs c.sizes stack heap j t).1 ≡ Stuck → ⊥) → Reaches image m' t k (tac.run code c.costs c.sizes stack heap k t)) → Reaches image m s (suc k) (tac.after x s (tac.run code c.costs c.sizes stack heap k))
       go (Goes t) e h on =
-          let next = on t h.to h.places h.view h.frame h.shows h.belongs (λ j stuck. never (suc j) (ap (λ y. (tac.after y s (tac.run code c.costs c.sizes stack heap j)).1) e ∙ stuck)) in
+          let next = on t h.to h.places h.view h.frame h.shows h.meets (λ j stuck. never (suc j) (ap (λ y. (tac.after y s (tac.run code c.costs c.sizes stack heap j)).1) e ∙ stuck)) in
           let x = h.runs next.0 in
           (x.0, omega (arith, next.1, x.1), ap (outcome_of image) x.2 ∙ next.2)
       go (Over o) e (inl stuck) on =
@@ -110,7 +110,7 @@ module _ (code : Code) (homes : List Home) (image : Image) (sound : IsSound code
         let b = r.0 in
         let h = r.1 in
         let at = entry_is ∙ ap first_step e in
-        let next = same_from b k _ h.to h.places h.view h.frame h.shows h.belongs (λ j stuck. never (suc j) (ap (λ x. (tac.after x (before input) (tac.run code c.costs c.sizes stack heap j)).1) at ∙ stuck)) in
+        let next = same_from b k _ h.to h.places h.view h.frame h.shows h.meets (λ j stuck. never (suc j) (ap (λ x. (tac.after x (before input) (tac.run code c.costs c.sizes stack heap j)).1) at ∙ stuck)) in
         let x = h.runs next.0 in
         (x.0, omega (arith, next.1, x.1), ap (outcome_of image) x.2 ∙ next.2)
 

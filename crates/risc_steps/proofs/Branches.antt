@@ -35,11 +35,11 @@ use Rattle.risc_related.specs.Related.{value_of}
 use Rattle.risc_related.proofs.Basics.{get_within, eq_of, update_same, update_other}
 use Rattle.risc_steps.specs.Pieces.{AtPlace, Piece, Plain, Goes, Left}
 use Rattle.risc_steps.specs.Forms as form
-use Rattle.risc_steps.specs.Told.{flagged_by, told_at}
+use Rattle.risc_steps.specs.Told.{told_at}
 use Rattle.risc_steps.specs.Forms.{fetched, right, right_operand, both, target, save, condition, brief, is_null, is_register, skip, difference}
 use Rattle.risc_steps.specs.Follows.{machine_of, Built, Belongs, Comes}
 use Rattle.risc_steps.proofs.Basics.{left_after, left_next, left_at, is_read, passes, writes_it, among_first, among_rest, integer_is}
-use Rattle.risc_steps.proofs.Flags.{silent}
+use Rattle.risc_steps.proofs.Flags.{is_silent, silent}
 use Rattle.risc_steps.proofs.Runs.{IsRight, step_to}
 use Rattle.risc_steps.proofs.Comes.{framed, fetched_is, come_to, come_way, arrive_to, goes_run, goes_not, skip_run, skip_not, goes_end, gives_end}
 use Rattle.risc_steps.proofs.Operands.{code, stands_in, two_run}
@@ -87,7 +87,7 @@ module _ (c : Context) (words : List ℕ) (b : Built c words) (p : Places) (s : 
   told_stands a e =
       let k = each (is_it a (told_at c s.current.routine s.current.place)) (is_register (home c s.current.routine a)) e in
       let h = register_is (home c s.current.routine a) k.1 in
-      let flags = be.flags a h.0 (it_is (told_at c s.current.routine s.current.place) k.0) h.1 in
+      let flags = be.flags.0 a h.0 (it_is (told_at c s.current.routine s.current.place) k.0) h.1 in
       (h.0, h.1, flags.0, flags.1)
     where
       each : (t u : Bool) → t && u ≡ true → (t ≡ true) × (u ≡ true)
@@ -373,7 +373,7 @@ module _ (c : Context) (words : List ℕ) (b : Built c words) (p : Places) (s : 
         left = left_next c words v1.place next (Plain i) ps l1;
       }
 
-  unlike_by : (t : ℕ) (h : Bool) (i : Instruction) → fetch c.code s.current.routine s.current.place ≡ Some i → Writes c s.current.routine s.current.place t → flagged_by i ≡ None → Unlike t h → Comes c words s (record s { current = giving t (Number (truth h)) s.current }) m
+  unlike_by : (t : ℕ) (h : Bool) (i : Instruction) → fetch c.code s.current.routine s.current.place ≡ Some i → Writes c s.current.routine s.current.place t → is_silent i ≡ true → Unlike t h → Comes c words s (record s { current = giving t (Number (truth h)) s.current }) m
   unlike_by t true i here writes none w =
       let r = s.current.routine in
       let d = target c r (home c r t) in

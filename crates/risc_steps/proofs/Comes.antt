@@ -1,5 +1,5 @@
 -- How an instruction's words are followed: parts joined, and the ends in which they come to the next state or to a stop.
-use Rattle.std.proofs.Common.{◌≡◌, ℕ, zero, suc, ◌+◌, ◌*◌, ◌%◌, ◌<◌, ◌≤◌, ◌⊎◌, inl, inr, true, false, cond, nat_eq, nat_le, List, [], ◌∷◌, ◌++◌, length, take, Option, Some, None, slice_get, pos, negsuc, refl, sym, ap, ◌∙◌, subst, arith}
+use Rattle.std.proofs.Common.{◌≡◌, ◌≢◌, ℕ, zero, suc, ◌+◌, ◌*◌, ◌%◌, ◌<◌, ◌≤◌, ◌⊎◌, inl, inr, true, false, cond, nat_eq, nat_le, List, [], ◌∷◌, ◌++◌, length, take, Option, Some, None, slice_get, pos, negsuc, refl, sym, ap, ◌∙◌, subst, arith}
 use Rattle.std.proofs.lemmas.Int.{ints}
 use Rattle.behavior.specs.Endings.{Ending, Stack, Heap, Error, ending_by}
 use Rattle.behavior.specs.Transcripts.{AreBytes}
@@ -23,18 +23,18 @@ use Rattle.tac_code.specs.Sound.{IsSoundAt, IsSoundRoutine, limits_of}
 use Rattle.risc_alloc.specs.declared.homes.Home.TheVariants.{Reg}
 use Rattle.risc_related.specs.Context.{Context, home, Places, word, IsValue, Passes, Writes}
 use Rattle.risc_related.specs.Related.{Machine, Related, value_of, owner_of}
-use Rattle.risc_related.specs.Changes.{Near, Settled}
+use Rattle.risc_related.specs.Changes.{update, Near, Settled}
 use Rattle.risc_related.specs.Walk.{walk}
-use Rattle.risc_related.proofs.Basics.{get_within}
+use Rattle.risc_related.proofs.Basics.{get_within, update_same, update_other}
 use Rattle.risc_related.proofs.Frames.{open_room}
 use Rattle.risc_related.proofs.Steps.{related_goes, related_gives}
 use Rattle.risc_related.proofs.Walk.{walk_is, walk_same}
 use Rattle.risc_steps.specs.Pieces.{Label, label_place, Piece, Goes, Fails, Left}
 use Rattle.risc_steps.specs.Forms.{target, save, receive, skip}
-use Rattle.risc_steps.specs.Told.{flagged_by}
-use Rattle.risc_steps.specs.Follows.{machine_of, stub, Built, tape_of, Flags, Belongs, Comes, Stops, trapped, told}
-use Rattle.risc_steps.proofs.Flags.{told_behind, passed_silent}
-use Rattle.risc_steps.proofs.Runs.{Aside, Framed, save_run, receive_run}
+use Rattle.risc_steps.specs.Told.{flagged_by, bent_at}
+use Rattle.risc_steps.specs.Follows.{machine_of, stub, Built, tape_of, Flags, Straight, unbent, Meets, Belongs, Comes, Stops, trapped, told}
+use Rattle.risc_steps.proofs.Flags.{told_behind, flagged_straight, passed_silent}
+use Rattle.risc_steps.proofs.Runs.{Aside, Framed, in_register, save_run, receive_run}
 
 -- ---- endings
 
@@ -70,14 +70,14 @@ get_append [] ys n x e = inr (n, e)
 get_append (y ∷ xs) ys zero x e = inl e
 get_append (y ∷ xs) ys (suc n) x e = get_append xs ys n x e
 
--- from m, in any number of steps, the machine comes to a state that belongs to s
+-- from m, in any number of steps, the machine comes to a state that meets s
 pub record Arrives (c : Context) (words : List ℕ) (s : State) (m : machine.State) : Type 0 where
   pub to : machine.State
   pub places : Places
   pub view : View
   pub frame : ℕ
   pub shows : Shows words c.size to view
-  pub belongs : Belongs c words places s view frame
+  pub meets : Meets c words places s view frame
   pub runs : (k : ℕ) → (j : ℕ) × (k ≤ j) × (run.exec j m (tape_of s.tape) ≡ run.exec k to (tape_of s.tape))
 
 module _ (c : Context) (words : List ℕ) (b : Built c words) where
@@ -115,7 +115,7 @@ module _ (c : Context) (words : List ℕ) (b : Built c words) where
         view = r.view;
         frame = r.frame;
         shows = r.shows;
-        belongs = r.belongs;
+        meets = r.meets;
         runs = λ k. let x = r.runs k in let y = a.runs x.0 (tape_of s.tape) in (y.0, omega (arith, x.1, y.1), y.2 ∙ ap (run.exec x.0 a.to) e ∙ x.2);
       }
 
@@ -127,7 +127,7 @@ module _ (c : Context) (words : List ℕ) (b : Built c words) where
         view = r.view;
         frame = r.frame;
         shows = r.shows;
-        belongs = r.belongs;
+        meets = r.meets;
         runs = λ k. let x = r.runs k in let y = a.runs x.0 (tape_of s.tape) in (y.0, omega (arith, x.1, y.1), y.2 ∙ x.2);
       }
 
@@ -139,7 +139,7 @@ module _ (c : Context) (words : List ℕ) (b : Built c words) where
         view = r.view;
         frame = r.frame;
         shows = r.shows;
-        belongs = r.belongs;
+        meets = r.meets;
         runs = λ k. let x = r.runs k in let y = a.runs x.0 (tape_of s.tape) in (y.0, omega (arith, x.1, y.1), y.2 ∙ x.2);
       }
 
@@ -151,7 +151,7 @@ module _ (c : Context) (words : List ℕ) (b : Built c words) where
         view = r.view;
         frame = r.frame;
         shows = r.shows;
-        belongs = r.belongs;
+        meets = r.meets;
         runs = λ k. let x = r.runs k in let y = a.runs x.0 (tape_of t.tape) in (y.0, omega (arith, x.1, y.1), y.2 ∙ x.2);
       }
 
@@ -163,13 +163,14 @@ module _ (c : Context) (words : List ℕ) (b : Built c words) where
         view = r.view;
         frame = r.frame;
         shows = r.shows;
-        belongs = r.belongs;
+        meets = r.meets;
         runs = λ k. let x = r.runs k in let y = a.runs x.0 (tape_of t.tape) in (y.0, omega (arith, x.1, y.1), y.2 ∙ x.2);
       }
 
   pub arrive_here : (p : Places) (t : State) (m : machine.State) (v : View) (f : ℕ) → Shows words c.size m v → Belongs c words p t v f → Arrives c words t m
   arrive_here p t m v f sh be =
-      record { to = m; places = p; view = v; frame = f; shows = sh; belongs = be; runs = λ k. (k, omega arith, refl) }
+      let meets : Meets c words p t v f = record { related = subst (λ o. Related c p t (unbent o (machine_of v)) f) (sym be.flags.1) be.related; place = be.place; input = be.input; flags = be.flags.0 } in
+      record { to = m; places = p; view = v; frame = f; shows = sh; meets = meets; runs = λ k. (k, omega arith, refl) }
 
   pub stop_way : (s : State) (m : machine.State) (e : Ending) (v : View) (a : Way words c.size m same_tape v) → Stops c words s a.to e → Stops c words s m e
   stop_way s m e v a r =
@@ -287,7 +288,7 @@ module _ (c : Context) (words : List ℕ) (b : Built c words) where
       arrive_here p (record s { current = record s.current { place = k } }) m v f sh (record { related = related_goes c b.laid b.placed p s m0 (machine_of v) f k h g n; place = e; input = bytes; flags = passed_silent c s.current.routine s.current.place k g v })
 
   -- it writes one, whose register holds its word
-  gives_by : (p : Places) (s : State) (m0 : Machine) (f t : ℕ) (x : Value) (m : machine.State) (v : View) → Related c p s m0 f → AreBytes s.tape.input → Writes c s.current.routine s.current.place t → ((w : View) → ((q : ℕ) → home c s.current.routine t ≡ Reg q → (w.equal ≡ v.equal) × (w.negative ≡ v.negative) × (w.registers q ≡ word c p x)) → Flags c s.current.routine (suc s.current.place) w) → IsValue c p x → Shows words c.size m v → Aside (target c s.current.routine (home c s.current.routine t)) (word c p x) m0 v → Left c words v.place (save c s.current.routine (home c s.current.routine t)) (c.site s.current.routine (suc s.current.place)) → Arrives c words (record s { current = giving t x s.current }) m
+  gives_by : (p : Places) (s : State) (m0 : Machine) (f t : ℕ) (x : Value) (m : machine.State) (v : View) → Related c p s m0 f → AreBytes s.tape.input → Writes c s.current.routine s.current.place t → ((w : View) → ((q : ℕ) → home c s.current.routine t ≡ Reg q → (w.equal ≡ v.equal) × (w.negative ≡ v.negative) × (w.registers q ≡ word c p x)) → Straight c s.current.routine (suc s.current.place) w) → IsValue c p x → Shows words c.size m v → Aside (target c s.current.routine (home c s.current.routine t)) (word c p x) m0 v → Left c words v.place (save c s.current.routine (home c s.current.routine t)) (c.site s.current.routine (suc s.current.place)) → Arrives c words (record s { current = giving t x s.current }) m
   gives_by p s m0 f t x m v h bytes g flags good sh a l =
       let r = s.current.routine in
       let z = save_run c words b.stood b.laid b.placed r f (framed p s m0 f h) t (word c p x) [] _ m0 m v sh h.stack a (left_whole c words v.place _ (save c r (home c r t)) l) in
@@ -295,7 +296,7 @@ module _ (c : Context) (words : List ℕ) (b : Built c words) where
       arrive_way (record s { current = giving t x s.current }) m z.view z.way (arrive_here p (record s { current = giving t x s.current }) z.way.to z.view f z.way.shows (record { related = related_gives c b.laid b.placed p s m0 (machine_of z.view) f t x h g good z.settled; place = z.place ∙ sym l.ends; input = bytes; flags = flagged }))
 
   -- and the flags are told of no temporary
-  pub gives_end : (p : Places) (s : State) (m0 : Machine) (f t : ℕ) (x : Value) (m : machine.State) (v : View) → Related c p s m0 f → AreBytes s.tape.input → Writes c s.current.routine s.current.place t → ((w : View) → Flags c s.current.routine (suc s.current.place) w) → IsValue c p x → Shows words c.size m v → Aside (target c s.current.routine (home c s.current.routine t)) (word c p x) m0 v → Left c words v.place (save c s.current.routine (home c s.current.routine t)) (c.site s.current.routine (suc s.current.place)) → Arrives c words (record s { current = giving t x s.current }) m
+  pub gives_end : (p : Places) (s : State) (m0 : Machine) (f t : ℕ) (x : Value) (m : machine.State) (v : View) → Related c p s m0 f → AreBytes s.tape.input → Writes c s.current.routine s.current.place t → ((w : View) → Straight c s.current.routine (suc s.current.place) w) → IsValue c p x → Shows words c.size m v → Aside (target c s.current.routine (home c s.current.routine t)) (word c p x) m0 v → Left c words v.place (save c s.current.routine (home c s.current.routine t)) (c.site s.current.routine (suc s.current.place)) → Arrives c words (record s { current = giving t x s.current }) m
   gives_end p s m0 f t x m v h bytes g silent good sh a l =
       gives_by p s m0 f t x m v h bytes g (λ w stood. silent w) good sh a l
 
@@ -303,20 +304,36 @@ module _ (c : Context) (words : List ℕ) (b : Built c words) where
   pub tells_end : (p : Places) (s : State) (m0 : Machine) (f t : ℕ) (x : Value) (i : Instruction) (m : machine.State) (v : View) → Related c p s m0 f → AreBytes s.tape.input → Writes c s.current.routine s.current.place t → fetch c.code s.current.routine s.current.place ≡ Some i → flagged_by i ≡ Some t → (v.equal ≡ nat_eq (word c p x) 0) × (v.negative ≡ nat_le 2147483648 (word c p x)) → IsValue c p x → Shows words c.size m v → Aside (target c s.current.routine (home c s.current.routine t)) (word c p x) m0 v → Left c words v.place (save c s.current.routine (home c s.current.routine t)) (c.site s.current.routine (suc s.current.place)) → Arrives c words (record s { current = giving t x s.current }) m
   tells_end p s m0 f t x i m v h bytes g here is flags good sh a l = gives_by p s m0 f t x m v h bytes g flagged good sh a l
     where
-      flagged : (w : View) → ((q : ℕ) → home c s.current.routine t ≡ Reg q → (w.equal ≡ v.equal) × (w.negative ≡ v.negative) × (w.registers q ≡ word c p x)) → Flags c s.current.routine (suc s.current.place) w
-      flagged w stood u q e h =
-          let same : t ≡ u = cc (sym is ∙ told_behind c s.current.routine s.current.place i u here e) in
-          let k = stood q (ap (home c s.current.routine) same ∙ h) in
-          (k.0 ∙ flags.0 ∙ ap (λ n. nat_eq n 0) (sym k.2), k.1 ∙ flags.1 ∙ ap (nat_le 2147483648) (sym k.2))
+      flagged : (w : View) → ((q : ℕ) → home c s.current.routine t ≡ Reg q → (w.equal ≡ v.equal) × (w.negative ≡ v.negative) × (w.registers q ≡ word c p x)) → Straight c s.current.routine (suc s.current.place) w
+      flagged w stood = (flags_of w stood, flagged_straight c s.current.routine s.current.place i t here is)
+        where
+          flags_of : (w : View) → ((q : ℕ) → home c s.current.routine t ≡ Reg q → (w.equal ≡ v.equal) × (w.negative ≡ v.negative) × (w.registers q ≡ word c p x)) → Flags c s.current.routine (suc s.current.place) w
+          flags_of w stood u q e h =
+              let same : t ≡ u = cc (sym is ∙ told_behind c s.current.routine s.current.place i u here e) in
+              let k = stood q (ap (home c s.current.routine) same ∙ h) in
+              (k.0 ∙ flags.0 ∙ ap (λ n. nat_eq n 0) (sym k.2), k.1 ∙ flags.1 ∙ ap (nat_le 2147483648) (sym k.2))
 
   -- the same from R12
-  pub receives_end : (p : Places) (s : State) (m0 : Machine) (f t : ℕ) (x : Value) (m : machine.State) (v : View) → Related c p s m0 f → AreBytes s.tape.input → Writes c s.current.routine s.current.place t → ((w : View) → Flags c s.current.routine (suc s.current.place) w) → IsValue c p x → Shows words c.size m v → Aside 12 (word c p x) m0 v → Left c words v.place (receive c s.current.routine (home c s.current.routine t)) (c.site s.current.routine (suc s.current.place)) → Arrives c words (record s { current = giving t x s.current }) m
+  pub receives_end : (p : Places) (s : State) (m0 : Machine) (f t : ℕ) (x : Value) (m : machine.State) (v : View) → Related c p s m0 f → AreBytes s.tape.input → Writes c s.current.routine s.current.place t → ((w : View) → Straight c s.current.routine (suc s.current.place) w) → IsValue c p x → Shows words c.size m v → Aside 12 (word c p x) m0 v → Left c words v.place (receive c s.current.routine (home c s.current.routine t)) (c.site s.current.routine (suc s.current.place)) → Arrives c words (record s { current = giving t x s.current }) m
   receives_end p s m0 f t x m v h bytes g silent good sh a l =
       let r = s.current.routine in
       let z = receive_run c words b.stood b.laid b.placed r f (framed p s m0 f h) t (word c p x) [] _ m0 m v sh h.stack a (left_whole c words v.place _ (receive c r (home c r t)) l) in
       arrive_to (record s { current = giving t x s.current }) m z.view z.to (arrive_here p (record s { current = giving t x s.current }) z.to.to z.view f z.to.shows (record { related = related_gives c b.laid b.placed p s m0 (machine_of z.view) f t x h g good z.settled; place = z.place ∙ sym l.ends; input = bytes; flags = silent z.view }))
 
   -- its home took the word already
-  pub settles_end : (p : Places) (s : State) (m0 : Machine) (f t : ℕ) (x : Value) (m : machine.State) (v : View) → Related c p s m0 f → AreBytes s.tape.input → Writes c s.current.routine s.current.place t → ((w : View) → Flags c s.current.routine (suc s.current.place) w) → IsValue c p x → Shows words c.size m v → Settled c s.current.routine f (home c s.current.routine t) (word c p x) m0 (machine_of v) → v.place ≡ c.site s.current.routine (suc s.current.place) → Arrives c words (record s { current = giving t x s.current }) m
+  pub settles_end : (p : Places) (s : State) (m0 : Machine) (f t : ℕ) (x : Value) (m : machine.State) (v : View) → Related c p s m0 f → AreBytes s.tape.input → Writes c s.current.routine s.current.place t → ((w : View) → Straight c s.current.routine (suc s.current.place) w) → IsValue c p x → Shows words c.size m v → Settled c s.current.routine f (home c s.current.routine t) (word c p x) m0 (machine_of v) → v.place ≡ c.site s.current.routine (suc s.current.place) → Arrives c words (record s { current = giving t x s.current }) m
   settles_end p s m0 f t x m v h bytes g silent good sh d e =
       arrive_here p (record s { current = giving t x s.current }) m v f sh (record { related = related_gives c b.laid b.placed p s m0 (machine_of v) f t x h g good d; place = e; input = bytes; flags = silent v })
+
+  -- the register of its home took its word, less what it is short of
+  pub bends_end : (p : Places) (s : State) (m0 : Machine) (f t : ℕ) (x : Value) (bent : ℕ × ℕ) (m : machine.State) (v : View) → Related c p s m0 f → AreBytes s.tape.input → Writes c s.current.routine s.current.place t → Flags c s.current.routine (suc s.current.place) v → bent_at c s.current.routine (suc s.current.place) ≡ Some bent → home c s.current.routine t ≡ Reg bent.0 → IsValue c p x → Shows words c.size m v → v.registers bent.0 + bent.1 ≡ word c p x → ((q : ℕ) → q ≢ 12 → q ≢ 15 → q ≢ bent.0 → v.registers q ≡ m0.registers q) → ((a : ℕ) → v.words a ≡ m0.words a) → v.place ≡ c.site s.current.routine (suc s.current.place) → Arrives c words (record s { current = giving t x s.current }) m
+  bends_end p s m0 f t x bent m v h bytes g flags is home_is good sh here regs same e =
+      let r = s.current.routine in
+      let v' = record v { registers = update bent.0 (v.registers bent.0 + bent.1) v.registers } in
+      let lt = b.placed.register r t bent.0 home_is in
+      let a : Aside bent.0 (word c p x) m0 v' = record { here = update_same v.registers bent.0 _ ∙ here; registers = λ q n12 n15 nq. update_other v.registers bent.0 _ q nq ∙ regs q n12 n15 nq; words = same } in
+      let settled = in_register c words b.stood b.laid b.placed r f (framed p s m0 f h) bent.0 (word c p x) m0 v' lt a in
+      let s' = record s { current = giving t x s.current } in
+      let rel = related_gives c b.laid b.placed p s m0 (machine_of v') f t x h g good (subst (λ y. Settled c r f y (word c p x) m0 (machine_of v')) (sym home_is) settled) in
+      let meets : Meets c words p s' v f = record { related = subst (λ o. Related c p s' (unbent o (machine_of v)) f) (sym is) rel; place = e; input = bytes; flags = flags } in
+      record { to = m; places = p; view = v; frame = f; shows = sh; meets = meets; runs = λ k. (k, omega arith, refl) }

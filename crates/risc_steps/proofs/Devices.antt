@@ -151,7 +151,7 @@ module _ (c : Context) (words : List ℕ) (b : Built c words) (p : Places) (s : 
             view = a.view;
             frame = a.frame;
             shows = a.shows;
-            belongs = a.belongs;
+            meets = a.meets;
             runs = λ k. let x = a.runs k in let y = runs x.0 in (y.0, omega (arith, x.1, y.1), y.2 ∙ x.2);
           }
 
@@ -185,7 +185,7 @@ module _ (c : Context) (words : List ℕ) (b : Built c words) (p : Places) (s : 
             view = a.view;
             frame = a.frame;
             shows = a.shows;
-            belongs = a.belongs;
+            meets = a.meets;
             runs = λ k. let x = a.runs k in let y = runs x.0 in (y.0, omega (arith, x.1, y.1), y.2 ∙ x.2);
           }
 

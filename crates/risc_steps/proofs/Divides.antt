@@ -34,7 +34,7 @@ use Rattle.risc_steps.specs.Pieces as piece
 use Rattle.risc_steps.specs.Pieces.{Piece, Plain, Left}
 use Rattle.risc_steps.specs.Forms as form
 use Rattle.risc_steps.specs.Forms.{is_near, fetched, right_operand, target, save, receive, divisor, is_divisor, skip, rounded, quotient, quotient_by_least, quotient_by_negative}
-use Rattle.risc_steps.specs.Follows.{machine_of, Built, Flags, Belongs, Comes, Follows}
+use Rattle.risc_steps.specs.Follows.{machine_of, Built, Straight, Belongs, Comes, Follows}
 use Rattle.risc_steps.proofs.Basics.{left_after, left_next, left_at, is_read, writes_it, among_first, among_rest}
 use Rattle.risc_steps.proofs.Flags as flags
 use Rattle.risc_steps.proofs.Runs.{Moved, step_to, fetch_run, target_not}
@@ -118,7 +118,7 @@ module _ (c : Context) (words : List ℕ) (b : Built c words) (p : Places) (s : 
       }
 
   -- what is in R12 comes to the temporary
-  made_end : (t : ℕ) (z : ℤ) (n : machine.State) (w : View) → ((u : View) → Flags c s.current.routine (suc s.current.place) u) → Shows words c.size n w → Near (machine_of v) (machine_of w) → Writes c s.current.routine s.current.place t → IsNumber z → w.registers 12 ≡ word_of z → Left c words w.place (receive c s.current.routine (home c s.current.routine t)) (c.site s.current.routine (suc s.current.place)) → Arrives c words (record s { current = giving t (Number z) s.current }) n
+  made_end : (t : ℕ) (z : ℤ) (n : machine.State) (w : View) → ((u : View) → Straight c s.current.routine (suc s.current.place) u) → Shows words c.size n w → Near (machine_of v) (machine_of w) → Writes c s.current.routine s.current.place t → IsNumber z → w.registers 12 ≡ word_of z → Left c words w.place (receive c s.current.routine (home c s.current.routine t)) (c.site s.current.routine (suc s.current.place)) → Arrives c words (record s { current = giving t (Number z) s.current }) n
   made_end t z n w silent sh1 near wr is e l =
       receives_end c words b p s (machine_of v) f t (Number z) n w be.related be.input wr silent is sh1 (record { here = e; registers = λ q n12 n15 nd. near.registers q n12 n15; words = near.words }) l
 
@@ -147,7 +147,7 @@ module _ (c : Context) (words : List ℕ) (b : Built c words) (p : Places) (s : 
 
   -- ---- an immediate divisor
 
-  pub immediate_follows : (t a : ℕ) (o : Operand) (error line : ℕ) (x y : ℤ) → ((u : View) → Flags c s.current.routine (suc s.current.place) u) → Writes c s.current.routine s.current.place t → reads c s.current.routine s.current.place a ≡ true → s.current.temporaries a ≡ Some (Number x) → operand_value s.current.temporaries o ≡ Some (Number y) → IsNumber x → is_divisor o ≡ true → Left c words v.place (form.fetch c s.current.routine 12 (home c s.current.routine a) ++ (Plain (word.Operate op.Div (target c s.current.routine (home c s.current.routine t)) (fetched c s.current.routine 12 (home c s.current.routine a)) (right_operand c s.current.routine o)) ∷ (rounded (target c s.current.routine (home c s.current.routine t)) ++ save c s.current.routine (home c s.current.routine t)))) (c.site s.current.routine (suc s.current.place)) → Follows c words (gives_computed c.code t (if is_zero y then Fails 2 else within error (int_div x y)) line s) s m
+  pub immediate_follows : (t a : ℕ) (o : Operand) (error line : ℕ) (x y : ℤ) → ((u : View) → Straight c s.current.routine (suc s.current.place) u) → Writes c s.current.routine s.current.place t → reads c s.current.routine s.current.place a ≡ true → s.current.temporaries a ≡ Some (Number x) → operand_value s.current.temporaries o ≡ Some (Number y) → IsNumber x → is_divisor o ≡ true → Left c words v.place (form.fetch c s.current.routine 12 (home c s.current.routine a) ++ (Plain (word.Operate op.Div (target c s.current.routine (home c s.current.routine t)) (fetched c s.current.routine 12 (home c s.current.routine a)) (right_operand c s.current.routine o)) ∷ (rounded (target c s.current.routine (home c s.current.routine t)) ++ save c s.current.routine (home c s.current.routine t)))) (c.site s.current.routine (suc s.current.place)) → Follows c words (gives_computed c.code t (if is_zero y then Fails 2 else within error (int_div x y)) line s) s m
   immediate_follows t a o error line x y silent wr ra ea eo hx ei l =
       let k = immediate_is c words b p s f m v sh be o y ei eo in
       let hy : IsNumber y = subst IsNumber (sym k.2) (number_of_small c words b p s f m v sh be k.0 k.4) in
@@ -297,7 +297,7 @@ module _ (c : Context) (words : List ℕ) (b : Built c words) (p : Places) (s : 
       Plain (word.Move 15 (Constant (pos 0))) ∷ Plain (word.Operate op.Sub 12 15 (Content 12)) ∷ piece.Fails on.OverflowSet error line ∷ skip on.Always (length (quotient_by_least c s.current.routine a)) ∷ (quotient_by_least c s.current.routine a ++ ps)
 
   -- the result comes to the temporary, or the error
-  pub given : (t error line : ℕ) (z : ℤ) (n : machine.State) → Writes c s.current.routine s.current.place t → ((u : View) → Flags c s.current.routine (suc s.current.place) u) → is_integer z ≡ true → Made z (receive c s.current.routine (home c s.current.routine t)) (c.site s.current.routine (suc s.current.place)) n → Follows c words (gives_computed c.code t (within error z) line s) s n
+  pub given : (t error line : ℕ) (z : ℤ) (n : machine.State) → Writes c s.current.routine s.current.place t → ((u : View) → Straight c s.current.routine (suc s.current.place) u) → is_integer z ≡ true → Made z (receive c s.current.routine (home c s.current.routine t)) (c.site s.current.routine (suc s.current.place)) n → Follows c words (gives_computed c.code t (within error z) line s) s n
   given t error line z n wr silent e k = go (is_integer z) e
     where
       go : (q : Bool) → q ≡ true → Follows c words (gives_computed c.code t (cond q (Gives z) (Fails error)) line s) s n
@@ -306,7 +306,7 @@ module _ (c : Context) (words : List ℕ) (b : Built c words) (p : Places) (s : 
           come_to c words b s (record s { current = giving t (Number z) s.current }) n same_tape k.view k.to refl (made_end t z k.to.to k.view silent k.to.shows k.near wr (number_of_integer z e) k.value k.left)
 
   -- R12 negated, with the test of overflow
-  negated_end : (t a error line : ℕ) (q z : ℤ) (n : machine.State) (w : View) → Shows words c.size n w → Near (machine_of v) (machine_of w) → Writes c s.current.routine s.current.place t → ((u : View) → Flags c s.current.routine (suc s.current.place) u) → IsNumber q → z ≡ pos 0 -ℤ q → w.registers 12 ≡ word_of q → Left c words w.place (behind_quotient a error line (receive c s.current.routine (home c s.current.routine t))) (c.site s.current.routine (suc s.current.place)) → Follows c words (gives_computed c.code t (within error z) line s) s n
+  negated_end : (t a error line : ℕ) (q z : ℤ) (n : machine.State) (w : View) → Shows words c.size n w → Near (machine_of v) (machine_of w) → Writes c s.current.routine s.current.place t → ((u : View) → Straight c s.current.routine (suc s.current.place) u) → IsNumber q → z ≡ pos 0 -ℤ q → w.registers 12 ≡ word_of q → Left c words w.place (behind_quotient a error line (receive c s.current.routine (home c s.current.routine t))) (c.site s.current.routine (suc s.current.place)) → Follows c words (gives_computed c.code t (within error z) line s) s n
   negated_end t a error line q z n w sh1 near wr silent hq ez e12 l =
       let i1 = word.Move 15 (Constant (pos 0)) in
       let t1 = step_to c words b.stood i1 n w sh1 l.stands.0 tt in
@@ -340,7 +340,7 @@ module _ (c : Context) (words : List ℕ) (b : Built c words) (p : Places) (s : 
           fail false e' =
               inr (fails_walked c words b s on.OverflowSet error line _ _ n w (walk_near c words b p s (machine_of v) f w be.related (near.registers 14 (omega arith) (omega arith)) near.words) sh1 l (over ∙ overflow_is z ∙ ap not e))
 
-  pub negative_follows : (t a error line : ℕ) (x y : ℤ) (n : machine.State) (w : View) → Shows words c.size n w → Near (machine_of v) (machine_of w) → Writes c s.current.routine s.current.place t → ((u : View) → Flags c s.current.routine (suc s.current.place) u) → reads c s.current.routine s.current.place a ≡ true → s.current.temporaries a ≡ Some (Number x) → IsNumber x → IsNumber y → y <ℤ pos 0 → w.registers 15 ≡ word_of y → Left c words w.place (quotient_by_negative c s.current.routine a error line ++ receive c s.current.routine (home c s.current.routine t)) (c.site s.current.routine (suc s.current.place)) → Follows c words (gives_computed c.code t (within error (int_div x y)) line s) s n
+  pub negative_follows : (t a error line : ℕ) (x y : ℤ) (n : machine.State) (w : View) → Shows words c.size n w → Near (machine_of v) (machine_of w) → Writes c s.current.routine s.current.place t → ((u : View) → Straight c s.current.routine (suc s.current.place) u) → reads c s.current.routine s.current.place a ≡ true → s.current.temporaries a ≡ Some (Number x) → IsNumber x → IsNumber y → y <ℤ pos 0 → w.registers 15 ≡ word_of y → Left c words w.place (quotient_by_negative c s.current.routine a error line ++ receive c s.current.routine (home c s.current.routine t)) (c.site s.current.routine (suc s.current.place)) → Follows c words (gives_computed c.code t (within error (int_div x y)) line s) s n
   negative_follows t a error line x y n w sh1 near wr silent ra ea hx hy h0 e15 l =
       let r = s.current.routine in
       let rc = receive c r (home c r t) in
@@ -432,7 +432,7 @@ module _ (c : Context) (words : List ℕ) (b : Built c words) (p : Places) (s : 
       ra : reads c s.current.routine s.current.place a ≡ true
       ra = is_read c s.current.routine s.current.place (Arithmetic Divide t a o error line) here a (among_first a (in_operand o))
 
-      quiet : (u : View) → Flags c s.current.routine (suc s.current.place) u
+      quiet : (u : View) → Straight c s.current.routine (suc s.current.place) u
       quiet = flags.silent c s.current.routine s.current.place (Arithmetic Divide t a o error line) here refl
 
       hx : IsNumber x

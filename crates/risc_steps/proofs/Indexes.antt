@@ -1,5 +1,5 @@
 -- Components of arrays: the index checked, and the address of the component.
-use Rattle.std.proofs.Common.{◌≡◌, ◌≢◌, ℕ, zero, suc, ◌+◌, ◌*◌, ◌/◌, ◌%◌, ◌^◌, ◌<◌, inl, inr, Bool, true, false, cond, not, ◌&&◌, nat_eq, nat_lt, List, [], ◌∷◌, ◌++◌, length, Some, ℤ, pos, ◌*ℤ◌, refl, sym, ap, ◌∙◌, subst, arith, append_assoc}
+use Rattle.std.proofs.Common.{◌≡◌, ◌≢◌, ℕ, zero, suc, ◌+◌, ◌*◌, ◌/◌, ◌%◌, ◌^◌, ◌<◌, inl, inr, Bool, true, false, cond, not, ◌&&◌, nat_eq, nat_lt, List, [], ◌∷◌, ◌++◌, length, Some, ℤ, pos, ◌*ℤ◌, refl, sym, ap, ◌∙◌, subst, arith, append_assoc, Option, None}
 use Rattle.std.specs.Prelude.{int_lt, ◌≤ℤ◌}
 use Rattle.std.proofs.lemmas.Int.{ints}
 use Rattle.std.proofs.lemmas.Bool.{ltb-true}
@@ -32,12 +32,13 @@ use Rattle.risc_related.proofs.Basics.{update_same, update_other}
 use Rattle.risc_related.proofs.Steps.{home_read, value_near}
 use Rattle.risc_steps.specs.Pieces.{Piece, Plain, Left}
 use Rattle.risc_steps.specs.Forms as form
-use Rattle.risc_steps.specs.Forms.{constant, exact, fetched, target, save, right, right_operand, above_register, range_code, scaled, scaled_register, base_address, address_register, steps_form}
-use Rattle.risc_steps.specs.Follows.{machine_of, Built, Belongs, Follows}
+use Rattle.risc_steps.specs.Forms.{constant, exact, fetched, target, save, base_register, right, right_operand, above_register, range_code, scaled, scaled_register, base_address, address_register, steps_form}
+use Rattle.risc_steps.specs.Told.{block_at, bent_at}
+use Rattle.risc_steps.specs.Follows.{machine_of, Built, Belongs, Comes, Follows}
 use Rattle.risc_steps.proofs.Basics.{left_after, left_next, is_read, writes_it, among_first, among_rest, integer_is}
-use Rattle.risc_steps.proofs.Flags.{silent}
+use Rattle.risc_steps.proofs.Flags.{unflagged, bent_index_is}
 use Rattle.risc_steps.proofs.Runs.{Moved, step_to, constant_run, exact_run, fetch_run, fetched_not}
-use Rattle.risc_steps.proofs.Comes.{framed, fetched_is, come_to, come_way, come_step, gives_end}
+use Rattle.risc_steps.proofs.Comes.{framed, fetched_is, come_to, come_way, come_step, gives_end, bends_end}
 use Rattle.risc_steps.proofs.Operands.{code, one_run}
 use Rattle.risc_steps.proofs.Memory.{innermost, ReadsBase, named_low}
 use Rattle.risc_steps.proofs.Numbers.{read_back, number_in}
@@ -287,6 +288,31 @@ module _ (c : Context) (words : List ℕ) (b : Built c words) (p : Places) (s : 
         left = left_after c words w.place g.view.place next (form.fetch c r 15 (home c r t)) ps l g.place;
       }
 
+  -- what a frame's register is short of is the offset of a base's block
+  short_base : (a : Base) (block : Block) (offset n : ℕ) (w : View) → Near (machine_of v) (machine_of w) → block_at c s.current.routine a ≡ Some n → base_value s.current a ≡ Some (Address block offset) → (w.registers (base_register c s.current.routine a) + n ≡ place c p block + offset) × IsValue c p (Address block offset)
+  short_base base.Frame block offset n w near at e =
+      let own = innermost c p v.words f (owner_of s.current) s.callers s.memory.frames s.memory.scratch be.related.held.frames in
+      let same : Address (blocks.Frame s.current.number) 0 ≡ Address block offset = cc e in
+      let word_same : p.frame s.current.number + 0 ≡ place c p block + offset = ap (ctx.word c p) same in
+      let e14 : w.registers 14 ≡ f = near.registers 14 (omega arith) (omega arith) ∙ be.related.stack in
+      let is : c.frame_at s.current.routine ≡ n = cc at in
+      (omega (arith, word_same, own.frame, e14, is), subst (IsValue c p) same (own.named, omega arith))
+  short_base base.Scratch block offset n w near at e =
+      let own = innermost c p v.words f (owner_of s.current) s.callers s.memory.frames s.memory.scratch be.related.held.frames in
+      let same : Address (blocks.Scratch s.current.number) 0 ≡ Address block offset = cc e in
+      let word_same : p.scratch s.current.number + 0 ≡ place c p block + offset = ap (ctx.word c p) same in
+      let e14 : w.registers 14 ≡ f = near.registers 14 (omega arith) (omega arith) ∙ be.related.stack in
+      let is : c.scratch_at s.current.routine ≡ n = cc at in
+      (omega (arith, word_same, own.scratch, e14, is), subst (IsValue c p) same (own.named, omega arith))
+  short_base base.Program block offset n w near at e =
+      let same : Address (blocks.Frame 0) 0 ≡ Address block offset = cc e in
+      let word_same : p.frame 0 + 0 ≡ place c p block + offset = ap (ctx.word c p) same in
+      let pg = be.related.held.program in
+      let e13 : w.registers 13 ≡ c.bottom = near.registers 13 (omega arith) (omega arith) ∙ be.related.globals in
+      let is : c.frame_at 0 ≡ n = cc at in
+      (omega (arith, word_same, pg, e13, is), subst (IsValue c p) same (be.related.held.some, omega arith))
+  short_base (base.Temporary u) block offset n w near at e = absurd (cc at)
+
   -- ---- the instruction
 
   pub index_follows : (t : ℕ) (a : Base) (i : ℕ) (low high : ℤ) (width error line : ℕ) (block : Block) (offset : ℕ) (x : ℤ) → fetch c.code s.current.routine s.current.place ≡ Some (Index t a i low high width error line) → base_value s.current a ≡ Some (Address block offset) → s.current.temporaries i ≡ Some (Number x) → Follows c words (gives_component c.code (is_in_range low high x) t block (offset + steps_above low x * width) error line s) s m
@@ -298,7 +324,7 @@ module _ (c : Context) (words : List ℕ) (b : Built c words) (p : Places) (s : 
       let fi = form.fetch c r 12 (home c r i) in
       let d = fetched c r 12 (home c r i) in
       let rc = range_code c r d low high error line in
-      let rest = steps_form c r t a (above_register c r d low) width in
+      let rest = steps_form c r (bent_at c r (suc k)) t a (above_register c r d low) width in
       let l = subst (λ y. Left c words v.place y (c.site r (suc k))) (append_assoc fi rc rest) (code c words b p s f m v sh be ins here) in
       let g = one_run c words b p s f m v sh be 12 i (Number x) (rc ++ rest) _ (omega arith) (is_read c r k ins here i (among_first i (in_base a))) ei l in
       let v1 = g.view in
@@ -314,7 +340,7 @@ module _ (c : Context) (words : List ℕ) (b : Built c words) (p : Places) (s : 
       in_range true z e = absurd (cc e)
       in_range false z e = refl
 
-      go : (v1 : View) (n : machine.State) → Near (machine_of v) (machine_of v1) → above_register c s.current.routine (fetched c s.current.routine 12 (home c s.current.routine i)) low ≢ 15 → IsNumber low → IsNumber x → Checked c words b p s f (machine_of v) be.related (fetched c s.current.routine 12 (home c s.current.routine i)) low x error line (steps_form c s.current.routine t a (above_register c s.current.routine (fetched c s.current.routine 12 (home c s.current.routine i)) low) width) (c.site s.current.routine (suc s.current.place)) (is_in_range low high x) n v1 → (inside : Bool) → is_in_range low high x ≡ inside → Follows c words (gives_component c.code inside t block (offset + steps_above low x * width) error line s) s n
+      go : (v1 : View) (n : machine.State) → Near (machine_of v) (machine_of v1) → above_register c s.current.routine (fetched c s.current.routine 12 (home c s.current.routine i)) low ≢ 15 → IsNumber low → IsNumber x → Checked c words b p s f (machine_of v) be.related (fetched c s.current.routine 12 (home c s.current.routine i)) low x error line (steps_form c s.current.routine (bent_at c s.current.routine (suc s.current.place)) t a (above_register c s.current.routine (fetched c s.current.routine 12 (home c s.current.routine i)) low) width) (c.site s.current.routine (suc s.current.place)) (is_in_range low high x) n v1 → (inside : Bool) → is_in_range low high x ≡ inside → Follows c words (gives_component c.code inside t block (offset + steps_above low x * width) error line s) s n
       go v1 n near n15 hl hx k false e = inr (k.stops e)
       go v1 n near n15 hl hx k true e = fits (nat_lt (offset + steps_above low x * width) 2147483648) refl
         where
@@ -322,33 +348,58 @@ module _ (c : Context) (words : List ℕ) (b : Built c words) (p : Places) (s : 
           fits false es = inl refl
           fits true es =
               let r = s.current.routine in
-              let h = home c r t in
-              let dd = target c r h in
-              let q = above_register c r (fetched c r 12 (home c r i)) low in
-              let y = scaled_register c r q width in
-              let ra = address_register c r a in
               let lt = ltb-true (offset + steps_above low x * width) 2147483648 es in
               let z = k.goes e in
               let v2 = z.0 in
               let t2 = z.1 in
               let is = z.3 ∙ steps_word low x hl hx (not_below low x (in_range (int_lt x low) (not (int_lt high x)) e)) in
               let narrow = subst (λ j. j < 4294967296) (steps_word low x hl hx (not_below low x (in_range (int_lt x low) (not (int_lt high x)) e))) (narrow_difference (word_of x) (word_of low)) in
-              let i5 = word.Operate op.Add dd ra (Content y) in
-              let last = Plain i5 ∷ save c r h in
-              let l2 = z.4 in
-              let g3 = scaled_run q (steps_above low x) width (base_address c r a ++ last) _ t2.to v2 t2.shows n15 is narrow (omega (arith, lt)) l2 in
-              let v3 = g3.view in
-              let near3 : Near (machine_of v) (machine_of v3) = record { registers = λ j n12 n15'. g3.near.registers j n12 n15' ∙ z.2.registers j n12 n15' ∙ near.registers j n12 n15'; words = λ j. g3.near.words j ∙ z.2.words j ∙ near.words j } in
-              let ins = Index t a i low high width error line in
-              let g4 = address_run a block offset last _ g3.way.to v3 g3.way.shows near3 (λ u eu. is_read c r s.current.place ins here u (among_rest u i (in_base a) eu)) ea g3.left in
-              let v4 = g4.view in
-              let t5 = step_to c words b.stood i5 g4.way.to v4 g4.way.shows g4.left.stands.0 tt in
-              let v5 = after i5 v4 in
-              let s4 : v4.registers y ≡ steps_above low x * width = g4.moved.registers y (scaled_not q width n15) ∙ g3.value in
-              let whole : v5.registers dd ≡ place c p block + (offset + steps_above low x * width) = update_same v4.registers dd _ ∙ sum (v4.registers ra) (v4.registers y) (steps_above low x * width) g4.value s4 lt in
-              let s' = record s { current = giving t (Address block (offset + steps_above low x * width)) s.current } in
-              let done = come_to c words b s s' g4.way.to same_tape v5 t5 refl (gives_end c words b p s (machine_of v) f t (Address block (offset + steps_above low x * width)) t5.to v5 be.related be.input (writes_it c r s.current.place ins here t refl refl) (silent c r s.current.place ins here refl) (g4.good.0, lt) t5.shows (record { here = whole; registers = λ j n12 n15' nd. update_other v4.registers dd _ j nd ∙ g4.moved.registers j n15' ∙ near3.registers j n12 n15'; words = λ j. g4.moved.words j ∙ near3.words j }) (left_next c words v4.place _ (Plain i5) (save c r h) g4.left)) in
-              come_step c words b s s' n v2 t2 (come_way c words b s s' t2.to v3 g3.way (come_way c words b s s' g3.way.to v4 g4.way done))
+              come_step c words b s (record s { current = giving t (Address block (offset + steps_above low x * width)) s.current }) n v2 t2 (ends (bent_at c r (suc s.current.place)) refl v2 t2.to t2.shows (record { registers = λ j n12 n15'. z.2.registers j n12 n15' ∙ near.registers j n12 n15'; words = λ j. z.2.words j ∙ near.words j }) is narrow lt z.4)
             where
               sum : (y z n : ℕ) → y ≡ place c p block + offset → z ≡ n → offset + n < 2147483648 → (y + z + 0) % 2 ^ 32 ≡ place c p block + (offset + n)
               sum y z n e e' lt = let h = named_low c words b p s f m v sh be block in omega (arith, e, e', lt, h)
+
+              -- a register and the offset that it is short of
+              short : (g o z n : ℕ) → g + o ≡ place c p block + offset → z ≡ n → offset + n < 2147483648 → (g + z + 0) % 2 ^ 32 + o ≡ place c p block + (offset + n)
+              short g o z n e e' lt = let h = named_low c words b p s f m v sh be block in omega (arith, e, e', lt, h)
+
+              ends : (bent : Option (ℕ × ℕ)) → bent_at c s.current.routine (suc s.current.place) ≡ bent → (v2 : View) (n2 : machine.State) → Shows words c.size n2 v2 → Near (machine_of v) (machine_of v2) → v2.registers (above_register c s.current.routine (fetched c s.current.routine 12 (home c s.current.routine i)) low) ≡ steps_above low x → steps_above low x < 4294967296 → offset + steps_above low x * width < 2147483648 → Left c words v2.place (steps_form c s.current.routine bent t a (above_register c s.current.routine (fetched c s.current.routine 12 (home c s.current.routine i)) low) width) (c.site s.current.routine (suc s.current.place)) → Comes c words s (record s { current = giving t (Address block (offset + steps_above low x * width)) s.current }) n2
+              ends None straight v2 n2 sh2 near2 is narrow lt l2 =
+                  let r = s.current.routine in
+                  let h = home c r t in
+                  let dd = target c r h in
+                  let q = above_register c r (fetched c r 12 (home c r i)) low in
+                  let y = scaled_register c r q width in
+                  let ra = address_register c r a in
+                  let i5 = word.Operate op.Add dd ra (Content y) in
+                  let last = Plain i5 ∷ save c r h in
+                  let g3 = scaled_run q (steps_above low x) width (base_address c r a ++ last) _ n2 v2 sh2 n15 is narrow (omega (arith, lt)) l2 in
+                  let v3 = g3.view in
+                  let near3 : Near (machine_of v) (machine_of v3) = record { registers = λ j n12 n15'. g3.near.registers j n12 n15' ∙ near2.registers j n12 n15'; words = λ j. g3.near.words j ∙ near2.words j } in
+                  let ins = Index t a i low high width error line in
+                  let g4 = address_run a block offset last _ g3.way.to v3 g3.way.shows near3 (λ u eu. is_read c r s.current.place ins here u (among_rest u i (in_base a) eu)) ea g3.left in
+                  let v4 = g4.view in
+                  let t5 = step_to c words b.stood i5 g4.way.to v4 g4.way.shows g4.left.stands.0 tt in
+                  let v5 = after i5 v4 in
+                  let s4 : v4.registers y ≡ steps_above low x * width = g4.moved.registers y (scaled_not q width n15) ∙ g3.value in
+                  let whole : v5.registers dd ≡ place c p block + (offset + steps_above low x * width) = update_same v4.registers dd _ ∙ sum (v4.registers ra) (v4.registers y) (steps_above low x * width) g4.value s4 lt in
+                  let s' = record s { current = giving t (Address block (offset + steps_above low x * width)) s.current } in
+                  let done = come_to c words b s s' g4.way.to same_tape v5 t5 refl (gives_end c words b p s (machine_of v) f t (Address block (offset + steps_above low x * width)) t5.to v5 be.related be.input (writes_it c r s.current.place ins here t refl refl) (λ w. (unflagged c r s.current.place ins here refl w, straight)) (g4.good.0, lt) t5.shows (record { here = whole; registers = λ j n12 n15' nd. update_other v4.registers dd _ j nd ∙ g4.moved.registers j n15' ∙ near3.registers j n12 n15'; words = λ j. g4.moved.words j ∙ near3.words j }) (left_next c words v4.place _ (Plain i5) (save c r h) g4.left)) in
+                  come_way c words b s s' n2 v3 g3.way (come_way c words b s s' g3.way.to v4 g4.way done)
+              ends (Some bent) bends v2 n2 sh2 near2 is narrow lt l2 =
+                  let r = s.current.routine in
+                  let q = above_register c r (fetched c r 12 (home c r i)) low in
+                  let y = scaled_register c r q width in
+                  let i5 = word.Operate op.Add bent.0 (base_register c r a) (Content y) in
+                  let g3 = scaled_run q (steps_above low x) width (Plain i5 ∷ []) _ n2 v2 sh2 n15 is narrow (omega (arith, lt)) l2 in
+                  let v3 = g3.view in
+                  let near3 : Near (machine_of v) (machine_of v3) = record { registers = λ j n12 n15'. g3.near.registers j n12 n15' ∙ near2.registers j n12 n15'; words = λ j. g3.near.words j ∙ near2.words j } in
+                  let ins = Index t a i low high width error line in
+                  let k = bent_index_is c r s.current.place t a i low high width error line bent here bends in
+                  let base = short_base a block offset bent.1 v3 near3 k.offset ea in
+                  let t5 = step_to c words b.stood i5 g3.way.to v3 g3.way.shows g3.left.stands.0 tt in
+                  let v5 = after i5 v3 in
+                  let whole : v5.registers bent.0 + bent.1 ≡ place c p block + (offset + steps_above low x * width) = ap (λ z. z + bent.1) (update_same v3.registers bent.0 _) ∙ short (v3.registers (base_register c r a)) bent.1 (v3.registers y) (steps_above low x * width) base.0 g3.value lt in
+                  let l5 = left_next c words v3.place _ (Plain i5) [] g3.left in
+                  let s' = record s { current = giving t (Address block (offset + steps_above low x * width)) s.current } in
+                  come_way c words b s s' n2 v3 g3.way (come_to c words b s s' g3.way.to same_tape v5 t5 refl (bends_end c words b p s (machine_of v) f t (Address block (offset + steps_above low x * width)) bent t5.to v5 be.related be.input (writes_it c r s.current.place ins here t refl refl) (unflagged c r s.current.place ins here refl v5) bends k.home (base.1.0, lt) t5.shows whole (λ j n12 n15' nd. update_other v3.registers bent.0 _ j nd ∙ near3.registers j n12 n15') (λ j. near3.words j) (omega (arith, l5.ends))))

@@ -27,18 +27,20 @@ use Rattle.tac_code.specs.Meaning.{fetch, text_at, Activation, State, onward, gi
 use Rattle.risc_alloc.specs.Flow.{in_base, is_among}
 use Rattle.risc_related.specs.Context.{Context, home, reads, Places, place, IsNumber, IsNamed, IsValue}
 use Rattle.risc_related.specs.Context as related
-use Rattle.risc_related.specs.Related.{Owner, owner_of, Open}
+use Rattle.risc_related.specs.Related.{Owner, owner_of, Open, value_of, Related}
 use Rattle.risc_related.specs.Changes.{update, Near, ConstantsStand, IsStored, IsByteStored}
 use Rattle.risc_related.proofs.Basics.{update_same, update_other}
 use Rattle.risc_related.proofs.Kept.{load_found, load_byte_found, store_kept, store_byte_kept}
-use Rattle.risc_related.proofs.Steps.{value_near, related_stores}
+use Rattle.risc_related.proofs.Steps.{home_read, value_near, related_stores}
 use Rattle.risc_steps.specs.Pieces.{Piece, Plain, Left}
 use Rattle.risc_steps.specs.Forms as form
-use Rattle.risc_steps.specs.Forms.{is_near, constant, fetched, target, save, base_code, base_register, base_offset, reach, reach_register, reach_offset, load_form, store_form, address}
-use Rattle.risc_steps.specs.Follows.{machine_of, Stood, Built, Belongs, Comes}
-use Rattle.risc_steps.proofs.Basics.{left_after, left_next, is_read, passes, writes_it, among_first, among_rest}
+use Rattle.risc_steps.specs.Forms.{is_near, constant, fetched, target, save, word_form, base_code, base_register, base_offset, reach, reach_register, reach_offset, load_form, store_form, address}
+use Rattle.risc_alloc.specs.declared.homes.Home.TheVariants.{Reg}
+use Rattle.risc_steps.specs.Told.{bent_at}
+use Rattle.risc_steps.specs.Follows.{machine_of, unbent, Stood, Built, Meets, Belongs, Comes}
+use Rattle.risc_steps.proofs.Basics.{left_after, left_at, left_next, is_read, passes, writes_it, among_first, among_rest}
 use Rattle.risc_steps.proofs.Flags.{silent}
-use Rattle.risc_steps.proofs.Runs.{step_to, constant_run, fetch_run, fetched_not}
+use Rattle.risc_steps.proofs.Runs.{Aside, step_to, constant_run, fetch_run, fetched_not}
 use Rattle.risc_steps.proofs.Comes.{framed, come_to, come_way, arrive_to, arrive_here, gives_end, tells_end}
 use Rattle.risc_steps.proofs.Operands.{code, one_run, stands_in}
 
@@ -246,7 +248,7 @@ module _ (c : Context) (words : List ℕ) (b : Built c words) (p : Places) (s : 
       let r = s.current.routine in
       let k = s.current.place in
       let h = home c r t in
-      let l = code c words b p s f m v sh be (Load t a n) here in
+      let l = subst (λ y. Left c words v.place (word_form c r y t a n) (c.site r (suc k))) be.flags.1 (code c words b p s f m v sh be (Load t a n) here) in
       let q = reach_register c r a n in
       let o = reach_offset c r a n in
       let i = word.Load Word (target c r h) q (pos o) in
@@ -463,3 +465,29 @@ module _ (c : Context) (words : List ℕ) (b : Built c words) (p : Places) (s : 
         where
           sum : (x y x' y' : ℕ) → x ≡ x' → y ≡ y' → x' + y' ≡ place c p block + offset + n → place c p block < 16777216 → (x + y + 0) % 2 ^ 32 ≡ place c p block + (offset + n)
           sum x y x' y' e e' e'' low = omega (arith, lt, e, e', e'')
+
+-- ---- a load by a register that is short of an offset
+
+module _ (c : Context) (words : List ℕ) (b : Built c words) (p : Places) (s : State) (f : ℕ) (m : machine.State) (v : View) (sh : Shows words c.size m v) (me : Meets c words p s v f) where
+  pub bent_load_follows : (bent : ℕ × ℕ) (t n : ℕ) (block : Block) (offset : ℕ) (x : Value) → bent_at c s.current.routine s.current.place ≡ Some bent → home c s.current.routine t ≡ Reg bent.0 → fetch c.code s.current.routine s.current.place ≡ Some (Load t (base.Temporary t) n) → s.current.temporaries t ≡ Some (Address block offset) → load (text_at c.code) s.memory block (offset + n) ≡ Some x → Comes c words s (record s { current = giving t x s.current }) m
+  bent_load_follows bent t n block offset x is home_is here et el =
+      let r = s.current.routine in
+      let k = s.current.place in
+      let ins = Load t (base.Temporary t) n in
+      let m0 = unbent (Some bent) (machine_of v) in
+      let rel : Related c p s m0 f = subst (λ o. Related c p s (unbent o (machine_of v)) f) is me.related in
+      let i = word.Load Word bent.0 bent.0 (pos (bent.1 + n)) in
+      let l = subst (λ y. Left c words v.place (word_form c r y t (base.Temporary t) n) (c.site r (suc k))) is (left_at c words (c.site r k) v.place _ (form.form c r k ins) (b.stood.body r k ins here) me.place) in
+      let found = load_found c b.laid p s v.words f block (offset + n) x rel.held (constants_stand c words b.stood p m v sh) el in
+      let there = home_read c b.laid b.placed p s m0 f t (Address block offset) rel (is_read c r k ins here t (among_first t [])) et in
+      let whole : v.registers bent.0 + bent.1 ≡ place c p block + offset = sym (update_same v.registers bent.0 _) ∙ ap (value_of c r f m0) (sym home_is) ∙ there.1 in
+      let at : v.registers bent.0 + (bent.1 + n) ≡ place c p block + (offset + n) = omega (arith, whole) in
+      let ok : IsReadable c.size (v.registers bent.0 + (bent.1 + n)) = subst (IsReadable c.size) (sym at) (record { aligned = found.aligned; high = found.high }) in
+      let t2 = step_to c words b.stood i m v sh l.stands.0 (tt, ok) in
+      let v2 = after i v in
+      let loaded : v.words (v.registers bent.0 + (bent.1 + n)) ≡ related.word c p x = ap v.words at ∙ found.is in
+      let target_is : target c r (home c r t) ≡ bent.0 = ap (target c r) home_is in
+      let aside : Aside bent.0 (related.word c p x) m0 v2 = record { here = update_same v.registers bent.0 _ ∙ loaded; registers = λ q n12 n15 nd. update_other v.registers bent.0 _ q nd ∙ sym (update_other v.registers bent.0 _ q nd); words = λ a. refl } in
+      let s' = record s { current = giving t x s.current } in
+      let l2 : Left c words v2.place [] (c.site r (suc k)) = left_next c words v.place _ (Plain i) [] l in
+      come_to c words b s s' m same_tape v2 t2 refl (tells_end c words b p s m0 f t x ins t2.to v2 rel me.input (writes_it c r k ins here t refl refl) here refl (ap (λ z. nat_eq z 0) loaded, ap (nat_le 2147483648) loaded) found.good t2.shows (subst (λ d. Aside d (related.word c p x) m0 v2) (sym target_is) aside) (subst (λ y. Left c words v2.place (save c r y) (c.site r (suc k))) (sym home_is) l2))

@@ -25,7 +25,7 @@ use Rattle.risc_steps.specs.Pieces.{Label, AtPlace, AtEntry, AtText, label_place
 use Rattle.risc_steps.specs.Pieces as piece
 use Rattle.risc_steps.specs.Forms.{number, store, fetched, bring, target, save, copy, label_form}
 use Rattle.risc_steps.specs.Forms as form
-use Rattle.risc_steps.specs.Follows.{machine_of, Built, Flags, Belongs, Comes}
+use Rattle.risc_steps.specs.Follows.{machine_of, Built, Straight, Belongs, Comes}
 use Rattle.risc_steps.proofs.Basics.{left_after, left_next, is_read, passes, writes_it, among_first, integer_is}
 use Rattle.risc_steps.proofs.Flags.{silent}
 use Rattle.risc_steps.proofs.Runs.{Moved, Aside, step_to, number_run, store_run, in_slot, fetched_not}
@@ -51,7 +51,7 @@ module _ (c : Context) (words : List ℕ) (b : Built c words) (p : Places) (s : 
 
   -- ---- labels
 
-  label_follows : (t : ℕ) (label : Label) (x : Value) → IsValue c p x → related.Writes c s.current.routine s.current.place t → ((w : View) → Flags c s.current.routine (suc s.current.place) w) → 4 * label_place c label < 4294967296 → related.word c p x ≡ 4 * label_place c label → Left c words v.place (label_form c s.current.routine t label) (c.site s.current.routine (suc s.current.place)) → Comes c words s (record s { current = giving t x s.current }) m
+  label_follows : (t : ℕ) (label : Label) (x : Value) → IsValue c p x → related.Writes c s.current.routine s.current.place t → ((w : View) → Straight c s.current.routine (suc s.current.place) w) → 4 * label_place c label < 4294967296 → related.word c p x ≡ 4 * label_place c label → Left c words v.place (label_form c s.current.routine t label) (c.site s.current.routine (suc s.current.place)) → Comes c words s (record s { current = giving t x s.current }) m
   label_follows t label x good w quiet low e l =
       let r = s.current.routine in
       let h = home c r t in

@@ -127,7 +127,7 @@ module _ (c : Context) (words : List ℕ) (b : Built c words) (p : Places) (s : 
             view = r.view;
             frame = r.frame;
             shows = r.shows;
-            belongs = r.belongs;
+            meets = r.meets;
             runs = λ k. let z = r.runs k in let u = a.runs z.0 (tape_of s.tape) in (u.0, omega (arith, z.1, u.1), u.2 ∙ z.2);
           }
 

@@ -371,7 +371,7 @@ module _ (c : Context) (words : List ℕ) (stood : Stood c words) (laid : IsLaid
     pub place : view.place ≡ v.place + len
 
   -- a home whose register holds its word already
-  in_register : (q n : ℕ) (m0 : Machine) (v : View) → q < 12 → Aside q n m0 v → Settled c r f (Reg q) n m0 (machine_of v)
+  pub in_register : (q n : ℕ) (m0 : Machine) (v : View) → q < 12 → Aside q n m0 v → Settled c r f (Reg q) n m0 (machine_of v)
   in_register q n m0 v lt a =
       record {
         here = a.here;

@@ -1,5 +1,5 @@
 -- One step of three-address code, followed by the words of its instruction.
-use Rattle.std.proofs.Common.{◌≡◌, ℕ, suc, ◌+◌, ◌-◌, ◌<◌, inl, inr, Bool, true, false, cond, not, nat_lt, List, [], ◌∷◌, length, Option, Some, None, slice_get, ℤ, pos, negsuc, refl, ap, ◌∙◌}
+use Rattle.std.proofs.Common.{◌≡◌, ℕ, suc, ◌+◌, ◌-◌, ◌<◌, inl, inr, Bool, true, false, cond, not, nat_lt, List, [], ◌∷◌, length, Option, Some, None, slice_get, ℤ, pos, negsuc, refl, sym, subst, ap, ◌∙◌}
 use Rattle.std.proofs.lemmas.Bool.{ltb-true}
 use Rattle.behavior.specs.Endings.{Stuck, Heap}
 use Rattle.risc_machine.specs.Step as machine
@@ -17,10 +17,14 @@ use Rattle.tac_code.specs.Memory.{load, load_byte, store, store_byte}
 use Rattle.tac_code.specs.Meaning as meaning
 use Rattle.tac_code.specs.Meaning.{fetch, text_at, Activation, State, Step, Goes, Over, with_some, with_number, with_address, with_routine, with_byte_value, operand_value, base_value, pointer_of, is_nil, related, values_of, onward, giving, puts, gives, gives_address, gives_computed, gives_component, checks, goes_on, goes_to, stores, enter, leave, makes, act, step}
 use Rattle.risc_related.specs.Context.{Context, Places}
-use Rattle.risc_steps.specs.Follows.{Built, Belongs, Comes, Follows}
+use Rattle.risc_related.specs.Related.{Related}
+use Rattle.tac_code.specs.declared.code.Base.TheVariants as base
+use Rattle.risc_steps.specs.Told.{bent_at}
+use Rattle.risc_steps.specs.Follows.{machine_of, unbent, Built, Meets, Belongs, Comes, Follows}
+use Rattle.risc_steps.proofs.Flags.{BentLoad, bent_load_is}
 use Rattle.risc_steps.proofs.Moves.{literal_follows, copy_follows, text_follows, routine_follows, forward_follows, back_follows}
 use Rattle.risc_steps.proofs.Devices.{trap_follows, end_follows, put_follows, take_follows}
-use Rattle.risc_steps.proofs.Memory.{load_follows, store_follows, load_byte_follows, store_byte_follows, offset_follows}
+use Rattle.risc_steps.proofs.Memory.{bent_load_follows, load_follows, store_follows, load_byte_follows, store_byte_follows, offset_follows}
 use Rattle.risc_steps.proofs.Branches.{forward_branch_follows, back_branch_follows, compare_follows}
 use Rattle.risc_steps.proofs.Returns.{return_follows}
 use Rattle.risc_steps.proofs.Calls.{call_follows, call_value_follows}
@@ -152,5 +156,29 @@ module _ (c : Context) (words : List ℕ) (b : Built c words) (p : Places) (S H 
       option_follows (slice_get c.code.objects type) _ (λ bytes e. makes_follows t type line bytes here e (nat_lt H (s.heap + c.sizes type)) refl)
   act_follows (Some End) here = inr (end_follows c words b p s f m v sh be here)
 
+-- ---- from any state that meets
+
+module _ (c : Context) (words : List ℕ) (b : Built c words) (p : Places) (S H : ℕ) (stack : S + c.base ≡ c.size) (heap : H + c.heap_at ≡ c.base) (s : State) (f : ℕ) (m : machine.State) (v : View) (sh : Shows words c.size m v) (me : Meets c words p s v f) where
+  loads : (bent : ℕ × ℕ) → bent_at c s.current.routine s.current.place ≡ Some bent → (l : BentLoad c s.current.routine s.current.place bent) → Follows c words (act c.code c.costs c.sizes S H (Some (Load l.to (base.Temporary l.to) l.behind)) s) s m
+  loads bent is l = by_address (s.current.temporaries l.to) refl
+    where
+      by_value : (block : Block) (offset : ℕ) → s.current.temporaries l.to ≡ Some (Address block offset) → (o : Option Value) → load (text_at c.code) s.memory block (offset + l.behind) ≡ o → Follows c words (with_some o (λ x. gives l.to x s)) s m
+      by_value block offset e None el = inl refl
+      by_value block offset e (Some x) el = bent_load_follows c words b p s f m v sh me bent l.to l.behind block offset x is l.home l.here e el
+
+      by_address : (o : Option Value) → s.current.temporaries l.to ≡ o → Follows c words (with_address o (λ block offset. with_some (load (text_at c.code) s.memory block (offset + l.behind)) (λ x. gives l.to x s))) s m
+      by_address None e = inl refl
+      by_address (Some (Number z)) e = inl refl
+      by_address (Some (Routine r)) e = inl refl
+      by_address (Some (Address block offset)) e = by_value block offset e (load (text_at c.code) s.memory block (offset + l.behind)) refl
+
   pub step_follows : Follows c words (step c.code c.costs c.sizes S H s) s m
-  step_follows = act_follows (fetch c.code s.current.routine s.current.place) refl
+  step_follows = go (bent_at c s.current.routine s.current.place) refl
+    where
+      go : (o : Option (ℕ × ℕ)) → bent_at c s.current.routine s.current.place ≡ o → Follows c words (step c.code c.costs c.sizes S H s) s m
+      go None is =
+          let be : Belongs c words p s v f = record { related = subst (λ o. Related c p s (unbent o (machine_of v)) f) is me.related; place = me.place; input = me.input; flags = (me.flags, is) } in
+          act_follows c words b p S H stack heap s f m v sh be (fetch c.code s.current.routine s.current.place) refl
+      go (Some bent) is =
+          let l = bent_load_is c s.current.routine s.current.place bent is in
+          subst (λ i. Follows c words (act c.code c.costs c.sizes S H i s) s m) (sym l.here) (loads bent is l)

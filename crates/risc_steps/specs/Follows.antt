@@ -21,7 +21,8 @@ use Rattle.risc_related.specs.Context.{Context, home, called, is_program, Places
 use Rattle.risc_related.specs.Related.{Machine, Related}
 use Rattle.risc_related.specs.Walk.{walk}
 use Rattle.risc_steps.specs.Pieces.{Left}
-use Rattle.risc_steps.specs.Told.{told_at}
+use Rattle.risc_related.specs.Changes.{update}
+use Rattle.risc_steps.specs.Told.{told_at, bent_at}
 use Rattle.risc_steps.specs.Forms.{accept, form, entry_form}
 
 abbrev pub machine_of : View → Machine
@@ -72,12 +73,29 @@ Flags c r k v =
     (t q : ℕ) → told_at c r k ≡ Some t → home c r t ≡ Reg q
     → (v.equal ≡ nat_eq (v.registers q) 0) × (v.negative ≡ nat_le 2147483648 (v.registers q))
 
--- a view, at the words of an instruction, belongs to a state
+-- no register is short of an offset besides
+abbrev pub Straight : Context → ℕ → ℕ → View → Type 0
+Straight c r k v = Flags c r k v × (bent_at c r k ≡ None)
+
+-- the machine with the whole of what a register is short of
+abbrev pub unbent : Option (ℕ × ℕ) → Machine → Machine
+unbent None m = m
+unbent (Some bent) m =
+    record { registers = update bent.0 (m.registers bent.0 + bent.1) m.registers; words = m.words }
+
+-- a view, at the words of an instruction, meets a state
+pub record Meets (c : Context) (words : List ℕ) (p : Places) (s : State) (v : View) (f : ℕ) : Type 0 where
+  pub related : Related c p s (unbent (bent_at c s.current.routine s.current.place) (machine_of v)) f
+  pub place : v.place ≡ c.site s.current.routine s.current.place
+  pub input : AreBytes s.tape.input
+  pub flags : Flags c s.current.routine s.current.place v
+
+-- and belongs to it, where no register is short of an offset
 pub record Belongs (c : Context) (words : List ℕ) (p : Places) (s : State) (v : View) (f : ℕ) : Type 0 where
   pub related : Related c p s (machine_of v) f
   pub place : v.place ≡ c.site s.current.routine s.current.place
   pub input : AreBytes s.tape.input
-  pub flags : Flags c s.current.routine s.current.place v
+  pub flags : Straight c s.current.routine s.current.place v
 
 -- from m, with the tape of s, the machine comes in one step or more to a state that belongs to t
 pub record Comes (c : Context) (words : List ℕ) (s t : State) (m : machine.State) : Type 0 where
@@ -86,7 +104,7 @@ pub record Comes (c : Context) (words : List ℕ) (s t : State) (m : machine.Sta
   pub view : View
   pub frame : ℕ
   pub shows : Shows words c.size to view
-  pub belongs : Belongs c words places t view frame
+  pub meets : Meets c words places t view frame
   pub runs : (k : ℕ) → (j : ℕ) × (k < j) × (run.exec j m (tape_of s.tape) ≡ run.exec k to (tape_of t.tape))
 
 -- the ending of a stop with a word: the row of its link, and the lines that the walk over the frames gives

@@ -29,7 +29,7 @@ use Rattle.risc_alloc.specs.Flow.{is_it}
 use Rattle.risc_alloc.specs.declared.homes.Home.{Home}
 use Rattle.risc_alloc.specs.declared.homes.Home.TheVariants.{Slot, Reg}
 use Rattle.risc_related.specs.Context.{Context, home, is_program, slot_at}
-use Rattle.risc_steps.specs.Told.{told_at}
+use Rattle.risc_steps.specs.Told.{told_at, bent_at}
 use Rattle.risc_steps.specs.Pieces.{Label, AtPlace, AtEntry, AtText, Piece, Plain, Goes, Fails, Enters, Joins, EntersAt, High, Low}
 
 -- ---- constants
@@ -230,6 +230,11 @@ module _ (c : Context) (r : ℕ) where
   load_form width t a n =
       reach a n ++ (Plain (word.Load width (target (home c r t)) (reach_register a n) (pos (reach_offset a n))) ∷ save (home c r t))
 
+  -- a word from behind a base, or from behind a register that is short of an offset
+  abbrev pub word_form : Option (ℕ × ℕ) → ℕ → Base → ℕ → List Piece
+  word_form None t a n = load_form Word t a n
+  word_form (Some bent) t a n = Plain (word.Load Word bent.0 bent.0 (pos (bent.1 + n))) ∷ []
+
   abbrev pub store_form : Width → Base → ℕ → ℕ → List Piece
   store_form width a n b =
       reach a n ++ (fetch 15 (home c r b) ++ Plain (word.Store width (fetched 15 (home c r b)) (reach_register a n) (pos (reach_offset a n))) ∷ [])
@@ -398,17 +403,18 @@ module _ (c : Context) (r : ℕ) where
   address_register base.Program = 15
   address_register (base.Temporary t) = fetched 15 (home c r t)
 
-  -- the address that lies what register q holds behind a base
-  abbrev pub component : ℕ → Base → ℕ → List Piece
-  component t a q =
+  -- the address that lies what register q holds behind a base, or what is short of the offset of the base's block
+  abbrev pub component : Option (ℕ × ℕ) → ℕ → Base → ℕ → List Piece
+  component None t a q =
       base_address a ++ (Plain (word.Operate op.Add (target (home c r t)) (address_register a) (Content q)) ∷ save (home c r t))
+  component (Some bent) t a q = Plain (word.Operate op.Add bent.0 (base_register a) (Content q)) ∷ []
 
-  abbrev pub steps_form : ℕ → Base → ℕ → ℕ → List Piece
-  steps_form t a q width = scaled q width ++ component t a (scaled_register q width)
+  abbrev pub steps_form : Option (ℕ × ℕ) → ℕ → Base → ℕ → ℕ → List Piece
+  steps_form bent t a q width = scaled q width ++ component bent t a (scaled_register q width)
 
-  abbrev pub index_form : ℕ → Base → ℕ → ℤ → ℤ → ℕ → ℕ → ℕ → List Piece
-  index_form t a i low high width error line =
-      check_form i low high error line ++ steps_form t a (above_register (fetched 12 (home c r i)) low) width
+  abbrev pub index_form : Option (ℕ × ℕ) → ℕ → Base → ℕ → ℤ → ℤ → ℕ → ℕ → ℕ → List Piece
+  index_form bent t a i low high width error line =
+      check_form i low high error line ++ steps_form bent t a (above_register (fetched 12 (home c r i)) low) width
 
   -- ---- devices, calls, objects
 
@@ -498,9 +504,9 @@ module _ (c : Context) (r : ℕ) where
   form k (CheckPointer a error line) = pointer_form (told_at c r k) a error line
   form k (Text t bytes) = label_form t (AtText r k)
   form k (Offset t a n extent) = address (target (home c r t)) a n ++ save (home c r t)
-  form k (Index t a i low high width error line) = index_form t a i low high width error line
+  form k (Index t a i low high width error line) = index_form (bent_at c r (suc k)) t a i low high width error line
   form k (RoutineValue t q) = label_form t (AtEntry q)
-  form k (Load t a n) = load_form Word t a n
+  form k (Load t a n) = word_form (bent_at c r k) t a n
   form k (Store a n b) = store_form Word a n b
   form k (LoadByte t a n) = load_form Byte t a n
   form k (StoreByte a n b) = store_form Byte a n b

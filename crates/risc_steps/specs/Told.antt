@@ -1,12 +1,17 @@
--- Where the flags are those of a temporary: behind an instruction whose last word sets them by its result, if no jump leads there.
-use Rattle.std.specs.Prelude.{ℕ, zero, suc, ◌+◌, ◌-◌, Bool, true, false, if◌then◌else◌, List, [], ◌∷◌, length, slice_get, slice_set, get_or, replicate, Option, Some, None}
+-- Where the flags are those of a temporary: behind an instruction whose last word sets them by its result, if no jump leads there. And where
+-- a register is short of an offset: between an index and the load by it.
+use Rattle.std.specs.Prelude.{ℕ, zero, suc, ◌+◌, ◌-◌, Bool, true, false, ◌&&◌, nat_eq, nat_lt, if◌then◌else◌, List, [], ◌∷◌, length, slice_get, slice_set, get_or, replicate, Option, Some, None}
 use Rattle.tac_code.specs.declared.code.Operator.{Operator}
 use Rattle.tac_code.specs.declared.code.Operator.TheVariants.{Add, Subtract, Multiply, Divide, Modulo}
 use Rattle.tac_code.specs.declared.code.Instruction.{Instruction}
-use Rattle.tac_code.specs.declared.code.Instruction.TheVariants.{Arithmetic, Bits, Load, LoadByte, Jump, JumpBack, Branch, BranchBack}
+use Rattle.tac_code.specs.declared.code.Instruction.TheVariants.{Arithmetic, Bits, Index, Load, LoadByte, Jump, JumpBack, Branch, BranchBack}
 use Rattle.tac_code.specs.declared.code.TacRoutine.{TacRoutine}
 use Rattle.tac_code.specs.Meaning.{routines}
-use Rattle.risc_related.specs.Context.{Context}
+use Rattle.tac_code.specs.declared.code.Base.{Base}
+use Rattle.tac_code.specs.declared.code.Base.TheVariants as base
+use Rattle.risc_alloc.specs.declared.homes.Home.{Home}
+use Rattle.risc_alloc.specs.declared.homes.Home.TheVariants.{Slot, Reg}
+use Rattle.risc_related.specs.Context.{Context, home}
 
 -- the last word that writes the result of a product is followed by its test, and a quotient is rounded by a branch
 abbrev pub sets_flags : Operator → Bool
@@ -64,3 +69,46 @@ told_in (Some routine) k = told routine.body k
 
 abbrev pub told_at : Context → ℕ → ℕ → Option ℕ
 told_at c r k = told_in (slice_get (routines c.code) r) k
+
+-- ---- addresses that are short of an offset
+
+-- the offset of a base's block from the register of its frame
+abbrev pub block_at : Context → ℕ → Base → Option ℕ
+block_at c r base.Frame = Some (c.frame_at r)
+block_at c r base.Scratch = Some (c.scratch_at r)
+block_at c r base.Program = Some (c.frame_at 0)
+block_at c r (base.Temporary t) = None
+
+-- register q is short of m, where a load from n behind its address can take both
+abbrev pub bend_near : ℕ → ℕ → ℕ → Option (ℕ × ℕ)
+bend_near q n m = if nat_lt (m + n) 524288 then Some (q, m) else None
+
+abbrev pub bend_by : ℕ → ℕ → Option ℕ → Option (ℕ × ℕ)
+bend_by q n None = None
+bend_by q n (Some m) = bend_near q n m
+
+abbrev pub bend_in : Home → ℕ → Option ℕ → Option (ℕ × ℕ)
+bend_in (Reg q) n o = bend_by q n o
+bend_in (Slot k) n o = None
+
+module _ (c : Context) (r : ℕ) where
+  -- the address of an index into t, which the next instruction loads from into t
+  abbrev pub bend_load : ℕ → Base → Option Instruction → Option (ℕ × ℕ)
+  bend_load t a (Some (Load u (base.Temporary w) n)) = if nat_eq u t && nat_eq w t then bend_in (home c r t) n (block_at c r a) else None
+  bend_load t a _ = None
+
+  abbrev pub bend : Option Instruction → Option Instruction → Option (ℕ × ℕ)
+  bend (Some (Index t a i low high width error line)) next = bend_load t a next
+  bend _ next = None
+
+  abbrev pub bent : List Instruction → ℕ → Option (ℕ × ℕ)
+  bent body zero = None
+  bent body (suc k) = if get_or (jumped body) (suc k) true then None else bend (slice_get body k) (slice_get body (suc k))
+
+  abbrev pub bent_in : Option TacRoutine → ℕ → Option (ℕ × ℕ)
+  bent_in None k = None
+  bent_in (Some routine) k = bent routine.body k
+
+  -- the register that is short of an offset at a place, if one is
+  abbrev pub bent_at : ℕ → Option (ℕ × ℕ)
+  bent_at k = bent_in (slice_get (routines c.code) r) k
