@@ -1,15 +1,14 @@
 -- Members are added to a set one after another.
-use Rattle.std.proofs.Common.{◌≡◌, ℕ, zero, suc, ◌+◌, ◌*◌, ◌/◌, ◌<◌, ◌+ℤ◌, ℤ, pos, int_lt, true, not, List, [], ◌∷◌, slice_get, Some, refl, ap, ◌∙◌, subst, arith, lt-ltb}
-use Rattle.std.proofs.lemmas.Int.{ints}
+use Rattle.std.proofs.Common.{◌≡◌, ℕ, zero, suc, ◌+◌, ◌*◌, ◌/◌, ◌<◌, ℤ, pos, int_lt, true, not, List, [], ◌∷◌, slice_get, Some, refl, ap, ◌∙◌, subst, arith, lt-ltb}
 use Rattle.tac_code.specs.declared.code.Block.{Block}
 use Rattle.tac_code.specs.declared.code.Value.{Value}
 use Rattle.tac_code.specs.declared.code.Value.TheVariants.{Number, Address}
 use Rattle.tac_code.specs.declared.code.Operand.TheVariants as operand
-use Rattle.tac_code.specs.declared.code.Operator.TheVariants.{Add, Divide}
-use Rattle.tac_code.specs.declared.code.Relation.TheVariants.{LessEqual}
+use Rattle.tac_code.specs.declared.code.Operator.TheVariants.{Divide}
+use Rattle.tac_code.specs.declared.code.Relation.TheVariants.{LessEqual, Greater}
 use Rattle.tac_code.specs.declared.code.TacRoutine.{TacRoutine}
-use Rattle.tac_code.specs.declared.code.BitOperator.TheVariants.{Or, ShiftLeft}
-use Rattle.tac_code.specs.Numbers.{bits, computed, within, Gives}
+use Rattle.tac_code.specs.declared.code.BitOperator.TheVariants.{Or, ShiftLeft, Plus}
+use Rattle.tac_code.specs.Numbers.{bits}
 use Rattle.tac_code.specs.Memory.{Memory, load, store, with_word}
 use Rattle.tac_code.specs.Meaning.{Temporaries, put, State, text_at, related}
 use Rattle.tac_steps.specs.Runs.{Machine, Comes}
@@ -19,14 +18,11 @@ use Rattle.tac_rt.specs.Bodies.{routine_of}
 use Rattle.tac_rt.specs.Calls.{HasRoutines}
 use Rattle.tac_rt.specs.Laws.{AddedUp, AddsMembers}
 use Rattle.tac_rt.proofs.Blocks.{IsFresh, stored}
-use Rattle.tac_rt.proofs.Inside.{back, does_so, here_at, enters, returns, literal, computes, joins, indexes, loads, stores_word, jumps, branches_back, passes_back}
-use Rattle.tac_rt.proofs.Arithmetic.{gives_natural, lt-ltb-no}
+use Rattle.tac_rt.proofs.Inside.{back, does_so, here_at, enters, returns, literal, computes, joins, indexes, loads, stores_word, branches, passes, branches_back, passes_back}
+use Rattle.tac_rt.proofs.Arithmetic.{gives_natural, counted_up, lt-ltb-no}
 
 abbrev routine : TacRoutine
 routine = routine_of 3 6 ADD_RANGE
-
-one_more : (n : ℕ) → n < 256 → computed Add 1 (pos n) (pos 1) ≡ Gives (pos (suc n))
-one_more n l = let e : pos n +ℤ pos 1 ≡ pos (suc n) = omega (arith, ints) in ap (within 1) e ∙ gives_natural (suc n) (omega arith)
 
 module _ (m : Machine) (s : State) (has : HasRoutines m) (to line : ℕ) (block : Block) (offset : ℕ) where
   abbrev at_place : ℕ → Temporaries → Memory → State
@@ -37,12 +33,6 @@ module _ (m : Machine) (s : State) (has : HasRoutines m) (to line : ℕ) (block 
   ends t memory =
       literal m s 1 routine has refl to line 10 t memory s.tape 0 (pos 0) refl
       >> a_step _ _ (returns m s 1 routine has refl to line 11 (put t 0 (Number (pos 0))) memory s.tape 0 (Number (pos 0)) refl refl)
-
-  -- the first is above the last
-  leaves : (t : Temporaries) (memory : Memory) (x y : ℤ) → t 1 ≡ Some (Number x) → t 2 ≡ Some (Number y) → int_lt y x ≡ true → Comes m (at_place 9 t memory) (back s to (Number (pos 0)) memory s.tape)
-  leaves t memory x y a b above =
-      passes_back m s 1 routine has refl to line 9 t memory s.tape LessEqual 1 (operand.Temporary 2) 8 refl (ap (λ v. related LessEqual v (t 2)) a ∙ ap (λ v. related LessEqual (Some (Number x)) v) b ∙ ap (λ c. Some (not c)) above)
-      >> ends t memory
 
   -- the temporaries behind one turn
   abbrev turned : (n : ℕ) (w : ℤ) → Temporaries → Temporaries
@@ -68,37 +58,45 @@ module _ (m : Machine) (s : State) (has : HasRoutines m) (to line : ℕ) (block 
       >> loads m s 1 routine has refl to line 5 t4 before s.tape 5 3 0 block (offset + q * 4) (Number w) refl refl f (ap (load (text_at m.code) before block) place ∙ l)
       >> joins m s 1 routine has refl to line 6 t5 before s.tape Or 5 5 (operand.Temporary 4) w bit refl refl refl
       >> stores_word m s 1 routine has refl to line 7 t6 before s.tape 3 0 5 block (offset + q * 4) (Number z) middle refl refl refl f (ap (λ o. store before block o (Number z)) place ∙ h)
-      >> computes m s 1 routine has refl to line 8 t6 middle s.tape Add 1 1 (operand.Number (pos 1)) (pos n) (pos 1) (pos (suc n)) refl b refl (one_more n low)
+      >> subst (λ z. Comes m (at_place 8 t6 middle) (at_place 9 (put t6 1 (Number z)) middle)) (counted_up n (omega arith)) (joins m s 1 routine has refl to line 8 t6 middle s.tape Plus 1 1 (operand.Number (pos 1)) (pos n) (pos 1) refl b refl)
 
-  -- from the test on, with so many members left
-  goes : (n count last : ℕ) (t : Temporaries) (before after : Memory) → n + count ≡ suc last → last < 256 → t 0 ≡ Some (Address block offset) → t 1 ≡ Some (Number (pos n)) → t 2 ≡ Some (Number (pos last)) → IsFresh s.count before → AddedUp (text_at m.code) before block offset n count after → offset + 32 < 2147483648 → Comes m (at_place 9 t before) (back s to (Number (pos 0)) after s.tape)
+  -- from the top of the loop on, with so many members left behind the first
+  goes : (n count last : ℕ) (t : Temporaries) (before after : Memory) → n + count ≡ last → last < 256 → t 0 ≡ Some (Address block offset) → t 1 ≡ Some (Number (pos n)) → t 2 ≡ Some (Number (pos last)) → IsFresh s.count before → AddedUp (text_at m.code) before block offset n (suc count) after → offset + 32 < 2147483648 → Comes m (at_place 1 t before) (back s to (Number (pos 0)) after s.tape)
   goes n zero last t before after e low a b c f j narrow =
-      subst (λ x. Comes m (at_place 9 t before) (back s to (Number (pos 0)) x s.tape)) j
-      (leaves t before (pos n) (pos last) b c (lt-ltb last n (omega (arith, e))))
+      let t' : Temporaries = turned n j.0 t in
+      turns n j.0 t before j.1 a b (omega (arith, e, low)) f j.2 j.3 narrow
+      >> passes_back m s 1 routine has refl to line 9 t' j.1 s.tape LessEqual 1 (operand.Temporary 2) 8 refl (ap (related LessEqual (Some (Number (pos (suc n))))) c ∙ ap (λ q. Some (not q)) (lt-ltb last (suc n) (omega (arith, e))))
+      >> subst (λ x. Comes m (at_place 10 t' j.1) (back s to (Number (pos 0)) x s.tape)) j.4 (ends t' j.1)
   goes n (suc count) last t before after e low a b c f j narrow =
       let z : ℤ = bits Or j.0 (bits ShiftLeft (pos 1) (pos n)) in
-      branches_back m s 1 routine has refl to line 9 t before s.tape LessEqual 1 (operand.Temporary 2) 8 refl
-      (ap (λ v. related LessEqual v (t 2)) b ∙ ap (λ v. related LessEqual (Some (Number (pos n))) v) c ∙ ap (λ q. Some (not q)) (lt-ltb-no last n (omega (arith, e))))
-      >> turns n j.0 t before j.1 a b (omega (arith, e, low)) f j.2 j.3 narrow
-      >> goes (suc n) count last (turned n j.0 t) j.1 after (omega (arith, e)) low a refl c (stored s.count before (λ words. with_word words (offset + 4 * (n / 32)) (Number z)) j.1 f block j.3).fresh j.4 narrow
+      let t' : Temporaries = turned n j.0 t in
+      turns n j.0 t before j.1 a b (omega (arith, e, low)) f j.2 j.3 narrow
+      >> branches_back m s 1 routine has refl to line 9 t' j.1 s.tape LessEqual 1 (operand.Temporary 2) 8 refl (ap (related LessEqual (Some (Number (pos (suc n))))) c ∙ ap (λ q. Some (not q)) (lt-ltb-no last (suc n) (omega (arith, e))))
+      >> goes (suc n) count last t' j.1 after (omega (arith, e)) low a refl c (stored s.count before (λ words. with_word words (offset + 4 * (n / 32)) (Number z)) j.1 f block j.3).fresh j.4 narrow
 
   -- from the beginning on
   abbrev start : (x y : ℤ) → Temporaries
   start x y u = slice_get (Address block offset ∷ Number x ∷ Number y ∷ []) u
 
-  begins : (x y : ℤ) (memory : Memory) → Comes m (at_place 0 (start x y) memory) (at_place 9 (start x y) memory)
-  begins x y memory = jumps m s 1 routine has refl to line 0 (start x y) memory s.tape 8 refl
+  -- the first is above the last
+  leaves : (x y : ℤ) (memory : Memory) → int_lt y x ≡ true → Comes m (at_place 0 (start x y) memory) (back s to (Number (pos 0)) memory s.tape)
+  leaves x y memory above =
+      branches m s 1 routine has refl to line 0 (start x y) memory s.tape Greater 1 (operand.Temporary 2) 9 refl (ap Some above)
+      >> ends (start x y) memory
+
+  begins : (n count : ℕ) (before after : Memory) → n + count < 256 → IsFresh s.count before → AddedUp (text_at m.code) before block offset n (suc count) after → offset + 32 < 2147483648 → Comes m (at_place 0 (start (pos n) (pos (n + count))) before) (back s to (Number (pos 0)) after s.tape)
+  begins n count before after low f j narrow =
+      passes m s 1 routine has refl to line 0 (start (pos n) (pos (n + count))) before s.tape Greater 1 (operand.Temporary 2) 9 refl (ap Some (lt-ltb-no (n + count) n (omega arith)))
+      >> goes n count (n + count) (start (pos n) (pos (n + count))) before after refl low refl refl refl f j narrow
 
 pub adds_members : AddsMembers
 adds_members = record {
   none = λ m x y block offset memory tape has above. does_so m 1 (Address block offset ∷ Number x ∷ Number y ∷ []) memory tape (Number (pos 0)) memory tape (λ s fresh.
       let s1 : State = record s { memory = memory; tape = tape } in
       let values : List Value = Address block offset ∷ Number x ∷ Number y ∷ [] in
-      record { by = λ to line operands at o. leads_then (one_step s1 _ (enters m s1 1 routine has refl to line operands values at o refl refl refl)) (begins m s1 has to line block offset x y memory >> leaves m s1 has to line block offset (start m s1 has to line block offset x y) memory x y refl refl above) });
+      record { by = λ to line operands at o. leads_then (one_step s1 _ (enters m s1 1 routine has refl to line operands values at o refl refl refl)) (leaves m s1 has to line block offset x y memory above) });
   some = λ m n count block offset before after tape has low added narrow. does_so m 1 (Address block offset ∷ Number (pos n) ∷ Number (pos (n + count)) ∷ []) before tape (Number (pos 0)) after tape (λ s fresh.
       let s1 : State = record s { memory = before; tape = tape } in
-      let last : ℕ = n + count in
-      let values : List Value = Address block offset ∷ Number (pos n) ∷ Number (pos last) ∷ [] in
-      let total : n + suc count ≡ suc last = omega arith in
-      record { by = λ to line operands at o. leads_then (one_step s1 _ (enters m s1 1 routine has refl to line operands values at o refl refl refl)) (begins m s1 has to line block offset (pos n) (pos last) before >> goes m s1 has to line block offset n (suc count) last (start m s1 has to line block offset (pos n) (pos last)) before after total low refl refl refl fresh added narrow) });
+      let values : List Value = Address block offset ∷ Number (pos n) ∷ Number (pos (n + count)) ∷ [] in
+      record { by = λ to line operands at o. leads_then (one_step s1 _ (enters m s1 1 routine has refl to line operands values at o refl refl refl)) (begins m s1 has to line block offset n count before after low fresh added narrow) });
 }

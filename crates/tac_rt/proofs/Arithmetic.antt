@@ -1,10 +1,12 @@
 -- What the operators give for numbers that are in range.
-use Rattle.std.proofs.Common.{◌≡◌, ℕ, zero, suc, ◌+◌, ◌-◌, ◌*◌, ◌/◌, ◌<◌, ◌≤◌, ℤ, pos, negsuc, neg_ℤ, ◌-ℤ◌, Bool, true, false, not, nat_lt, if◌then◌else◌, refl, sym, ap, ◌∙◌, arith, lt-ltb, ltb-true, ltb-false}
+use Rattle.std.proofs.Common.{◌≡◌, ℕ, zero, suc, ◌+◌, ◌-◌, ◌*◌, ◌/◌, ◌%◌, ◌<◌, ◌≤◌, ℤ, pos, negsuc, neg_ℤ, ◌-ℤ◌, Bool, true, false, not, nat_lt, if◌then◌else◌, refl, sym, ap, ◌∙◌, arith, lt-ltb, ltb-true, ltb-false}
 use Rattle.std.proofs.Math.Nat.{div-eq_of_lt, div-le_self}
 use Rattle.std.proofs.lemmas.Int.{ints}
+use Rattle.std.proofs.lemmas.Grind.{and_numeral}
 use Rattle.tac_code.specs.declared.code.Operator.TheVariants.{Subtract, Multiply, Divide}
+use Rattle.tac_code.specs.declared.code.BitOperator.TheVariants.{And, Plus}
 use Rattle.tac_code.specs.declared.code.Relation.TheVariants.{LessEqual, GreaterEqual}
-use Rattle.tac_code.specs.Numbers.{within, computed, compared, Gives, Fails}
+use Rattle.tac_code.specs.Numbers.{within, computed, compared, bits, word_of, number_of, Gives, Fails}
 
 pub lt-ltb-no : (a b : ℕ) → b ≤ a → nat_lt a b ≡ false
 lt-ltb-no a b l = go (nat_lt a b) refl
@@ -27,6 +29,49 @@ shortfall w n l h = let e : pos w -ℤ pos n ≡ negsuc (n - suc w) = omega (ari
 
 pub one_less : (k : ℕ) → suc k < 2147483648 → computed Subtract 1 (pos (suc k)) (pos 1) ≡ Gives (pos k)
 one_less k l = let e : pos (suc k) -ℤ pos 1 ≡ pos k = omega (arith, ints) in ap (within 1) e ∙ gives_natural k (omega arith)
+
+-- ---- sums modulo 2 ^ 32
+
+number_below : (n : ℕ) → n < 2147483648 → number_of n ≡ pos n
+number_below n l = ap (λ b. if b then pos n else negsuc (4294967296 - suc n)) (lt-ltb n 2147483648 l)
+
+pub counted_down : (w n k : ℕ) → w ≡ n + suc k → w < 2147483648 → bits Plus (pos w) (negsuc k) ≡ pos n
+counted_down w n k e l =
+    let m : (w + (4294967296 - suc k)) % 4294967296 ≡ n = omega (arith, e, l) in
+    ap number_of m ∙ number_below n (omega (arith, e, l))
+
+pub counted_up : (n : ℕ) → suc n < 2147483648 → bits Plus (pos n) (pos 1) ≡ pos (suc n)
+counted_up n l =
+    let m : (n + 1) % 4294967296 ≡ suc n = omega (arith, l) in
+    ap number_of m ∙ number_below (suc n) l
+
+-- ---- low bits
+
+pub low_byte : (x : ℤ) → bits And x (pos 255) ≡ pos (word_of x % 256)
+low_byte x = ap number_of (and_numeral (word_of x) 254 refl) ∙ number_below (word_of x % 256) (omega arith)
+
+-- whether a number of bytes is one of so many pairs of words
+pub low_bits : (w r : ℕ) → w % 8 ≡ r → r < 8 → bits And (pos w) (pos 7) ≡ pos r
+low_bits w r e l = ap number_of (and_numeral w 6 refl ∙ e) ∙ number_below r (omega arith)
+
+-- ---- two at a time
+
+abbrev pub twice : ℕ → ℕ
+twice zero = zero
+twice (suc k) = suc (suc (twice k))
+
+pub twice_is : (k : ℕ) → twice k ≡ 2 * k
+twice_is zero = refl
+twice_is (suc k) = let e = twice_is k in omega (arith, e)
+
+-- so many twos, and one more or none
+pub halves : (n : ℕ) → (odd : Bool) × (k : ℕ) × (n ≡ (if odd then suc (twice k) else twice k))
+halves zero = (false, zero, refl)
+halves (suc n) = go (halves n)
+  where
+    go : ((odd : Bool) × (k : ℕ) × (n ≡ (if odd then suc (twice k) else twice k))) → (odd : Bool) × (k : ℕ) × (suc n ≡ (if odd then suc (twice k) else twice k))
+    go (true, k, e) = (false, suc k, ap suc e)
+    go (false, k, e) = (true, k, ap suc e)
 
 -- ---- numbers that are not positive, by their absolute values
 

@@ -4,7 +4,6 @@ use Rattle.tac_code.specs.declared.code.Block.{Block}
 use Rattle.tac_code.specs.declared.code.Value.{Value}
 use Rattle.tac_code.specs.declared.code.Value.TheVariants.{Number, Address}
 use Rattle.tac_code.specs.declared.code.Operand.TheVariants as operand
-use Rattle.tac_code.specs.declared.code.Operator.TheVariants.{Subtract}
 use Rattle.tac_code.specs.declared.code.Relation.TheVariants.{NotEqual}
 use Rattle.tac_code.specs.declared.code.TacRoutine.{TacRoutine}
 use Rattle.tac_code.specs.declared.code.BitOperator.TheVariants.{AndNot}
@@ -19,8 +18,7 @@ use Rattle.tac_rt.specs.Bodies.{routine_of}
 use Rattle.tac_rt.specs.Calls.{HasRoutines}
 use Rattle.tac_rt.specs.Laws.{WordsAt, is_included, IncludesSets}
 use Rattle.tac_rt.proofs.Blocks.{IsFresh}
-use Rattle.tac_rt.proofs.Inside.{back, does_so, here_at, enters, returns, literal, computes, joins, offsets, loads, branches, passes, branches_back, passes_back}
-use Rattle.tac_rt.proofs.Arithmetic.{one_less}
+use Rattle.tac_rt.proofs.Inside.{back, does_so, here_at, enters, returns, literal, counts, joins, offsets, loads, branches, passes, branches_back, passes_back}
 
 abbrev routine : TacRoutine
 routine = routine_of 2 5 IS_INCLUDED
@@ -56,7 +54,7 @@ module _ (m : Machine) (s : State) (has : HasRoutines m) (fresh : IsFresh s.coun
           (passes m s 5 routine has refl to line 4 t3 s.memory s.tape NotEqual 3 (operand.Number (pos 0)) 6 refl (ap (λ c. Some (not c)) z)
           >> offsets m s 5 routine has refl to line 5 t3 s.memory s.tape 0 0 4 x place refl a l
           >> offsets m s 5 routine has refl to line 6 t4 s.memory s.tape 1 1 4 y start refl b k
-          >> computes m s 5 routine has refl to line 7 t5 s.memory s.tape Subtract 2 2 (operand.Number (pos 1)) (pos (suc (length left))) (pos 1) (pos (length left)) refl n refl (one_less (length left) (omega arith))
+          >> counts m s 5 routine has refl to line 7 t5 s.memory s.tape 2 (suc (length left)) (length left) 0 refl n (omega arith) (omega arith)
           >> rest t6 refl refl refl)
       go false z =
           let t3 : Temporaries = put (put (put t 3 (Number p)) 4 (Number q)) 3 (Number (bits AndNot p q)) in

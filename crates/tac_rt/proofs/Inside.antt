@@ -8,9 +8,11 @@ use Rattle.tac_code.specs.declared.code.Block.{Block}
 use Rattle.tac_code.specs.declared.code.Value.{Value}
 use Rattle.tac_code.specs.declared.code.Value.TheVariants.{Number, Address}
 use Rattle.tac_code.specs.declared.code.Operand.{Operand}
+use Rattle.tac_code.specs.declared.code.Operand.TheVariants as operand
 use Rattle.tac_code.specs.declared.code.Base.TheVariants as base
 use Rattle.tac_code.specs.declared.code.Operator.{Operator}
 use Rattle.tac_code.specs.declared.code.BitOperator.{BitOperator}
+use Rattle.tac_code.specs.declared.code.BitOperator.TheVariants.{Plus}
 use Rattle.tac_code.specs.declared.code.Relation.{Relation}
 use Rattle.tac_code.specs.declared.code.Instruction.TheVariants.{Literal, Copy, Arithmetic, Bits, Compare, Offset, Index, Load, Store, LoadByte, StoreByte, Jump, JumpBack, Branch, BranchBack, Call, Return, Take, Put}
 use Rattle.tac_code.specs.declared.code.TacRoutine.{TacRoutine}
@@ -23,7 +25,7 @@ use Rattle.tac_steps.proofs.Runs.{a_step, leads_comes}
 use Rattle.tac_steps.proofs.Instructions.{At, literal_step, copy_step, arithmetic_step, bits_step, compare_step, offset_step, index_step, load_step, load_byte_step, store_step, store_byte_step, jump_step, jump_back_step, branch_step, branch_back_step, take_step, put_step, call_step, return_step}
 use Rattle.tac_rt.specs.Bodies.{run_time_routines}
 use Rattle.tac_rt.specs.Calls.{HasRoutines}
-use Rattle.tac_rt.proofs.Arithmetic.{lt-ltb-no}
+use Rattle.tac_rt.proofs.Arithmetic.{lt-ltb-no, counted_down}
 use Rattle.tac_rt.proofs.Blocks.{IsFresh, pushed, load_pushed, load_byte_pushed, stored}
 
 -- behind others, by the number among themselves
@@ -124,6 +126,10 @@ module _ (m : Machine) (s : State) (k : ℕ) (routine : TacRoutine) (has : HasRo
 
       pub joins : (operator : BitOperator) (t a : ℕ) (b : Operand) (x y : ℤ) → slice_get routine.body pc ≡ Some (Bits operator t a b) → temporaries a ≡ Some (Number x) → operand_value temporaries b ≡ Some (Number y) → Comes m now (here_at (suc pc) (put temporaries t (Number (bits operator x y))) memory tape)
       joins operator t a b x y i e f = a_step now _ (bits_step m now operator t a b x y (at pc ∙ i) e f)
+
+      -- a number counted down
+      pub counts : (t w n k : ℕ) → slice_get routine.body pc ≡ Some (Bits Plus t t (operand.Number (negsuc k))) → temporaries t ≡ Some (Number (pos w)) → w ≡ n + suc k → w < 2147483648 → Comes m now (here_at (suc pc) (put temporaries t (Number (pos n))) memory tape)
+      counts t w n k i e f l = subst (λ z. Comes m now (here_at (suc pc) (put temporaries t (Number z)) memory tape)) (counted_down w n k f l) (joins Plus t t (operand.Number (negsuc k)) (pos w) (negsuc k) i e refl)
 
       pub compares : (relation : Relation) (t a : ℕ) (b : Operand) (holds : Bool) → slice_get routine.body pc ≡ Some (Compare relation t a b) → related relation (temporaries a) (operand_value temporaries b) ≡ Some holds → Comes m now (here_at (suc pc) (put temporaries t (Number (truth holds))) memory tape)
       compares relation t a b holds i e = a_step now _ (compare_step m now relation t a b holds (at pc ∙ i) e)

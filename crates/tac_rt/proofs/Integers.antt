@@ -16,12 +16,11 @@ use Rattle.tac_code.specs.Memory.{Memory, load, store, with_word}
 use Rattle.tac_code.specs.Meaning.{Temporaries, put, Tape, State, text_at, related}
 use Rattle.tac_steps.specs.Runs.{Machine, Comes}
 use Rattle.tac_steps.proofs.Runs.{a_step, ◌>>◌}
-use Rattle.tac_steps.proofs.Temporaries.{eq_no}
 use Rattle.ps_meaning.specs.Text.{Input, Scanned, EndFound, NoInteger, Integer, is_blank, after_blanks, is_digit, has_sign, after_sign, number_written, is_empty, scan_integer, marks_to, after_integer}
 use Rattle.tac_rt.specs.declared.reading.TheConstants.{READ_NUMBER}
 use Rattle.tac_rt.specs.Bodies.{routine_of}
 use Rattle.tac_rt.specs.Calls.{HasRoutines}
-use Rattle.tac_rt.specs.Inputs.{first_or_end, ahead, begun, tape_of}
+use Rattle.tac_rt.specs.Inputs.{first_or_end, ahead, tape_of}
 use Rattle.tac_rt.specs.Laws.{Renewed, IntegerRead, NumberRead, ReadsNumbers}
 use Rattle.tac_rt.proofs.Blocks.{IsFresh, stored}
 use Rattle.tac_rt.proofs.Inside.{back, here_at, enters, returns, literal, computes, loads, stores_word, jumps, jumps_back, branches, passes, branches_back, passes_back, takes_byte, takes_end}

@@ -1,37 +1,30 @@
 -- Characters are written as the meaning says.
-use Rattle.std.proofs.Common.{◌≡◌, ℕ, zero, suc, ◌-◌, ◌%◌, ◌<◌, ℤ, pos, negsuc, unsigned_abs, ◌-ℤ◌, true, if◌then◌else◌, [], ◌∷◌, replicate, slice_get, Some, refl, ap, ◌∙◌, subst, arith, lt-ltb, ltb-true}
-use Rattle.std.proofs.lemmas.Int.{ints}
-use Rattle.std.proofs.lemmas.Grind.{and_numeral}
+use Rattle.std.proofs.Common.{◌≡◌, ℕ, zero, suc, ◌-◌, ◌%◌, ◌<◌, ℤ, pos, negsuc, unsigned_abs, true, not, [], ◌∷◌, replicate, slice_get, Some, refl, ap, ◌∙◌, subst, arith, lt-ltb, ltb-true}
 use Rattle.tac_code.specs.declared.code.Value.TheVariants.{Number}
 use Rattle.tac_code.specs.declared.code.Operand.TheVariants as operand
 use Rattle.tac_code.specs.declared.code.Operator.TheVariants.{Subtract}
 use Rattle.tac_code.specs.declared.code.BitOperator.TheVariants.{And}
-use Rattle.tac_code.specs.declared.code.Relation.TheVariants.{Greater, GreaterEqual}
+use Rattle.tac_code.specs.declared.code.Relation.TheVariants.{NotEqual, LessEqual, GreaterEqual}
 use Rattle.tac_code.specs.declared.code.TacRoutine.{TacRoutine}
-use Rattle.tac_code.specs.Numbers.{is_integer, bits, word_of, number_of}
+use Rattle.tac_code.specs.Numbers.{is_integer, bits, word_of}
 use Rattle.tac_code.specs.Meaning.{Temporaries, put, Tape, State, related, told}
 use Rattle.tac_steps.specs.Runs.{Machine, Comes}
 use Rattle.tac_steps.specs.Routines.{wrote}
 use Rattle.tac_steps.proofs.Runs.{one_step, a_step, leads_then, ◌>>◌}
+use Rattle.tac_steps.proofs.Temporaries.{eq_no}
 use Rattle.ps_meaning.specs.Text.{right_aligned}
 use Rattle.tac_rt.specs.declared.writing.TheConstants.{WRITE_CHARACTER}
 use Rattle.tac_rt.specs.Bodies.{routine_of}
 use Rattle.tac_rt.specs.Calls.{HasRoutines}
 use Rattle.tac_rt.specs.Laws.{WritesCharacters}
-use Rattle.tac_rt.proofs.Inside.{back, does_so, here_at, enters, returns, literal, computes, joins, jumps, branches, passes, branches_back, passes_back, writes}
-use Rattle.tac_rt.proofs.Arithmetic.{minus, negated, remains, one_less, not_negative}
+use Rattle.tac_rt.proofs.Inside.{back, does_so, here_at, enters, returns, literal, computes, counts, joins, branches, passes, branches_back, passes_back, writes}
+use Rattle.tac_rt.proofs.Arithmetic.{minus, negated, not_negative, lt-ltb-no, low_byte}
 use Rattle.tac_rt.proofs.Strings.{told_all, told_both, told_written}
 
 abbrev routine : TacRoutine
 routine = routine_of 2 4 WRITE_CHARACTER
 
 -- ---- the lowest byte of a number's word
-
-byte_is : (n : ℕ) → number_of (n % 256) ≡ pos (n % 256)
-byte_is n = ap (λ b. if b then pos (n % 256) else negsuc (4294967296 - suc (n % 256))) (lt-ltb (n % 256) 2147483648 (omega arith))
-
-low_byte : (x : ℤ) → bits And x (pos 255) ≡ pos (word_of x % 256)
-low_byte x = ap number_of (and_numeral (word_of x) 254 refl) ∙ byte_is (word_of x)
 
 -- of minus the lowest byte of a negative number: the lowest byte of its absolute value
 low_again : (k n : ℕ) → k < 2147483648 → n ≡ (4294967296 - suc k) % 256 → word_of (minus n) % 256 ≡ suc k % 256
@@ -42,27 +35,46 @@ module _ (m : Machine) (s : State) (has : HasRoutines m) (to line : ℕ) where
   abbrev at_place : ℕ → Temporaries → Tape → State
   at_place pc t tape = here_at m s 11 routine has refl to line pc t s.memory tape
 
-  abbrev Spaced : ℕ → Temporaries → Tape → Type 0
-  Spaced k t tape = (t' : Temporaries) × (t' 2 ≡ t 2) × Comes m (at_place 9 t tape) (at_place 10 t' (told_all (replicate k 32) tape))
+  abbrev Spaced : (pc k : ℕ) → Temporaries → Tape → Type 0
+  Spaced pc k t tape = (t' : Temporaries) × (t' 2 ≡ t 2) × Comes m (at_place pc t tape) (at_place 10 t' (told_all (replicate k 32) tape))
 
-  spaces : (k : ℕ) (t : Temporaries) (tape : Tape) → t 1 ≡ Some (Number (pos k)) → t 3 ≡ Some (Number (pos 32)) → k < 2147483648 → Spaced k t tape
-  spaces zero t tape n space l = (t, refl, passes_back m s 11 routine has refl to line 9 t s.memory tape Greater 1 (operand.Number (pos 0)) 2 refl (ap (λ v. related Greater v (Some (Number (pos 0)))) n))
-  spaces (suc k) t tape n space l =
-      let t1 : Temporaries = put t 1 (Number (pos k)) in
-      let rest = spaces k t1 (told 32 tape) refl space (omega arith) in (
+  -- a space
+  space : (k : ℕ) (t : Temporaries) (tape : Tape) → t 1 ≡ Some (Number (pos (suc k))) → t 3 ≡ Some (Number (pos 32)) → suc k < 2147483648 → Comes m (at_place 7 t tape) (at_place 9 (put t 1 (Number (pos k))) (told 32 tape))
+  space k t tape n e l =
+      writes m s 11 routine has refl to line 7 t s.memory tape 3 32 refl e (omega arith)
+      >> counts m s 11 routine has refl to line 8 t s.memory (told 32 tape) 1 (suc k) k 0 refl n (omega arith) l
+
+  -- spaces, from the top of the loop on
+  spaces : (k : ℕ) (t : Temporaries) (tape : Tape) → t 1 ≡ Some (Number (pos (suc (suc k)))) → t 3 ≡ Some (Number (pos 32)) → suc (suc k) < 2147483648 → Spaced 7 (suc k) t tape
+  spaces zero t tape n e l =
+      let t1 : Temporaries = put t 1 (Number (pos 1)) in
+      (t1, refl, space 1 t tape n e l >> passes_back m s 11 routine has refl to line 9 t1 s.memory (told 32 tape) NotEqual 1 (operand.Number (pos 1)) 2 refl refl)
+  spaces (suc k) t tape n e l =
+      let t1 : Temporaries = put t 1 (Number (pos (suc (suc k)))) in
+      let more : suc (suc k) ≡ 1 → ⊥ = λ q. omega arith in
+      let rest = spaces k t1 (told 32 tape) refl e (omega arith) in (
         rest.0,
         rest.1,
-        branches_back m s 11 routine has refl to line 9 t s.memory tape Greater 1 (operand.Number (pos 0)) 2 refl (ap (λ v. related Greater v (Some (Number (pos 0)))) n ∙ ap Some (lt-ltb 0 (suc k) (omega arith)))
-            >> writes m s 11 routine has refl to line 7 t s.memory tape 3 32 refl space (omega arith)
-            >> computes m s 11 routine has refl to line 8 t s.memory (told 32 tape) Subtract 1 1 (operand.Number (pos 1)) (pos (suc k)) (pos 1) (pos k) refl n refl (one_less k l)
+        space (suc (suc k)) t tape n e l
+            >> branches_back m s 11 routine has refl to line 9 t1 s.memory (told 32 tape) NotEqual 1 (operand.Number (pos 1)) 2 refl (ap (λ x. Some (not x)) (eq_no (suc (suc k)) 1 more))
             >> rest.2,
       )
 
-  padding : (w : ℕ) (t : Temporaries) (tape : Tape) → t 1 ≡ Some (Number (pos w -ℤ pos 1)) → t 3 ≡ Some (Number (pos 32)) → w < 2147483648 → Spaced (w - 1) t tape
-  padding zero t tape narrow space l = (t, refl, passes_back m s 11 routine has refl to line 9 t s.memory tape Greater 1 (operand.Number (pos 0)) 2 refl (ap (λ v. related Greater v (Some (Number (pos 0)))) narrow))
-  padding (suc w) t tape narrow space l =
-      let z : pos (suc w) -ℤ pos 1 ≡ pos (suc w - 1) = omega (arith, ints) in
-      spaces (suc w - 1) t tape (narrow ∙ ap (λ x. Some (Number x)) z) space (omega arith)
+  padding : (w k : ℕ) (t : Temporaries) (tape : Tape) → k ≡ w - 1 → t 1 ≡ Some (Number (pos w)) → w < 2147483648 → Spaced 5 k t tape
+  padding w zero t tape e n l = (
+    t,
+    refl,
+    branches m s 11 routine has refl to line 5 t s.memory tape LessEqual 1 (operand.Number (pos 1)) 4 refl (ap (λ v. related LessEqual v (Some (Number (pos 1)))) n ∙ ap (λ x. Some (not x)) (lt-ltb-no 1 w (omega (arith, e)))),
+  )
+  padding w (suc k) t tape e n l =
+      let wide : w ≡ suc (suc k) = omega (arith, e) in
+      let rest = spaces k (put t 3 (Number (pos 32))) tape (n ∙ ap (λ x. Some (Number (pos x))) wide) refl (omega (arith, e, l)) in (
+        rest.0,
+        rest.1,
+        passes m s 11 routine has refl to line 5 t s.memory tape LessEqual 1 (operand.Number (pos 1)) 4 refl (ap (λ v. related LessEqual v (Some (Number (pos 1)))) n ∙ ap (λ x. Some (not x)) (lt-ltb 1 w (omega (arith, e))))
+            >> literal m s 11 routine has refl to line 6 t s.memory tape 3 (pos 32) refl
+            >> rest.2,
+      )
 
   abbrev start : (x : ℤ) (w : ℕ) → Temporaries
   start x w u = slice_get (Number x ∷ Number (pos w) ∷ []) u
@@ -70,14 +82,9 @@ module _ (m : Machine) (s : State) (has : HasRoutines m) (to line : ℕ) where
   -- from place 5 on, with the byte in temporary 2
   ends : (w b : ℕ) (t : Temporaries) → t 1 ≡ Some (Number (pos w)) → t 2 ≡ Some (Number (pos b)) → b < 256 → w < 2147483648 → Comes m (at_place 5 t s.tape) (back s to (Number (pos 0)) s.memory (wrote s.tape (right_aligned w (b ∷ []))))
   ends w b t width byte low l =
-      let t1 : Temporaries = put t 3 (Number (pos 32)) in
-      let t2 : Temporaries = put t1 1 (Number (pos w -ℤ pos 1)) in
-      let front = padding w t2 s.tape refl refl l in
+      let front = padding w (w - 1) t s.tape refl width l in
       let tape : Tape = told_all (replicate (w - 1) 32) s.tape in
-      literal m s 11 routine has refl to line 5 t s.memory s.tape 3 (pos 32) refl
-      >> jumps m s 11 routine has refl to line 6 t1 s.memory s.tape 1 refl
-      >> computes m s 11 routine has refl to line 8 t1 s.memory s.tape Subtract 1 1 (operand.Number (pos 1)) (pos w) (pos 1) (pos w -ℤ pos 1) refl width refl (remains w 1 l (omega arith))
-      >> front.2
+      front.2
       >> writes m s 11 routine has refl to line 10 front.0 s.memory tape 2 b refl (front.1 ∙ byte) low
       >> literal m s 11 routine has refl to line 11 front.0 s.memory (told b tape) 3 (pos 0) refl
       >> subst (λ u. Comes m (at_place 12 (put front.0 3 (Number (pos 0))) (told b tape)) (back s to (Number (pos 0)) s.memory u)) (told_both (replicate (w - 1) 32) (b ∷ []) s.tape ∙ told_written (right_aligned w (b ∷ [])) s.tape)

@@ -40,8 +40,8 @@ module _ (m : Machine) (s : State) (has : HasRoutines m) (to line : ℕ) (block 
   tells : (left : List ℕ) (in_line : Bool) (t : Temporaries) (memory : Memory) (tape : Tape) → t 0 ≡ Some (Address block offset) → t 1 ≡ Some (Number (first_or_end left)) → IsFresh s.count memory → load (text_at m.code) memory block (offset + 4) ≡ Some (Number (if in_line then pos 1 else pos 0)) → Comes m (at_place 4 t memory tape) (back s to (Number (kind_of (next_of left in_line))) memory tape)
   tells [] in_line t memory tape a n fresh l =
       branches m s 13 routine has refl to line 4 t memory tape Equal 1 (operand.Number (negsuc 0)) 5 refl (ap (λ v. related Equal v (Some (Number (negsuc 0)))) n)
-      >> loads m s 13 routine has refl to line 10 t memory tape 1 0 4 block offset (Number (if in_line then pos 1 else pos 0)) refl a fresh l
-      >> a_step _ _ (returns m s 13 routine has refl to line 11 (put t 1 (Number (if in_line then pos 1 else pos 0))) memory tape 1 (Number (kind_of (next_of [] in_line))) refl (kind in_line))
+      >> loads m s 13 routine has refl to line 10 t memory tape 0 0 4 block offset (Number (if in_line then pos 1 else pos 0)) refl a fresh l
+      >> a_step _ _ (returns m s 13 routine has refl to line 11 (put t 0 (Number (if in_line then pos 1 else pos 0))) memory tape 0 (Number (kind_of (next_of [] in_line))) refl (kind in_line))
     where
       kind : (b : Bool) → Some (Number (if b then pos 1 else pos 0)) ≡ Some (Number (kind_of (next_of [] b)))
       kind true = refl
@@ -54,13 +54,13 @@ module _ (m : Machine) (s : State) (has : HasRoutines m) (to line : ℕ) (block 
       go true e =
           subst (λ q. Comes m (at_place 5 t memory tape) (back s to (Number (if q then pos 1 else pos 2)) memory tape)) (sym e)
           (branches m s 13 routine has refl to line 5 t memory tape Equal 1 (operand.Number (pos 10)) 2 refl (ap (λ v. related Equal v (Some (Number (pos 10)))) n ∙ ap Some e)
-          >> literal m s 13 routine has refl to line 8 t memory tape 1 (pos 1) refl
-          >> a_step _ _ (returns m s 13 routine has refl to line 9 (put t 1 (Number (pos 1))) memory tape 1 (Number (pos 1)) refl refl))
+          >> literal m s 13 routine has refl to line 8 t memory tape 0 (pos 1) refl
+          >> a_step _ _ (returns m s 13 routine has refl to line 9 (put t 0 (Number (pos 1))) memory tape 0 (Number (pos 1)) refl refl))
       go false e =
           subst (λ q. Comes m (at_place 5 t memory tape) (back s to (Number (if q then pos 1 else pos 2)) memory tape)) (sym e)
           (passes m s 13 routine has refl to line 5 t memory tape Equal 1 (operand.Number (pos 10)) 2 refl (ap (λ v. related Equal v (Some (Number (pos 10)))) n ∙ ap Some e)
-          >> literal m s 13 routine has refl to line 6 t memory tape 1 (pos 2) refl
-          >> a_step _ _ (returns m s 13 routine has refl to line 7 (put t 1 (Number (pos 2))) memory tape 1 (Number (pos 2)) refl refl))
+          >> literal m s 13 routine has refl to line 6 t memory tape 0 (pos 2) refl
+          >> a_step _ _ (returns m s 13 routine has refl to line 7 (put t 0 (Number (pos 2))) memory tape 0 (Number (pos 2)) refl refl))
 
   -- the first word is read: -2 or not
   reads : (z : ℤ) (tape : Tape) → IsFresh s.count s.memory → load (text_at m.code) s.memory block offset ≡ Some (Number z) → Comes m (at_place 0 start s.memory tape) (at_place 1 (holding z) s.memory tape)

@@ -1,27 +1,39 @@
 -- Whether an integer is a member of a set.
-use Rattle.std.proofs.Common.{◌≡◌, ℕ, ◌+◌, ◌*◌, ◌/◌, ◌<◌, ℤ, pos, int_lt, Bool, true, false, not, ◌&&◌, [], ◌∷◌, slice_get, Some, refl, sym, ap, ◌∙◌, arith}
+use Rattle.std.proofs.Common.{◌≡◌, ℕ, ◌+◌, ◌*◌, ◌/◌, ◌%◌, ◌<◌, ℤ, pos, negsuc, Bool, true, false, not, ◌&&◌, nat_eq, nat_lt, [], ◌∷◌, slice_get, Some, refl, sym, ap, ◌∙◌, arith, ltb-true}
 use Rattle.tac_code.specs.declared.code.Block.{Block}
 use Rattle.tac_code.specs.declared.code.Value.TheVariants.{Number, Address}
 use Rattle.tac_code.specs.declared.code.Operand.TheVariants as operand
 use Rattle.tac_code.specs.declared.code.Operator.TheVariants.{Divide}
-use Rattle.tac_code.specs.declared.code.Relation.TheVariants.{NotEqual, Less, Greater}
+use Rattle.tac_code.specs.declared.code.Relation.TheVariants.{NotEqual}
 use Rattle.tac_code.specs.declared.code.TacRoutine.{TacRoutine}
 use Rattle.tac_code.specs.declared.code.BitOperator.TheVariants.{And, ShiftLeft}
-use Rattle.tac_code.specs.Numbers.{bits, truth, same_number, is_in_range}
+use Rattle.tac_code.specs.Numbers.{bits, truth, word_of, same_number, is_in_range}
 use Rattle.tac_code.specs.Memory.{load}
 use Rattle.tac_code.specs.Meaning.{Temporaries, put, State, text_at}
 use Rattle.tac_steps.specs.Runs.{Machine, Comes}
 use Rattle.tac_steps.proofs.Runs.{one_step, a_step, leads_then, ◌>>◌}
+use Rattle.tac_steps.proofs.Temporaries.{eq_no, eq_same}
 use Rattle.tac_rt.specs.declared.sets.TheConstants.{IS_MEMBER}
 use Rattle.tac_rt.specs.Bodies.{routine_of}
 use Rattle.tac_rt.specs.Calls.{HasRoutines}
 use Rattle.tac_rt.specs.Laws.{FindsMembers}
 use Rattle.tac_rt.proofs.Blocks.{IsFresh}
 use Rattle.tac_rt.proofs.Inside.{back, does_so, here_at, enters, returns, literal, computes, joins, compares, indexes, loads, branches, passes}
-use Rattle.tac_rt.proofs.Arithmetic.{gives_natural, lt-ltb-no}
+use Rattle.tac_rt.proofs.Arithmetic.{gives_natural, lt-ltb-no, low_byte}
 
 abbrev routine : TacRoutine
 routine = routine_of 2 4 IS_MEMBER
+
+other_outside : (x : ℤ) → is_in_range (pos 0) (pos 255) x ≡ false → same_number (pos (word_of x % 256)) x ≡ false
+other_outside (negsuc n) e = refl
+other_outside (pos n) e = go (nat_lt 255 n) refl
+  where
+    go : (above : Bool) → nat_lt 255 n ≡ above → nat_eq (n % 256) n ≡ false
+    go true q = let l = ltb-true 255 n q in eq_no (n % 256) n (λ z. omega (arith, l, z))
+    go false q = let no : true ≡ false = ap (λ a. not a && true) (sym (lt-ltb-no n 0 (omega arith))) ∙ ap (λ b. not (nat_lt n 0) && not b) (sym q) ∙ e in absurd (cc)
+
+same_inside : (n : ℕ) → n < 256 → nat_eq (n % 256) n ≡ true
+same_inside n l = let e : n % 256 ≡ n = omega (arith, l) in ap (λ k. nat_eq k n) e ∙ eq_same n
 
 module _ (m : Machine) (s : State) (has : HasRoutines m) (fresh : IsFresh s.count s.memory) (to line : ℕ) (block : Block) (offset : ℕ) where
   abbrev at_place : ℕ → Temporaries → State
@@ -32,19 +44,18 @@ module _ (m : Machine) (s : State) (has : HasRoutines m) (fresh : IsFresh s.coun
 
   none : (t : Temporaries) → Comes m (at_place 10 t) (back s to (Number (pos 0)) s.memory s.tape)
   none t =
-      literal m s 6 routine has refl to line 10 t s.memory s.tape 2 (pos 0) refl
-      >> a_step _ _ (returns m s 6 routine has refl to line 11 (put t 2 (Number (pos 0))) s.memory s.tape 2 (Number (pos 0)) refl refl)
+      literal m s 6 routine has refl to line 10 t s.memory s.tape 0 (pos 0) refl
+      >> a_step _ _ (returns m s 6 routine has refl to line 11 (put t 0 (Number (pos 0))) s.memory s.tape 0 (Number (pos 0)) refl refl)
+
+  -- the lowest byte is the number itself, or not
+  abbrev with_byte : ℤ → Temporaries
+  with_byte x = put (start x) 2 (Number (bits And x (pos 255)))
 
   outside : (x : ℤ) → is_in_range (pos 0) (pos 255) x ≡ false → Comes m (at_place 0 (start x)) (back s to (Number (pos 0)) s.memory s.tape)
-  outside x e = go (int_lt x (pos 0)) (int_lt (pos 255) x) refl refl e
-    where
-      go : (a b : Bool) → int_lt x (pos 0) ≡ a → int_lt (pos 255) x ≡ b → (not (int_lt x (pos 0)) && not (int_lt (pos 255) x)) ≡ false → Comes m (at_place 0 (start x)) (back s to (Number (pos 0)) s.memory s.tape)
-      go true b f g e = branches m s 6 routine has refl to line 0 (start x) s.memory s.tape Less 0 (operand.Number (pos 0)) 9 refl (ap Some f) >> none (start x)
-      go false true f g e =
-          passes m s 6 routine has refl to line 0 (start x) s.memory s.tape Less 0 (operand.Number (pos 0)) 9 refl (ap Some f)
-          >> branches m s 6 routine has refl to line 1 (start x) s.memory s.tape Greater 0 (operand.Number (pos 255)) 8 refl (ap Some g)
-          >> none (start x)
-      go false false f g e = let no : true ≡ false = ap (λ a. not a && true) (sym f) ∙ ap (λ b. not (int_lt x (pos 0)) && not b) (sym g) ∙ e in absurd (cc)
+  outside x e =
+      joins m s 6 routine has refl to line 0 (start x) s.memory s.tape And 2 0 (operand.Number (pos 255)) x (pos 255) refl refl refl
+      >> branches m s 6 routine has refl to line 1 (with_byte x) s.memory s.tape NotEqual 2 (operand.Temporary 0) 8 refl (ap (λ z. Some (not (same_number z x))) (low_byte x) ∙ ap (λ q. Some (not q)) (other_outside x e))
+      >> none (with_byte x)
 
   inside : (n : ℕ) (w : ℤ) → n < 256 → load (text_at m.code) s.memory block (offset + 4 * (n / 32)) ≡ Some (Number w) → offset + 32 < 2147483648 → Comes m (at_place 0 (start (pos n))) (back s to (Number (truth (not (same_number (bits And w (bits ShiftLeft (pos 1) (pos n))) (pos 0))))) s.memory s.tape)
   inside n w low l h =
@@ -52,25 +63,25 @@ module _ (m : Machine) (s : State) (has : HasRoutines m) (fresh : IsFresh s.coun
       let bit : ℤ = bits ShiftLeft (pos 1) (pos n) in
       let both : ℤ = bits And w bit in
       let holds : Bool = not (same_number both (pos 0)) in
-      let t0 : Temporaries = start (pos n) in
+      let t0 : Temporaries = with_byte (pos n) in
       let t1 : Temporaries = put t0 2 (Number (pos q)) in
       let t2 : Temporaries = put t1 2 (Address block (offset + q * 4)) in
       let t3 : Temporaries = put t2 2 (Number w) in
       let t4 : Temporaries = put t3 3 (Number (pos 1)) in
       let t5 : Temporaries = put t4 3 (Number bit) in
-      let t6 : Temporaries = put t5 2 (Number both) in
-      let t7 : Temporaries = put t6 2 (Number (truth holds)) in
+      let t6 : Temporaries = put t5 0 (Number both) in
+      let t7 : Temporaries = put t6 0 (Number (truth holds)) in
       let place : offset + q * 4 + 0 ≡ offset + 4 * q = omega arith in
-      passes m s 6 routine has refl to line 0 t0 s.memory s.tape Less 0 (operand.Number (pos 0)) 9 refl (ap Some (lt-ltb-no n 0 (omega arith)))
-      >> passes m s 6 routine has refl to line 1 t0 s.memory s.tape Greater 0 (operand.Number (pos 255)) 8 refl (ap Some (lt-ltb-no 255 n (omega arith)))
+      joins m s 6 routine has refl to line 0 (start (pos n)) s.memory s.tape And 2 0 (operand.Number (pos 255)) (pos n) (pos 255) refl refl refl
+      >> passes m s 6 routine has refl to line 1 t0 s.memory s.tape NotEqual 2 (operand.Temporary 0) 8 refl (ap (λ z. Some (not (same_number z (pos n)))) (low_byte (pos n)) ∙ ap (λ c. Some (not c)) (same_inside n low))
       >> computes m s 6 routine has refl to line 2 t0 s.memory s.tape Divide 2 0 (operand.Number (pos 32)) (pos n) (pos 32) (pos q) refl refl refl (gives_natural q (omega arith))
       >> indexes m s 6 routine has refl to line 3 t1 s.memory s.tape 2 1 2 block offset q refl refl refl (omega arith) h
       >> loads m s 6 routine has refl to line 4 t2 s.memory s.tape 2 2 0 block (offset + q * 4) (Number w) refl refl fresh (ap (load (text_at m.code) s.memory block) place ∙ l)
       >> literal m s 6 routine has refl to line 5 t3 s.memory s.tape 3 (pos 1) refl
       >> joins m s 6 routine has refl to line 6 t4 s.memory s.tape ShiftLeft 3 3 (operand.Temporary 0) (pos 1) (pos n) refl refl refl
-      >> joins m s 6 routine has refl to line 7 t5 s.memory s.tape And 2 2 (operand.Temporary 3) w bit refl refl refl
-      >> compares m s 6 routine has refl to line 8 t6 s.memory s.tape NotEqual 2 2 (operand.Number (pos 0)) holds refl refl
-      >> a_step _ _ (returns m s 6 routine has refl to line 9 t7 s.memory s.tape 2 (Number (truth holds)) refl refl)
+      >> joins m s 6 routine has refl to line 7 t5 s.memory s.tape And 0 2 (operand.Temporary 3) w bit refl refl refl
+      >> compares m s 6 routine has refl to line 8 t6 s.memory s.tape NotEqual 0 0 (operand.Number (pos 0)) holds refl refl
+      >> a_step _ _ (returns m s 6 routine has refl to line 9 t7 s.memory s.tape 0 (Number (truth holds)) refl refl)
 
 pub finds_members : FindsMembers
 finds_members = record {

@@ -5,7 +5,7 @@ use Rattle.tac_code.specs.declared.code.Value.{Value}
 use Rattle.tac_code.specs.declared.code.Value.TheVariants.{Number, Address}
 use Rattle.tac_code.specs.declared.code.Operand.TheVariants as operand
 use Rattle.tac_code.specs.declared.code.Operator.TheVariants.{Subtract}
-use Rattle.tac_code.specs.declared.code.Relation.TheVariants.{NotEqual, LessEqual, Greater}
+use Rattle.tac_code.specs.declared.code.Relation.TheVariants.{Equal, NotEqual, LessEqual}
 use Rattle.tac_code.specs.declared.code.TacRoutine.{TacRoutine}
 use Rattle.tac_code.specs.Memory.{Memory, load_byte}
 use Rattle.tac_code.specs.Meaning.{Temporaries, put, Tape, State, text_at, related, told}
@@ -19,8 +19,8 @@ use Rattle.tac_rt.specs.Bodies.{routine_of}
 use Rattle.tac_rt.specs.Calls.{HasRoutines, BytesAt}
 use Rattle.tac_rt.specs.Laws.{WritesStrings}
 use Rattle.tac_rt.proofs.Blocks.{IsFresh}
-use Rattle.tac_rt.proofs.Inside.{back, Called, does_so, here_at, enters, returns, literal, copies, computes, offsets, loads_byte, jumps, branches, passes, branches_back, passes_back, writes}
-use Rattle.tac_rt.proofs.Arithmetic.{difference, shortfall, one_less}
+use Rattle.tac_rt.proofs.Inside.{back, Called, does_so, here_at, enters, returns, literal, copies, computes, counts, offsets, loads_byte, branches, passes, branches_back, passes_back, writes}
+use Rattle.tac_rt.proofs.Arithmetic.{difference, shortfall}
 
 -- ---- bytes, one after another
 
@@ -61,39 +61,87 @@ module _ (m : Machine) (s : State) (has : HasRoutines m) (fresh : IsFresh s.coun
   abbrev at_place : ℕ → Temporaries → Tape → State
   at_place pc temporaries tape = here_at m s 12 routine has refl to line pc temporaries s.memory tape
 
-  -- the characters, from the test at the loop's bottom on
-  characters : (text : List ℕ) (block : Block) (o : ℕ) (t : Temporaries) (tape : Tape) → BytesAt (text_at m.code) s.memory block o text → t 0 ≡ Some (Address block o) → t 1 ≡ Some (Number (pos (length text))) → o + length text < 2147483648 → (t' : Temporaries) × (t' 1 ≡ Some (Number (pos 0))) × Comes m (at_place 13 t tape) (at_place 14 t' (told_all text tape))
-  characters [] block o t tape h a n l = (t, n, passes_back m s 12 routine has refl to line 13 t s.memory tape NotEqual 1 (operand.Number (pos 0)) 4 refl (ap (λ v. related NotEqual v (Some (Number (pos 0)))) n))
-  characters (b ∷ text) block o t tape h a n l =
+  -- the temporaries behind a character
+  abbrev behind : (b n : ℕ) (block : Block) (o : ℕ) → Temporaries → Temporaries
+  behind b n block o t = put (put (put t 3 (Number (pos b))) 0 (Address block (o + 1))) 1 (Number (pos n))
+
+  character : (b n : ℕ) (block : Block) (o : ℕ) (t : Temporaries) (tape : Tape) → load_byte (text_at m.code) s.memory block o ≡ Some b → b < 256 → t 0 ≡ Some (Address block o) → t 1 ≡ Some (Number (pos (suc n))) → o + suc n < 2147483648 → Comes m (at_place 9 t tape) (at_place 13 (behind b n block o t) (told b tape))
+  character b n block o t tape h low a c l =
       let t1 : Temporaries = put t 3 (Number (pos b)) in
       let t2 : Temporaries = put t1 0 (Address block (o + 1)) in
-      let t3 : Temporaries = put t2 1 (Number (pos (length text))) in
+      let here : o + 0 ≡ o = omega arith in
+      loads_byte m s 12 routine has refl to line 9 t s.memory tape 3 0 0 block o b refl a fresh (ap (load_byte (text_at m.code) s.memory block) here ∙ h)
+      >> writes m s 12 routine has refl to line 10 t1 s.memory tape 3 b refl refl low
+      >> offsets m s 12 routine has refl to line 11 t1 s.memory (told b tape) 0 0 1 block o refl a (omega arith)
+      >> counts m s 12 routine has refl to line 12 t2 s.memory (told b tape) 1 (suc n) n 0 refl c (omega arith) (omega arith)
+
+  abbrev Written : (pc : ℕ) → Temporaries → Tape → List ℕ → Type 0
+  Written pc t tape text = (t' : Temporaries) × (t' 1 ≡ Some (Number (pos 0))) × Comes m (at_place pc t tape) (at_place 14 t' (told_all text tape))
+
+  -- the characters, from the top of the loop on
+  characters : (b : ℕ) (text : List ℕ) (block : Block) (o : ℕ) (t : Temporaries) (tape : Tape) → BytesAt (text_at m.code) s.memory block o (b ∷ text) → t 0 ≡ Some (Address block o) → t 1 ≡ Some (Number (pos (suc (length text)))) → o + suc (length text) < 2147483648 → Written 9 t tape (b ∷ text)
+  characters b [] block o t tape h a n l =
+      let t' : Temporaries = behind b 0 block o t in
+      (t', refl, character b 0 block o t tape h.0 h.1 a n l >> passes_back m s 12 routine has refl to line 13 t' s.memory (told b tape) NotEqual 1 (operand.Number (pos 0)) 4 refl refl)
+  characters b (c ∷ text) block o t tape h a n l =
+      let t' : Temporaries = behind b (suc (length text)) block o t in
       let more : suc (length text) ≡ 0 → ⊥ = λ e. omega arith in
-      let rest = characters text block (o + 1) t3 (told b tape) h.2 refl refl (omega arith) in
-      let here : o + 0 ≡ o = omega arith in (
+      let rest = characters c text block (o + 1) t' (told b tape) h.2 refl refl (omega arith) in (
         rest.0,
         rest.1,
-        branches_back m s 12 routine has refl to line 13 t s.memory tape NotEqual 1 (operand.Number (pos 0)) 4 refl (ap (λ v. related NotEqual v (Some (Number (pos 0)))) n ∙ ap (λ x. Some (not x)) (eq_no (suc (length text)) 0 more))
-            >> loads_byte m s 12 routine has refl to line 9 t s.memory tape 3 0 0 block o b refl a fresh (ap (load_byte (text_at m.code) s.memory block) here ∙ h.0)
-            >> writes m s 12 routine has refl to line 10 t1 s.memory tape 3 b refl refl h.1
-            >> offsets m s 12 routine has refl to line 11 t1 s.memory (told b tape) 0 0 1 block o refl a (omega arith)
-            >> computes m s 12 routine has refl to line 12 t2 s.memory (told b tape) Subtract 1 1 (operand.Number (pos 1)) (pos (suc (length text))) (pos 1) (pos (length text)) refl n refl (one_less (length text) (omega arith))
+        character b (suc (length text)) block o t tape h.0 h.1 a n l
+            >> branches_back m s 12 routine has refl to line 13 t' s.memory (told b tape) NotEqual 1 (operand.Number (pos 0)) 4 refl (ap (λ x. Some (not x)) (eq_no (suc (length text)) 0 more))
             >> rest.2,
       )
 
-  -- the spaces
-  spaces : (k : ℕ) (t : Temporaries) (tape : Tape) → t 3 ≡ Some (Number (pos k)) → t 4 ≡ Some (Number (pos 32)) → k < 2147483648 → (t' : Temporaries) × (t' 0 ≡ t 0) × (t' 1 ≡ t 1) × (t' 2 ≡ t 2) × Comes m (at_place 5 t tape) (at_place 6 t' (told_all (replicate k 32) tape))
-  spaces zero t tape n space l = (t, refl, refl, refl, passes_back m s 12 routine has refl to line 5 t s.memory tape Greater 3 (operand.Number (pos 0)) 2 refl (ap (λ v. related Greater v (Some (Number (pos 0)))) n))
-  spaces (suc k) t tape n space l =
-      let t1 : Temporaries = put t 3 (Number (pos k)) in
-      let rest = spaces k t1 (told 32 tape) refl space (omega arith) in (
+  -- all of them
+  string : (text : List ℕ) (block : Block) (o : ℕ) (t : Temporaries) (tape : Tape) → BytesAt (text_at m.code) s.memory block o text → t 0 ≡ Some (Address block o) → t 1 ≡ Some (Number (pos (length text))) → o + length text < 2147483648 → Written 8 t tape text
+  string [] block o t tape h a n l = (t, n, branches m s 12 routine has refl to line 8 t s.memory tape Equal 1 (operand.Number (pos 0)) 5 refl (ap (λ v. related Equal v (Some (Number (pos 0)))) n))
+  string (b ∷ text) block o t tape h a n l =
+      let more : suc (length text) ≡ 0 → ⊥ = λ e. omega arith in
+      let rest = characters b text block o t tape h a n l in (
+        rest.0,
+        rest.1,
+        passes m s 12 routine has refl to line 8 t s.memory tape Equal 1 (operand.Number (pos 0)) 5 refl (ap (λ v. related Equal v (Some (Number (pos 0)))) n ∙ ap Some (eq_no (suc (length text)) 0 more))
+            >> rest.2,
+      )
+
+  abbrev Spaced : (pc k : ℕ) → Temporaries → Tape → Type 0
+  Spaced pc k t tape = (t' : Temporaries) × (t' 0 ≡ t 0) × (t' 1 ≡ t 1) × (t' 2 ≡ t 2) × Comes m (at_place pc t tape) (at_place 6 t' (told_all (replicate k 32) tape))
+
+  space : (k : ℕ) (t : Temporaries) (tape : Tape) → t 3 ≡ Some (Number (pos (suc k))) → t 4 ≡ Some (Number (pos 32)) → suc k < 2147483648 → Comes m (at_place 3 t tape) (at_place 5 (put t 3 (Number (pos k))) (told 32 tape))
+  space k t tape n e l =
+      writes m s 12 routine has refl to line 3 t s.memory tape 4 32 refl e (omega arith)
+      >> counts m s 12 routine has refl to line 4 t s.memory (told 32 tape) 3 (suc k) k 0 refl n (omega arith) l
+
+  -- spaces, from the top of the loop on
+  spaces : (k : ℕ) (t : Temporaries) (tape : Tape) → t 3 ≡ Some (Number (pos (suc k))) → t 4 ≡ Some (Number (pos 32)) → suc k < 2147483648 → Spaced 3 (suc k) t tape
+  spaces zero t tape n e l =
+      let t1 : Temporaries = put t 3 (Number (pos 0)) in
+      (t1, refl, refl, refl, space 0 t tape n e l >> passes_back m s 12 routine has refl to line 5 t1 s.memory (told 32 tape) NotEqual 3 (operand.Number (pos 0)) 2 refl refl)
+  spaces (suc k) t tape n e l =
+      let t1 : Temporaries = put t 3 (Number (pos (suc k))) in
+      let more : suc k ≡ 0 → ⊥ = λ q. omega arith in
+      let rest = spaces k t1 (told 32 tape) refl e (omega arith) in (
         rest.0,
         rest.1,
         rest.2,
         rest.3,
-        branches_back m s 12 routine has refl to line 5 t s.memory tape Greater 3 (operand.Number (pos 0)) 2 refl (ap (λ v. related Greater v (Some (Number (pos 0)))) n ∙ ap Some (lt-ltb 0 (suc k) (omega arith)))
-            >> writes m s 12 routine has refl to line 3 t s.memory tape 4 32 refl space (omega arith)
-            >> computes m s 12 routine has refl to line 4 t s.memory (told 32 tape) Subtract 3 3 (operand.Number (pos 1)) (pos (suc k)) (pos 1) (pos k) refl n refl (one_less k l)
+        space (suc k) t tape n e l
+            >> branches_back m s 12 routine has refl to line 5 t1 s.memory (told 32 tape) NotEqual 3 (operand.Number (pos 0)) 2 refl (ap (λ x. Some (not x)) (eq_no (suc k) 0 more))
+            >> rest.4,
+      )
+
+  padding : (k : ℕ) (t : Temporaries) (tape : Tape) → t 3 ≡ Some (Number (pos k)) → k < 2147483648 → Spaced 1 k t tape
+  padding zero t tape n l = (t, refl, refl, refl, branches m s 12 routine has refl to line 1 t s.memory tape LessEqual 3 (operand.Number (pos 0)) 4 refl (ap (λ v. related LessEqual v (Some (Number (pos 0)))) n))
+  padding (suc k) t tape n l =
+      let rest = spaces k (put t 4 (Number (pos 32))) tape n refl l in (
+        rest.0,
+        rest.1,
+        rest.2,
+        rest.3,
+        passes m s 12 routine has refl to line 1 t s.memory tape LessEqual 3 (operand.Number (pos 0)) 4 refl (ap (λ v. related LessEqual v (Some (Number (pos 0)))) n ∙ ap (λ x. Some (not x)) (lt-ltb 0 (suc k) (omega arith)))
+            >> literal m s 12 routine has refl to line 2 t s.memory tape 4 (pos 32) refl
             >> rest.4,
       )
 
@@ -104,15 +152,12 @@ module _ (m : Machine) (s : State) (has : HasRoutines m) (fresh : IsFresh s.coun
     abbrev start : Temporaries
     start u = slice_get values u
 
-    -- what is left of the field, and a space
+    -- what is left of the field
     abbrev ready : ℤ → Temporaries
-    ready z = put (put start 3 (Number z)) 4 (Number (pos 32))
+    ready z = put start 3 (Number z)
 
     abbrev Ended : Type 0
     Ended = (t' : Temporaries) × (t' 1 ≡ Some (Number (pos 0))) × Comes m (at_place 0 start s.tape) (at_place 14 t' (told_all (fitted w text) s.tape))
-
-    sets_out : (z : ℤ) → (computes_to : Comes m (at_place 0 start s.tape) (at_place 1 (put start 3 (Number z)) s.tape)) → Comes m (at_place 0 start s.tape) (at_place 5 (ready z) s.tape)
-    sets_out z c = c >> literal m s 12 routine has refl to line 1 (put start 3 (Number z)) s.memory s.tape 4 (pos 32) refl >> jumps m s 12 routine has refl to line 2 (ready z) s.memory s.tape 2 refl
 
     cut : nat_lt w (length text) ≡ true → Ended
     cut e =
@@ -120,15 +165,14 @@ module _ (m : Machine) (s : State) (has : HasRoutines m) (fresh : IsFresh s.coun
         let z : ℤ = negsuc (length text - suc w) in
         let t1 : Temporaries = put (ready z) 1 (Number (pos w)) in
         let count : length (take w text) ≡ w = taken_length w text (omega arith) in
-        let rest = characters (take w text) block o t1 s.tape (bytes_taken m s.memory block w o text h) refl (ap (λ n. Some (Number (pos n))) (sym count)) (subst (λ n. o + n < 2147483648) (sym count) (omega arith)) in (
+        let rest = string (take w text) block o t1 s.tape (bytes_taken m s.memory block w o text h) refl (ap (λ n. Some (Number (pos n))) (sym count)) (subst (λ n. o + n < 2147483648) (sym count) (omega arith)) in (
           rest.0,
           rest.1,
           subst (λ bs. Comes m (at_place 0 start s.tape) (at_place 14 rest.0 (told_all bs s.tape))) (ap (λ b. if b then take w text else right_aligned w text) (sym e))
-              (sets_out z (computes m s 12 routine has refl to line 0 start s.memory s.tape Subtract 3 2 (operand.Temporary 1) (pos w) (pos (length text)) z refl refl refl (shortfall w (length text) below (omega arith)))
-              >> passes_back m s 12 routine has refl to line 5 (ready z) s.memory s.tape Greater 3 (operand.Number (pos 0)) 2 refl refl
+              (computes m s 12 routine has refl to line 0 start s.memory s.tape Subtract 3 2 (operand.Temporary 1) (pos w) (pos (length text)) z refl refl refl (shortfall w (length text) below (omega arith))
+              >> branches m s 12 routine has refl to line 1 (ready z) s.memory s.tape LessEqual 3 (operand.Number (pos 0)) 4 refl refl
               >> passes m s 12 routine has refl to line 6 (ready z) s.memory s.tape LessEqual 1 (operand.Temporary 2) 1 refl (ap (λ b. Some (not b)) e)
               >> copies m s 12 routine has refl to line 7 (ready z) s.memory s.tape 1 2 (Number (pos w)) refl refl
-              >> jumps m s 12 routine has refl to line 8 t1 s.memory s.tape 4 refl
               >> rest.2),
         )
 
@@ -136,16 +180,15 @@ module _ (m : Machine) (s : State) (has : HasRoutines m) (fresh : IsFresh s.coun
     padded e =
         let room : length text ≤ w = let n = ltb-false w (length text) e in omega arith in
         let z : ℤ = pos (w - length text) in
-        let front = spaces (w - length text) (ready z) s.tape refl refl (omega arith) in
+        let front = padding (w - length text) (ready z) s.tape refl (omega arith) in
         let tape : Tape = told_all (replicate (w - length text) 32) s.tape in
-        let rest = characters text block o front.0 tape h front.1 front.2 l in (
+        let rest = string text block o front.0 tape h front.1 front.2 l in (
           rest.0,
           rest.1,
           subst (λ x. Comes m (at_place 0 start s.tape) (at_place 14 rest.0 x)) (told_both (replicate (w - length text) 32) text s.tape ∙ ap (λ b. told_all (if b then take w text else right_aligned w text) s.tape) (sym e))
-              (sets_out z (computes m s 12 routine has refl to line 0 start s.memory s.tape Subtract 3 2 (operand.Temporary 1) (pos w) (pos (length text)) z refl refl refl (difference w (length text) room narrow))
+              (computes m s 12 routine has refl to line 0 start s.memory s.tape Subtract 3 2 (operand.Temporary 1) (pos w) (pos (length text)) z refl refl refl (difference w (length text) room narrow)
               >> front.4
               >> branches m s 12 routine has refl to line 6 front.0 s.memory tape LessEqual 1 (operand.Temporary 2) 1 refl (ap (λ v. related LessEqual v (front.0 2)) front.2 ∙ ap (related LessEqual (Some (Number (pos (length text))))) front.3 ∙ ap (λ b. Some (not b)) e)
-              >> jumps m s 12 routine has refl to line 8 front.0 s.memory tape 4 refl
               >> rest.2),
         )
 

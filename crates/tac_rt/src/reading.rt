@@ -4,7 +4,7 @@
 use crate::step::Step;
 use tac_code::code::Operand::{Number, Temporary};
 use tac_code::code::Operator::{Multiply, Subtract};
-use tac_code::code::Relation::{Equal, Greater, Less, LessEqual, NotEqual};
+use tac_code::code::Relation::{Equal, Greater, GreaterEqual, Less, LessEqual, NotEqual};
 
 /// What stands next: 0 nothing, 1 a line end, 2 another character. 0 the address of the two words.
 pub const LOOK: [Step; 12] = [
@@ -14,26 +14,27 @@ pub const LOOK: [Step; 12] = [
     Step::Store(0, 0, 1),
     Step::Branch(Equal, 1, Number(-1), 5),
     Step::Branch(Equal, 1, Number(10), 2),
-    Step::Literal(1, 2),
-    Step::Return(1),
-    Step::Literal(1, 1),
-    Step::Return(1),
-    Step::Load(1, 0, 4),
-    Step::Return(1),
+    Step::Literal(0, 2),
+    Step::Return(0),
+    Step::Literal(0, 1),
+    Step::Return(0),
+    Step::Load(0, 0, 4),
+    Step::Return(0),
 ];
 
-/// The next character, a line end as a space, or -1 where nothing is left: 0 the address of the two words.
+/// The next character, a line end as a space, or -1 where nothing is left: 0 the address of the two words. Temporary 2 is not 0 where a line ends, be it
+/// at the end of the input.
 pub const READ_CHARACTER: [Step; 18] = [
     Step::Load(1, 0, 0),
-    Step::Branch(NotEqual, 1, Number(-2), 1),
+    Step::Branch(GreaterEqual, 1, Number(0), 3),
+    Step::Branch(Equal, 1, Number(-1), 8),
     Step::Take(1),
-    Step::Branch(Equal, 1, Number(-1), 7),
+    Step::Branch(Equal, 1, Number(-1), 6),
     Step::Literal(2, -2),
     Step::Store(0, 0, 2),
-    Step::Compare(NotEqual, 2, 1, Number(10)),
+    Step::Branch(Equal, 1, Number(10), 5),
+    Step::Literal(2, 1),
     Step::Store(0, 4, 2),
-    Step::Branch(NotEqual, 1, Number(10), 1),
-    Step::Literal(1, 32),
     Step::Return(1),
     Step::Load(2, 0, 4),
     Step::Store(0, 0, 1),

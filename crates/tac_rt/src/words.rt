@@ -1,57 +1,69 @@
-// Copies, packed bytes, and the comparison of strings.
+// Copies, packed bytes, and the comparison of strings. A loop is passed by where there is nothing to do; else each turn ends with the sum that counts
+// down, and goes on where it is not 0.
 
 use crate::step::Step;
+use tac_code::code::BitOperator::{And, Plus};
 use tac_code::code::Operand::{Number, Temporary};
 use tac_code::code::Operator::Subtract;
-use tac_code::code::Relation::NotEqual;
+use tac_code::code::Relation::{Equal, NotEqual};
 
-/// Copies words upward, from the lowest on: 0 the address to which, 1 the address from which, 2 how many bytes.
-pub const COPY: [Step; 8] = [
-    Step::Jump(5),
+/// Copies words upward, from the lowest on: 0 the address to which, 1 the address from which, 2 how many bytes. A word is copied first where their
+/// number is odd, then two in each turn.
+pub const COPY: [Step; 17] = [
+    Step::Bits(And, 3, 2, Number(7)),
+    Step::Branch(Equal, 3, Number(0), 5),
     Step::Load(3, 1, 0),
     Step::Store(0, 0, 3),
     Step::Offset(0, 0, 4),
     Step::Offset(1, 1, 4),
-    Step::Arithmetic(Subtract, 2, 2, Number(4)),
-    Step::BranchBack(NotEqual, 2, Number(0), 5),
+    Step::Bits(Plus, 2, 2, Number(-4)),
+    Step::Branch(Equal, 2, Number(0), 8),
+    Step::Load(3, 1, 0),
+    Step::Store(0, 0, 3),
+    Step::Load(3, 1, 4),
+    Step::Store(0, 4, 3),
+    Step::Offset(0, 0, 8),
+    Step::Offset(1, 1, 8),
+    Step::Bits(Plus, 2, 2, Number(-8)),
+    Step::BranchBack(NotEqual, 2, Number(0), 7),
     Step::Return(2),
 ];
 
 /// The first bytes that differ, the left less the right one, or 0: 0 and 1 the addresses, 2 how many bytes.
 pub const COMPARE: [Step; 11] = [
-    Step::Jump(6),
+    Step::Branch(Equal, 2, Number(0), 7),
     Step::LoadByte(3, 0, 0),
     Step::LoadByte(4, 1, 0),
     Step::Branch(NotEqual, 3, Temporary(4), 5),
     Step::Offset(0, 0, 1),
     Step::Offset(1, 1, 1),
-    Step::Arithmetic(Subtract, 2, 2, Number(1)),
+    Step::Bits(Plus, 2, 2, Number(-1)),
     Step::BranchBack(NotEqual, 2, Number(0), 6),
     Step::Return(2),
-    Step::Arithmetic(Subtract, 3, 3, Temporary(4)),
-    Step::Return(3),
+    Step::Arithmetic(Subtract, 0, 3, Temporary(4)),
+    Step::Return(0),
 ];
 
 /// Words to bytes: 0 the address to which, 1 the address from which, 2 how many.
 pub const PACK: [Step; 8] = [
-    Step::Jump(5),
+    Step::Branch(Equal, 2, Number(0), 6),
     Step::Load(3, 1, 0),
     Step::StoreByte(0, 0, 3),
     Step::Offset(0, 0, 1),
     Step::Offset(1, 1, 4),
-    Step::Arithmetic(Subtract, 2, 2, Number(1)),
+    Step::Bits(Plus, 2, 2, Number(-1)),
     Step::BranchBack(NotEqual, 2, Number(0), 5),
     Step::Return(2),
 ];
 
 /// Bytes to words: 0 the address to which, 1 the address from which, 2 how many.
 pub const UNPACK: [Step; 8] = [
-    Step::Jump(5),
+    Step::Branch(Equal, 2, Number(0), 6),
     Step::LoadByte(3, 1, 0),
     Step::Store(0, 0, 3),
     Step::Offset(0, 0, 4),
     Step::Offset(1, 1, 1),
-    Step::Arithmetic(Subtract, 2, 2, Number(1)),
+    Step::Bits(Plus, 2, 2, Number(-1)),
     Step::BranchBack(NotEqual, 2, Number(0), 5),
     Step::Return(2),
 ];
