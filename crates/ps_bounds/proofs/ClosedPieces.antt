@@ -18,7 +18,7 @@ use Rattle.tac_code.specs.Numbers.{number_of}
 use Rattle.ps_layout.specs.Words.{filled}
 use Rattle.ps_layout.specs.Frames.{Kind, Own, Reference, Closure}
 use Rattle.ps_code.specs.Fits.{FunctionFits}
-use Rattle.ps_code.specs.Scopes.{beside, moved, least, greatest, range_code, is_any, check_code, fitting_code, operand_check, operand_of, Site, Scope, kind_at, is_outermost, hops, frame_code, link_code, formal_code}
+use Rattle.ps_code.specs.Scopes.{beside, moved, least, greatest, range_code, is_any, check_code, has_bytes, fitting_code, operand_check, operand_of, Site, Scope, kind_at, is_outermost, hops, frame_code, link_code, formal_code}
 use Rattle.ps_code.specs.Values.{negated, literal_of, is_relation, is_truth, right_in, relation_code, finish, truth_finish, load_code, store_code, index_code, function_code, minus_code, reference_code, name_code, holds_all, outside_bits, masked, joined_word, outside_code, set_check, clear_code, same_sets_code, sets_code, range_members}
 use Rattle.ps_code.proofs.Masks.{outside_small}
 use Rattle.ps_bounds.specs.Forms.{IsRange, HasBounds, ExprFormed}
@@ -90,9 +90,9 @@ module _ (R T : ℕ) where
   check_closed None t l h n line p q e w = range_closed t l h n line p q e w
   check_closed (Some z) t l h n line p q e w = either R T (is_between l z h) [] (i.CheckRange t l h n line ∷ []) tt ((p, q, e, w), tt, tt)
 
-  pub fitting_closed : (z : Option ℤ) (t : ℕ) (range : Range) (line : ℕ) → IsRange range → IsLine line → Closed R T 0 0 (fitting_code z t range line)
-  fitting_closed z t Any line r w = tt
-  fitting_closed z t (Within l h) line r w = check_closed z t l h 4 line (to_int l r.0) (to_int h r.1) (omega arith) w
+  pub fitting_closed : (b : Bool) (z : Option ℤ) (t : ℕ) (range : Range) (line : ℕ) → IsRange range → IsLine line → Closed R T 0 0 (fitting_code b z t range line)
+  fitting_closed b z t Any line r w = tt
+  fitting_closed b z t (Within l h) line r w = either R T (b && has_bytes l h) [] (check_code z t l h 4 line) tt (check_closed z t l h 4 line (to_int l r.0) (to_int h r.1) (omega arith) w)
 
   pub operand_check_closed : (z : Option ℤ) (t : ℕ) (low high : ℤ) (number line : ℕ) → IsInt low → IsInt high → IsErrorNumber number → IsLine line → Closed R T 0 0 (operand_check z t low high number line)
   operand_check_closed None t l h n line p q e w = range_closed t l h n line p q e w

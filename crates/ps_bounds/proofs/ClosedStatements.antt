@@ -1,5 +1,6 @@
 -- The code of statements is closed.
-use Rattle.std.proofs.Common.{◌≡◌, ℕ, suc, ◌+◌, ◌<◌, Bool, true, false, ◌||◌, List, [], ◌∷◌, ◌++◌, length, pos, arith, length-append}
+use Rattle.std.proofs.Common.{◌≡◌, ℕ, suc, ◌+◌, ◌<◌, Bool, true, false, ◌||◌, List, [], ◌∷◌, ◌++◌, length, pos, None, arith, length-append}
+use Rattle.ps_tree.specs.declared.tree.Range.TheVariants.{Within}
 use Rattle.ps_tree.specs.Types.{DataType}
 use Rattle.ps_tree.specs.Sizes.{value_count}
 use Rattle.ps_tree.specs.Tree.{Place, Expr, ReadVariable, ReadChar, ReadInteger, Width, DefaultWidth, GivenWidth, WriteParameter, WriteInteger, WriteChar, WriteBoolean, WriteText, Statement, Empty, Assign, AssignSet, AssignStructure, CallProcedure, CallFormalProcedure, Compound, If, IfElse, Case, While, Repeat, For, With, New, Pack, Unpack, Read, Readln, Write, Writeln, Statements, no_statement, statement_before, Elements, no_element, element_before, Program, domain_at}
@@ -11,7 +12,7 @@ use Rattle.ps_layout.specs.Shapes.{shape_of, byte_count, component_bytes}
 use Rattle.ps_layout.specs.Frames.{entry_offset}
 use Rattle.ps_code.specs.Scopes.{even_from, odd_from, held, kept, beside, greatest, check_code, operand_of, Scope, routine_up}
 use Rattle.ps_code.specs.Calling.{places_call, expr_calls, structure_calls, width_calls, statement_calls}
-use Rattle.ps_code.specs.Values.{literal_of, relation_in, left_in, right_in, opposite, finish, is_byte, is_byte_array, text_length, arguments_end, place_temporary, place_site, place_code, front_code, structure_code, arguments_code}
+use Rattle.ps_code.specs.Values.{literal_of, relation_in, left_in, right_in, opposite, finish, is_byte, gives_byte, is_byte_array, text_length, arguments_end, place_temporary, place_site, place_code, front_code, structure_code, arguments_code}
 use Rattle.ps_code.specs.Statements.{expr_code, read_code, reads_code, width_code, write_code, writes_code, within_site, with_code, with_scope, with_depth, tests_code, body_depth, room_code, statement_code, statements_code, elements_code}
 use Rattle.ps_bounds.specs.Forms.{IsSmall, HasFirst, ExprFormed, PlacesFormed, ReadFormed, ReadsFormed, WidthFormed, WriteFormed, WritesFormed, StatementFormed, StatementsFormed, ElementsFormed}
 use Rattle.ps_bounds.proofs.Closed.{to_int, Closed, anywhere, joined, both, three, four, five, six, unknown}
@@ -38,7 +39,7 @@ module _ (R T : ℕ) (k : Scope) (h : length k.program.routines ≡ R) where
   read_closed (ReadChar p low high line) d f =
       let t = even_from (suc (odd_from d)) in let w = f.2 in
       four R T (place_code k p (odd_from d) 0) _ _ _ (place_closed R T k h p (odd_from d) 0 f.0) (tt, tt, tt)
-      (omega (arith, h), tt, (omega (arith, w), tt, anywhere R T _ 2 0 (range_closed R T t low high 4 line (to_int low f.1.0) (to_int high f.1.1) (omega arith) f.2)))
+      (omega (arith, h), tt, (omega (arith, w), tt, anywhere R T _ 2 0 (fitting_closed R T true None t (Within low high) line f.1 f.2)))
       (store_closed R T (is_byte p) (place_site k p (odd_from d)) t)
   read_closed (ReadInteger p low high line) d f =
       let t = even_from (suc (odd_from d)) in let w = f.2 in
@@ -88,7 +89,7 @@ module _ (R T : ℕ) where
     statement_closed k h Empty d f = tt
     statement_closed k h (Assign p range e line) d f =
         let c = kept (expr_calls e) d in let t = even_from (suc (place_temporary p c)) in
-        four R T (place_code k p c 0) _ _ _ (place_closed R T k h.0 p c 0 f.0) (expr_closed R T k h.0 e t f.1) (fitting_closed R T (literal_of e) t range line f.2 f.3) (store_closed R T (is_byte p) (place_site k p c) t)
+        four R T (place_code k p c 0) _ _ _ (place_closed R T k h.0 p c 0 f.0) (expr_closed R T k h.0 e t f.1) (fitting_closed R T (gives_byte e) (literal_of e) t range line f.2 f.3) (store_closed R T (is_byte p) (place_site k p c) t)
     statement_closed k h (AssignSet p low high e line) d f =
         let c = odd_from d in let t = even_from (suc c) in let r = h.0 in
         five R T (place_code k p c 0) _ _ _ _ (place_closed R T k h.0 p c 0 f.0) (set_closed R T k h.0 e (suc c) 0 f.1) (set_check_closed R T t 0 low high line f.3) (tt, tt, tt) (omega (arith, r))

@@ -7,7 +7,7 @@ use Rattle.ps_tree.specs.Tree.{Place, Variable, Element, Field, Target, Selector
 use Rattle.tac_code.specs.declared.code.Instruction.TheVariants as i
 use Rattle.ps_code.specs.Scopes.{even_from, odd_from, held, kept, beside, unless_known, Site, Scope, run_time_number}
 use Rattle.ps_code.specs.Calling.{selectors_call, expr_calls, steps_call, operands_call, structure_calls, arguments_call}
-use Rattle.ps_code.specs.Values.{literal_of, negated, set_routine, finish, truth_finish, known_steps, element_site, is_byte, index_code, argument_words, argument_end, argument_scratch, arguments_words, arguments_end, name_code, name_site, place_site, clear_code, place_code, selectors_code, front_code, steps_code, operands_code, set_code, set_steps_code, members_code, member_code, structure_code, argument_code, arguments_code}
+use Rattle.ps_code.specs.Values.{literal_of, negated, set_routine, finish, truth_finish, known_steps, element_site, is_byte, gives_byte, index_code, argument_words, argument_end, argument_scratch, arguments_words, arguments_end, name_code, name_site, place_site, clear_code, place_code, selectors_code, front_code, steps_code, operands_code, set_code, set_steps_code, members_code, member_code, structure_code, argument_code, arguments_code}
 use Rattle.ps_bounds.specs.Forms.{argument_count, arguments_count, PlaceFormed, SelectorsFormed, ExprFormed, StepsFormed, OperandsFormed, SetFormed, SetStepsFormed, MemberFormed, MembersFormed, StructureFormed, ArgumentFormed, ArgumentsFormed}
 use Rattle.ps_bounds.proofs.Closed.{to_int, Closed, anywhere, both, three, four, unknown}
 use Rattle.ps_bounds.proofs.ClosedPieces.{negated_known, filled_whole, literal_known, operand_number, moved_closed, fitting_closed, finish_closed, truth_closed, function_closed, minus_closed, load_closed, index_closed, link_closed, formal_closed, name_closed, clear_closed, set_check_closed, sets_closed, members_closed}
@@ -140,7 +140,7 @@ module _ (R T : ℕ) (k : Scope) (h : length k.program.routines ≡ R) where
     structure_closed (Contents p type) d x f = both R T (place_code k p d x) _ (place_closed p d x f) (tt, tt, tt)
 
     argument_closed : (a : Argument) (t x : ℕ) → ArgumentFormed R T a → Closed R T 0 0 (argument_code k a t x)
-    argument_closed (ByValue e range line) t x f = both R T (front_code k e t x ++ finish e t) _ (finished e t x f.0 (front_closed e t x f.0)) (fitting_closed R T (literal_of e) t range line f.1 f.2)
+    argument_closed (ByValue e range line) t x f = both R T (front_code k e t x ++ finish e t) _ (finished e t x f.0 (front_closed e t x f.0)) (fitting_closed R T (gives_byte e) (literal_of e) t range line f.1 f.2)
     argument_closed (BySet e low high line) t x f =
         three R T (set_code k e t x) _ _ (set_closed e t x f.0) (set_check_closed R T (even_from t) x low high line f.2) (tt, tt, tt)
     argument_closed (ByCopy e type) t x f =

@@ -1,5 +1,6 @@
 -- The code of statements has small offsets.
-use Rattle.std.proofs.Common.{ℕ, suc, Bool, true, false, ◌||◌, List, [], ◌∷◌, ◌++◌, length, pos, sym, subst, arith}
+use Rattle.std.proofs.Common.{ℕ, suc, Bool, true, false, ◌||◌, List, [], ◌∷◌, ◌++◌, length, pos, None, sym, subst, arith}
+use Rattle.ps_tree.specs.declared.tree.Range.TheVariants.{Within}
 use Rattle.ps_tree.specs.Sizes.{value_count}
 use Rattle.ps_tree.specs.Tree.{Place, Expr, ReadVariable, ReadChar, ReadInteger, Width, DefaultWidth, GivenWidth, WriteParameter, WriteInteger, WriteChar, WriteBoolean, WriteText, Statement, Empty, Assign, AssignSet, AssignStructure, CallProcedure, CallFormalProcedure, Compound, If, IfElse, Case, While, Repeat, For, With, New, Pack, Unpack, Read, Readln, Write, Writeln, Statements, no_statement, statement_before, Elements, no_element, element_before, domain_at}
 use Rattle.ps_meaning.specs.Expressions.{index_of}
@@ -9,7 +10,7 @@ use Rattle.ps_layout.specs.Shapes.{Shape, shape_of, component_bytes, Whole}
 use Rattle.ps_layout.specs.Frames.{entry_offset}
 use Rattle.ps_code.specs.Scopes.{even_from, odd_from, held, kept, beside, greatest, check_code, operand_of, Scope, routine_up}
 use Rattle.ps_code.specs.Calling.{places_call, expr_calls, structure_calls, width_calls, statement_calls}
-use Rattle.ps_code.specs.Values.{literal_of, finish, is_byte, is_byte_array, text_length, structure_bytes, arguments_end, place_temporary, place_site, place_code, front_code, structure_code, arguments_code}
+use Rattle.ps_code.specs.Values.{literal_of, finish, is_byte, gives_byte, is_byte_array, text_length, structure_bytes, arguments_end, place_temporary, place_site, place_code, front_code, structure_code, arguments_code}
 use Rattle.ps_code.specs.Statements.{expr_code, read_code, reads_code, width_code, write_code, writes_code, within_site, with_code, with_scope, with_depth, tests_code, body_depth, statement_code, statements_code, elements_code}
 use Rattle.ps_bounds.specs.Places.{ExprLies, RecordsLie, ReadLies, ReadsLie, WidthLies, WriteLies, WritesLie, StatementLies, StatementsLie, ElementsLie}
 use Rattle.ps_bounds.proofs.Narrow.{Narrow, both, three, four, five, six, unknown, component_most, SitesReach, Framed, link_narrow, formal_narrow, entry_most, store_narrow, site_narrow}
@@ -23,7 +24,7 @@ module _ (k : Scope) (b : Framed k.program) (os : List Shape) (o : SitesReach k.
   read_narrow : (v : ReadVariable) (d : ℕ) → ReadLies k os v → Narrow (read_code k v d)
   read_narrow (ReadChar p low high line) d f =
       let t = even_from (suc (odd_from d)) in let l = b.input in
-      four (place_code k p (odd_from d) 0) _ _ _ (place_narrow k b os o p (odd_from d) 0 f.0 f.1) (omega (arith, l)) (tt, (tt, range_narrow t low high 4 line))
+      four (place_code k p (odd_from d) 0) _ _ _ (place_narrow k b os o p (odd_from d) 0 f.0 f.1) (omega (arith, l)) (tt, (tt, fitting_narrow true None t (Within low high) line))
       (store_narrow (is_byte p) (place_site k p (odd_from d)) t (place_most k b os o p (odd_from d) f.0 f.1))
   read_narrow (ReadInteger p low high line) d f =
       let t = even_from (suc (odd_from d)) in let l = b.input in
@@ -78,7 +79,7 @@ mutual
   statement_narrow k b os o Empty d f = tt
   statement_narrow k b os o (Assign p range e line) d f =
       let c = kept (expr_calls e) d in let t = even_from (suc (place_temporary p c)) in
-      four (place_code k p c 0) _ _ _ (place_narrow k b os o p c 0 f.0 f.1) (expr_narrow k b os o e t f.2) (fitting_narrow (literal_of e) t range line) (store_narrow (is_byte p) (place_site k p c) t (place_most k b os o p c f.0 f.1))
+      four (place_code k p c 0) _ _ _ (place_narrow k b os o p c 0 f.0 f.1) (expr_narrow k b os o e t f.2) (fitting_narrow (gives_byte e) (literal_of e) t range line) (store_narrow (is_byte p) (place_site k p c) t (place_most k b os o p c f.0 f.1))
   statement_narrow k b os o (AssignSet p low high e line) d f =
       let c = odd_from d in let t = even_from (suc c) in
       five (place_code k p c 0) _ _ _ _ (place_narrow k b os o p c 0 f.0 f.1) (set_narrow k b os o e (suc c) 0 f.2) (set_check_narrow t 0 low high line)

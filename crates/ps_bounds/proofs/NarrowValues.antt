@@ -1,5 +1,5 @@
 -- The code of variables, expressions and actual parameters has small offsets, and their variables lie within their blocks.
-use Rattle.std.proofs.Common.{ℕ, zero, suc, ◌+◌, ◌*◌, ◌≤◌, ℤ, not, ◌&&◌, nat_eq, List, [], ◌∷◌, ◌++◌, Option, Some, None, subst, arith}
+use Rattle.std.proofs.Common.{ℕ, zero, suc, ◌+◌, ◌*◌, ◌≤◌, ℤ, Bool, not, ◌&&◌, nat_eq, List, [], ◌∷◌, ◌++◌, Option, Some, None, subst, arith}
 use Rattle.ps_tree.specs.declared.tree.BooleanOperator.{BooleanOperator}
 use Rattle.ps_tree.specs.declared.tree.RequiredFunction.{RequiredFunction}
 use Rattle.ps_tree.specs.declared.tree.RequiredFunction.TheVariants.{Abs, Sqr, Odd, Ord, Chr, Succ, Pred}
@@ -13,9 +13,9 @@ use Rattle.tac_code.specs.declared.code.Base.TheVariants as base
 use Rattle.tac_code.specs.declared.code.Instruction.{Instruction}
 use Rattle.tac_code.specs.declared.code.Instruction.TheVariants as i
 use Rattle.ps_layout.specs.Shapes.{Shape, shape_of, byte_count, field_offset, Part, Whole, component_part}
-use Rattle.ps_code.specs.Scopes.{even_from, odd_from, held, kept, beside, moved, least, greatest, is_any, range_code, check_code, fitting_code, operand_check, unless_known, Site, Scope}
+use Rattle.ps_code.specs.Scopes.{even_from, odd_from, held, kept, beside, moved, least, greatest, is_any, range_code, check_code, has_bytes, fitting_code, operand_check, unless_known, Site, Scope}
 use Rattle.ps_code.specs.Calling.{selectors_call, expr_calls, steps_call, operands_call, structure_calls, arguments_call}
-use Rattle.ps_code.specs.Values.{literal_of, negated, is_relation, is_truth, relation_code, finish, truth_finish, known_steps, element_site, selectors_site, is_byte, index_code, function_code, minus_code, argument_end, argument_scratch, arguments_end, name_code, name_site, place_site, holds_all, outside_bits, masked, joined_word, outside_code, set_check, clear_code, sets_code, range_members, place_code, selectors_code, front_code, steps_code, operands_code, set_code, set_steps_code, members_code, member_code, structure_code, argument_code, arguments_code}
+use Rattle.ps_code.specs.Values.{literal_of, negated, is_relation, is_truth, relation_code, finish, truth_finish, known_steps, element_site, selectors_site, is_byte, gives_byte, index_code, function_code, minus_code, argument_end, argument_scratch, arguments_end, name_code, name_site, place_site, holds_all, outside_bits, masked, joined_word, outside_code, set_check, clear_code, sets_code, range_members, place_code, selectors_code, front_code, steps_code, operands_code, set_code, set_steps_code, members_code, member_code, structure_code, argument_code, arguments_code}
 use Rattle.ps_bounds.specs.Places.{PlaceLies, SelectorsLie, ExprLies, StepsLie, OperandsLie, SetLies, SetStepsLie, MemberLies, MembersLie, StructureLies, ArgumentLies, ArgumentsLie}
 use Rattle.ps_bounds.proofs.Narrow.{Narrow, at_narrow, both, three, four, either, unknown, part_bytes, component_most, field_part_in, known_in, Reach, SitesReach, element_reach, load_narrow, site_narrow, index_narrow, Framed, link_narrow, formal_narrow, name_narrow, name_reach}
 
@@ -28,9 +28,9 @@ pub check_narrow : (z : Option ℤ) (t : ℕ) (low high : ℤ) (number line : �
 check_narrow None t l h n line = range_narrow t l h n line
 check_narrow (Some z) t l h n line = either (is_between l z h) [] (i.CheckRange t l h n line ∷ []) tt (tt, tt)
 
-pub fitting_narrow : (z : Option ℤ) (t : ℕ) (range : Range) (line : ℕ) → Narrow (fitting_code z t range line)
-fitting_narrow z t Any line = tt
-fitting_narrow z t (Within l h) line = check_narrow z t l h 4 line
+pub fitting_narrow : (b : Bool) (z : Option ℤ) (t : ℕ) (range : Range) (line : ℕ) → Narrow (fitting_code b z t range line)
+fitting_narrow b z t Any line = tt
+fitting_narrow b z t (Within l h) line = either (b && has_bytes l h) [] (check_code z t l h 4 line) tt (check_narrow z t l h 4 line)
 
 pub operand_check_narrow : (z : Option ℤ) (t : ℕ) (low high : ℤ) (number line : ℕ) → Narrow (operand_check z t low high number line)
 operand_check_narrow None t l h n line = range_narrow t l h n line
@@ -213,7 +213,7 @@ module _ (k : Scope) (b : Framed k.program) (os : List Shape) (o : SitesReach k.
         both (place_code k p d x) _ (place_narrow p d x (Whole (shape_of type)) f) (site_narrow d (place_site k p d) (byte_count (shape_of type)) (omega (arith, r)) (omega (arith, r)))
 
     argument_narrow : (a : Argument) (t x : ℕ) → ArgumentLies k os a → Narrow (argument_code k a t x)
-    argument_narrow (ByValue e range line) t x f = both (front_code k e t x ++ finish e t) _ (finished e t x (front_narrow e t x f)) (fitting_narrow (literal_of e) t range line)
+    argument_narrow (ByValue e range line) t x f = both (front_code k e t x ++ finish e t) _ (finished e t x (front_narrow e t x f)) (fitting_narrow (gives_byte e) (literal_of e) t range line)
     argument_narrow (BySet e low high line) t x f = three (set_code k e t x) _ _ (set_narrow e t x f) (set_check_narrow (even_from t) x low high line) ((tt, tt), tt)
     argument_narrow (ByCopy e type) t x f = three (structure_code k e t x) _ _ (structure_narrow e t x f) ((tt, tt), (tt, (tt, tt))) ((tt, tt), tt)
     argument_narrow (ByVariable p) t x f = both (place_code k p t x) _ (place_narrow p t x f.0 f.1) (site_narrow t (place_site k p t) 0 (place_most p t f.0 f.1) (omega arith))

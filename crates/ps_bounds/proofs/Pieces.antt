@@ -14,7 +14,7 @@ use Rattle.tac_code.specs.declared.code.Instruction.{Instruction}
 use Rattle.tac_code.specs.declared.code.Instruction.TheVariants as i
 use Rattle.ps_layout.specs.Shapes.{shape_of, field_offset}
 use Rattle.ps_layout.specs.Frames.{Kind, Own, Reference, Closure}
-use Rattle.ps_code.specs.Scopes.{held, kept, beside, moved, least, greatest, range_code, is_any, check_code, fitting_code, operand_check, operand_of, Site, Scope, kind_at, is_outermost, hops, frame_code, frame_base, link_code, formal_code, site_code}
+use Rattle.ps_code.specs.Scopes.{held, kept, beside, moved, least, greatest, range_code, is_any, check_code, has_bytes, fitting_code, operand_check, operand_of, Site, Scope, kind_at, is_outermost, hops, frame_code, frame_base, link_code, formal_code, site_code}
 use Rattle.ps_code.specs.Calling.{expr_calls, selectors_call}
 use Rattle.ps_code.specs.Values.{literal_of, is_relation, is_truth, left_in, right_in, relation_code, finish, truth_finish, known_steps, element_site, selectors_site, load_code, store_code, index_code, function_code, minus_code, field_site, reference_code, entry_site, name_code, name_site, place_site, holds_all, outside_bits, masked, joined_word, outside_code, set_check, clear_code, same_sets_code, sets_code, range_members}
 use Rattle.ps_bounds.proofs.Uses.{OperandUnder, BaseUnder, Under, both, either, at_base}
@@ -42,9 +42,9 @@ module _ (D X : ℕ) where
   check_under None t l h n line u = range_under t l h n line u
   check_under (Some z) t l h n line u = either D X (is_between l z h) [] (i.CheckRange t l h n line ∷ []) tt (u, tt)
 
-  pub fitting_under : (z : Option ℤ) (t : ℕ) (range : Range) (line : ℕ) → t < D → Under D X (fitting_code z t range line)
-  fitting_under z t Any line u = tt
-  fitting_under z t (Within l h) line u = check_under z t l h 4 line u
+  pub fitting_under : (b : Bool) (z : Option ℤ) (t : ℕ) (range : Range) (line : ℕ) → t < D → Under D X (fitting_code b z t range line)
+  fitting_under b z t Any line u = tt
+  fitting_under b z t (Within l h) line u = either D X (b && has_bytes l h) [] (check_code z t l h 4 line) tt (check_under z t l h 4 line u)
 
   pub operand_check_under : (z : Option ℤ) (t : ℕ) (low high : ℤ) (number line : ℕ) → t < D → Under D X (operand_check z t low high number line)
   operand_check_under None t l h n line u = range_under t l h n line u

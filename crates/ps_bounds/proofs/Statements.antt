@@ -1,5 +1,6 @@
 -- What the code of statements uses: as much for each node and cell as that of expressions.
-use Rattle.std.proofs.Common.{ℕ, suc, ◌+◌, ◌*◌, ◌<◌, ◌≤◌, Bool, true, false, ◌||◌, List, [], ◌∷◌, ◌++◌, length, pos, arith}
+use Rattle.std.proofs.Common.{ℕ, suc, ◌+◌, ◌*◌, ◌<◌, ◌≤◌, Bool, true, false, ◌||◌, List, [], ◌∷◌, ◌++◌, length, pos, None, arith}
+use Rattle.ps_tree.specs.declared.tree.Range.TheVariants.{Within}
 use Rattle.ps_tree.specs.Sizes.{value_count}
 use Rattle.ps_tree.specs.Counts.{place_extent, expr_extent, places_extent, read_extent, reads_extent, width_extent, write_extent, writes_extent, statement_extent, statements_extent, elements_extent}
 use Rattle.ps_tree.specs.Tree.{Place, Expr, ReadVariable, ReadChar, ReadInteger, Width, DefaultWidth, GivenWidth, WriteParameter, WriteInteger, WriteChar, WriteBoolean, WriteText, Statement, Empty, Assign, AssignSet, AssignStructure, CallProcedure, CallFormalProcedure, Compound, If, IfElse, Case, While, Repeat, For, With, New, Pack, Unpack, Read, Readln, Write, Writeln, Statements, no_statement, statement_before, Elements, no_element, element_before, domain_at}
@@ -10,7 +11,7 @@ use Rattle.ps_layout.specs.Shapes.{shape_of, component_bytes}
 use Rattle.ps_layout.specs.Frames.{entry_offset}
 use Rattle.ps_code.specs.Scopes.{even_from, odd_from, held, kept, beside, greatest, check_code, operand_of, Scope, routine_up}
 use Rattle.ps_code.specs.Calling.{places_call, expr_calls, structure_calls, width_calls, statement_calls}
-use Rattle.ps_code.specs.Values.{literal_of, finish, is_byte, is_byte_array, text_length, structure_bytes, arguments_end, place_temporary, place_site, place_code, front_code, structure_code, arguments_code}
+use Rattle.ps_code.specs.Values.{literal_of, finish, is_byte, gives_byte, is_byte_array, text_length, structure_bytes, arguments_end, place_temporary, place_site, place_code, front_code, structure_code, arguments_code}
 use Rattle.ps_code.specs.Statements.{expr_code, read_code, reads_code, width_code, write_code, writes_code, within_site, with_code, with_scope, with_depth, tests_code, body_depth, statement_code, statements_code, elements_code}
 use Rattle.ps_bounds.proofs.Uses.{BaseUnder, Under, both, three, four, five, six, unknown, at_base}
 use Rattle.ps_bounds.proofs.Pieces.{held_most, kept_most, range_under, check_under, fitting_under, operand_check_under, operand_under, left_under, right_under, OpenedUnder, store_under, site_under, link_under, formal_under, place_site_under, set_check_under}
@@ -34,7 +35,7 @@ module _ (k : Scope) (D X : ℕ) (o : OpenedUnder D k.opened) where
   read_under (ReadChar p low high line) d r =
       let t = even_from (suc (odd_from d)) in let n = place_node p in
       four D X (place_code k p (odd_from d) 0) _ _ _ (place_under k D X o p (odd_from d) 0 (omega (arith, r))) (omega (arith, r))
-      (omega (arith, r), (omega (arith, r), range_under D X t low high 4 line (omega (arith, r))))
+      (omega (arith, r), (omega (arith, r), fitting_under D X true None t (Within low high) line (omega (arith, r))))
       (store_under D X (is_byte p) (place_site k p (odd_from d)) t (omega (arith, r)) (at_place p (odd_from d) (omega (arith, r))))
   read_under (ReadInteger p low high line) d r =
       let t = even_from (suc (odd_from d)) in let n = place_node p in
@@ -97,7 +98,7 @@ module _ (D X : ℕ) where
         let c = kept (expr_calls e) d in let m = kept_most (expr_calls e) d in let l = temporary_most p c in let n = place_node p in let q = expr_node e in
         let t = even_from (suc (place_temporary p c)) in
         four D X (place_code k p c 0) _ _ _ (place_under k D X o p c 0 (omega (arith, r, m))) (expr_under k D X o e t (omega (arith, r, m, l, n)))
-        (fitting_under D X (literal_of e) t range line (omega (arith, r, m, l, n, q))) (store_under D X (is_byte p) (place_site k p c) t (omega (arith, r, m, l, n, q)) (at_place k D X o p c (omega (arith, r, m))))
+        (fitting_under D X (gives_byte e) (literal_of e) t range line (omega (arith, r, m, l, n, q))) (store_under D X (is_byte p) (place_site k p c) t (omega (arith, r, m, l, n, q)) (at_place k D X o p c (omega (arith, r, m))))
     statement_under k o (AssignSet p low high e line) d r =
         let c = odd_from d in let t = even_from (suc c) in let n = place_node p in let q = set_node e in
         five D X (place_code k p c 0) _ _ _ _ (place_under k D X o p c 0 (omega (arith, r))) (set_under k D X o e (suc c) 0 (omega (arith, r))) (set_check_under D X t 0 low high line (omega (arith, r, n, q)) (omega (arith, r, n, q)) (omega arith))

@@ -9,7 +9,7 @@ use Rattle.tac_code.specs.declared.code.Instruction.TheVariants as i
 use Rattle.ps_layout.specs.Shapes.{shape_of, byte_count}
 use Rattle.ps_code.specs.Scopes.{even_from, odd_from, held, kept, beside, unless_known, Site, Scope}
 use Rattle.ps_code.specs.Calling.{selectors_call, expr_calls, steps_call, operands_call, structure_calls, arguments_call}
-use Rattle.ps_code.specs.Values.{literal_of, negated, finish, truth_finish, known_steps, element_site, is_byte, index_code, argument_words, argument_end, argument_scratch, arguments_words, arguments_end, name_code, name_site, place_site, clear_code, place_code, selectors_code, front_code, steps_code, operands_code, set_code, set_steps_code, members_code, member_code, structure_code, argument_code, arguments_code}
+use Rattle.ps_code.specs.Values.{literal_of, negated, finish, truth_finish, known_steps, element_site, is_byte, gives_byte, index_code, argument_words, argument_end, argument_scratch, arguments_words, arguments_end, name_code, name_site, place_site, clear_code, place_code, selectors_code, front_code, steps_code, operands_code, set_code, set_steps_code, members_code, member_code, structure_code, argument_code, arguments_code}
 use Rattle.ps_bounds.proofs.Uses.{BaseUnder, AllUnder, Under, both, three, four, unknown, at_base, all_both}
 use Rattle.ps_bounds.proofs.Pieces.{held_most, kept_most, moved_under, fitting_under, operand_under, finish_under, truth_under, function_under, minus_under, OpenedUnder, load_under, site_under, index_under, element_under, link_under, formal_under, name_under, name_site_under, place_site_under, clear_under, set_check_under, sets_under, members_under}
 use Rattle.ps_bounds.proofs.Nodes.{place_node, expr_node, set_node, structure_node}
@@ -216,7 +216,7 @@ module _ (k : Scope) (D X : ℕ) (o : OpenedUnder D k.opened) where
 
     argument_under : (a : Argument) (t x : ℕ) → Room D X t x (argument_extent a) → Under D X (argument_code k a t x)
     argument_under (ByValue e range line) t x r =
-        both D X (front_code k e t x ++ finish e t) _ (finished e t x (omega (arith, r)) (front_under e t x (omega (arith, r)))) (fitting_under D X (literal_of e) t range line (omega (arith, r)))
+        both D X (front_code k e t x ++ finish e t) _ (finished e t x (omega (arith, r)) (front_under e t x (omega (arith, r)))) (fitting_under D X (gives_byte e) (literal_of e) t range line (omega (arith, r)))
     argument_under (BySet e low high line) t x r =
         let n = set_node e in
         three D X (set_code k e t x) _ _ (set_under e t x (omega (arith, r)))

@@ -1,6 +1,6 @@
 -- Small programs, run by their meaning and as code: what both show is the same.
 use Rattle.std.proofs.Common.{◌≡◌, ℕ, zero, suc, ℤ, pos, negsuc, true, List, [], ◌∷◌, Some, None, refl}
-use Rattle.ps_tree.specs.declared.types.Host.TheVariants.{Integer}
+use Rattle.ps_tree.specs.declared.types.Host.TheVariants.{Integer, Char}
 use Rattle.ps_tree.specs.declared.types.Ordinal.{Ordinal}
 use Rattle.ps_tree.specs.declared.tree.Range.TheVariants.{Within}
 use Rattle.ps_tree.specs.declared.tree.Direction.TheVariants.{To, Downto}
@@ -20,7 +20,9 @@ use Rattle.tac_code.specs.declared.code.Operator.TheVariants as operator
 use Rattle.tac_code.specs.declared.code.Instruction.TheVariants as i
 use Rattle.tac_code.specs.declared.code.TacRoutine.{TacRoutine}
 use Rattle.tac_code.specs.Run.{tac_run}
-use Rattle.ps_code.specs.Routines.{routine_code}
+use Rattle.ps_code.specs.Scopes.{Scope}
+use Rattle.ps_code.specs.Statements.{statement_code}
+use Rattle.ps_code.specs.Routines.{scope_of, routine_code}
 use Rattle.ps_code.specs.Programs.{code_of}
 
 abbrev integer : Ordinal
@@ -31,6 +33,9 @@ subrange low high = record { host = Integer; subrange = Some 7; low = low; high 
 
 abbrev pub int : DataType
 int = OrdinalType integer
+
+abbrev character : DataType
+character = OrdinalType (record { host = Char; subrange = None; low = pos 0; high = pos 255 })
 
 abbrev pub own : ℕ → Place
 own n = Variable (Entry 0 n) no_selector
@@ -194,3 +199,28 @@ indexes_mean = refl
 
 indexes_run : tac_run (code_of run_time indexes) (λ r. 0) (λ t. 0) 0 0 [] 199 ≡ (48 ∷ [], Error 5 8 (7 ∷ []))
 indexes_run = refl
+
+-- ---- which tests are spared: c := s[1] and c := c, where s is a packed array of characters
+abbrev characters : DataType
+characters = ArrayType 9 true (subrange (pos 1) (pos 2)) character
+
+abbrev spelled : Program
+spelled = alone (character ∷ characters ∷ []) []
+
+abbrev spelling : Scope
+spelling = scope_of spelled (routine_at spelled 0)
+
+abbrev letter : Expr
+letter = Load (Variable (Entry 0 1) (selector_before (Element characters (n 1) 8) no_selector))
+
+-- a byte is not tested
+byte_code : statement_code spelling (Assign (own 0) (Within (pos 0) (pos 255)) letter 3) 0 ≡ i.LoadByte 2 base.Frame 8 ∷ i.Store base.Frame 4 2 ∷ []
+byte_code = refl
+
+-- unless the range lacks some
+fewer_bytes_code : statement_code spelling (Assign (own 0) (Within (pos 0) (pos 200)) letter 3) 0 ≡ i.LoadByte 2 base.Frame 8 ∷ i.CheckRange 2 (pos 0) (pos 200) 4 3 ∷ i.Store base.Frame 4 2 ∷ []
+fewer_bytes_code = refl
+
+-- a whole variable is
+variable_code : statement_code spelling (Assign (own 0) (Within (pos 0) (pos 255)) (v 0) 3) 0 ≡ i.Load 2 base.Frame 4 ∷ i.CheckRange 2 (pos 0) (pos 255) 4 3 ∷ i.Store base.Frame 4 2 ∷ []
+variable_code = refl

@@ -1,5 +1,5 @@
 -- What code is made from: temporaries by their classes, frames by their levels, and the pieces that all constructs share.
-use Rattle.std.specs.Prelude.{ℕ, zero, suc, ◌+◌, ◌%◌, ℤ, pos, negsuc, Bool, true, false, ◌&&◌, nat_eq, if◌then◌else◌, List, [], ◌∷◌, ◌++◌, length, Option, Some, None, get_or, slice_get}
+use Rattle.std.specs.Prelude.{ℕ, zero, suc, ◌+◌, ◌%◌, ℤ, pos, negsuc, Bool, true, false, ◌&&◌, nat_eq, if◌then◌else◌, List, [], ◌∷◌, ◌++◌, length, Option, Some, None, get_or, slice_get, int_le}
 use Rattle.ps_tree.specs.declared.tree.Range.{Range}
 use Rattle.ps_tree.specs.declared.tree.Range.TheVariants.{Any, Within}
 use Rattle.ps_tree.specs.Tree.{Program, Routine, routine_at}
@@ -58,10 +58,14 @@ abbrev pub check_code : Option ℤ → (temporary : ℕ) (low high : ℤ) (numbe
 check_code None t low high number line = range_code t low high number line
 check_code (Some z) t low high number line = if is_between low z high then [] else CheckRange t low high number line ∷ []
 
--- the same for the range that the tree gives: error 4
-abbrev pub fitting_code : Option ℤ → (temporary : ℕ) → Range → (line : ℕ) → List Instruction
-fitting_code literal t Any line = []
-fitting_code literal t (Within low high) line = check_code literal t low high 4 line
+-- every byte lies in the range
+abbrev pub has_bytes : ℤ → ℤ → Bool
+has_bytes low high = int_le low (pos 0) && int_le (pos 255) high
+
+-- the same for the range that the tree gives: error 4. What is known to be a byte needs no test if the range has all bytes.
+abbrev pub fitting_code : (byte : Bool) → Option ℤ → (temporary : ℕ) → Range → (line : ℕ) → List Instruction
+fitting_code byte literal t Any line = []
+fitting_code byte literal t (Within low high) line = if byte && has_bytes low high then [] else check_code literal t low high 4 line
 
 -- and for an operand that may stand in no temporary
 abbrev pub operand_check : Option ℤ → (temporary : ℕ) (low high : ℤ) (number line : ℕ) → List Instruction

@@ -1,5 +1,6 @@
 -- The code of statements. Nothing in the scratch block is held from one to the next.
 use Rattle.std.specs.Prelude.{ℕ, zero, suc, ◌+◌, ◌-◌, ◌*◌, ◌/◌, ◌%◌, ℤ, pos, negsuc, ◌+ℤ◌, Bool, true, false, ◌||◌, if◌then◌else◌, nat_le, nat_lt, nat_eq, List, [], ◌∷◌, ◌++◌, length, Option, Some, None, codes}
+use Rattle.ps_tree.specs.declared.tree.Range.TheVariants.{Within}
 use Rattle.ps_tree.specs.declared.tree.Direction.{Direction}
 use Rattle.ps_tree.specs.declared.tree.Direction.TheVariants.{To, Downto}
 use Rattle.ps_tree.specs.Types.{DataType}
@@ -21,7 +22,7 @@ use Rattle.ps_layout.specs.Words.{filled}
 use Rattle.ps_layout.specs.Frames.{entry_offset}
 use Rattle.ps_code.specs.Scopes.{even_from, held, kept, beside, greatest, range_code, check_code, fitting_code, operand_of, operand_check, unless_known, Site, Scope, routine_up, link_code, formal_code, site_code, input_site, PackBytes, UnpackBytes, WriteNumber, WriteCharacter, WriteString, ReadCharacter, ReadNumber, ReadLine, helper, copy_code}
 use Rattle.ps_code.specs.Calling.{places_call, expr_calls, structure_calls, width_calls, statement_calls}
-use Rattle.ps_code.specs.Values.{literal_of, relation_in, left_in, right_in, opposite, finish, is_byte, is_byte_array, store_code, text_length, structure_bytes, arguments_words, arguments_end, place_temporary, place_site, place_code, front_code, set_code, set_check, structure_code, arguments_code}
+use Rattle.ps_code.specs.Values.{literal_of, relation_in, left_in, right_in, opposite, finish, is_byte, gives_byte, is_byte_array, store_code, text_length, structure_bytes, arguments_words, arguments_end, place_temporary, place_site, place_code, front_code, set_code, set_check, structure_code, arguments_code}
 
 -- the value of an expression in d
 abbrev pub expr_code : Scope → Expr → (d x : ℕ) → List Instruction
@@ -74,7 +75,7 @@ module _ (k : Scope) where
       place_code k p (held true d) 0 ++ site_code (even_from (suc (held true d))) (input_site k) 8
       ++ helper k ReadCharacter (even_from (suc (held true d)) ∷ []) (even_from (suc (held true d)))
       ∷ i.CheckRange (even_from (suc (held true d))) (pos 0) greatest 9 line
-      ∷ range_code (even_from (suc (held true d))) low high 4 line
+      ∷ fitting_code true None (even_from (suc (held true d))) (Within low high) line
       ++ store_code (is_byte p) (place_site k p (held true d)) (even_from (suc (held true d)))
   read_code (ReadInteger p low high line) d =
       place_code k p (held true d) 0 ++ site_code (even_from (suc (held true d))) (input_site k) 8
@@ -192,7 +193,7 @@ abbrev mutual
   statement_code k (Assign p range e line) d =
       place_code k p (kept (expr_calls e) d) 0
       ++ expr_code k e (even_from (suc (place_temporary p (kept (expr_calls e) d)))) 0
-      ++ fitting_code (literal_of e) (even_from (suc (place_temporary p (kept (expr_calls e) d)))) range line
+      ++ fitting_code (gives_byte e) (literal_of e) (even_from (suc (place_temporary p (kept (expr_calls e) d)))) range line
       ++ store_code (is_byte p) (place_site k p (kept (expr_calls e) d)) (even_from (suc (place_temporary p (kept (expr_calls e) d))))
   statement_code k (AssignSet p low high e line) d =
       place_code k p (held true d) 0 ++ set_code k e (suc (held true d)) 0 ++ set_check (even_from (suc (held true d))) 0 low high line

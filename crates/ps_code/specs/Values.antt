@@ -1,6 +1,6 @@
 -- The code of variables, expressions and actual parameters. Code at depths d and x leaves its word in temporary d, writes no
 -- temporary below d, and no byte of the scratch block below x. A set stands in the scratch block from x on.
-use Rattle.std.specs.Prelude.{ℕ, zero, suc, ◌+◌, ◌*◌, ℤ, pos, ◌-ℤ◌, unsigned_abs, Bool, true, false, not, ◌&&◌, nat_eq, if◌then◌else◌, List, [], ◌∷◌, ◌++◌, length, Option, Some, None, int_le, slice_get}
+use Rattle.std.specs.Prelude.{ℕ, zero, suc, ◌+◌, ◌*◌, ℤ, pos, ◌-ℤ◌, unsigned_abs, Bool, true, false, not, ◌&&◌, nat_eq, if◌then◌else◌, List, [], ◌∷◌, ◌++◌, length, Option, Some, None, slice_get}
 use Rattle.ps_tree.specs.declared.tree.ArithmeticOperator.{ArithmeticOperator}
 use Rattle.ps_tree.specs.declared.tree.ArithmeticOperator.TheVariants.{Add, Subtract, Multiply, Div, Mod}
 use Rattle.ps_tree.specs.declared.tree.BooleanOperator.{BooleanOperator}
@@ -34,7 +34,7 @@ use Rattle.tac_code.specs.Numbers.{number_of}
 use Rattle.ps_layout.specs.Shapes.{Shape, ByteShape, shape_of, byte_count, component_bytes, field_offset}
 use Rattle.ps_layout.specs.Words.{filled, bits_from}
 use Rattle.ps_layout.specs.Frames.{Kind, Reference, entry_offset}
-use Rattle.ps_code.specs.Scopes.{even_from, held, kept, beside, moved, least, greatest, range_code, fitting_code, operand_of, unless_known, Site, Scope, routine_up, kind_at, frame_code, frame_base, link_code, formal_code, site_code, input_site, AddRange, UniteSets, SubtractSet, IntersectSets, IsIncluded, IsMember, CompareBytes, LookAhead, RunTime, helper, copy_code}
+use Rattle.ps_code.specs.Scopes.{even_from, held, kept, beside, moved, least, greatest, has_bytes, range_code, fitting_code, operand_of, unless_known, Site, Scope, routine_up, kind_at, frame_code, frame_base, link_code, formal_code, site_code, input_site, AddRange, UniteSets, SubtractSet, IntersectSets, IsIncluded, IsMember, CompareBytes, LookAhead, RunTime, helper, copy_code}
 use Rattle.ps_code.specs.Calling.{selectors_call, expr_calls, steps_call, operands_call, structure_calls, arguments_call}
 
 -- ---- numbers that are known
@@ -177,6 +177,13 @@ is_byte_after b (selector_before s rest) = is_byte_after (is_byte_selector s) re
 abbrev pub is_byte : Place → Bool
 is_byte (Variable name selectors) = is_byte_after false selectors
 
+-- The value is a byte, whatever is stored: a component that is one byte of a word is nothing else, and `chr` gives a character, whose
+-- ordinal number lies in 0..255 (6.6.6.4). Of a whole variable this isn't known, since a `for` statement steps it.
+abbrev pub gives_byte : Expr → Bool
+gives_byte (Load p) = is_byte p
+gives_byte (Apply Chr e line) = true
+gives_byte _ = false
+
 abbrev pub load_code : Bool → (d : ℕ) → Site → List Instruction
 load_code true d s = i.LoadByte d s.base s.offset ∷ []
 load_code false d s = i.Load d s.base s.offset ∷ []
@@ -219,7 +226,7 @@ minus_code None d t line code = code ++ i.Literal d (pos 0) ∷ i.Arithmetic ope
 
 -- every member that a set can have lies within them
 abbrev pub holds_all : (low high : ℤ) → Bool
-holds_all low high = int_le low (pos 0) && int_le (pos 255) high
+holds_all low high = has_bytes low high
 
 -- what word q of a set can hold outside of them, as bits
 unfoldable pub outside_bits : (low high : ℤ) (q : ℕ) → ℕ
@@ -434,7 +441,7 @@ module _ (k : Scope) where
 
     -- an actual parameter in t, and the temporary beside it if it has two words
     pub argument_code : Argument → (t x : ℕ) → List Instruction
-    argument_code (ByValue e range line) t x = (front_code e t x ++ finish e t) ++ fitting_code (literal_of e) t range line
+    argument_code (ByValue e range line) t x = (front_code e t x ++ finish e t) ++ fitting_code (gives_byte e) (literal_of e) t range line
     argument_code (BySet e low high line) t x = set_code e t x ++ set_check (even_from t) x low high line ++ i.Offset t base.Scratch x 32 ∷ []
     argument_code (ByCopy e type) t x =
         structure_code e t x ++ i.Offset (beside t) base.Scratch x (byte_count (shape_of type))

@@ -6,7 +6,7 @@ use Rattle.ps_tree.specs.declared.tree.Range.{Range}
 use Rattle.tac_code.specs.declared.code.Instruction.{Instruction}
 use Rattle.ps_code.specs.Scopes.{Scope, Site, kept, even_from, fitting_code}
 use Rattle.ps_code.specs.Calling.{selectors_call, expr_calls}
-use Rattle.ps_code.specs.Values.{literal_of, name_code, name_site, selectors_code, selectors_site, place_code, place_site, place_temporary, is_byte, load_code, store_code, front_code}
+use Rattle.ps_code.specs.Values.{literal_of, gives_byte, name_code, name_site, selectors_code, selectors_site, place_code, place_site, place_temporary, is_byte, load_code, store_code, front_code}
 use Rattle.ps_code.specs.Statements.{expr_code, statement_code}
 use Rattle.ps_lower.proofs.Appends.{and_then}
 use Rattle.ps_lower.proofs.Arms.{behind}
@@ -26,12 +26,12 @@ load_told k p d x s byte r new middle old c g w h =
     (subst (λ (y : Site). OnOk r (new ≡ middle ++ load_code (is_byte p) d y)) g (subst (λ b. OnOk r (new ≡ middle ++ load_code b d s)) w h))
 
 abbrev pub assign_code : Scope → t.Place → Range → t.Expr → (line temporary at : ℕ) → List Instruction
-assign_code k p range e line d a = ((place_code k p d 0 ++ expr_code k e a 0) ++ fitting_code (literal_of e) a range line) ++ store_code (is_byte p) (place_site k p d) a
+assign_code k p range e line d a = ((place_code k p d 0 ++ expr_code k e a 0) ++ fitting_code (gives_byte e) (literal_of e) a range line) ++ store_code (is_byte p) (place_site k p d) a
 
-pub assign_told : {X E : Type 0} (k : Scope) (p : t.Place) (range : Range) (e : t.Expr) (line d n m a : ℕ) (s : Site) (known : Option ℤ) (byte : Bool) (r : Result X E) (new o3 o2 o1 old : List Instruction) → n ≡ kept (expr_calls e) d → m ≡ place_temporary p n → a ≡ even_from (suc m) → o1 ≡ old ++ place_code k p n 0 → s ≡ place_site k p n → byte ≡ is_byte p → o2 ≡ o1 ++ expr_code k e a 0 → known ≡ literal_of e → o3 ≡ o2 ++ fitting_code known a range line → OnOk r (new ≡ o3 ++ store_code byte s a) → OnOk r (new ≡ old ++ statement_code k (t.Assign p range e line) d)
-assign_told k p range e line d n m a s known byte r new o3 o2 o1 old is at next c g w q l f h =
+pub assign_told : {X E : Type 0} (k : Scope) (p : t.Place) (range : Range) (e : t.Expr) (line d n m a : ℕ) (s : Site) (spare : Bool) (known : Option ℤ) (byte : Bool) (r : Result X E) (new o3 o2 o1 old : List Instruction) → n ≡ kept (expr_calls e) d → m ≡ place_temporary p n → a ≡ even_from (suc m) → o1 ≡ old ++ place_code k p n 0 → s ≡ place_site k p n → byte ≡ is_byte p → o2 ≡ o1 ++ expr_code k e a 0 → spare ≡ gives_byte e → known ≡ literal_of e → o3 ≡ o2 ++ fitting_code spare known a range line → OnOk r (new ≡ o3 ++ store_code byte s a) → OnOk r (new ≡ old ++ statement_code k (t.Assign p range e line) d)
+assign_told k p range e line d n m a s spare known byte r new o3 o2 o1 old is at next c g w q u l f h =
     subst (λ y. OnOk r (new ≡ old ++ assign_code k p range e line y (even_from (suc (place_temporary p y))))) is
     (subst (λ y. OnOk r (new ≡ old ++ assign_code k p range e line n y)) (next ∙ ap (λ y. even_from (suc y)) at)
-    (behind r new o3 old ((place_code k p n 0 ++ expr_code k e a 0) ++ fitting_code (literal_of e) a range line) (store_code (is_byte p) (place_site k p n) a)
-    (and_then old o2 o3 (place_code k p n 0 ++ expr_code k e a 0) (fitting_code (literal_of e) a range line) (and_then old o1 o2 (place_code k p n 0) (expr_code k e a 0) c q) (f ∙ ap (λ y. o2 ++ fitting_code y a range line) l))
+    (behind r new o3 old ((place_code k p n 0 ++ expr_code k e a 0) ++ fitting_code (gives_byte e) (literal_of e) a range line) (store_code (is_byte p) (place_site k p n) a)
+    (and_then old o2 o3 (place_code k p n 0 ++ expr_code k e a 0) (fitting_code (gives_byte e) (literal_of e) a range line) (and_then old o1 o2 (place_code k p n 0) (expr_code k e a 0) c q) (f ∙ ap (λ y. o2 ++ fitting_code y known a range line) u ∙ ap (λ y. o2 ++ fitting_code (gives_byte e) y a range line) l))
     (subst (λ (y : Site). OnOk r (new ≡ o3 ++ store_code (is_byte p) y a)) g (subst (λ b. OnOk r (new ≡ o3 ++ store_code b s a)) w h))))

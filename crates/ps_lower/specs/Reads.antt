@@ -1,13 +1,14 @@
 -- The parts of read and readln.
-use Rattle.std.specs.Prelude.{ℕ, ℤ, pos, List, [], ◌∷◌}
+use Rattle.std.specs.Prelude.{ℕ, ℤ, pos, true, List, [], ◌∷◌, None}
+use Rattle.ps_tree.specs.declared.tree.Range.TheVariants.{Within}
 use Rattle.tac_code.specs.declared.code.Base.TheVariants as base
 use Rattle.tac_code.specs.declared.code.Instruction.{Instruction}
 use Rattle.tac_code.specs.declared.code.Instruction.TheVariants as i
-use Rattle.ps_code.specs.Scopes.{Scope, beside, greatest, range_code, ReadCharacter, ReadNumber, ReadLine, helper}
+use Rattle.ps_code.specs.Scopes.{Scope, beside, greatest, range_code, fitting_code, ReadCharacter, ReadNumber, ReadLine, helper}
 
 -- a character, a number, or the rest of a line from the input whose address is in t
 abbrev pub character_taken : Scope → (low high : ℤ) → (line t : ℕ) → List Instruction
-character_taken k low high line t = helper k ReadCharacter (t ∷ []) t ∷ i.CheckRange t (pos 0) greatest 9 line ∷ range_code t low high 4 line
+character_taken k low high line t = helper k ReadCharacter (t ∷ []) t ∷ i.CheckRange t (pos 0) greatest 9 line ∷ fitting_code true None t (Within low high) line
 
 abbrev pub number_taken : Scope → (low high : ℤ) → (line t : ℕ) → List Instruction
 number_taken k low high line t =

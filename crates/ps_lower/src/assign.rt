@@ -10,7 +10,7 @@ ghost use Rattle.ps_tree.specs.View.{place_of, expr_of, structure_of, set_of};
 use crate::calling::{expr_calls, structure_calls};
 use crate::depth::{DEEPEST, beside, even_above, held, kept, next};
 use crate::helpers::copy;
-use crate::known::literal;
+use crate::known::{gives_byte, literal};
 use crate::level::Level;
 use crate::out::Code;
 use crate::pieces::fitting;
@@ -38,7 +38,7 @@ pub fn assign(
     let at = even_above(place_temporary(target, t));
     let site = place(out, k, target, t, 0)?;
     value(out, k, e, at, 0)?;
-    fitting(out, literal(e), at, range, line)?;
+    fitting(out, gives_byte(e), literal(e), at, range, line)?;
     keep(out, is_byte(target), site, at)
 }
 

@@ -1,13 +1,14 @@
 // What the code of an expression is known to leave: a number, or a relation between two operands.
 
 ghost use Rattle.std.specs.Prelude.{◌≡◌, ◌+◌, ◌≤◌, suc};
-ghost use Rattle.ps_code.specs.Scopes.{is_any, operand_of};
-ghost use Rattle.ps_code.specs.Values.{negated, literal_of, operator_of, bit_operator_of, relation_of, pointer_relation_of, opposite, is_relation, is_truth, relation_in, left_in, right_in};
+ghost use Rattle.ps_code.specs.Scopes.{is_any, has_bytes, operand_of};
+ghost use Rattle.ps_code.specs.Values.{negated, literal_of, operator_of, bit_operator_of, relation_of, pointer_relation_of, opposite, is_relation, is_truth, relation_in, left_in, right_in, gives_byte};
 ghost use Rattle.ps_meaning.specs.Operators.{is_between};
 ghost use Rattle.ps_tree.specs.View.{expr_of};
 
 use crate::calling::expr_calls;
 use crate::depth::{DEEPEST, even_above, kept};
+use crate::places::is_byte;
 use ps_tree::tree::{
     ArithmeticOperator, BooleanOperator, Expr, PointerRelation, Relation as TreeRelation,
     RequiredFunction,
@@ -210,4 +211,26 @@ pub fn is_between(low: i32, number: i32, high: i32) -> bool
     ensures { result ≡ is_between low number high }
 {
     low <= number && number <= high
+}
+
+/// Whether every byte lies in a range.
+pub fn has_bytes(low: i32, high: i32) -> bool
+    ensures { result ≡ has_bytes low high }
+{
+    low <= 0 && 255 <= high
+}
+
+/// Whether the value of an expression is known to be a byte.
+#[tactic(auto, using(ps_tree::proofs::TreeLemmas::expr_of_Load, ps_tree::proofs::TreeLemmas::expr_of_Call, ps_tree::proofs::TreeLemmas::expr_of_CallFormal), unfolding(ps_tree::specs::View::expr_of))]
+pub fn gives_byte(e: &Expr) -> bool
+    ensures { result ≡ gives_byte (expr_of e.now) }
+{
+    match e {
+        Expr::Load(variable) => is_byte(variable),
+        Expr::Apply {
+            function: RequiredFunction::Chr,
+            ..
+        } => true,
+        _ => false,
+    }
 }

@@ -9,7 +9,9 @@ ghost use Rattle.tac_code.specs.declared.code.Instruction.TheVariants as i;
 ghost use Rattle.tac_code.specs.declared.code.Operand.TheVariants as operand;
 
 use crate::depth::{DEEPEST, even_above};
-use crate::known::{is_any, is_between, is_relation, is_truth, left_in, relation_in, right_in};
+use crate::known::{
+    has_bytes, is_any, is_between, is_relation, is_truth, left_in, relation_in, right_in,
+};
 use crate::out::Code;
 use ps_tree::tree::{Expr, Range, RequiredFunction};
 use std::alloc::AllocError;
@@ -107,19 +109,26 @@ pub fn check(
     }
 }
 
-/// The test of the range that the tree gives.
+/// The test of the range that the tree gives. What is known to be a byte needs none if the range has all bytes.
 pub fn fitting(
     out: &mut Code,
+    byte: bool,
     known: Option<i32>,
     t: u32,
     range: Range,
     line: u16,
 ) -> Result<(), AllocError>
-    ensures { OnOk result (out.new ≡ out.old ++ fitting_code known t range line) }
+    ensures { OnOk result (out.new ≡ out.old ++ fitting_code byte known t range line) }
 {
     match range {
         Range::Any => Ok(()),
-        Range::Within { low, high } => check(out, known, t, low, high, 4, line),
+        Range::Within { low, high } => {
+            if byte && has_bytes(low, high) {
+                Ok(())
+            } else {
+                check(out, known, t, low, high, 4, line)
+            }
+        }
     }
 }
 

@@ -16,10 +16,10 @@ use crate::helpers::help;
 use crate::input::input;
 use crate::level::Level;
 use crate::out::Code;
-use crate::pieces::range;
+use crate::pieces::{fitting, range};
 use crate::places::{address, is_byte, keep};
 use crate::values::place;
-use ps_tree::tree::{Place, ReadVariable};
+use ps_tree::tree::{Place, Range, ReadVariable};
 use std::alloc::AllocError;
 use tac_code::code::Base;
 
@@ -57,7 +57,11 @@ fn take_character(
 {
     help(out, k, READ_CHARACTER, &[a], a)?;
     out.check_range(a, 0, i32::MAX, 9, line)?;
-    fits(out, a, low, high, line)
+    let range = Range::Within {
+        low: *low,
+        high: *high,
+    };
+    fitting(out, true, None, a, range, line)
 }
 
 /// How the reading of a number went: error 9 at the end of the input, 10 if there is no number, 4 if it is too large.

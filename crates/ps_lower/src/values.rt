@@ -19,7 +19,7 @@ use crate::calls::{
 use crate::depth::{DEEPEST, even_above, even_from, held, kept};
 use crate::helpers::compare_strings;
 use crate::input::{look_ahead, look_on};
-use crate::known::{bit_operator, literal, negated, operand, operator};
+use crate::known::{bit_operator, gives_byte, literal, negated, operand, operator};
 use crate::level::Level;
 use crate::levels::formal;
 use crate::out::Code;
@@ -427,7 +427,7 @@ fn argument(
             line,
         } => {
             value(out, k, e, t, x)?;
-            fitting(out, literal(e), t, *range, line.number)
+            fitting(out, gives_byte(e), literal(e), t, *range, line.number)
         }
         Argument::Set {
             value: e,

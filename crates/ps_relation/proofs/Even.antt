@@ -16,9 +16,9 @@ use Rattle.tac_code.specs.declared.code.Instruction.TheVariants as i
 use Rattle.ps_meaning.specs.Operators.{is_between}
 use Rattle.ps_layout.specs.Shapes.{shape_of, word_count, byte_count, field_offset}
 use Rattle.ps_layout.specs.Frames.{Kind, Own, Reference, Closure}
-use Rattle.ps_code.specs.Scopes.{even_from, kept, held, beside, moved, least, greatest, is_any, range_code, check_code, fitting_code, operand_check, unless_known, Site, Scope, kind_at, is_outermost, hops, frame_code, frame_base, link_code, formal_code, site_code, copy_code}
+use Rattle.ps_code.specs.Scopes.{even_from, kept, held, beside, moved, least, greatest, is_any, range_code, check_code, has_bytes, fitting_code, operand_check, unless_known, Site, Scope, kind_at, is_outermost, hops, frame_code, frame_base, link_code, formal_code, site_code, copy_code}
 use Rattle.ps_code.specs.Calling.{selectors_call, expr_calls, arguments_call}
-use Rattle.ps_code.specs.Values.{literal_of, negated, is_relation, is_truth, finish, truth_finish, known_steps, element_site, selectors_site, is_byte, load_code, store_code, index_code, function_code, minus_code, argument_end, argument_scratch, field_site, reference_code, entry_site, name_code, name_site, place_site, holds_all, outside_bits, joined_word, outside_code, set_check, clear_code, included_code, same_sets_code, sets_code, range_members, place_code, selectors_code, front_code, steps_code, operands_code, set_code, set_steps_code, members_code, member_code, structure_code, argument_code, arguments_code}
+use Rattle.ps_code.specs.Values.{literal_of, negated, is_relation, is_truth, finish, truth_finish, known_steps, element_site, selectors_site, is_byte, gives_byte, load_code, store_code, index_code, function_code, minus_code, argument_end, argument_scratch, field_site, reference_code, entry_site, name_code, name_site, place_site, holds_all, outside_bits, joined_word, outside_code, set_check, clear_code, included_code, same_sets_code, sets_code, range_members, place_code, selectors_code, front_code, steps_code, operands_code, set_code, set_steps_code, members_code, member_code, structure_code, argument_code, arguments_code}
 
 -- a multiple of 4
 abbrev pub IsEvenly : ℕ → Type 0
@@ -97,9 +97,9 @@ pub even_check : (literal : Option ℤ) (t : ℕ) (low high : ℤ) (number line 
 even_check None t low high number line = even_range t low high number line
 even_check (Some z) t low high number line = either (is_between low z high) none (more tt none)
 
-pub even_fitting : (literal : Option ℤ) (t : ℕ) (range : Range) (line : ℕ) → Even (fitting_code literal t range line)
-even_fitting literal t Any line = none
-even_fitting literal t (Within low high) line = even_check literal t low high 4 line
+pub even_fitting : (byte : Bool) (literal : Option ℤ) (t : ℕ) (range : Range) (line : ℕ) → Even (fitting_code byte literal t range line)
+even_fitting byte literal t Any line = none
+even_fitting byte literal t (Within low high) line = either (byte && has_bytes low high) none (even_check literal t low high 4 line)
 
 pub even_operand_check : (literal : Option ℤ) (t : ℕ) (low high : ℤ) (number line : ℕ) → Even (operand_check literal t low high number line)
 even_operand_check None t low high number line = even_range t low high number line
@@ -324,7 +324,7 @@ module _ (k : Scope) (opened : ArePlain k.opened) where
     even_structure (Contents p type) d x h = both (even_place p d x h) (even_site d (place_site k p d) (byte_count (shape_of type)) (place_plain p d))
 
     even_argument : (a : Argument) (t x : ℕ) → IsEvenly x → Even (argument_code k a t x)
-    even_argument (ByValue e range line) t x h = both (both (even_front e t x h) (even_finish e t)) (even_fitting (literal_of e) t range line)
+    even_argument (ByValue e range line) t x h = both (both (even_front e t x h) (even_finish e t)) (even_fitting (gives_byte e) (literal_of e) t range line)
     even_argument (BySet e low high line) t x h = both (both (even_set e t x h) (even_set_check (even_from t) x low high line)) (more h none)
     even_argument (ByCopy e type) t x h = both (both (even_structure e t x h) (more h (even_copy k _ _ _ (byte_count (shape_of type))))) (more h none)
     even_argument (ByVariable p) t x h = both (even_place p t x h) (even_site t (place_site k p t) 0 (place_plain p t))

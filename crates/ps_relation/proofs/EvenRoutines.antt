@@ -1,5 +1,6 @@
 -- Words of the scratch block are addressed by multiples of 4: the code of statements and of routines.
 use Rattle.std.proofs.Common.{ℕ, suc, ◌+◌, ◌*◌, ◌/◌, ◌%◌, ◌-◌, ◌||◌, ℤ, pos, Bool, true, false, nat_eq, nat_lt, nat_le, List, [], ◌∷◌, Option, Some, None, refl}
+use Rattle.ps_tree.specs.declared.tree.Range.TheVariants.{Within}
 use Rattle.ps_tree.specs.declared.tree.Direction.{Direction}
 use Rattle.ps_tree.specs.Types.{DataType}
 use Rattle.ps_tree.specs.Sizes.{value_count}
@@ -14,7 +15,7 @@ use Rattle.ps_layout.specs.Shapes.{Shape, NumberShape, PointerShape, SetShape, B
 use Rattle.ps_layout.specs.Frames.{Kind, Own, Reference, Closure, Kinds, no_kind, kind_before, kinds_of, entry_offset, link_offset, is_program_block}
 use Rattle.ps_code.specs.Scopes.{held, kept, even_from, greatest, Scope, routine_up, input_site}
 use Rattle.ps_code.specs.Calling.{expr_calls, structure_calls, places_call, statement_calls}
-use Rattle.ps_code.specs.Values.{literal_of, is_byte, is_byte_array, structure_bytes, place_temporary, place_site}
+use Rattle.ps_code.specs.Values.{literal_of, is_byte, gives_byte, is_byte_array, structure_bytes, place_temporary, place_site}
 use Rattle.ps_code.specs.Statements.{expr_code, spread_code, bytes_code, first_code, fields_code, read_code, reads_code, width_code, write_code, writes_code, components_code, within_site, with_code, with_scope, with_depth, tests_code, for_code, body_depth, room_code, statement_code, statements_code, elements_code}
 use Rattle.ps_code.specs.Routines.{parameter_total, result_entries, count_kinds, own_code, parameter_code, parameter_words, parameters_code, variables_code, result_code, input_code, begin_code, result_end, end_code, scope_of, routine_code}
 use Rattle.ps_relation.proofs.Even.{IsEvenly, NotScratch, Even, none, more, both, either, elsewhere, even_range, even_check, even_fitting, even_operand_check, even_unless, even_link, even_formal, even_site, even_copy, even_store, ArePlain, place_plain, even_set_check, even_place, even_expr, even_front, even_set, even_structure, even_arguments}
@@ -50,7 +51,7 @@ module _ (k : Scope) (b : Base) (plain : NotScratch b) where
 module _ (k : Scope) (opened : ArePlain k.opened) where
   even_read : (v : ReadVariable) (d : ℕ) → Even (read_code k v d)
   even_read (ReadChar p low high line) d =
-      both (both (both (even_place k opened p _ 0 zero_evenly) (even_site _ (input_site k) 8 tt)) (more tt (more tt (even_range _ low high 4 line)))) (even_store (is_byte p) (place_site k p (held true d)) _ (place_plain k opened p (held true d)))
+      both (both (both (even_place k opened p _ 0 zero_evenly) (even_site _ (input_site k) 8 tt)) (more tt (more tt (even_fitting true None _ (Within low high) line)))) (even_store (is_byte p) (place_site k p (held true d)) _ (place_plain k opened p (held true d)))
   even_read (ReadInteger p low high line) d =
       both (both (both (even_place k opened p _ 0 zero_evenly) (even_site _ (input_site k) 8 tt)) (more zero_evenly (more tt (more tt (more tt (more tt (more tt (even_range _ low high 4 line))))))))
       (even_store (is_byte p) (place_site k p (held true d)) _ (place_plain k opened p (held true d)))
@@ -106,7 +107,7 @@ mutual
   even_statement k o Empty d = none
   even_statement k o (Assign p range e line) d =
       let t = kept (expr_calls e) d in
-      both (both (both (even_place k o p t 0 zero_evenly) (even_expr k o e _ 0 zero_evenly)) (even_fitting (literal_of e) _ range line)) (even_store (is_byte p) (place_site k p t) _ (place_plain k o p t))
+      both (both (both (even_place k o p t 0 zero_evenly) (even_expr k o e _ 0 zero_evenly)) (even_fitting (gives_byte e) (literal_of e) _ range line)) (even_store (is_byte p) (place_site k p t) _ (place_plain k o p t))
   even_statement k o (AssignSet p low high e line) d =
       both (both (both (both (even_place k o p _ 0 zero_evenly) (even_set k o e _ 0 zero_evenly)) (even_set_check _ 0 low high line)) (even_site _ (place_site k p (held true d)) 32 (place_plain k o p (held true d)))) (more zero_evenly (even_copy k _ _ _ 32))
   even_statement k o (AssignStructure p e) d =

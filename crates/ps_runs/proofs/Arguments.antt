@@ -21,7 +21,7 @@ use Rattle.ps_layout.specs.Frames.{Kind, Kinds, kind_before, kinds_of, result_sh
 use Rattle.ps_code.specs.Scopes.{held, beside, fitting_code}
 use Rattle.ps_code.specs.Calling.{arguments_call}
 use Rattle.ps_code.specs.Statements.{expr_code}
-use Rattle.ps_code.specs.Values.{literal_of, argument_words, argument_end, argument_scratch, arguments_words, arguments_end, place_temporary, place_site, place_code, argument_code, arguments_code}
+use Rattle.ps_code.specs.Values.{literal_of, gives_byte, argument_words, argument_end, argument_scratch, arguments_words, arguments_end, place_temporary, place_site, place_code, argument_code, arguments_code}
 use Rattle.ps_code.specs.Fits.{tail, SortOf, RangeFits, DeclaredAt, ExprFits, ArgumentFits, ArgumentsFit}
 use Rattle.ps_code.proofs.Depths.{held_above}
 use Rattle.ps_relation.specs.Ghosts.{RoutineHere, EnvAt}
@@ -34,8 +34,8 @@ use Rattle.ps_runs.specs.Openings.{plain_scope, Opening, scope_in, context_in, I
 use Rattle.ps_runs.proofs.Runs.{runs_bind, runs_told, here, gives_word, reached_from, keeps_refl}
 use Rattle.ps_runs.proofs.Kept.{opened_kept}
 use Rattle.ps_runs.proofs.Places.{base_is}
-use Rattle.ps_runs.proofs.Checks.{check_runs}
-use Rattle.ps_runs.proofs.Values.{FrontRuns, expr_runs_from, known_is}
+use Rattle.ps_runs.proofs.Checks.{fit_runs}
+use Rattle.ps_runs.proofs.Values.{FrontRuns, IsByteOf, expr_bytes, known_is}
 use Rattle.ps_runs.proofs.Selectors.{PlaceIn, PlaceRuns}
 use Rattle.ps_runs.proofs.Links.{link_to, formal_run}
 
@@ -151,38 +151,38 @@ module _ (p : Setting) (n : ℕ) (call : Caller) (c : Activated) (active : IsAct
   -- ---- one parameter
 
   -- a value that was evaluated is tested
-  value_passed : (e : Expr) (range : Range) (shape : Shape) (sort : Sort) (v : Value) (t x line : ℕ) (o : Opening) (w : World) (k : Work) (pc pc' : ℕ) (literal : Option ℤ) (kind : Kind) → kind ≡ passed_kind (PassValue shape v (word_of sort v)) → SortOf (Whole shape) sort → RangeFits range (Whole shape) → Alive p c w k → WordIn k.temporaries w.made t sort v → ((z : ℤ) → sort ≡ NumberSort → literal ≡ Some z → number_of v ≡ z) → Stands (code_in p) c.routine pc (fitting_code literal t range line) pc'
+  value_passed : (e : Expr) (range : Range) (shape : Shape) (sort : Sort) (v : Value) (t x line : ℕ) (o : Opening) (w : World) (k : Work) (pc pc' : ℕ) (literal : Option ℤ) (kind : Kind) → kind ≡ passed_kind (PassValue shape v (word_of sort v)) → SortOf (Whole shape) sort → RangeFits range (Whole shape) → Alive p c w k → WordIn k.temporaries w.made t sort v → IsByteOf e v → ((z : ℤ) → sort ≡ NumberSort → literal ≡ Some z → number_of v ≡ z) → Stands (code_in p) c.routine pc (fitting_code (gives_byte e) literal t range line) pc'
       → Runs p (suc n) c t x w k pc pc' (and_then (fitting range v line (context_in c o) w) (λ u w1. Gives (ValueActual u) w1)) (λ y w' k'. ArgumentIn p c (ByValue e range line) kind t (x + 0) y w' k')
-  value_passed e Any (PointerShape u) sort v t x line o w k pc pc' literal kind same sorted ranged alive r known st =
+  value_passed e Any (PointerShape u) sort v t x line o w k pc pc' literal kind same sorted ranged alive r is known st =
       here p (suc n) c t x w k pc pc' (λ w' k'. ArgumentIn p c (ByValue e Any line) kind t (x + 0) (ValueActual v) w' k') st alive
       (record { passing = PassValue (PointerShape u) v (word_of sort v); actual = refl; kind_is = sym same; at = subst (HasSort w.made v) sorted r.fits; is = ap (λ q. word_of q v) sorted; values = ap (λ q. and_more q (Some [])) r.word })
-  value_passed e (WithinBounds low high) (NumberShape first narrow) sort v t x line o w k pc pc' literal kind same sorted ranged alive r known st =
+  value_passed e (WithinBounds low high) (NumberShape first narrow) sort v t x line o w k pc pc' literal kind same sorted ranged alive r is known st =
       runs_bind p (suc n) c t x t x t x w k pc pc' pc' (fitting (WithinBounds low high) v line (context_in c o) w) (λ u w1. Gives (ValueActual u) w1) (λ u w' k'. (u ≡ v) × WordIn k'.temporaries w'.made t NumberSort v × (is_between low (number_of v) high ≡ true)) (λ y w' k'. ArgumentIn p c (ByValue e (WithinBounds low high) line) kind t (x + 0) y w' k') (omega arith) (omega arith) (omega arith) (omega arith)
-      (check_runs p (suc n) c active t x o w k pc pc' t low high 4 line literal v (omega arith) alive (λ z q. known z sorted q) (subst (λ q. WordIn k.temporaries w.made t q v) sorted r) st)
+      (fit_runs p (suc n) c active t x o w k pc pc' t low high line (gives_byte e) literal v alive is (λ z q. known z sorted q) (subst (λ q. WordIn k.temporaries w.made t q v) sorted r) st)
       (λ u w1 k1 alive1 kept1 y.
       here p (suc n) c t x w1 k1 pc' pc' (λ w' k'. ArgumentIn p c (ByValue e (WithinBounds low high) line) kind t (x + 0) (ValueActual u) w' k') refl alive1
       (record { passing = PassValue (NumberShape first narrow) v (word_of NumberSort v); actual = ap ValueActual (sym y.0); kind_is = sym same; at = y.1.fits; is = refl; values = ap (λ q. and_more q (Some [])) y.1.word }))
-  value_passed e Any (NumberShape first narrow) sort v t x line o w k pc pc' literal kind same sorted ranged alive r known st = absurd ranged
-  value_passed e Any SetShape sort v t x line o w k pc pc' literal kind same sorted ranged alive r known st = absurd ranged
-  value_passed e Any (ByteShape a b) sort v t x line o w k pc pc' literal kind same sorted ranged alive r known st = absurd ranged
-  value_passed e Any (ArrayShape a b) sort v t x line o w k pc pc' literal kind same sorted ranged alive r known st = absurd ranged
-  value_passed e Any (RecordShape a) sort v t x line o w k pc pc' literal kind same sorted ranged alive r known st = absurd ranged
-  value_passed e (WithinBounds low high) (PointerShape u) sort v t x line o w k pc pc' literal kind same sorted ranged alive r known st = absurd ranged
-  value_passed e (WithinBounds low high) SetShape sort v t x line o w k pc pc' literal kind same sorted ranged alive r known st = absurd ranged
-  value_passed e (WithinBounds low high) (ByteShape a b) sort v t x line o w k pc pc' literal kind same sorted ranged alive r known st = absurd ranged
-  value_passed e (WithinBounds low high) (ArrayShape a b) sort v t x line o w k pc pc' literal kind same sorted ranged alive r known st = absurd ranged
-  value_passed e (WithinBounds low high) (RecordShape a) sort v t x line o w k pc pc' literal kind same sorted ranged alive r known st = absurd ranged
+  value_passed e Any (NumberShape first narrow) sort v t x line o w k pc pc' literal kind same sorted ranged alive r is known st = absurd ranged
+  value_passed e Any SetShape sort v t x line o w k pc pc' literal kind same sorted ranged alive r is known st = absurd ranged
+  value_passed e Any (ByteShape a b) sort v t x line o w k pc pc' literal kind same sorted ranged alive r is known st = absurd ranged
+  value_passed e Any (ArrayShape a b) sort v t x line o w k pc pc' literal kind same sorted ranged alive r is known st = absurd ranged
+  value_passed e Any (RecordShape a) sort v t x line o w k pc pc' literal kind same sorted ranged alive r is known st = absurd ranged
+  value_passed e (WithinBounds low high) (PointerShape u) sort v t x line o w k pc pc' literal kind same sorted ranged alive r is known st = absurd ranged
+  value_passed e (WithinBounds low high) SetShape sort v t x line o w k pc pc' literal kind same sorted ranged alive r is known st = absurd ranged
+  value_passed e (WithinBounds low high) (ByteShape a b) sort v t x line o w k pc pc' literal kind same sorted ranged alive r is known st = absurd ranged
+  value_passed e (WithinBounds low high) (ArrayShape a b) sort v t x line o w k pc pc' literal kind same sorted ranged alive r is known st = absurd ranged
+  value_passed e (WithinBounds low high) (RecordShape a) sort v t x line o w k pc pc' literal kind same sorted ranged alive r is known st = absurd ranged
 
   pub by_value : (e : Expr) (range : Range) (line : ℕ) → FrontRuns p n call c active e → ArgumentRuns (ByValue e range line)
   by_value e range line front t x o w k pc pc' kind alive opened fits st =
       let code = scope_in p c o in
       let ctx = context_in c o in
       let sort = fits.3.0 in
-      let cut = split (code_in p) c.routine pc (expr_code code e t x) (fitting_code (literal_of e) t range line) pc' st in
-      runs_bind p (suc n) c t x t x t x w k pc cut.0 pc' (value call e ctx w) (λ y w2. and_then (fitting range y line ctx w2) (λ u w3. Gives (ValueActual u) w3)) (λ v w' k'. WordIn k'.temporaries w'.made t sort v × ((v0 : Value) (w0 : World) → value call e ctx w ≡ Gives v0 w0 → v ≡ v0)) (λ y w' k'. ArgumentIn p c (ByValue e range line) kind t (x + 0) y w' k') (omega arith) (omega arith) (omega arith) (omega arith)
-      (runs_told p (suc n) c t x w k pc cut.0 (value call e ctx w) (λ v w' k'. WordIn k'.temporaries w'.made t sort v) (expr_runs_from p n call c active e front t x o w k pc cut.0 sort alive opened fits.3.2 cut.1))
+      let cut = split (code_in p) c.routine pc (expr_code code e t x) (fitting_code (gives_byte e) (literal_of e) t range line) pc' st in
+      runs_bind p (suc n) c t x t x t x w k pc cut.0 pc' (value call e ctx w) (λ y w2. and_then (fitting range y line ctx w2) (λ u w3. Gives (ValueActual u) w3)) (λ v w' k'. (WordIn k'.temporaries w'.made t sort v × IsByteOf e v) × ((v0 : Value) (w0 : World) → value call e ctx w ≡ Gives v0 w0 → v ≡ v0)) (λ y w' k'. ArgumentIn p c (ByValue e range line) kind t (x + 0) y w' k') (omega arith) (omega arith) (omega arith) (omega arith)
+      (runs_told p (suc n) c t x w k pc cut.0 (value call e ctx w) (λ v w' k'. WordIn k'.temporaries w'.made t sort v × IsByteOf e v) (expr_bytes p n call c active e front t x o w k pc cut.0 sort alive opened fits.3.2 cut.1))
       (λ v w2 k2 alive2 kept2 r2.
-      value_passed e range fits.0 sort v t x line o w2 k2 cut.0 pc' (literal_of e) kind fits.1 fits.3.1 fits.2 alive2 r2.0
+      value_passed e range fits.0 sort v t x line o w2 k2 cut.0 pc' (literal_of e) kind fits.1 fits.3.1 fits.2 alive2 r2.0.0 r2.0.1
       (λ z qs ql. let known_ = known_is p n call c active e z o w ql (subst (λ y. ExprFits (plain_scope p c) o.shapes e y) qs fits.3.2) in ap number_of (r2.1 known_.v w known_.gives_it) ∙ known_.is) cut.2)
 
   pub by_variable : (q : Place) → PlaceRuns p n call c active q → ArgumentRuns (ByVariable q)

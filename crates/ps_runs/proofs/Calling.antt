@@ -127,7 +127,7 @@ module _ (p : Setting) (n : ℕ) (call : Caller) (c : Activated) (active : IsAct
       (λ u w2 k2 alive2 kept2 r2.
       let v = value_in routine.result fits.1.0 sort w1.next d w2 k2 fits.1.1 fits.1.2 r2 in
       here p (suc n) c d x w2 k2 pc' pc' (λ w' k'. FrontIn (Call r up arguments line) d sort (w2.store w1.next) w'.made k'.temporaries) refl alive2
-      (plain_front (Call r up arguments line) d sort (w2.store w1.next) w2.made k2.temporaries refl refl refl refl v.0 v.1 (λ q. false_true q))))
+      (plain_front (Call r up arguments line) d sort (w2.store w1.next) w2.made k2.temporaries refl refl refl refl v.0 v.1 (λ q. false_true q) (λ q. false_true q))))
 
   pub call_formal_front : (up index : ℕ) (arguments : Arguments) (line : ℕ) → ArgumentsRun p n call c active arguments → FrontRuns p n call c active (CallFormal up index arguments line)
   call_formal_front up index arguments line args d x o w k pc pc' sort alive opened fits st =
@@ -149,7 +149,7 @@ module _ (p : Setting) (n : ℕ) (call : Caller) (c : Activated) (active : IsAct
       (λ u w2 k2 alive2 kept2 r2.
       let v = value_in (routine_at p.program r).result shape sort w1.next d w2 k2 r2.0 fits.1.1.2 r2.1 in
       here p (suc n) c d x w2 k2 pc' pc' (λ w' k'. FrontIn (CallFormal up index arguments line) d sort (w2.store w1.next) w'.made k'.temporaries) refl alive2
-      (plain_front (CallFormal up index arguments line) d sort (w2.store w1.next) w2.made k2.temporaries refl refl refl refl v.0 v.1 (λ q. false_true q))))
+      (plain_front (CallFormal up index arguments line) d sort (w2.store w1.next) w2.made k2.temporaries refl refl refl refl v.0 v.1 (λ q. false_true q) (λ q. false_true q))))
 
   -- ---- procedures
 

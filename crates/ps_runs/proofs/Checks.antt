@@ -1,5 +1,5 @@
 -- Tests of ranges, and stores to variables.
-use Rattle.std.proofs.Common.{◌≡◌, ℕ, suc, ◌+◌, ◌≤◌, ℤ, pos, negsuc, Bool, true, false, ◌&&◌, if◌then◌else◌, IsTrue, List, [], ◌∷◌, Option, Some, None, refl, sym, ap, ◌∙◌, subst, append-nil, eqb-true, lt-ltb}
+use Rattle.std.proofs.Common.{◌≡◌, ℕ, suc, ◌+◌, ◌≤◌, ◌<◌, ℤ, pos, negsuc, Bool, true, false, ◌&&◌, if◌then◌else◌, IsTrue, List, [], ◌∷◌, Option, Some, None, refl, sym, ap, ◌∙◌, subst, append-nil, eqb-true, lt-ltb, ltb-true, nat_lt, not, int_le, arith}
 use Rattle.tac_code.specs.declared.code.Value.TheVariants.{Number, Address}
 use Rattle.tac_code.specs.declared.code.Instruction.TheVariants as i
 use Rattle.tac_code.specs.Numbers.{is_integer}
@@ -15,8 +15,10 @@ use Rattle.ps_layout.specs.Words.{byte_of, value_words}
 use Rattle.ps_relation.proofs.ByteParts.{byte_small, byte_number}
 use Rattle.ps_relation.proofs.ByteWrites.{spot_byte_written, spot_byte_holds}
 use Rattle.ps_layout.specs.Paths.{Sort, NumberSort, HasSort, HasShape, KeepsAt, GoesTo}
-use Rattle.ps_code.specs.Scopes.{least, greatest, is_any, check_code, Site}
+use Rattle.ps_code.specs.Scopes.{least, greatest, is_any, has_bytes, check_code, fitting_code, Site}
+use Rattle.ps_tree.specs.declared.tree.Range.TheVariants.{Within}
 use Rattle.ps_code.specs.Fits.{SortOf}
+use Rattle.ps_relation.proofs.Places.{le_through}
 use Rattle.ps_relation.specs.Ghosts.{EnvAt}
 use Rattle.tac_code.specs.declared.code.Block.TheVariants.{Frame as FrameBlock}
 use Rattle.ps_relation.specs.Here.{Setting, machine_of, code_in, Work, Activated, chain_of, IsActive, Alive, state, word_of, WordIn, SiteAt}
@@ -45,6 +47,24 @@ any_integer : (low high x : ℤ) → is_any low high ≡ true → IsTrue (is_int
 any_integer low high x e h =
     let r = both (is_equal low least) (is_equal high greatest) e in
     ap (λ l. is_between l x high) (equal_is low least r.0) ∙ ap (λ l. is_between least x l) (equal_is high greatest r.1) ∙ between_integers x ∙ h
+
+pub not_less : (a b : ℕ) → b ≤ a → nat_lt a b ≡ false
+not_less a b l = go (nat_lt a b) refl
+  where
+    go : (t : Bool) → nat_lt a b ≡ t → t ≡ false
+    go true e = let x = ltb-true a b e in absurd (omega (arith, l, x))
+    go false e = refl
+
+-- a byte is a number of 0..255
+pub byte_between : (b : ℕ) → b < 256 → IsTrue (is_between (pos 0) (pos b) (pos 255))
+byte_between b l = sym (in_range (pos 0) (pos b) (pos 255)) ∙ ap (λ t. not t && not (nat_lt 255 b)) (not_less b 0 (omega arith)) ∙ ap (λ t. not t) (not_less 255 b (omega (arith, l)))
+
+-- and lies in a range that has all bytes
+byte_in : (low high x : ℤ) → has_bytes low high ≡ true → IsTrue (is_between (pos 0) x (pos 255)) → is_between low x high ≡ true
+byte_in low high x e h =
+    let a = both (int_le low (pos 0)) (int_le (pos 255) high) e in
+    let b = both (int_le (pos 0) x) (int_le x (pos 255)) h in
+    ap (λ t. t && int_le x high) (le_through low (pos 0) x a.0 b.0) ∙ le_through x (pos 255) high b.1 a.1
 
 module _ (p : Setting) (n : ℕ) (c : Activated) (active : IsActive p c) where
   -- a number in t is tested
@@ -79,6 +99,19 @@ module _ (p : Setting) (n : ℕ) (c : Activated) (active : IsActive p c) where
           ranged : (b : Bool) → is_between low z high ≡ b → Stands (code_in p) c.routine pc (if b then [] else (i.CheckRange t low high number line ∷ [])) pc' → Runs p n c d x w k pc pc' ((if is_between low (number_of v) high then give v else fault number line (context_in c o)) w) R
           ranged true e h' = skip (ap (λ y. is_between low y high) (known z q) ∙ e) h'
           ranged false e h' = test h'
+
+  -- and one that may be known to be a byte
+  pub fit_runs : (d x : ℕ) (o : Opening) (w : World) (k : Work) (pc pc' t : ℕ) (low high : ℤ) (line : ℕ) (byte : Bool) (literal : Option ℤ) (v : Value) → Alive p c w k → (byte ≡ true → IsTrue (is_between (pos 0) (number_of v) (pos 255))) → ((z : ℤ) → literal ≡ Some z → number_of v ≡ z) → WordIn k.temporaries w.made t NumberSort v → Stands (code_in p) c.routine pc (fitting_code byte literal t (Within low high) line) pc'
+      → Runs p n c d x w k pc pc' ((if is_between low (number_of v) high then give v else fault 4 line (context_in c o)) w) (λ u w' k'. (u ≡ v) × WordIn k'.temporaries w'.made t NumberSort v × (is_between low (number_of v) high ≡ true))
+  fit_runs d x o w k pc pc' t low high line byte literal v alive is_byte known r st = go (byte && has_bytes low high) refl st
+    where
+      go : (b : Bool) → (byte && has_bytes low high) ≡ b → Stands (code_in p) c.routine pc (if b then [] else check_code literal t low high 4 line) pc' → Runs p n c d x w k pc pc' ((if is_between low (number_of v) high then give v else fault 4 line (context_in c o)) w) (λ u w' k'. (u ≡ v) × WordIn k'.temporaries w'.made t NumberSort v × (is_between low (number_of v) high ≡ true))
+      go true q h =
+          let e = both byte (has_bytes low high) q in
+          let inside = byte_in low high (number_of v) e.1 (is_byte e.0) in
+          subst (λ b. Runs p n c d x w k pc pc' ((if b then give v else fault 4 line (context_in c o)) w) (λ u w' k'. (u ≡ v) × WordIn k'.temporaries w'.made t NumberSort v × (is_between low (number_of v) high ≡ true))) (sym inside)
+          (here p n c d x w k pc pc' (λ w' k'. (v ≡ v) × WordIn k'.temporaries w'.made t NumberSort v × (is_between low (number_of v) high ≡ true)) h alive (refl, r, inside))
+      go false q h = check_runs d x o w k pc pc' t low high 4 line literal v (omega arith) alive known r h
 
   -- ---- a spot is written
 

@@ -33,7 +33,7 @@ use Rattle.ps_runs.proofs.Runs.{with_temporary, runs_bind, keeps_refl, keeps_les
 use Rattle.ps_runs.proofs.Kept.{opened_kept}
 use Rattle.ps_runs.proofs.Calls.{length_map}
 use Rattle.ps_runs.proofs.Writes.{numbered_more, is_fresh}
-use Rattle.ps_runs.proofs.Values.{FrontIn, FrontRuns, true_false}
+use Rattle.ps_runs.proofs.Values.{false_true, FrontIn, FrontRuns, true_false}
 use Rattle.ps_runs.proofs.Structures.{held_value, contents_are, StructureIn, structure_kept, held_shape, held_bytes, held_below, byte_values, StructureRuns}
 
 module _ (p : Setting) (n : ℕ) (call : Caller) (c : Activated) (active : IsActive p c) (does : WritesDo p) where
@@ -131,5 +131,6 @@ module _ (p : Setting) (n : ℕ) (call : Caller) (c : Activated) (active : IsAct
           number = λ s. fits.0;
           binary = λ s. (q, refl);
           binary_relation = λ s. (q, refl);
+          byte = λ s. false_true s;
         };
       }))))

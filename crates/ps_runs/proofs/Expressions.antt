@@ -7,7 +7,7 @@ use Rattle.ps_tree.specs.declared.tree.BooleanOperator.{BooleanOperator}
 use Rattle.ps_tree.specs.Tree.{Variable, no_selector, selector_before, ArithmeticSteps, no_arithmetic_step, arithmetic_step_before, Operands, no_operand, operand_before, Expr, Number, Nil, Load, Plus, Minus, Not, Arithmetic, Logic, Compare, ComparePointers, CompareSets, CompareStrings, In, Apply, Eof, Eoln, Call, CallFormal, Argument, ByValue, BySet, ByCopy, ByVariable, ByRoutine, ByFormal, Arguments, no_argument, argument_before}
 use Rattle.ps_meaning.specs.Expressions.{Caller}
 use Rattle.ps_relation.specs.Here.{Setting, Activated, IsActive}
-use Rattle.ps_runs.proofs.Values.{FrontRuns, ExprRuns, StepsRun, OperandsRun, expr_runs_from, number_front, nil_front, plus_front, minus_front, not_front, arithmetic_front, logic_front, compare_front, no_steps, step_run, no_operands, operands_run}
+use Rattle.ps_runs.proofs.Values.{FrontRuns, ExprRuns, ByteRuns, StepsRun, OperandsRun, expr_runs_from, expr_bytes, number_front, nil_front, plus_front, minus_front, not_front, arithmetic_front, logic_front, compare_front, no_steps, step_run, no_operands, operands_run}
 use Rattle.ps_tree.specs.Tree.{Place, Selectors, Element, Field, Target, Structure, Literal, Contents}
 use Rattle.ps_runs.proofs.Functions.{apply_front}
 use Rattle.ps_runs.proofs.Pointers.{compare_pointers_front}
@@ -95,3 +95,6 @@ module _ (p : Setting) (n : ℕ) (call : Caller) (c : Activated) (active : IsAct
 
   pub expr_runs : (e : Expr) → ExprRuns p n call c active e
   expr_runs e = expr_runs_from p n call c active e (front_runs e)
+
+  pub byte_runs : (e : Expr) → ByteRuns p n call c active e
+  byte_runs e = expr_bytes p n call c active e (front_runs e)

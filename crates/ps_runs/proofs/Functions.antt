@@ -21,7 +21,7 @@ use Rattle.tac_steps.proofs.Temporaries.{put_same, put_other}
 use Rattle.tac_steps.proofs.Instructions.{literal_step, arithmetic_step, bits_step, branch_step}
 use Rattle.ps_layout.specs.Paths.{NumberSort, HasSort}
 use Rattle.ps_code.specs.Scopes.{even_from, least, greatest, range_code}
-use Rattle.ps_code.specs.Values.{is_truth, function_code}
+use Rattle.ps_code.specs.Values.{is_truth, gives_byte, function_code}
 use Rattle.ps_code.specs.Statements.{expr_code}
 use Rattle.ps_code.specs.Fits.{FunctionFits}
 use Rattle.ps_code.proofs.Depths.{even_above}
@@ -33,25 +33,25 @@ use Rattle.ps_runs.specs.Openings.{Opening, scope_in, context_in}
 use Rattle.ps_runs.proofs.Runs.{with_temporary, runs_bind, runs_map, runs_word, runs_from, here, gives_word, keeps_refl}
 use Rattle.ps_runs.proofs.Checks.{check_runs}
 use Rattle.ps_runs.proofs.Leaves.{integer_well, settles, fails_so}
-use Rattle.ps_runs.proofs.Values.{FrontIn, FrontRuns, plain_front, false_true, expr_runs_from}
+use Rattle.ps_runs.proofs.Values.{FrontIn, IsByteOf, FrontRuns, plain_front, false_true, expr_runs_from}
 
 module _ (p : Setting) (n : ℕ) (call : Caller) (c : Activated) (active : IsActive p c) where
-  -- what is left: a number, and for `odd` a truth
+  -- what is left: a number, for `odd` a truth, and for `chr` a byte
   abbrev FunctionIn : RequiredFunction → Expr → (line d : ℕ) → Value → World → Work → Type 0
-  FunctionIn function e line d v w k = WordIn k.temporaries w.made d NumberSort v × (is_truth (Apply function e line) ≡ true → (b : Bool) × (number_of v ≡ truth b))
+  FunctionIn function e line d v w k = WordIn k.temporaries w.made d NumberSort v × (is_truth (Apply function e line) ≡ true → (b : Bool) × (number_of v ≡ truth b)) × IsByteOf (Apply function e line) v
 
   abbrev FunctionRuns : RequiredFunction → Type 0
   FunctionRuns function =
       (e : Expr) (d x : ℕ) (o : Opening) (w : World) (k : Work) (pc pc' line : ℕ) (y : Value) → Alive p c w k → FunctionFits function → WordIn k.temporaries w.made d NumberSort y → Stands (code_in p) c.routine pc (function_code function d line) pc'
       → Runs p (suc n) c d x w k pc pc' (settled (apply function (number_of y)) line (context_in c o) w) (λ v w' k'. FunctionIn function e line d v w' k')
 
-  -- a number that is no truth
-  plainly : (function : RequiredFunction) (e : Expr) (d x : ℕ) (o : Opening) (w : World) (k : Work) (pc pc' line : ℕ) (r : Computed) → is_truth (Apply function e line) ≡ false → Runs p (suc n) c d x w k pc pc' (settled r line (context_in c o) w) (λ v w' k'. WordIn k'.temporaries w'.made d NumberSort v) → Runs p (suc n) c d x w k pc pc' (settled r line (context_in c o) w) (λ v w' k'. FunctionIn function e line d v w' k')
-  plainly function e d x o w k pc pc' line r plain run =
-      runs_map p (suc n) c d x d x w k pc pc' (settled r line (context_in c o) w) (λ v w' k'. WordIn k'.temporaries w'.made d NumberSort v) (λ v w' k'. FunctionIn function e line d v w' k') (omega arith) (omega arith) run (λ v w' k' a' q. (q, λ t. false_true (sym plain ∙ t)))
+  -- a number that is neither
+  plainly : (function : RequiredFunction) (e : Expr) (d x : ℕ) (o : Opening) (w : World) (k : Work) (pc pc' line : ℕ) (r : Computed) → is_truth (Apply function e line) ≡ false → gives_byte (Apply function e line) ≡ false → Runs p (suc n) c d x w k pc pc' (settled r line (context_in c o) w) (λ v w' k'. WordIn k'.temporaries w'.made d NumberSort v) → Runs p (suc n) c d x w k pc pc' (settled r line (context_in c o) w) (λ v w' k'. FunctionIn function e line d v w' k')
+  plainly function e d x o w k pc pc' line r plain other run =
+      runs_map p (suc n) c d x d x w k pc pc' (settled r line (context_in c o) w) (λ v w' k'. WordIn k'.temporaries w'.made d NumberSort v) (λ v w' k'. FunctionIn function e line d v w' k') (omega arith) (omega arith) run (λ v w' k' a' q. (q, λ t. false_true (sym plain ∙ t), λ t. false_true (sym other ∙ t)))
 
   abs_runs : FunctionRuns Abs
-  abs_runs e d x o w k pc pc' line y alive fits r st = plainly Abs e d x o w k pc pc' line (integer (pos (unsigned_abs z))) refl (go (int_lt z (pos 0)) refl)
+  abs_runs e d x o w k pc pc' line y alive fits r st = plainly Abs e d x o w k pc pc' line (integer (pos (unsigned_abs z))) refl refl (go (int_lt z (pos 0)) refl)
     where
       z : ℤ
       z = number_of y
@@ -92,7 +92,7 @@ module _ (p : Setting) (n : ℕ) (call : Caller) (c : Activated) (active : IsAct
   sqr_runs : FunctionRuns Sqr
   sqr_runs e d x o w k pc pc' line y alive fits r st =
       let z = number_of y in
-      plainly Sqr e d x o w k pc pc' line (integer (z *ℤ z)) refl
+      plainly Sqr e d x o w k pc pc' line (integer (z *ℤ z)) refl refl
       (settles p (suc n) c active d x o w k pc pc' d line (integer (z *ℤ z)) (integer_well (z *ℤ z))
       (arithmetic_step (machine_of p) (state p c w k pc) operator.Multiply d d (operand.Temporary d) 1 line z z st.0 r.word r.word ∙ ap (λ g. gives_computed (code_in p) d g line (state p c w k pc)) (computes Multiply z z)) st.1 (omega arith) alive)
 
@@ -103,17 +103,24 @@ module _ (p : Setting) (n : ℕ) (call : Caller) (c : Activated) (active : IsAct
       let v = OrdinalValue (truth b) in
       gives_word p (suc n) c d x w k pc pc' d (Numeral (truth b)) (λ w' k'. FunctionIn Odd e line d v w' k')
       (bits_step (machine_of p) (state p c w k pc) And d d (operand.Number (pos 1)) z (pos 1) st.0 r.word refl ∙ ap (λ q. gives d (Numeral q) (state p c w k pc)) (odd_same z r.fits)) st.1 (omega arith) alive
-      (record { word = put_same k.temporaries d (Numeral (truth b)); fits = truth_integer b }, λ q. (b, refl))
+      (record { word = put_same k.temporaries d (Numeral (truth b)); fits = truth_integer b }, λ q. (b, refl), λ q. false_true q)
 
   ord_runs : FunctionRuns Ord
   ord_runs e d x o w k pc pc' line y alive fits r st =
-      plainly Ord e d x o w k pc pc' line (Result (number_of y)) refl (here p (suc n) c d x w k pc pc' (λ w' k'. WordIn k'.temporaries w'.made d NumberSort (OrdinalValue (number_of y))) st alive (record { word = r.word; fits = r.fits }))
+      plainly Ord e d x o w k pc pc' line (Result (number_of y)) refl refl (here p (suc n) c d x w k pc pc' (λ w' k'. WordIn k'.temporaries w'.made d NumberSort (OrdinalValue (number_of y))) st alive (record { word = r.word; fits = r.fits }))
 
   -- a test, told as what was computed
   tested : (d x : ℕ) (o : Opening) (w : World) (k : Work) (pc pc' line : ℕ) (v : Value) (low high z : ℤ) (a b : Bool) → number_of v ≡ z → a ≡ b
       → Runs p (suc n) c d x w k pc pc' ((if a then give v else fault 4 line (context_in c o)) w) (λ u w' k'. (u ≡ v) × WordIn k'.temporaries w'.made d NumberSort v × (is_between low (number_of v) high ≡ true))
-      → Runs p (suc n) c d x w k pc pc' (settled (if b then Result z else Fault 4) line (context_in c o) w) (λ u w' k'. WordIn k'.temporaries w'.made d NumberSort u)
-  tested d x o w k pc pc' line v low high z true true e q r = record { work = r.work; alive = r.alive; keeps = r.keeps; comes = r.comes; result = record { word = r.result.1.word ∙ ap (λ m. Some (Numeral m)) e; fits = subst (λ m. IsTrue (is_integer m)) e r.result.1.fits } }
+      → Runs p (suc n) c d x w k pc pc' (settled (if b then Result z else Fault 4) line (context_in c o) w) (λ u w' k'. WordIn k'.temporaries w'.made d NumberSort u × (is_between low (number_of u) high ≡ true))
+  tested d x o w k pc pc' line v low high z true true e q r =
+      record {
+        work = r.work;
+        alive = r.alive;
+        keeps = r.keeps;
+        comes = r.comes;
+        result = (record { word = r.result.1.word ∙ ap (λ m. Some (Numeral m)) e; fits = subst (λ m. IsTrue (is_integer m)) e r.result.1.fits }, subst (λ m. is_between low m high ≡ true) e r.result.2);
+      }
   tested d x o w k pc pc' line v low high z false false e q r = r
   tested d x o w k pc pc' line v low high z true false e q r = absurd (cc)
   tested d x o w k pc pc' line v low high z false true e q r = absurd (cc)
@@ -121,9 +128,10 @@ module _ (p : Setting) (n : ℕ) (call : Caller) (c : Activated) (active : IsAct
   chr_runs : FunctionRuns Chr
   chr_runs e d x o w k pc pc' line y alive fits r st =
       let z = number_of y in
-      plainly Chr e d x o w k pc pc' line (apply Chr z) refl
+      runs_map p (suc n) c d x d x w k pc pc' (settled (apply Chr z) line (context_in c o) w) (λ v w' k'. WordIn k'.temporaries w'.made d NumberSort v × (is_between (pos 0) (number_of v) (pos 255) ≡ true)) (λ v w' k'. FunctionIn Chr e line d v w' k') (omega arith) (omega arith)
       (tested d x o w k pc pc' line y (pos 0) (pos 255) z (is_between (pos 0) z (pos 255)) (is_between (pos 0) z (pos 255)) refl refl
       (check_runs p (suc n) c active d x o w k pc pc' d (pos 0) (pos 255) 4 line None y (omega arith) alive (λ m q. absurd (cc)) r st))
+      (λ v w' k' a' q. (q.0, λ t. false_true t, λ t. q.1))
 
   -- a number that is next, and its test
   next_runs : (d x : ℕ) (o : Opening) (w : World) (k : Work) (pc pc' line : ℕ) (s low high : ℤ) (b : Bool) → Alive p c w k
@@ -144,21 +152,24 @@ module _ (p : Setting) (n : ℕ) (call : Caller) (c : Activated) (active : IsAct
           let v = OrdinalValue s in
           let k1 = with_temporary k d (Numeral s) in
           runs_word p (suc n) c d x w k pc (suc pc) pc' d (Numeral s) (settled (if b then Result s else Fault 4) line (context_in c o) w) R (gives_next true e) refl (omega arith) alive
-          (λ alive1. tested d x o w k1 (suc pc) pc' line v low high s (is_between low s high) b refl (inside e)
+          (λ alive1.
+          runs_map p (suc n) c d x d x w k1 (suc pc) pc' (settled (if b then Result s else Fault 4) line (context_in c o) w) (λ u w' k'. WordIn k'.temporaries w'.made d NumberSort u × (is_between low (number_of u) high ≡ true)) R (omega arith) (omega arith)
+          (tested d x o w k1 (suc pc) pc' line v low high s (is_between low s high) b refl (inside e)
           (check_runs p (suc n) c active d x o w k1 (suc pc) pc' d low high 4 line None v (omega arith) alive1 (λ m q. absurd (cc)) (record { word = put_same k.temporaries d (Numeral s); fits = e }) st))
+          (λ u w' k' a' y. y.0))
       go false e = subst (λ q. Runs p (suc n) c d x w k pc pc' (settled (if q then Result s else Fault 4) line (context_in c o) w) R) (sym (beyond e)) (fails_so p (suc n) c active w k pc 4 line (omega arith) (gives_next false e))
 
   succ_runs : (high : ℤ) → FunctionRuns (Succ high)
   succ_runs high e d x o w k pc pc' line y alive fits r st =
       let z = number_of y in
-      plainly (Succ high) e d x o w k pc pc' line (apply (Succ high) z) refl
+      plainly (Succ high) e d x o w k pc pc' line (apply (Succ high) z) refl refl
       (next_runs d x o w k pc pc' line (z +ℤ pos 1) least high (int_lt z high) alive
       (arithmetic_step (machine_of p) (state p c w k pc) operator.Add d d (operand.Number (pos 1)) 4 line z (pos 1) st.0 r.word refl) (λ q. succ_between z high r.fits) (λ q. succ_beyond z high r.fits fits q) st.1)
 
   pred_runs : (low : ℤ) → FunctionRuns (Pred low)
   pred_runs low e d x o w k pc pc' line y alive fits r st =
       let z = number_of y in
-      plainly (Pred low) e d x o w k pc pc' line (apply (Pred low) z) refl
+      plainly (Pred low) e d x o w k pc pc' line (apply (Pred low) z) refl refl
       (next_runs d x o w k pc pc' line (z -ℤ pos 1) low greatest (int_lt low z) alive
       (arithmetic_step (machine_of p) (state p c w k pc) operator.Subtract d d (operand.Number (pos 1)) 4 line z (pos 1) st.0 r.word refl) (λ q. pred_between z low r.fits) (λ q. pred_beyond z low r.fits fits q) st.1)
 
@@ -180,4 +191,4 @@ module _ (p : Setting) (n : ℕ) (call : Caller) (c : Activated) (active : IsAct
       (λ y w1 k1 alive1 kept1 r1.
       runs_map p (suc n) c d x d x w1 k1 cut.0 pc' (settled (apply function (number_of y)) line ctx w1) (λ v w' k'. FunctionIn function e line d v w' k') (λ v w' k'. FrontIn (Apply function e line) d sort v w'.made k'.temporaries) (omega arith) (omega arith)
       (function_runs function e d x o w1 k1 cut.0 pc' line y alive1 fits.1 r1 cut.2)
-      (λ v w' k' a' r. plain_front (Apply function e line) d sort v w'.made k'.temporaries refl refl refl refl (r.0.word ∙ ap (λ s. Some (word_of s v)) (sym fits.0)) (subst (HasSort w'.made v) (sym fits.0) r.0.fits) r.1))
+      (λ v w' k' a' r. plain_front (Apply function e line) d sort v w'.made k'.temporaries refl refl refl refl (r.0.word ∙ ap (λ s. Some (word_of s v)) (sym fits.0)) (subst (HasSort w'.made v) (sym fits.0) r.0.fits) r.1 r.2))

@@ -36,7 +36,7 @@ use Rattle.ps_relation.proofs.Inputs.{reread, input_read, input_written, FirstHe
 use Rattle.ps_runs.specs.Openings.{context_in}
 use Rattle.ps_runs.proofs.Runs.{with_temporary, keeps_put, runs_from, reached_from, passes}
 use Rattle.ps_runs.proofs.Leaves.{fails_so}
-use Rattle.ps_runs.proofs.Values.{FrontIn, FrontRuns, true_false}
+use Rattle.ps_runs.proofs.Values.{false_true, FrontIn, FrontRuns, true_false}
 use Rattle.ps_runs.proofs.Writes.{numbered_more, is_fresh}
 use Rattle.ps_runs.proofs.Calls.{length_map}
 use Rattle.ps_code.specs.Programs.{tac_of}
@@ -179,6 +179,7 @@ module _ (p : Setting) (n : ℕ) (call : Caller) (c : Activated) (active : IsAct
           number = λ s. fits.0;
           binary = λ s. (q, refl);
           binary_relation = λ s. (q, refl);
+          byte = λ s. false_true s;
         };
       }
 
@@ -209,6 +210,7 @@ module _ (p : Setting) (n : ℕ) (call : Caller) (c : Activated) (active : IsAct
             number = λ s. fits.0;
             binary = λ s. (t, refl);
             binary_relation = λ s. (t, refl);
+            byte = λ s. false_true s;
           })
         where
           kinds : (t : Bool) → is_in_range (pos 1) (pos 2) (if t then pos 1 else pos 2) ≡ true

@@ -26,7 +26,7 @@ use Rattle.ps_relation.proofs.Numbers.{truth_is, truth_integer}
 use Rattle.ps_runs.specs.Openings.{Opening, scope_in, plain_scope, context_in, IsOpened}
 use Rattle.ps_runs.proofs.Runs.{runs_bind, runs_map, here, keeps_refl, keeps_less}
 use Rattle.ps_runs.proofs.Kept.{get_more, opened_kept}
-use Rattle.ps_runs.proofs.Values.{FrontIn, FrontRuns, true_false, expr_runs_from}
+use Rattle.ps_runs.proofs.Values.{false_true, FrontIn, FrontRuns, true_false, expr_runs_from}
 
 points_grow : (made more : List ℕ) (v : Value) (t : ℕ) → PointsTo made v t → PointsTo (made ++ more) v t
 points_grow made more NilValue t h = tt
@@ -120,4 +120,5 @@ module _ (p : Setting) (n : ℕ) (call : Caller) (c : Activated) (active : IsAct
         number = λ s. fits.0;
         binary = λ s. (q, refl);
         binary_relation = λ s. (q, refl);
+        byte = λ s. false_true s;
       })))

@@ -57,6 +57,7 @@ use Rattle.ps_runs.proofs.Writes.{numbered_more, is_fresh}
 use Rattle.ps_runs.proofs.Inputs.{input_place, place_small, input_is, input_renewed}
 use Rattle.ps_runs.proofs.Selectors.{PlaceIn, is_byte_part, place_byte}
 use Rattle.ps_runs.proofs.Expressions.{place_run}
+use Rattle.ps_runs.proofs.Values.{false_true}
 use Rattle.ps_runs.proofs.Statements.{fitted_part, base_below}
 use Rattle.ps_runs.proofs.NewObjects.{place_held}
 
@@ -263,8 +264,8 @@ module _ (p : Setting) (n : ℕ) (call : Caller) (next : Next) (c : Activated) (
           } in
           let kept : Keeps e 0 w k world k5 = record { temporaries = λ j b. let ne : j ≡ e → ⊥ = λ q. omega (arith, b, q) in put_other k4.temporaries e (Numeral x) j ne ∙ put_other k.temporaries e (Numeral code) j ne; scratch = λ j b. absurd (omega (arith, b)); grown = ([], sym (append-nil w.made)) } in
           runs_from p (suc n) c d 0 w world k k5 pc (suc four) pc' (and_then (fitting (Within low high) (OrdinalValue x) line (context_in c o) world) (λ u w4. put_value s u w4)) Nothing go_on (keeps_less d 0 e 0 (omega (arith, l0, l1)) (omega arith) kept)
-          (fitted_part p n call next c active nexts does calls (Within low high) part NumberSort (OrdinalValue x) d world k5 o (suc four) pc2 pc' e line None site s (omega (arith, l0, l1)) (base_below p n call next c active nexts does calls (suc h) (suc e) site.base (omega (arith, l1)) below) sorted ranged alive5 (site_kept p c e 0 w world k k5 site s part (base_below p n call next c active nexts does calls (suc h) e site.base l1 below) kept at)
-          (record { word = put_same k4.temporaries e (Numeral x); fits = fit }) (λ z qs ql. none_known ql) st.1.1.1.1 su)
+          (fitted_part p n call next c active nexts does calls (Within low high) part NumberSort (OrdinalValue x) d world k5 o (suc four) pc2 pc' e line false None site s (omega (arith, l0, l1)) (base_below p n call next c active nexts does calls (suc h) (suc e) site.base (omega (arith, l1)) below) sorted ranged alive5 (site_kept p c e 0 w world k k5 site s part (base_below p n call next c active nexts does calls (suc h) e site.base l1 below) kept at)
+          (record { word = put_same k4.temporaries e (Numeral x); fits = fit }) (λ q. false_true q) (λ z qs ql. none_known ql) st.1.1.1.1 su)
 
       -- what was found, or not
       number_done : (found : Reading) (code : ℤ) (after : Memory) → NumberRead middle (ScratchBlock c.number) 0 found code after → Comes (machine_of p) (state p c w k pc) (raw code after (suc pc))

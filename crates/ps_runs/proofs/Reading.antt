@@ -1,6 +1,6 @@
 -- `read` and `readln` (6.9.1, 6.9.2).
 use Rattle.ps_runs.proofs.Calling.{Callable}
-use Rattle.std.proofs.Common.{◌≡◌, ℕ, suc, ◌+◌, ◌-◌, ◌<◌, ◌≤◌, ℤ, pos, negsuc, Bool, true, false, not, ◌&&◌, ◌==◌, nat_lt, if◌then◌else◌, List, [], ◌∷◌, ◌++◌, length, replicate, Option, Some, None, refl, sym, ap, ◌∙◌, subst, arith, lt-ltb, ltb-true, append_assoc}
+use Rattle.std.proofs.Common.{◌≡◌, ℕ, suc, ◌+◌, ◌-◌, ◌<◌, ◌≤◌, ℤ, pos, negsuc, Bool, true, false, not, ◌&&◌, ◌==◌, nat_lt, if◌then◌else◌, List, [], ◌∷◌, ◌++◌, length, replicate, Option, Some, None, refl, sym, ap, ◌∙◌, subst, arith, lt-ltb, append_assoc}
 use Rattle.std.specs.List.{All}
 use Rattle.behavior.specs.Transcripts.{mark}
 use Rattle.behavior.specs.Endings.{failed}
@@ -22,7 +22,7 @@ use Rattle.tac_steps.proofs.Pieces.{same_some, some_none}
 use Rattle.tac_steps.proofs.Instructions.{range_step}
 use Rattle.ps_layout.specs.Shapes.{Part}
 use Rattle.ps_layout.specs.Paths.{NumberSort}
-use Rattle.ps_code.specs.Scopes.{even_from, held, greatest, range_code, Site, site_code, input_site, ReadCharacter, ReadLine, helper}
+use Rattle.ps_code.specs.Scopes.{even_from, held, greatest, fitting_code, Site, site_code, input_site, ReadCharacter, ReadLine, helper}
 use Rattle.ps_code.specs.Values.{is_byte, place_temporary, place_site, place_code, store_code}
 use Rattle.ps_code.specs.Statements.{read_code, reads_code}
 use Rattle.ps_code.specs.Programs.{tac_of}
@@ -40,6 +40,7 @@ use Rattle.ps_runs.proofs.Runs.{runs_bind, runs_from, here, passes, keeps_refl, 
 use Rattle.ps_runs.proofs.Kept.{opened_kept, site_kept}
 use Rattle.ps_runs.proofs.Calls.{length_map}
 use Rattle.ps_runs.proofs.Leaves.{fails_so}
+use Rattle.ps_runs.proofs.Checks.{not_less, byte_between}
 use Rattle.ps_runs.proofs.Inputs.{input_place, input_is, input_renewed, reader_run}
 use Rattle.ps_runs.proofs.Selectors.{PlaceIn, is_byte_part, place_byte}
 use Rattle.ps_runs.proofs.Expressions.{place_run}
@@ -140,13 +141,6 @@ none_marks i e = go i.left i.looked e
     go [] false e = refl
     go (b ∷ rest) looked e = some_none (sym e)
 
-not_less : (a b : ℕ) → b ≤ a → nat_lt a b ≡ false
-not_less a b l = go (nat_lt a b) refl
-  where
-    go : (t : Bool) → nat_lt a b ≡ t → t ≡ false
-    go true e = let x = ltb-true a b e in absurd (omega (arith, l, x))
-    go false e = refl
-
 byte_there : (a : ℕ) → a < 256 → is_in_range (pos 0) greatest (pos a) ≡ true
 byte_there a l = ap (λ t. not t && not (nat_lt 2147483647 a)) (not_less a 0 (omega arith)) ∙ ap (λ t. not t) (not_less 2147483647 a (omega (arith, l)))
 
@@ -166,7 +160,7 @@ module _ (p : Setting) (n : ℕ) (call : Caller) (next : Next) (c : Activated) (
 
   -- a character that was read is tested and stored
   character_stored : (part : Part) (low high : ℤ) (line d h e : ℕ) (o : Opening) (pc1 pc2 pc' : ℕ) (site : Site) (s : Spot) (w : World) (k : Work) → d ≤ h → suc h ≤ e → IsBelow (suc h) site.base → SortOf part NumberSort → RangeFits (Within low high) part → Alive p c (with_character w) k → SiteAt p c w.made k.temporaries site s part → AreBytes w.input.left → (character : Option ℕ) → next_character w.input ≡ character → k.temporaries e ≡ Some (Numeral (character_or_end character))
-      → Stands (code_in p) c.routine pc1 (i.CheckRange e (pos 0) greatest 9 line ∷ range_code e low high 4 line) pc2 → Stands (code_in p) c.routine pc2 (store_code (is_byte_part p n call c active part) site e) pc'
+      → Stands (code_in p) c.routine pc1 (i.CheckRange e (pos 0) greatest 9 line ∷ fitting_code true None e (Within low high) line) pc2 → Stands (code_in p) c.routine pc2 (store_code (is_byte_part p n call c active part) site e) pc'
       → Runs p (suc n) c d 0 (with_character w) k pc1 pc' (and_then (character_read character line (context_in c o) (with_look w)) (λ x w3. and_then (fitting (Within low high) x line (context_in c o) w3) (λ v w4. put_value s v w4))) Nothing
   character_stored part low high line d h e o pc1 pc2 pc' site s w k l0 l1 below sorted ranged alive at bytes None q word st su =
       fails_so p (suc n) c active (with_character w) k pc1 9 line (omega arith) (range_step (machine_of p) (state p c (with_character w) k pc1) e (pos 0) greatest 9 line (negsuc 0) st.0 word)
@@ -177,8 +171,8 @@ module _ (p : Setting) (n : ℕ) (call : Caller) (next : Next) (c : Activated) (
       let v = OrdinalValue (pos a) in
       let step = range_step (machine_of p) (state p c w2 k pc1) e (pos 0) greatest 9 line (pos a) st.0 word ∙ ap (λ z. checks (code_in p) z 9 line (state p c w2 k pc1)) (byte_there a small) in
       runs_from p (suc n) c d 0 w2 w2 k k pc1 (suc pc1) pc' (and_then (fitting (Within low high) v line (context_in c o) w2) (λ u w4. put_value s u w4)) Nothing (a_step (state p c w2 k pc1) (state p c w2 k (suc pc1)) step) (keeps_refl d 0 w2 k)
-      (fitted_part p n call next c active nexts does calls (Within low high) part NumberSort v d w2 k o (suc pc1) pc2 pc' e line None site s (omega (arith, l0, l1)) (base_below p n call next c active nexts does calls (suc h) (suc e) site.base (omega (arith, l1)) below) sorted ranged alive at
-      (record { word = word; fits = lt-ltb a 2147483648 (omega (arith, small)) }) (λ z qs ql. none_known ql) st.1 su)
+      (fitted_part p n call next c active nexts does calls (Within low high) part NumberSort v d w2 k o (suc pc1) pc2 pc' e line true None site s (omega (arith, l0, l1)) (base_below p n call next c active nexts does calls (suc h) (suc e) site.base (omega (arith, l1)) below) sorted ranged alive at
+      (record { word = word; fits = lt-ltb a 2147483648 (omega (arith, small)) }) (λ q. byte_between a small) (λ z qs ql. none_known ql) st.1 su)
 
   read_run : (v : ReadVariable) (d : ℕ) (o : Opening) (w : World) (k : Work) (pc pc' : ℕ) → Alive p c w k → IsOpened p c w k d o → outermost_of (chain_of c) ≡ 0 → ReadFits (plain_scope p c) o.shapes v → Stands (code_in p) c.routine pc (read_code (scope_in p c o) v d) pc' → Runs p (suc n) c d 0 w k pc pc' (read p.program (costs_in p) call next v (context_in c o) w) Nothing
   read_run (ReadInteger q low high line) d o w k pc pc' alive opened last fits st = read_integer_run p n call next c active nexts does calls q low high line d o w k pc pc' alive opened last fits st
@@ -193,7 +187,7 @@ module _ (p : Setting) (n : ℕ) (call : Caller) (next : Next) (c : Activated) (
       let part = fits.0 in
       let P = place_code code q h 0 in
       let S = site_code e (input_site code) 8 in
-      let H = helper code ReadCharacter (e ∷ []) e ∷ i.CheckRange e (pos 0) greatest 9 line ∷ range_code e low high 4 line in
+      let H = helper code ReadCharacter (e ∷ []) e ∷ i.CheckRange e (pos 0) greatest 9 line ∷ fitting_code true None e (Within low high) line in
       let cut3 = split (code_in p) c.routine pc (P ++ S ++ H) (store_code (is_byte q) site e) pc' st in
       let cut2 = split (code_in p) c.routine pc (P ++ S) H cut3.0 cut3.1 in
       let cut1 = split (code_in p) c.routine pc P S cut2.0 cut2.1 in

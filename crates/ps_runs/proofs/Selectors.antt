@@ -42,6 +42,7 @@ use Rattle.ps_runs.proofs.Runs.{with_temporary, runs_bind, runs_map, runs_from, 
 use Rattle.ps_runs.proofs.Kept.{opened_kept, site_kept, moved_by, stepped}
 use Rattle.ps_runs.proofs.Leaves.{fails_so}
 use Rattle.ps_runs.proofs.Places.{base_is, name_run}
+use Rattle.ps_runs.proofs.Checks.{byte_between}
 use Rattle.ps_runs.proofs.Values.{FrontIn, FrontRuns, plain_front, false_true, expr_runs_from, load_word, known_is}
 
 small_integer : (n : ℕ) → n < 256 → IsTrue (is_integer (pos n))
@@ -245,10 +246,10 @@ module _ (p : Setting) (n : ℕ) (call : Caller) (c : Activated) (active : IsAct
       runs_bind p (suc n) c d x d x d x w k pc cut.0 pc' (access call q ctx w) contents (λ s w' k'. PlaceIn (place_site code q d) (place_temporary q d) s fits.0 w' k') (λ v w' k'. FrontIn (Load q) d sort v w'.made k'.temporaries) (omega arith) (omega arith) (omega arith) (omega arith)
       (place d x o w k pc cut.0 fits.0 alive opened fits.2 cut.1)
       (λ s w1 k1 alive1 kept1 r.
-      loaded_part fits.0 s w1 k1 cut.0 (place_site code q d) alive1 fits.1 r.0 (subst (λ b. Stands (code_in p) c.routine cut.0 (load_code b d (place_site code q d)) pc') (place_byte o q fits.0 fits.2) cut.2))
+      loaded_part fits.0 s w1 k1 cut.0 (place_site code q d) (place_byte o q fits.0 fits.2) alive1 fits.1 r.0 (subst (λ b. Stands (code_in p) c.routine cut.0 (load_code b d (place_site code q d)) pc') (place_byte o q fits.0 fits.2) cut.2))
     where
-      loaded : (shape : Shape) (s : Spot) (w : World) (k : Work) (m : ℕ) (site : Site) → Alive p c w k → SortOf (Whole shape) sort → SiteAt p c w.made k.temporaries site s (Whole shape) → Stands (code_in p) c.routine m (i.Load d site.base site.offset ∷ []) pc' → Runs p (suc n) c d x w k m pc' (Gives (contents_in w s) w) (λ v w' k'. FrontIn (Load q) d sort v w'.made k'.temporaries)
-      loaded shape s w k m site alive sorted at st =
+      loaded : (shape : Shape) (s : Spot) (w : World) (k : Work) (m : ℕ) (site : Site) → is_byte q ≡ false → Alive p c w k → SortOf (Whole shape) sort → SiteAt p c w.made k.temporaries site s (Whole shape) → Stands (code_in p) c.routine m (i.Load d site.base site.offset ∷ []) pc' → Runs p (suc n) c d x w k m pc' (Gives (contents_in w s) w) (λ v w' k'. FrontIn (Load q) d sort v w'.made k'.temporaries)
+      loaded shape s w k m site whole alive sorted at st =
           let v = contents_in w s in
           let place = at.offset + site.offset in
           let shaped = spot_value p.program w c.ghosts k.count alive.holds s at.block place shape at.place in
@@ -257,14 +258,14 @@ module _ (p : Setting) (n : ℕ) (call : Caller) (c : Activated) (active : IsAct
           let memory = (state p c w k m).memory in
           let read : load (text_at (code_in p)) memory at.block place ≡ Some (word_of sort v) = ap (load (text_at (code_in p)) memory at.block) z ∙ spot_read p.program w c.ghosts k.count alive.holds (text_at (code_in p)) (record { number = c.number; words = k.scratch } ∷ c.waiting) s at.block place shape 0 at.place (omega (arith, words.0)) ∙ ap (λ l. known (slice_get l 0)) words.1 in
           gives_word p (suc n) c d x w k m pc' d (word_of sort v) (λ w' k'. FrontIn (Load q) d sort v w'.made k'.temporaries) (load_step (machine_of p) (state p c w k m) d site.base site.offset at.block at.offset (word_of sort v) st.0 (base_is c m k.temporaries site.base ∙ at.base) read) st.1 (omega arith) alive
-          (plain_front (Load q) d sort v w.made (with_temporary k d (word_of sort v)).temporaries refl refl refl refl (put_same k.temporaries d (word_of sort v)) words.2 (λ e. false_true e))
+          (plain_front (Load q) d sort v w.made (with_temporary k d (word_of sort v)).temporaries refl refl refl refl (put_same k.temporaries d (word_of sort v)) words.2 (λ e. false_true e) (λ e. false_true (sym whole ∙ e)))
 
-      loaded_part : (part : Part) (s : Spot) (w : World) (k : Work) (m : ℕ) (site : Site) → Alive p c w k → SortOf part sort → SiteAt p c w.made k.temporaries site s part → Stands (code_in p) c.routine m (load_code (is_byte_part part) d site) pc' → Runs p (suc n) c d x w k m pc' (Gives (contents_in w s) w) (λ v w' k'. FrontIn (Load q) d sort v w'.made k'.temporaries)
-      loaded_part (Whole shape) s w k m site alive sorted at st = loaded shape s w k m site alive sorted at st
-      loaded_part Byte s w k m site alive sorted at st =
+      loaded_part : (part : Part) (s : Spot) (w : World) (k : Work) (m : ℕ) (site : Site) → is_byte q ≡ is_byte_part part → Alive p c w k → SortOf part sort → SiteAt p c w.made k.temporaries site s part → Stands (code_in p) c.routine m (load_code (is_byte_part part) d site) pc' → Runs p (suc n) c d x w k m pc' (Gives (contents_in w s) w) (λ v w' k'. FrontIn (Load q) d sort v w'.made k'.temporaries)
+      loaded_part (Whole shape) s w k m site same alive sorted at st = loaded shape s w k m site same alive sorted at st
+      loaded_part Byte s w k m site same alive sorted at st =
           let v = contents_in w s in
           let read = spot_byte p.program w c.ghosts k.count alive.holds (text_at (code_in p)) (record { number = c.number; words = k.scratch } ∷ c.waiting) s at.block (at.offset + site.offset) at.place in
           let byte = read.0 in
           let word = Numeral (pos byte) in
           gives_word p (suc n) c d x w k m pc' d word (λ w' k'. FrontIn (Load q) d sort v w'.made k'.temporaries) (load_byte_step (machine_of p) (state p c w k m) d site.base site.offset at.block at.offset byte st.0 (base_is c m k.temporaries site.base ∙ at.base) read.1) st.1 (omega arith) alive
-          (plain_front (Load q) d sort v w.made (with_temporary k d word).temporaries refl refl refl refl (put_same k.temporaries d word ∙ ap (λ z. Some (Numeral z)) (sym read.2) ∙ ap (λ y. Some (word_of y v)) (sym sorted)) (subst (HasSort w.made v) (sym sorted) (subst (λ z. IsTrue (is_integer z)) (sym read.2) (small_integer byte read.3))) (λ e. false_true e))
+          (plain_front (Load q) d sort v w.made (with_temporary k d word).temporaries refl refl refl refl (put_same k.temporaries d word ∙ ap (λ z. Some (Numeral z)) (sym read.2) ∙ ap (λ y. Some (word_of y v)) (sym sorted)) (subst (HasSort w.made v) (sym sorted) (subst (λ z. IsTrue (is_integer z)) (sym read.2) (small_integer byte read.3))) (λ e. false_true e) (λ e. subst (λ z. IsTrue (is_between (pos 0) z (pos 255))) (sym read.2) (byte_between byte read.3)))

@@ -40,7 +40,7 @@ use Rattle.ps_runs.specs.Openings.{plain_scope, Opening, scope_in, context_in, I
 use Rattle.ps_runs.proofs.Runs.{with_temporary, runs_bind, runs_map, runs_from, here, keeps_refl, keeps_less}
 use Rattle.ps_runs.proofs.Kept.{opened_kept}
 use Rattle.ps_runs.proofs.Leaves.{fails_so}
-use Rattle.ps_runs.proofs.Values.{FrontIn, FrontRuns, expr_runs_from, plain_front}
+use Rattle.ps_runs.proofs.Values.{false_true, FrontIn, FrontRuns, expr_runs_from, plain_front}
 use Rattle.ps_runs.proofs.Selectors.{PlaceIn, PlaceRuns}
 use Rattle.ps_runs.proofs.Scratch.{scratch_offset}
 use Rattle.ps_runs.proofs.Passages.{called_work, Passage, further, arrives, to_end, word_passage, scratch_passage, moved_passage}
@@ -428,7 +428,7 @@ module _ (p : Setting) (n : ℕ) (call : Caller) (c : Activated) (active : IsAct
       let asked = sets_asked r d x t o s s' w2 k2 cut2.0 cut3.0 l alive2 (set_kept x t (x + 32) s w1 w2 k1 k2 (omega arith) kept2 r1) r2 cut2.2 in
       let end = moved_passage p c active d x w2 asked.0 cut3.0 pc' t (Numeral (truth q)) l asked.1.alive asked.2 cut3.2 in
       arrives p c active (further p c active asked.1 end.1) (λ w' k'. FrontIn (CompareSets r a b) d sort (OrdinalValue (truth q)) w'.made k'.temporaries)
-      (plain_front (CompareSets r a b) d sort (OrdinalValue (truth q)) w2.made end.0.temporaries refl refl refl refl (end.2 ∙ ap (λ y. Some (word_of y (OrdinalValue (truth q)))) (sym fits.0)) (subst (HasSort w2.made (OrdinalValue (truth q))) (sym fits.0) (truth_integer q)) (λ e. (q, refl)))))
+      (plain_front (CompareSets r a b) d sort (OrdinalValue (truth q)) w2.made end.0.temporaries refl refl refl refl (end.2 ∙ ap (λ y. Some (word_of y (OrdinalValue (truth q)))) (sym fits.0)) (subst (HasSort w2.made (OrdinalValue (truth q))) (sym fits.0) (truth_integer q)) (λ e. (q, refl)) (λ e. false_true e))))
 
   pub in_front : (a : Expr) (b : SetExpr) → FrontRuns p n call c active a → SetRuns b → FrontRuns p n call c active (In a b)
   in_front a b fa rb d x o w k pc pc' sort alive opened fits st =
@@ -451,4 +451,4 @@ module _ (p : Setting) (n : ℕ) (call : Caller) (c : Activated) (active : IsAct
       let end = member_so p c active does d x t u d (number_of v) s w2 k2 cut2.0 pc' (omega (arith, l, lu)) (omega arith) ne alive2 (kept2.temporaries t (omega (arith, lu)) ∙ r1.word) r2 cut2.2 in
       let k3 = called_work (with_temporary k2 u (Address (ScratchBlock c.number) x)) d (Numeral (truth_word q)) k2.scratch in
       arrives p c active end (λ w' k'. FrontIn (In a b) d sort (OrdinalValue (truth q)) w'.made k'.temporaries)
-      (plain_front (In a b) d sort (OrdinalValue (truth q)) w2.made k3.temporaries refl refl refl refl (truth_in q d k3 (put_same (with_temporary k2 u (Address (ScratchBlock c.number) x)).temporaries d (Numeral (truth_word q))) ∙ ap (λ y. Some (word_of y (OrdinalValue (truth q)))) (sym fits.0)) (subst (HasSort w2.made (OrdinalValue (truth q))) (sym fits.0) (truth_integer q)) (λ e. (q, refl)))))
+      (plain_front (In a b) d sort (OrdinalValue (truth q)) w2.made k3.temporaries refl refl refl refl (truth_in q d k3 (put_same (with_temporary k2 u (Address (ScratchBlock c.number) x)).temporaries d (Numeral (truth_word q))) ∙ ap (λ y. Some (word_of y (OrdinalValue (truth q)))) (sym fits.0)) (subst (HasSort w2.made (OrdinalValue (truth q))) (sym fits.0) (truth_integer q)) (λ e. (q, refl)) (λ e. false_true e))))

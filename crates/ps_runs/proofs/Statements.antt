@@ -51,15 +51,15 @@ use Rattle.ps_runs.proofs.Runs.{with_temporary, keeps_put, runs_word, outcome_af
 use Rattle.ps_runs.proofs.Places.{entry_there}
 use Rattle.ps_runs.proofs.Kept.{opened_kept, site_kept}
 use Rattle.ps_runs.proofs.Leaves.{fails_so}
-use Rattle.ps_runs.proofs.Values.{FrontIn, OperandIn, operand_runs, related_opposite, known_is}
-use Rattle.ps_runs.proofs.Expressions.{front_runs, place_run, expr_runs}
+use Rattle.ps_runs.proofs.Values.{FrontIn, IsByteOf, OperandIn, operand_runs, related_opposite, known_is}
+use Rattle.ps_runs.proofs.Expressions.{front_runs, place_run, expr_runs, byte_runs}
 use Rattle.ps_runs.proofs.Selectors.{PlaceIn, is_byte_part, place_byte}
 use Rattle.ps_tree.specs.Tree.{Place}
 use Rattle.ps_meaning.specs.Expressions.{access}
 use Rattle.ps_code.specs.Calling.{selectors_call}
-use Rattle.ps_code.specs.Values.{is_byte, place_temporary, place_site, place_code}
+use Rattle.ps_code.specs.Values.{is_byte, gives_byte, place_temporary, place_site, place_code}
 use Rattle.ps_runs.specs.Tasks.{Nothing, IsHeld, own_site, TurnStands, TaskStands, TaskFits, NextRuns}
-use Rattle.ps_runs.proofs.Checks.{check_runs, store_runs, store_byte_runs}
+use Rattle.ps_runs.proofs.Checks.{check_runs, fit_runs, store_runs, store_byte_runs}
 use Rattle.ps_runs.proofs.Output.{write_integer_run, write_char_run}
 use Rattle.ps_runs.proofs.Strings.{write_boolean_run, write_text_run}
 use Rattle.ps_relation.specs.RunTime.{WritesDo}
@@ -125,35 +125,35 @@ module _ (p : Setting) (n : ℕ) (call : Caller) (next : Next) (c : Activated) (
   keeps_range false low z high ranged e = refl
 
   -- what was evaluated is tested and stored
-  fitted : (range : Range) (shape : Shape) (sort : Sort) (v : Value) (d : ℕ) (w : World) (k : Work) (o : Opening) (pc mid pc' t line : ℕ) (literal : Option ℤ) (site : Site) (s : Spot) → d ≤ suc t → IsBelow (suc t) site.base → SortOf (Whole shape) sort → RangeFits range (Whole shape) → Alive p c w k → SiteAt p c w.made k.temporaries site s (Whole shape) → WordIn k.temporaries w.made t sort v → ((z : ℤ) → sort ≡ NumberSort → literal ≡ Some z → number_of v ≡ z) → Stands (code_in p) c.routine pc (fitting_code literal t range line) mid → Stands (code_in p) c.routine mid (i.Store site.base site.offset t ∷ []) pc'
+  fitted : (range : Range) (shape : Shape) (sort : Sort) (v : Value) (d : ℕ) (w : World) (k : Work) (o : Opening) (pc mid pc' t line : ℕ) (byte : Bool) (literal : Option ℤ) (site : Site) (s : Spot) → d ≤ suc t → IsBelow (suc t) site.base → SortOf (Whole shape) sort → RangeFits range (Whole shape) → Alive p c w k → SiteAt p c w.made k.temporaries site s (Whole shape) → WordIn k.temporaries w.made t sort v → (byte ≡ true → IsTrue (is_between (pos 0) (number_of v) (pos 255))) → ((z : ℤ) → sort ≡ NumberSort → literal ≡ Some z → number_of v ≡ z) → Stands (code_in p) c.routine pc (fitting_code byte literal t range line) mid → Stands (code_in p) c.routine mid (i.Store site.base site.offset t ∷ []) pc'
       → Runs p (suc n) c d 0 w k pc pc' (and_then (fitting range v line (context_in c o) w) (λ u. put s u)) Nothing
-  fitted Any (PointerShape u) sort v d w k o pc mid pc' t line literal site s l below sorted ranged alive at r known fit st =
+  fitted Any (PointerShape u) sort v d w k o pc mid pc' t line byte literal site s l below sorted ranged alive at r is known fit st =
       store_runs p (suc n) c active d 0 w k pc pc' t site s (PointerShape u) v sort alive at sorted r (keeps_at s.path v (PointerShape u) tt) (subst (λ q. Stands (code_in p) c.routine q (i.Store site.base site.offset t ∷ []) pc') (sym fit) st)
-  fitted (Within low high) (NumberShape first narrow) sort v d w k o pc mid pc' t line literal site s l below sorted ranged alive at r known fit st =
+  fitted (Within low high) (NumberShape first narrow) sort v d w k o pc mid pc' t line byte literal site s l below sorted ranged alive at r is known fit st =
       runs_bind p (suc n) c d 0 (suc t) 0 d 0 w k pc mid pc' (fitting (Within low high) v line (context_in c o) w) (λ u. put s u) (λ u w' k'. (u ≡ v) × WordIn k'.temporaries w'.made t NumberSort v × (is_between low (number_of v) high ≡ true)) Nothing l (omega arith) (omega arith) (omega arith)
-      (check_runs p (suc n) c active (suc t) 0 o w k pc mid t low high 4 line literal v (omega arith) alive (λ z q. known z sorted q) (subst (λ q. WordIn k.temporaries w.made t q v) sorted r) fit)
+      (fit_runs p (suc n) c active (suc t) 0 o w k pc mid t low high line byte literal v alive is (λ z q. known z sorted q) (subst (λ q. WordIn k.temporaries w.made t q v) sorted r) fit)
       (λ u w1 k1 alive1 kept1 y.
       subst (λ q. Reached p c d 0 w1 k1 (state p c w1 k1 mid) pc' (λ w' k'. Unit {0}) (with_contents w1 s q)) (sym y.0)
       (store_runs p (suc n) c active d 0 w1 k1 mid pc' t site s (NumberShape first narrow) v NumberSort alive1 (site_kept p c (suc t) 0 w w1 k k1 site s (Whole (NumberShape first narrow)) below kept1 at) refl y.1 (keeps_at s.path v (NumberShape first narrow) (keeps_range narrow low (number_of v) high ranged.2 y.2)) st))
-  fitted Any (NumberShape first narrow) sort v d w k o pc mid pc' t line literal site s l below sorted ranged alive at r known fit st = absurd ranged
-  fitted Any SetShape sort v d w k o pc mid pc' t line literal site s l below sorted ranged alive at r known fit st = absurd ranged
-  fitted Any (ByteShape a b) sort v d w k o pc mid pc' t line literal site s l below sorted ranged alive at r known fit st = absurd ranged
-  fitted Any (ArrayShape a b) sort v d w k o pc mid pc' t line literal site s l below sorted ranged alive at r known fit st = absurd ranged
-  fitted Any (RecordShape a) sort v d w k o pc mid pc' t line literal site s l below sorted ranged alive at r known fit st = absurd ranged
-  fitted (Within low high) (PointerShape u) sort v d w k o pc mid pc' t line literal site s l below sorted ranged alive at r known fit st = absurd ranged
-  fitted (Within low high) SetShape sort v d w k o pc mid pc' t line literal site s l below sorted ranged alive at r known fit st = absurd ranged
-  fitted (Within low high) (ByteShape a b) sort v d w k o pc mid pc' t line literal site s l below sorted ranged alive at r known fit st = absurd ranged
-  fitted (Within low high) (ArrayShape a b) sort v d w k o pc mid pc' t line literal site s l below sorted ranged alive at r known fit st = absurd ranged
-  fitted (Within low high) (RecordShape a) sort v d w k o pc mid pc' t line literal site s l below sorted ranged alive at r known fit st = absurd ranged
+  fitted Any (NumberShape first narrow) sort v d w k o pc mid pc' t line byte literal site s l below sorted ranged alive at r is known fit st = absurd ranged
+  fitted Any SetShape sort v d w k o pc mid pc' t line byte literal site s l below sorted ranged alive at r is known fit st = absurd ranged
+  fitted Any (ByteShape a b) sort v d w k o pc mid pc' t line byte literal site s l below sorted ranged alive at r is known fit st = absurd ranged
+  fitted Any (ArrayShape a b) sort v d w k o pc mid pc' t line byte literal site s l below sorted ranged alive at r is known fit st = absurd ranged
+  fitted Any (RecordShape a) sort v d w k o pc mid pc' t line byte literal site s l below sorted ranged alive at r is known fit st = absurd ranged
+  fitted (Within low high) (PointerShape u) sort v d w k o pc mid pc' t line byte literal site s l below sorted ranged alive at r is known fit st = absurd ranged
+  fitted (Within low high) SetShape sort v d w k o pc mid pc' t line byte literal site s l below sorted ranged alive at r is known fit st = absurd ranged
+  fitted (Within low high) (ByteShape a b) sort v d w k o pc mid pc' t line byte literal site s l below sorted ranged alive at r is known fit st = absurd ranged
+  fitted (Within low high) (ArrayShape a b) sort v d w k o pc mid pc' t line byte literal site s l below sorted ranged alive at r is known fit st = absurd ranged
+  fitted (Within low high) (RecordShape a) sort v d w k o pc mid pc' t line byte literal site s l below sorted ranged alive at r is known fit st = absurd ranged
 
   -- the same for a part of either kind
-  pub fitted_part : (range : Range) (part : Part) (sort : Sort) (v : Value) (d : ℕ) (w : World) (k : Work) (o : Opening) (pc mid pc' t line : ℕ) (literal : Option ℤ) (site : Site) (s : Spot) → d ≤ suc t → IsBelow (suc t) site.base → SortOf part sort → RangeFits range part → Alive p c w k → SiteAt p c w.made k.temporaries site s part → WordIn k.temporaries w.made t sort v → ((z : ℤ) → sort ≡ NumberSort → literal ≡ Some z → number_of v ≡ z) → Stands (code_in p) c.routine pc (fitting_code literal t range line) mid → Stands (code_in p) c.routine mid (store_code (is_byte_part p n call c active part) site t) pc'
+  pub fitted_part : (range : Range) (part : Part) (sort : Sort) (v : Value) (d : ℕ) (w : World) (k : Work) (o : Opening) (pc mid pc' t line : ℕ) (byte : Bool) (literal : Option ℤ) (site : Site) (s : Spot) → d ≤ suc t → IsBelow (suc t) site.base → SortOf part sort → RangeFits range part → Alive p c w k → SiteAt p c w.made k.temporaries site s part → WordIn k.temporaries w.made t sort v → (byte ≡ true → IsTrue (is_between (pos 0) (number_of v) (pos 255))) → ((z : ℤ) → sort ≡ NumberSort → literal ≡ Some z → number_of v ≡ z) → Stands (code_in p) c.routine pc (fitting_code byte literal t range line) mid → Stands (code_in p) c.routine mid (store_code (is_byte_part p n call c active part) site t) pc'
       → Runs p (suc n) c d 0 w k pc pc' (and_then (fitting range v line (context_in c o) w) (λ u. put s u)) Nothing
-  fitted_part range (Whole shape) sort v d w k o pc mid pc' t line literal site s l below sorted ranged alive at r known fit st = fitted range shape sort v d w k o pc mid pc' t line literal site s l below sorted ranged alive at r known fit st
-  fitted_part Any Byte sort v d w k o pc mid pc' t line literal site s l below sorted ranged alive at r known fit st = absurd ranged
-  fitted_part (Within low high) Byte sort v d w k o pc mid pc' t line literal site s l below sorted ranged alive at r known fit st =
+  fitted_part range (Whole shape) sort v d w k o pc mid pc' t line byte literal site s l below sorted ranged alive at r is known fit st = fitted range shape sort v d w k o pc mid pc' t line byte literal site s l below sorted ranged alive at r is known fit st
+  fitted_part Any Byte sort v d w k o pc mid pc' t line byte literal site s l below sorted ranged alive at r is known fit st = absurd ranged
+  fitted_part (Within low high) Byte sort v d w k o pc mid pc' t line byte literal site s l below sorted ranged alive at r is known fit st =
       runs_bind p (suc n) c d 0 (suc t) 0 d 0 w k pc mid pc' (fitting (Within low high) v line (context_in c o) w) (λ u. put s u) (λ u w' k'. (u ≡ v) × WordIn k'.temporaries w'.made t NumberSort v × (is_between low (number_of v) high ≡ true)) Nothing l (omega arith) (omega arith) (omega arith)
-      (check_runs p (suc n) c active (suc t) 0 o w k pc mid t low high 4 line literal v (omega arith) alive (λ z q. known z sorted q) (subst (λ q. WordIn k.temporaries w.made t q v) sorted r) fit)
+      (fit_runs p (suc n) c active (suc t) 0 o w k pc mid t low high line byte literal v alive is (λ z q. known z sorted q) (subst (λ q. WordIn k.temporaries w.made t q v) sorted r) fit)
       (λ u w1 k1 alive1 kept1 y.
       subst (λ q. Reached p c d 0 w1 k1 (state p c w1 k1 mid) pc' (λ w' k'. Unit {0}) (with_contents w1 s q)) (sym y.0)
       (store_byte_runs p (suc n) c active d 0 w1 k1 mid pc' t site s v alive1 (site_kept p c (suc t) 0 w w1 k k1 site s Byte below kept1 at) (byte_range low (number_of v) high ranged y.2) y.1 st))
@@ -175,8 +175,8 @@ module _ (p : Setting) (n : ℕ) (call : Caller) (next : Next) (c : Activated) (
       let t = even_from (suc tp) in
       let lt : suc tp ≤ t = even_above (suc tp) in
       let site = place_site code q d0 in
-      let cut3 = split (code_in p) c.routine pc (place_code code q d0 0 ++ expr_code code e t 0 ++ fitting_code (literal_of e) t range line) (store_code (is_byte q) site t) pc' st in
-      let cut2 = split (code_in p) c.routine pc (place_code code q d0 0 ++ expr_code code e t 0) (fitting_code (literal_of e) t range line) cut3.0 cut3.1 in
+      let cut3 = split (code_in p) c.routine pc (place_code code q d0 0 ++ expr_code code e t 0 ++ fitting_code (gives_byte e) (literal_of e) t range line) (store_code (is_byte q) site t) pc' st in
+      let cut2 = split (code_in p) c.routine pc (place_code code q d0 0 ++ expr_code code e t 0) (fitting_code (gives_byte e) (literal_of e) t range line) cut3.0 cut3.1 in
       let cut1 = split (code_in p) c.routine pc (place_code code q d0 0) (expr_code code e t 0) cut2.0 cut2.1 in
       let part = fits.0 in
       let sort = fits.3.0 in
@@ -184,11 +184,11 @@ module _ (p : Setting) (n : ℕ) (call : Caller) (next : Next) (c : Activated) (
       (place_run p n call c active calls q d0 0 o w k pc cut1.0 fits.0 alive (opened_kept p c d 0 d0 w w k k o l0 (keeps_refl d 0 w k) opened) fits.1 cut1.1)
       (λ s w1 k1 alive1 kept1 r1.
       let open1 = opened_kept p c d 0 t w w1 k k1 o (omega (arith, l0, lp, lt)) (keeps_less d 0 d0 0 l0 (omega arith) kept1) opened in
-      runs_bind p (suc n) c d 0 t 0 d 0 w1 k1 cut1.0 cut2.0 pc' (value call e ctx w1) (λ y w2. and_then (fitting range y line ctx w2) (λ v. put s v)) (λ v w' k'. WordIn k'.temporaries w'.made t sort v × ((v0 : Value) (w0 : World) → value call e ctx w1 ≡ Gives v0 w0 → v ≡ v0)) Nothing (omega (arith, l0, lp, lt)) (omega arith) (omega arith) (omega arith)
-      (runs_told p (suc n) c t 0 w1 k1 cut1.0 cut2.0 (value call e ctx w1) (λ v w' k'. WordIn k'.temporaries w'.made t sort v) (expr_runs p n call c active calls e t 0 o w1 k1 cut1.0 cut2.0 sort alive1 open1 fits.3.2 cut1.2))
+      runs_bind p (suc n) c d 0 t 0 d 0 w1 k1 cut1.0 cut2.0 pc' (value call e ctx w1) (λ y w2. and_then (fitting range y line ctx w2) (λ v. put s v)) (λ v w' k'. (WordIn k'.temporaries w'.made t sort v × IsByteOf e v) × ((v0 : Value) (w0 : World) → value call e ctx w1 ≡ Gives v0 w0 → v ≡ v0)) Nothing (omega (arith, l0, lp, lt)) (omega arith) (omega arith) (omega arith)
+      (runs_told p (suc n) c t 0 w1 k1 cut1.0 cut2.0 (value call e ctx w1) (λ v w' k'. WordIn k'.temporaries w'.made t sort v × IsByteOf e v) (byte_runs p n call c active calls e t 0 o w1 k1 cut1.0 cut2.0 sort alive1 open1 fits.3.2 cut1.2))
       (λ v w2 k2 alive2 kept2 r2.
       let at = site_kept p c t 0 w1 w2 k1 k2 site s part (base_below (suc tp) t site.base lt r1.1) kept2 r1.0 in
-      fitted_part range part sort v d w2 k2 o cut2.0 cut3.0 pc' t line (literal_of e) site s (omega (arith, l0, lp, lt)) (base_below (suc tp) (suc t) site.base (omega (arith, lt)) r1.1) fits.3.1 fits.2 alive2 at r2.0
+      fitted_part range part sort v d w2 k2 o cut2.0 cut3.0 pc' t line (gives_byte e) (literal_of e) site s (omega (arith, l0, lp, lt)) (base_below (suc tp) (suc t) site.base (omega (arith, lt)) r1.1) fits.3.1 fits.2 alive2 at r2.0.0 r2.0.1
       (λ z qs ql. let known_ = known_is p n call c active e z o w1 ql (subst (λ y. ExprFits (plain_scope p c) o.shapes e y) qs fits.3.2) in ap number_of (r2.1 known_.v w1 known_.gives_it) ∙ known_.is) cut2.2
       (subst (λ b. Stands (code_in p) c.routine cut3.0 (store_code b site t) pc') (place_byte p n call c active o q fits.0 fits.1) cut3.2)))
 

@@ -29,7 +29,7 @@ use Rattle.ps_layout.specs.Words.{value_words}
 use Rattle.ps_layout.specs.Paths.{Sort, NumberSort, HasSort, HasShape}
 use Rattle.ps_code.specs.Scopes.{even_from, kept, moved, least, greatest, operand_of, unless_known}
 use Rattle.ps_code.specs.Calling.{expr_calls, steps_call, operands_call}
-use Rattle.ps_code.specs.Values.{negated, literal_of, operator_of, bit_operator_of, relation_of, opposite, is_relation, is_truth, relation_in, left_in, right_in, relation_code, finish, truth_finish, minus_code, front_code, steps_code, operands_code}
+use Rattle.ps_code.specs.Values.{negated, literal_of, gives_byte, operator_of, bit_operator_of, relation_of, opposite, is_relation, is_truth, relation_in, left_in, right_in, relation_code, finish, truth_finish, minus_code, front_code, steps_code, operands_code}
 use Rattle.ps_code.specs.Statements.{expr_code}
 use Rattle.ps_code.specs.Fits.{SortOf, ExprFits, StepsFit, OperandsFit}
 use Rattle.ps_code.proofs.Depths.{even_above, kept_above}
@@ -40,6 +40,10 @@ use Rattle.ps_runs.specs.Openings.{plain_scope, Opening, scope_in, context_in, I
 use Rattle.ps_runs.proofs.Runs.{with_temporary, reached_from, runs_bind, runs_map, runs_word, here, gives_word, keeps_refl, keeps_less, keeps_put}
 use Rattle.ps_runs.proofs.Kept.{opened_kept}
 use Rattle.ps_runs.proofs.Leaves.{integer_well, compute_well, settles}
+
+-- a byte, where the expression is known to give one
+abbrev pub IsByteOf : Expr → Value → Type 0
+IsByteOf e v = gives_byte e ≡ true → IsTrue (is_between (pos 0) (number_of v) (pos 255))
 
 -- what the front code of an expression leaves
 pub record FrontIn (e : Expr) (d : ℕ) (sort : Sort) (v : Value) (made : List ℕ) (t : Temporaries) : Type 0 where
@@ -52,6 +56,7 @@ pub record FrontIn (e : Expr) (d : ℕ) (sort : Sort) (v : Value) (made : List �
   pub number : is_relation e ≡ true → sort ≡ NumberSort
   pub binary : is_truth e ≡ true → (b : Bool) × (number_of v ≡ truth b)
   pub binary_relation : is_relation e ≡ true → (b : Bool) × (number_of v ≡ truth b)
+  pub byte : IsByteOf e v
 
 pub false_true : {A : Type 0} → false ≡ true → A
 false_true e = absurd (cc)
@@ -60,8 +65,8 @@ pub true_false : {A : Type 0} → true ≡ false → A
 true_false e = absurd (cc)
 
 -- a word in d, unlike 0 or not
-pub plain_front : (e : Expr) (d : ℕ) (sort : Sort) (v : Value) (made : List ℕ) (t : Temporaries) → is_relation e ≡ false → relation_in e ≡ NotEqual → left_in e d ≡ d → right_in e d ≡ operand.Number (pos 0) → t d ≡ Some (word_of sort v) → HasSort made v sort → (is_truth e ≡ true → (b : Bool) × (number_of v ≡ truth b)) → FrontIn e d sort v made t
-plain_front e d sort v made t plain relation left right at fits binary =
+pub plain_front : (e : Expr) (d : ℕ) (sort : Sort) (v : Value) (made : List ℕ) (t : Temporaries) → is_relation e ≡ false → relation_in e ≡ NotEqual → left_in e d ≡ d → right_in e d ≡ operand.Number (pos 0) → t d ≡ Some (word_of sort v) → HasSort made v sort → (is_truth e ≡ true → (b : Bool) × (number_of v ≡ truth b)) → IsByteOf e v → FrontIn e d sort v made t
+plain_front e d sort v made t plain relation left right at fits binary byte =
     record {
       fits = fits;
       relates = λ q.
@@ -74,6 +79,7 @@ plain_front e d sort v made t plain relation left right at fits binary =
       number = λ q. true_false (sym q ∙ plain);
       binary = binary;
       binary_relation = λ q. true_false (sym q ∙ plain);
+      byte = byte;
     }
 
 -- ---- the opposite of a relation
@@ -133,6 +139,11 @@ module _ (p : Setting) (n : ℕ) (call : Caller) (c : Activated) (active : IsAct
       (d x : ℕ) (o : Opening) (w : World) (k : Work) (pc pc' : ℕ) (sort : Sort) → Alive p c w k → IsOpened p c w k d o → ExprFits (plain_scope p c) o.shapes e sort → Stands (code_in p) c.routine pc (expr_code (scope_in p c o) e d x) pc'
       → Runs p (suc n) c d x w k pc pc' (value call e (context_in c o) w) (λ v w' k'. WordIn k'.temporaries w'.made d sort v)
 
+  abbrev pub ByteRuns : Expr → Type 0
+  ByteRuns e =
+      (d x : ℕ) (o : Opening) (w : World) (k : Work) (pc pc' : ℕ) (sort : Sort) → Alive p c w k → IsOpened p c w k d o → ExprFits (plain_scope p c) o.shapes e sort → Stands (code_in p) c.routine pc (expr_code (scope_in p c o) e d x) pc'
+      → Runs p (suc n) c d x w k pc pc' (value call e (context_in c o) w) (λ v w' k'. WordIn k'.temporaries w'.made d sort v × IsByteOf e v)
+
   -- from a relation to its truth as a word
   relation_finish : (e : Expr) (d x : ℕ) (w : World) (k : Work) (pc pc' : ℕ) (v : Value) → Alive p c w k → FrontIn e d NumberSort v w.made k.temporaries → Stands (code_in p) c.routine pc (relation_code e d) pc' → Reached p c d x w k (state p c w k pc) pc' (λ w' k'. k'.temporaries d ≡ Some (Numeral (truth (is_true (number_of v))))) w
   relation_finish e d x w k pc pc' v alive f st =
@@ -164,28 +175,33 @@ module _ (p : Setting) (n : ℕ) (call : Caller) (c : Activated) (active : IsAct
       go true false q r st' = let binary = f.binary q in here p n c d x w k pc pc' (λ w' k'. k'.temporaries d ≡ Some (Numeral (truth (is_true (number_of v))))) st' alive (f.word r ∙ ap (λ z. Some (Numeral z)) (sym (truth_same (number_of v) binary.0 binary.1)))
       go false b q r st' = relation_finish e d x w k pc pc' v alive f st'
 
-  pub expr_runs_from : (e : Expr) → FrontRuns e → ExprRuns e
-  expr_runs_from e front d x o w k pc pc' sort alive opened fits st =
+  -- and that it is a byte
+  pub expr_bytes : (e : Expr) → FrontRuns e → ByteRuns e
+  expr_bytes e front d x o w k pc pc' sort alive opened fits st =
       let cut = split (code_in p) c.routine pc (front_code (scope_in p c o) e d x) (finish e d) pc' st in
       let a = value call e (context_in c o) w in
-      then_reached a (λ v w1 k1. FrontIn e d sort v w1.made k1.temporaries) (λ v w1 k1. WordIn k1.temporaries w1.made d sort v) d x w k pc cut.0 pc' (front d x o w k pc cut.0 sort alive opened fits cut.1)
-      (λ v w1 k1 alive1 r. finish_runs e d x w1 k1 cut.0 pc' sort v alive1 r cut.2)
+      then_reached a (λ v w1 k1. FrontIn e d sort v w1.made k1.temporaries) (λ v w1 k1. WordIn k1.temporaries w1.made d sort v × IsByteOf e v) d x w k pc cut.0 pc' (front d x o w k pc cut.0 sort alive opened fits cut.1)
+      (λ v w1 k1 alive1 r. let z = finish_runs e d x w1 k1 cut.0 pc' sort v alive1 r cut.2 in record { work = z.work; alive = z.alive; keeps = z.keeps; comes = z.comes; result = (z.result, r.byte) })
     where
       then_reached : (a : Answer Value) (R R' : Value → World → Work → Type 0) (d x : ℕ) (w : World) (k : Work) (pc mid pc' : ℕ) → Runs p (suc n) c d x w k pc mid a R → ((v : Value) (w1 : World) (k1 : Work) → Alive p c w1 k1 → R v w1 k1 → Reached p c d x w1 k1 (state p c w1 k1 mid) pc' (R' v) w1) → Runs p (suc n) c d x w k pc pc' a R'
       then_reached (Gives v w1) R R' d x w k pc mid pc' r g = reached_from p n c d x d x w w1 k r.work (state p c w k pc) (state p c w1 r.work mid) pc' (R' v) (R' v) w1 (omega arith) (omega arith) r.comes r.keeps (g v w1 r.work r.alive r.result) (λ k' a' y. y)
       then_reached (Ends out e) R R' d x w k pc mid pc' r g = r
+
+  pub expr_runs_from : (e : Expr) → FrontRuns e → ExprRuns e
+  expr_runs_from e front d x o w k pc pc' sort alive opened fits st =
+      runs_map p (suc n) c d x d x w k pc pc' (value call e (context_in c o) w) (λ v w' k'. WordIn k'.temporaries w'.made d sort v × IsByteOf e v) (λ v w' k'. WordIn k'.temporaries w'.made d sort v) (omega arith) (omega arith) (expr_bytes e front d x o w k pc pc' sort alive opened fits st) (λ v w' k' a' y. y.0)
 
   -- ---- the constructs
 
   pub number_front : (z : ℤ) → FrontRuns (Number z)
   number_front z d x o w k pc pc' sort alive opened fits st =
       gives_word p n c d x w k pc pc' d (Numeral z) (λ w' k'. FrontIn (Number z) d sort (OrdinalValue z) w'.made k'.temporaries) (literal_step (machine_of p) (state p c w k pc) d z st.0) st.1 (omega arith) alive
-      (plain_front (Number z) d sort (OrdinalValue z) w.made (with_temporary k d (Numeral z)).temporaries refl refl refl refl (put_same k.temporaries d (Numeral z) ∙ ap (λ s. Some (word_of s (OrdinalValue z))) (sym fits.0)) (subst (HasSort w.made (OrdinalValue z)) (sym fits.0) fits.1) (λ q. false_true q))
+      (plain_front (Number z) d sort (OrdinalValue z) w.made (with_temporary k d (Numeral z)).temporaries refl refl refl refl (put_same k.temporaries d (Numeral z) ∙ ap (λ s. Some (word_of s (OrdinalValue z))) (sym fits.0)) (subst (HasSort w.made (OrdinalValue z)) (sym fits.0) fits.1) (λ q. false_true q) (λ q. false_true q))
 
   pub nil_front : FrontRuns Nil
   nil_front d x o w k pc pc' sort alive opened fits st =
       gives_word p n c d x w k pc pc' d (Numeral (pos 0)) (λ w' k'. FrontIn Nil d sort NilValue w'.made k'.temporaries) (literal_step (machine_of p) (state p c w k pc) d (pos 0) st.0) st.1 (omega arith) alive
-      (plain_front Nil d sort NilValue w.made (with_temporary k d (Numeral (pos 0))).temporaries refl refl refl refl (put_same k.temporaries d (Numeral (pos 0)) ∙ ap (λ s. Some (word_of s NilValue)) (sym fits.1)) (subst (HasSort w.made NilValue) (sym fits.1) tt) (λ q. false_true q))
+      (plain_front Nil d sort NilValue w.made (with_temporary k d (Numeral (pos 0))).temporaries refl refl refl refl (put_same k.temporaries d (Numeral (pos 0)) ∙ ap (λ s. Some (word_of s NilValue)) (sym fits.1)) (subst (HasSort w.made NilValue) (sym fits.1) tt) (λ q. false_true q) (λ q. false_true q))
 
   -- what a variable of one word holds
   pub load_word : (shape : Shape) (sort : Sort) (v : Value) (made : List ℕ) → SortOf (Whole shape) sort → HasShape made v shape → (1 ≡ word_count shape) × (value_words shape v ≡ Some (word_of sort v) ∷ []) × HasSort made v sort
@@ -311,7 +327,7 @@ module _ (p : Setting) (n : ℕ) (call : Caller) (c : Activated) (active : IsAct
       (expr_runs_from e front a x o w k pc cut.0 NumberSort alive (opened_kept p c d x a w w k k o l (keeps_refl d x w k) opened) fits.1 cut.1)
       (λ y w1 k1 alive1 kept1 r1.
       then_moved (computed call steps (number_of y) ctx w1) a d x w1 k1 cut.0 end.0 pc' l (further a x o w1 k1 cut.0 end.0 (number_of y) alive1 (opened_kept p c d x a w w1 k k1 o l (keeps_less d x a x l (omega arith) kept1) opened) fits.2 r1.word r1.fits cut.2) end.2
-      (λ v w' k' r. plain_front (Arithmetic e steps) d sort v w'.made k'.temporaries refl refl refl refl (r.word ∙ ap (λ s. Some (word_of s v)) (sym fits.0)) (subst (HasSort w'.made v) (sym fits.0) r.fits) (λ q. false_true q)))
+      (λ v w' k' r. plain_front (Arithmetic e steps) d sort v w'.made k'.temporaries refl refl refl refl (r.word ∙ ap (λ s. Some (word_of s v)) (sym fits.0)) (subst (HasSort w'.made v) (sym fits.0) r.fits) (λ q. false_true q) (λ q. false_true q)))
     where
       then_moved : (an : Answer Value) (a d x : ℕ) (w : World) (k : Work) (pc mid pc' : ℕ) → d ≤ a → Runs p (suc n) c a x w k pc mid an (λ v w' k'. WordIn k'.temporaries w'.made a NumberSort v) → Stands (code_in p) c.routine mid (moved a d) pc' → ((v : Value) (w' : World) (k' : Work) → WordIn k'.temporaries w'.made d NumberSort v → FrontIn (Arithmetic e steps) d sort v w'.made k'.temporaries) → Runs p (suc n) c d x w k pc pc' an (λ v w' k'. FrontIn (Arithmetic e steps) d sort v w'.made k'.temporaries)
       then_moved (Gives v w1) a d x w k pc mid pc' l r st g =
@@ -322,7 +338,7 @@ module _ (p : Setting) (n : ℕ) (call : Caller) (c : Activated) (active : IsAct
   plus_front e front d x o w k pc pc' sort alive opened fits st =
       runs_map p (suc n) c d x d x w k pc pc' (value call e (context_in c o) w) (λ v w' k'. WordIn k'.temporaries w'.made d NumberSort v) (λ v w' k'. FrontIn (Plus e) d sort v w'.made k'.temporaries) (omega arith) (omega arith)
       (expr_runs_from e front d x o w k pc pc' NumberSort alive opened fits.1 st)
-      (λ v w' k' a' r. plain_front (Plus e) d sort v w'.made k'.temporaries refl refl refl refl (r.word ∙ ap (λ s. Some (word_of s v)) (sym fits.0)) (subst (HasSort w'.made v) (sym fits.0) r.fits) (λ q. false_true q))
+      (λ v w' k' a' r. plain_front (Plus e) d sort v w'.made k'.temporaries refl refl refl refl (r.word ∙ ap (λ s. Some (word_of s v)) (sym fits.0)) (subst (HasSort w'.made v) (sym fits.0) r.fits) (λ q. false_true q) (λ q. false_true q))
 
   pub minus_front : (e : Expr) (line : ℕ) → FrontRuns e → FrontRuns (Minus e line)
   minus_front e line front d x o w k pc pc' sort alive opened fits st = go (negated e) refl st (λ h. whole h)
@@ -337,7 +353,7 @@ module _ (p : Setting) (n : ℕ) (call : Caller) (c : Activated) (active : IsAct
       R v w' k' = FrontIn (Minus e line) d sort v w'.made k'.temporaries
 
       told : (v : Value) (w' : World) (k' : Work) → k'.temporaries d ≡ Some (Numeral (number_of v)) → IsTrue (is_integer (number_of v)) → R v w' k'
-      told v w' k' at well = plain_front (Minus e line) d sort v w'.made k'.temporaries refl refl refl refl (at ∙ ap (λ s. Some (word_of s v)) (sym fits.0)) (subst (HasSort w'.made v) (sym fits.0) well) (λ q. false_true q)
+      told v w' k' at well = plain_front (Minus e line) d sort v w'.made k'.temporaries refl refl refl refl (at ∙ ap (λ s. Some (word_of s v)) (sym fits.0)) (subst (HasSort w'.made v) (sym fits.0) well) (λ q. false_true q) (λ q. false_true q)
 
       whole : Stands (code_in p) c.routine pc (expr_code (scope_in p c o) e t x ++ i.Literal d (pos 0) ∷ i.Arithmetic operator.Subtract d d (operand.Temporary t) 1 line ∷ []) pc' → Runs p (suc n) c d x w k pc pc' (value call (Minus e line) (context_in c o) w) R
       whole h =
@@ -374,6 +390,7 @@ module _ (p : Setting) (n : ℕ) (call : Caller) (c : Activated) (active : IsAct
         number = λ q. fits.0;
         binary = λ q. (not b, refl);
         binary_relation = λ q. (not b, refl);
+        byte = λ q. false_true q;
       }))
 
   pub compare_front : (r : TreeRelation) (a b : Expr) → FrontRuns a → FrontRuns b → FrontRuns (Compare r a b)
@@ -400,6 +417,7 @@ module _ (p : Setting) (n : ℕ) (call : Caller) (c : Activated) (active : IsAct
         number = λ s. fits.0;
         binary = λ s. (q, refl);
         binary_relation = λ s. (q, refl);
+        byte = λ s. false_true s;
       })))
 
   -- ---- truths
@@ -458,5 +476,5 @@ module _ (p : Setting) (n : ℕ) (call : Caller) (c : Activated) (active : IsAct
       then_moved : (an : Answer Value) (a : ℕ) (w : World) (k : Work) (pc mid : ℕ) → d ≤ a → Runs p (suc n) c a x w k pc mid an (λ v w' k'. WordIn k'.temporaries w'.made a NumberSort v × ((q : Bool) × (number_of v ≡ truth q))) → Stands (code_in p) c.routine mid (moved a d) pc' → Runs p (suc n) c d x w k pc pc' an (λ v w' k'. FrontIn (Logic op e rest) d sort v w'.made k'.temporaries)
       then_moved (Gives v w1) a w k pc mid l r st =
           reached_from p (suc n) c d x d x w w1 k r.work (state p c w k pc) (state p c w1 r.work mid) pc' (λ w' k'. WordIn k'.temporaries w'.made d NumberSort v) (λ w' k'. FrontIn (Logic op e rest) d sort v w'.made k'.temporaries) w1 (omega arith) (omega arith) r.comes (keeps_less d x a x l (omega arith) r.keeps) (moved_runs a d x w1 r.work mid pc' NumberSort v l r.alive r.result.0 st)
-          (λ k' a' y. plain_front (Logic op e rest) d sort v w1.made k'.temporaries refl refl refl refl (y.word ∙ ap (λ s. Some (word_of s v)) (sym fits.0)) (subst (HasSort w1.made v) (sym fits.0) y.fits) (λ q. r.result.1))
+          (λ k' a' y. plain_front (Logic op e rest) d sort v w1.made k'.temporaries refl refl refl refl (y.word ∙ ap (λ s. Some (word_of s v)) (sym fits.0)) (subst (HasSort w1.made v) (sym fits.0) y.fits) (λ q. r.result.1) (λ q. false_true q))
       then_moved (Ends out en) a w k pc mid l r st = r

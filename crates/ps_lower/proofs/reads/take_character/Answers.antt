@@ -1,6 +1,7 @@
-use Rattle.std.proofs.Common.{◌∷◌, [], pos, refl}
+use Rattle.std.proofs.Common.{true, ◌∷◌, [], pos, None, refl}
+use Rattle.ps_tree.specs.declared.tree.Range.TheVariants.{Within}
 use Rattle.tac_code.specs.declared.code.Instruction.TheVariants as i
-use Rattle.ps_code.specs.Scopes.{ReadCharacter, greatest, range_code, helper}
+use Rattle.ps_code.specs.Scopes.{ReadCharacter, greatest, fitting_code, helper}
 use Rattle.ps_lower.specs.Levels.{scope_of}
 use Rattle.ps_lower.proofs.Appends.{and_then}
 use Rattle.ps_lower.proofs.Arms.{behind}
@@ -8,6 +9,6 @@ use Rattle.ps_lower.proofs.reads.take_character.Goals as goal
 
 pub returns : goal.returns
 returns c =
-    behind c.fits.result c.fits.new.out c.check_range.new.self c.args.out.now (helper (scope_of c.args.k.now) ReadCharacter (c.args.a ∷ []) c.args.a ∷ i.CheckRange c.args.a (pos 0) greatest 9 c.args.line ∷ []) (range_code c.args.a c.args.low.now c.args.high.now 4 c.args.line)
+    behind c.fitting.result c.fitting.new.out c.check_range.new.self c.args.out.now (helper (scope_of c.args.k.now) ReadCharacter (c.args.a ∷ []) c.args.a ∷ i.CheckRange c.args.a (pos 0) greatest 9 c.args.line ∷ []) (fitting_code true None c.args.a (Within c.args.low.now c.args.high.now) c.args.line)
     (and_then c.args.out.now c.help.new.out c.check_range.new.self (helper (scope_of c.args.k.now) ReadCharacter (c.args.a ∷ []) c.args.a ∷ []) (i.CheckRange c.args.a (pos 0) greatest 9 c.args.line ∷ []) (c.in_ok-help.ensures ReadCharacter refl) c.in_ok-check_range.ensures)
-    c.fits.ensures
+    c.fitting.ensures
