@@ -113,10 +113,10 @@ fn check_text(alloc: Global, heading: &Reading, written: &Program) -> Result<Che
 /// The checked tree of a program: the one that the definition gives.
 ///
 /// It is refused where the definition gives none: `Broken` tells a rule that the program breaks, and the line of the
-/// token that breaks it. Of `Unknown`, `Twice`, `UsedBefore`, `ControlVariable`, `ForwardOpen` and `NoInputOutput` the
-/// contract says that this is so, as ps_points defines it. Of the first two it is the token of the text that breaks one of
-/// both first, and of `ForwardOpen` the first that breaks it. `OutOfMemory` is answered where a growth was refused, or where
-/// that token is not found again.
+/// token that breaks it. Of `Unknown`, `Twice`, `UsedBefore`, `WrongKind`, `ControlVariable`, `ForwardOpen` and
+/// `NoInputOutput` the contract says that this is so, as ps_points defines it. Of the first two it is the token of the text
+/// that breaks one of both first, and of `ForwardOpen` the first that breaks it. `OutOfMemory` is answered where a growth was
+/// refused, or where that token is not found again.
 pub fn check(alloc: Global, source: &Source, written: &Program) -> Result<Checked, CheckRefusal>
     ensures ok { IfOk result (λ checked. program source.now written.now ≡ Some (program_in checked)) }
     ensures err { IfErr result (λ refusal. IsRefusal refusal → program source.now written.now ≡ None) }

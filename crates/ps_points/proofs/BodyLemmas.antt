@@ -12,21 +12,21 @@ use Rattle.ps_syntax.specs.declared.statement.Element.{Element, out-Element}
 use Rattle.ps_syntax.specs.declared.statement.Statement.TheOpen.{Statement-F}
 use Rattle.ps_syntax.specs.declared.statement.Statement.TheFolds.{fold-roll-Statement, fold_out-Element}
 use Rattle.ps_points.specs.declared.uses.Way.{Way}
-use Rattle.ps_points.specs.declared.uses.Way.TheVariants.{Named}
+use Rattle.ps_points.specs.declared.uses.Way.TheVariants.{Assigned, Called}
 use Rattle.ps_points.specs.declared.uses.Use.{Use}
 use Rattle.ps_points.specs.declared.bodies.Repeated.{Repeated}
-use Rattle.ps_points.specs.Uses.{Uses, IsFound, either, used, all_uses, arguments, assigned, constant_uses, parameter_part, expr_part, variable_part, Loop, Body, IsFoundIn, IsRepeatedThere, earlier, straight, behind, both, all_bodies, counted, Opened, statement_step, element_step, statement_body, element_body, elements_body, statements_body}
+use Rattle.ps_points.specs.Uses.{Uses, IsFound, either, used, all_uses, arguments, entire, record_uses, constant_uses, parameter_part, expr_part, variable_part, Loop, Body, IsFoundIn, IsRepeatedThere, earlier, straight, behind, both, all_bodies, counted, Opened, statement_step, element_step, statement_body, element_body, elements_body, statements_body}
 use Rattle.ps_points.proofs.Found.{found_both, found_cons, all_found}
 
 all_bodies-map : {A B : Type 0} (f : B → Body) (g : A → B) (xs : List A) → all_bodies f (map g xs) ≡ all_bodies (λ x. f (g x)) xs
 all_bodies-map f g [] = refl
 all_bodies-map f g (x ∷ xs) = ap (λ l. both (f (g x)) l) (all_bodies-map f g xs)
 
-body_assign : (x : Variable) (at : Span) (y : Expr) (opened : Bool) → statement_body (s.Assign x at y) opened ≡ straight (assigned (variable_part x) ++ (expr_part y).uses)
+body_assign : (x : Variable) (at : Span) (y : Expr) (opened : Bool) → statement_body (s.Assign x at y) opened ≡ straight (entire Assigned (variable_part x) ++ (expr_part y).uses)
 unfolding statement_step
 body_assign x at y opened = ap (λ x. statement_body x opened) (sym (s.rolls-Assign x at y)) ∙ ap (λ (f : Opened). f opened) (fold-roll-Statement Opened Opened statement_step element_step (Statement-F.Assign x at y)) ∙ refl
 
-body_call : (name : Span) (xs : List Parameter) (opened : Bool) → statement_body (s.Call name xs) opened ≡ straight (used name Named ∷ arguments name 0 (map parameter_part xs))
+body_call : (name : Span) (xs : List Parameter) (opened : Bool) → statement_body (s.Call name xs) opened ≡ straight (used name Called ∷ arguments name 0 (map parameter_part xs))
 unfolding statement_step
 body_call name xs opened = ap (λ x. statement_body x opened) (sym (s.rolls-Call name xs)) ∙ ap (λ (f : Opened). f opened) (fold-roll-Statement Opened Opened statement_step element_step (Statement-F.Call name xs)) ∙ refl
 
@@ -58,7 +58,7 @@ body_for : (name : Span) (x : Expr) (direction : Direction) (y : Expr) (t : Stat
 unfolding statement_step
 body_for name x direction y t opened = ap (λ x. statement_body x opened) (sym (s.rolls-For name x direction y t)) ∙ ap (λ (f : Opened). f opened) (fold-roll-Statement Opened Opened statement_step element_step (Statement-F.For name x direction y t)) ∙ refl
 
-body_with : (xs : List Variable) (t : Statement) (opened : Bool) → statement_body (s.With xs t) opened ≡ behind (all_uses (λ x. (variable_part x).uses) xs) (statement_body t true)
+body_with : (xs : List Variable) (t : Statement) (opened : Bool) → statement_body (s.With xs t) opened ≡ behind (all_uses record_uses xs) (statement_body t true)
 unfolding statement_step
 body_with xs t opened = ap (λ x. statement_body x opened) (sym (s.rolls-With xs t)) ∙ ap (λ (f : Opened). f opened) (fold-roll-Statement Opened Opened statement_step element_step (Statement-F.With xs t)) ∙ refl
 
@@ -71,10 +71,10 @@ element_is x opened = ap (λ (f : Opened). f opened) (fold_out-Element Opened Op
 moved : (x y : Body) (r : Option Use) → y ≡ x → IsFound x.uses r → IsFound y.uses r
 moved x y r e h = subst (λ b. IsFound b.uses r) (sym e) h
 
-pub found_assign : (x : Variable) (at : Span) (y : Expr) (opened : Bool) (a b : Option Use) → IsFound (assigned (variable_part x)) a → IsFound (expr_part y).uses b → IsFound (statement_body (s.Assign x at y) opened).uses (either a b)
-found_assign x at y opened a b f g = moved _ _ (either a b) (body_assign x at y opened) (found_both (assigned (variable_part x)) (expr_part y).uses a b f g)
+pub found_assign : (x : Variable) (at : Span) (y : Expr) (opened : Bool) (a b : Option Use) → IsFound (entire Assigned (variable_part x)) a → IsFound (expr_part y).uses b → IsFound (statement_body (s.Assign x at y) opened).uses (either a b)
+found_assign x at y opened a b f g = moved _ _ (either a b) (body_assign x at y opened) (found_both (entire Assigned (variable_part x)) (expr_part y).uses a b f g)
 
-pub found_call : (name : Span) (xs : List Parameter) (opened : Bool) (r : Option Use) → IsFound (used name Named ∷ arguments name 0 (map parameter_part xs)) r → IsFound (statement_body (s.Call name xs) opened).uses r
+pub found_call : (name : Span) (xs : List Parameter) (opened : Bool) (r : Option Use) → IsFound (used name Called ∷ arguments name 0 (map parameter_part xs)) r → IsFound (statement_body (s.Call name xs) opened).uses r
 found_call name xs opened r h = moved _ _ r (body_call name xs opened) h
 
 pub found_compound : (xs : List Statement) (opened : Bool) (r : Option Use) → IsFound (statements_body xs opened).uses r → IsFound (statement_body (s.Compound xs) opened).uses r
@@ -100,8 +100,8 @@ found_for name x direction y t opened way a b c d is f g h k =
     let inner : IsFound ((expr_part x).uses ++ (expr_part y).uses ++ (statement_body t opened).uses) (either (either b c) d) = found_both ((expr_part x).uses ++ (expr_part y).uses) (statement_body t opened).uses (either b c) d (found_both (expr_part x).uses (expr_part y).uses b c g h) k in
     moved _ _ (either a (either (either b c) d)) (body_for name x direction y t opened) (found_cons (used name (counted opened)) ((expr_part x).uses ++ (expr_part y).uses ++ (statement_body t opened).uses) a (either (either b c) d) (subst (λ w. IsFound (used name w ∷ []) a) is f) inner)
 
-pub found_with : (xs : List Variable) (t : Statement) (opened : Bool) (a b : Option Use) → IsFound (all_uses (λ x. (variable_part x).uses) xs) a → IsFound (statement_body t true).uses b → IsFound (statement_body (s.With xs t) opened).uses (either a b)
-found_with xs t opened a b f g = moved _ _ (either a b) (body_with xs t opened) (found_both (all_uses (λ x. (variable_part x).uses) xs) (statement_body t true).uses a b f g)
+pub found_with : (xs : List Variable) (t : Statement) (opened : Bool) (a b : Option Use) → IsFound (all_uses record_uses xs) a → IsFound (statement_body t true).uses b → IsFound (statement_body (s.With xs t) opened).uses (either a b)
+found_with xs t opened a b f g = moved _ _ (either a b) (body_with xs t opened) (found_both (all_uses record_uses xs) (statement_body t true).uses a b f g)
 
 all_bodies_uses : {A : Type 0} (f : A → Body) (xs : List A) → (all_bodies f xs).uses ≡ all_uses (λ x. (f x).uses) xs
 all_bodies_uses f [] = refl

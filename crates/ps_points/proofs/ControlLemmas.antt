@@ -1,11 +1,12 @@
 -- What breaks the rule of control variables, step by step.
-use Rattle.std.proofs.Common.{◌≡◌, inl, inr, ℕ, zero, suc, ◌+◌, ◌-◌, ◌<◌, ◌≤◌, true, false, List, [], ◌∷◌, length, take, drop, length-drop, get_or, Some, refl, sym, ap, subst, arith}
-use Rattle.std.specs.Prelude.{slice_get}
+use Rattle.std.proofs.Common.{◌≡◌, inl, inr, ℕ, zero, suc, ◌+◌, ◌-◌, ◌<◌, ◌≤◌, true, false, List, [], ◌∷◌, length, take, drop, length-drop, get_or, Option, Some, None, refl, sym, ap, subst, arith}
+use Rattle.std.specs.Prelude.{IfSome, slice_get}
 use Rattle.ps_text.specs.declared.Span.{Span}
 use Rattle.ps_syntax.specs.declared.program.Block.{Block, out-Block}
 use Rattle.ps_regions.specs.Spelling.{spelled}
 use Rattle.ps_points.specs.declared.point.Point.{Point}
 use Rattle.ps_points.specs.declared.point.Region.{Region}
+use Rattle.ps_points.specs.declared.point.Form.{Form}
 use Rattle.ps_points.specs.declared.point.Form.TheVariants.{Constant, Field, VariableParameter}
 use Rattle.ps_points.specs.declared.absent.Kind.TheVariants.{OfVariable}
 use Rattle.ps_points.specs.declared.uses.Way.TheVariants.{CountedWithin}
@@ -15,7 +16,7 @@ use Rattle.ps_points.specs.Points.{Points, point, within}
 use Rattle.ps_points.specs.Absent.{AreAlike, IsAbsent}
 use Rattle.ps_points.specs.Uses.{IsFound, IsFoundIn, statements_body}
 use Rattle.ps_points.specs.Levels.{Level, own_level, Nested}
-use Rattle.ps_points.specs.Control.{Lacks, form_at, IsByVariable, Takes, Threatens, IsInLoop, is_counted, IsCounted, IsCountedIn, IsInRoutine, IsField, IsForeign, IsNotLocal, IsControlIn}
+use Rattle.ps_points.specs.Control.{Lacks, form_at, IsFormal, IsByVariable, Takes, Threatens, IsInLoop, is_counted, IsCounted, IsCountedIn, IsInRoutine, IsField, IsForeign, IsNotLocal, IsControlIn}
 
 got : {A : Type 0} (xs : List A) (i : ℕ) (d : A) → i < length xs → slice_get xs i ≡ Some (get_or xs i d)
 got [] i d lt = absurd (let q : i < 0 = lt in omega (arith, q))
@@ -29,8 +30,8 @@ whole_taken (x ∷ xs) zero le = absurd (let q : suc (length xs) ≤ 0 = le in o
 whole_taken (x ∷ xs) (suc n) le = ap (λ l. x ∷ l) (whole_taken xs n (let q : suc (length xs) ≤ suc n = le in omega (arith, q)))
 
 module _ (text : List ℕ) (points : Points) where
-  pub by_variable : (region : Region) (routine : Span) (index place : ℕ) (d like : Point) (inner : Region) → place < length points → like ≡ point region routine Constant → AreAlike text like (get_or points place d) → inner ≡ within (get_or points place d).region (get_or points place d).name → form_at inner (take (length points - (place + 1)) (drop (place + 1) points)) index ≡ Some VariableParameter → IsByVariable text points region routine index
-  by_variable region routine index place d like inner lt named alike is formal =
+  formal_is : (region : Region) (routine : Span) (index place : ℕ) (d like : Point) (inner : Region) (form : Form) → place < length points → like ≡ point region routine Constant → AreAlike text like (get_or points place d) → inner ≡ within (get_or points place d).region (get_or points place d).name → form_at inner (take (length points - (place + 1)) (drop (place + 1) points)) index ≡ Some form → IsFormal text points region routine index form
+  formal_is region routine index place d like inner form lt named alike is formal =
       let s : place + 1 ≡ suc place = omega arith in
       let rest : take (length points - (place + 1)) (drop (place + 1) points) ≡ drop (place + 1) points = whole_taken (drop (place + 1) points) (length points - (place + 1)) (omega (arith, length-drop (place + 1) points)) in
       record {
@@ -38,8 +39,15 @@ module _ (text : List ℕ) (points : Points) where
         heading = get_or points place d;
         stands = got points place d lt;
         alike = subst (λ p. AreAlike text p (get_or points place d)) named alike;
-        formal = subst (λ k. form_at (within (get_or points place d).region (get_or points place d).name) (drop k points) index ≡ Some VariableParameter) s (subst (λ l. form_at (within (get_or points place d).region (get_or points place d).name) l index ≡ Some VariableParameter) rest (subst (λ r. form_at r (take (length points - (place + 1)) (drop (place + 1) points)) index ≡ Some VariableParameter) is formal));
+        formal = subst (λ k. form_at (within (get_or points place d).region (get_or points place d).name) (drop k points) index ≡ Some form) s (subst (λ l. form_at (within (get_or points place d).region (get_or points place d).name) l index ≡ Some form) rest (subst (λ r. form_at r (take (length points - (place + 1)) (drop (place + 1) points)) index ≡ Some form) is formal));
       }
+
+  pub formal_found : (region : Region) (routine : Span) (index place : ℕ) (d like : Point) (inner : Region) (found : Option Form) → place < length points → like ≡ point region routine Constant → AreAlike text like (get_or points place d) → inner ≡ within (get_or points place d).region (get_or points place d).name → IfSome found (λ form. form_at inner (take (length points - (place + 1)) (drop (place + 1) points)) index ≡ Some form) → IfSome found (IsFormal text points region routine index)
+  formal_found region routine index place d like inner None lt named alike is h = tt
+  formal_found region routine index place d like inner (Some form) lt named alike is h = formal_is region routine index place d like inner form lt named alike is h
+
+  pub by_variable : (region : Region) (routine : Span) (index : ℕ) (form : Form) → IsFormal text points region routine index form → form ≡ VariableParameter → IsByVariable text points region routine index
+  by_variable region routine index form h e = subst (λ f. IsFormal text points region routine index f) e h
 
   pub taken_here : (l : Level) (ls : Nested) (routine : Span) (index : ℕ) → IsByVariable text points l.region routine index → Takes text points (l ∷ ls) routine index
   taken_here l ls routine index h = inl h

@@ -23,7 +23,7 @@ use Rattle.ps_syntax.specs.declared.program.Routine.TheVariants as r
 use Rattle.ps_syntax.specs.declared.program.Block.{Block, out-Block}
 use Rattle.ps_syntax.specs.declared.program.Routine.TheOpen.{Routine-F}
 use Rattle.ps_syntax.specs.declared.program.Routine.TheFolds.{fold-roll-Routine}
-use Rattle.ps_points.specs.declared.uses.Way.TheVariants.{Named, Pointed, Completed}
+use Rattle.ps_points.specs.declared.uses.Way.TheVariants.{Typed, Pointed, Completed}
 use Rattle.ps_points.specs.declared.uses.Use.{Use}
 use Rattle.ps_points.specs.Uses.{Uses, IsFound, either, used, all_uses, constant_uses}
 use Rattle.ps_points.specs.DeclaredUses.{ordinal_uses, structure_uses_step, type_uses_step, fields_uses_step, type_uses, structure_uses, fields_uses, section_uses_step, heading_uses_step, heading_uses, section_uses, constant_definition_uses, type_definition_uses, variables_uses}
@@ -85,18 +85,18 @@ pub heading_found_procedure : (name : Span) (xs : List Section) (r : Option Use)
 unfolding heading_uses_step
 heading_found_procedure name xs r h = moved _ _ r (ap heading_uses (sym (hd.rolls-Procedure name xs)) ∙ fold-roll-Heading Uses Uses heading_uses_step section_uses_step (Heading-F.Procedure name xs) ∙ all_uses-map (λ (l : Uses). l) section_uses xs) h
 
-pub heading_found_function : (name : Span) (xs : List Section) (type : Span) (a c : Option Use) → IsFound (all_uses section_uses xs) a → IsFound (used type Named ∷ []) c → IsFound (heading_uses (hd.Function name xs type)) (either a c)
+pub heading_found_function : (name : Span) (xs : List Section) (type : Span) (a c : Option Use) → IsFound (all_uses section_uses xs) a → IsFound (used type Typed ∷ []) c → IsFound (heading_uses (hd.Function name xs type)) (either a c)
 unfolding heading_uses_step
-heading_found_function name xs type a c f g = moved _ _ (either a c) (ap heading_uses (sym (hd.rolls-Function name xs type)) ∙ fold-roll-Heading Uses Uses heading_uses_step section_uses_step (Heading-F.Function name xs type) ∙ ap (λ l. l ++ used type Named ∷ []) (all_uses-map (λ (l : Uses). l) section_uses xs)) (found_both (all_uses section_uses xs) (used type Named ∷ []) a c f g)
+heading_found_function name xs type a c f g = moved _ _ (either a c) (ap heading_uses (sym (hd.rolls-Function name xs type)) ∙ fold-roll-Heading Uses Uses heading_uses_step section_uses_step (Heading-F.Function name xs type) ∙ ap (λ l. l ++ used type Typed ∷ []) (all_uses-map (λ (l : Uses). l) section_uses xs)) (found_both (all_uses section_uses xs) (used type Typed ∷ []) a c f g)
 
 pub sections_found : (xs : List Section) (i : ℕ) (x : Section) (r : Option Use) → i < length xs → x ≡ get_or xs i x → IsFound (section_uses x) r → IsFound (all_uses section_uses xs) r
 sections_found xs i x r lt at h = all_found section_uses xs i x r lt at h
 
-pub section_found_value : (names : List Span) (type : Span) (r : Option Use) → IsFound (used type Named ∷ []) r → IsFound (section_uses (v.Value names type)) r
+pub section_found_value : (names : List Span) (type : Span) (r : Option Use) → IsFound (used type Typed ∷ []) r → IsFound (section_uses (v.Value names type)) r
 unfolding section_uses_step
 section_found_value names type r h = moved _ _ r (ap section_uses (sym (v.rolls-Value names type)) ∙ fold-roll-Section Uses Uses heading_uses_step section_uses_step (Section-F.Value names type) ∙ refl) h
 
-pub section_found_variable : (names : List Span) (type : Span) (r : Option Use) → IsFound (used type Named ∷ []) r → IsFound (section_uses (v.Variable names type)) r
+pub section_found_variable : (names : List Span) (type : Span) (r : Option Use) → IsFound (used type Typed ∷ []) r → IsFound (section_uses (v.Variable names type)) r
 unfolding section_uses_step
 section_found_variable names type r h = moved _ _ r (ap section_uses (sym (v.rolls-Variable names type)) ∙ fold-roll-Section Uses Uses heading_uses_step section_uses_step (Section-F.Variable names type) ∙ refl) h
 

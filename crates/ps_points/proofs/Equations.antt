@@ -22,7 +22,7 @@ use Rattle.ps_syntax.specs.declared.program.Routine.TheOpen.{Routine-F}
 use Rattle.ps_syntax.specs.declared.program.Routine.TheFolds.{fold-roll-Routine, fold_out-Block}
 use Rattle.ps_points.specs.declared.point.Region.{Region}
 use Rattle.ps_points.specs.declared.point.Form.{Form}
-use Rattle.ps_points.specs.declared.point.Form.TheVariants.{Field, ValueParameter, VariableParameter, RoutineParameter, WholeFunction, ForwardProcedure, ForwardFunction, FunctionBlock}
+use Rattle.ps_points.specs.declared.point.Form.TheVariants.{Field, ValueParameter, VariableParameter, ProcedureParameter, FunctionParameter, WholeFunction, ForwardProcedure, ForwardFunction, FunctionBlock}
 use Rattle.ps_points.specs.Points.{Points, Reading, FieldsReading, HeadingReading, gathered, named, point, within, of_record, ordinal_points, fields_step, structure_step, type_step, type_points, structure_points, fields_points, section_step, heading_step, heading, section_points, heading_points, layer_whole, whole_form, layer_forward, forward_form, declared_points, routine_step, block_step, block_points, routine_points}
 use Rattle.ps_points.proofs.Lists.{gathered-map, both_added}
 
@@ -74,21 +74,29 @@ heading_is_Procedure name xs = ap heading (sym (h.rolls-Procedure name xs)) ∙ 
 heading_is_Function : (name : Span) (xs : List Section) (type : Span) → heading (h.Function name xs type) ≡ heading_step (Heading-F.Function name (map section_points xs) type)
 heading_is_Function name xs type = ap heading (sym (h.rolls-Function name xs type)) ∙ fold-roll-Heading HeadingReading Reading heading_step section_step (Heading-F.Function name xs type)
 
-pub name_Procedure : (name : Span) (xs : List Section) → (heading (h.Procedure name xs)).0 ≡ name
+pub name_Procedure : (name : Span) (xs : List Section) → (heading (h.Procedure name xs)).name ≡ name
 unfolding heading_step
-name_Procedure name xs = ap (λ (r : HeadingReading). r.0) (heading_is_Procedure name xs)
+name_Procedure name xs = ap (λ (r : HeadingReading). r.name) (heading_is_Procedure name xs)
 
-pub name_Function : (name : Span) (xs : List Section) (type : Span) → (heading (h.Function name xs type)).0 ≡ name
+pub name_Function : (name : Span) (xs : List Section) (type : Span) → (heading (h.Function name xs type)).name ≡ name
 unfolding heading_step
-name_Function name xs type = ap (λ (r : HeadingReading). r.0) (heading_is_Function name xs type)
+name_Function name xs type = ap (λ (r : HeadingReading). r.name) (heading_is_Function name xs type)
 
-pub list_Procedure : (name : Span) (xs : List Section) (region : Region) → (heading (h.Procedure name xs)).1 region ≡ gathered (λ x. section_points x region) xs
+pub formal_Procedure : (name : Span) (xs : List Section) → (heading (h.Procedure name xs)).formal ≡ ProcedureParameter
 unfolding heading_step
-list_Procedure name xs region = ap (λ (r : HeadingReading). r.1 region) (heading_is_Procedure name xs) ∙ gathered-map (λ (x : Reading). x region) section_points xs
+formal_Procedure name xs = ap (λ (r : HeadingReading). r.formal) (heading_is_Procedure name xs)
 
-pub list_Function : (name : Span) (xs : List Section) (type : Span) (region : Region) → (heading (h.Function name xs type)).1 region ≡ gathered (λ x. section_points x region) xs
+pub formal_Function : (name : Span) (xs : List Section) (type : Span) → (heading (h.Function name xs type)).formal ≡ FunctionParameter
 unfolding heading_step
-list_Function name xs type region = ap (λ (r : HeadingReading). r.1 region) (heading_is_Function name xs type) ∙ gathered-map (λ (x : Reading). x region) section_points xs
+formal_Function name xs type = ap (λ (r : HeadingReading). r.formal) (heading_is_Function name xs type)
+
+pub list_Procedure : (name : Span) (xs : List Section) (region : Region) → (heading (h.Procedure name xs)).list region ≡ gathered (λ x. section_points x region) xs
+unfolding heading_step
+list_Procedure name xs region = ap (λ (r : HeadingReading). r.list region) (heading_is_Procedure name xs) ∙ gathered-map (λ (x : Reading). x region) section_points xs
+
+pub list_Function : (name : Span) (xs : List Section) (type : Span) (region : Region) → (heading (h.Function name xs type)).list region ≡ gathered (λ x. section_points x region) xs
+unfolding heading_step
+list_Function name xs type region = ap (λ (r : HeadingReading). r.list region) (heading_is_Function name xs type) ∙ gathered-map (λ (x : Reading). x region) section_points xs
 
 pub section_Value : (names : List Span) (type : Span) (region : Region) → section_points (v.Value names type) region ≡ named ValueParameter region names
 unfolding section_step
@@ -98,7 +106,7 @@ pub section_Variable : (names : List Span) (type : Span) (region : Region) → s
 unfolding section_step
 section_Variable names type region = ap (λ s. section_points s region) (sym (v.rolls-Variable names type)) ∙ ap (λ (f : Reading). f region) (fold-roll-Section HeadingReading Reading heading_step section_step (Section-F.Variable names type))
 
-pub section_Routine : (x : Heading) (region : Region) → section_points (v.Routine x) region ≡ heading_points RoutineParameter x region
+pub section_Routine : (x : Heading) (region : Region) → section_points (v.Routine x) region ≡ heading_points (heading x).formal x region
 unfolding section_step
 section_Routine x region = ap (λ s. section_points s region) (sym (v.rolls-Routine x)) ∙ ap (λ (f : Reading). f region) (fold-roll-Section HeadingReading Reading heading_step section_step (Section-F.Routine x))
 
@@ -120,7 +128,7 @@ forward_Function name xs type = ap forward_form (sym (h.rolls-Function name xs t
 
 -- ---- routines and blocks
 
-routine_Whole : (x : Heading) (b : Block) (region : Region) → routine_points (r.Whole x b) region ≡ heading_points (whole_form x) x region ++ block_points b (within region (heading x).0)
+routine_Whole : (x : Heading) (b : Block) (region : Region) → routine_points (r.Whole x b) region ≡ heading_points (whole_form x) x region ++ block_points b (within region (heading x).name)
 unfolding routine_step
 routine_Whole x b region = ap (λ r. routine_points r region) (sym (r.rolls-Whole x b)) ∙ ap (λ (f : Reading). f region) (fold-roll-Routine Reading Reading routine_step block_step (Routine-F.Whole x b))
 
@@ -142,7 +150,7 @@ pub block_added : (w : Block) (region : Region) (a b c : Points) → b ≡ a ++ 
 block_added w region a b c e h = both_added a b c (declared_points (out-Block w).constants (out-Block w).types (out-Block w).variables region) (gathered (λ x. routine_points x region) (out-Block w).routines) (block_points w region) e h (block_is w region)
 
 -- whose name and form are told first
-pub whole_added : (w : Routine) (x : Heading) (y : Block) (region inner : Region) (name : Span) (form : Form) (a b c : Points) → w ≡ r.Whole x y → b ≡ a ++ heading_points form x region → c ≡ b ++ block_points y inner → form ≡ whole_form x → inner ≡ within region name → name ≡ (heading x).0 → c ≡ a ++ routine_points w region
+pub whole_added : (w : Routine) (x : Heading) (y : Block) (region inner : Region) (name : Span) (form : Form) (a b c : Points) → w ≡ r.Whole x y → b ≡ a ++ heading_points form x region → c ≡ b ++ block_points y inner → form ≡ whole_form x → inner ≡ within region name → name ≡ (heading x).name → c ≡ a ++ routine_points w region
 whole_added w x y region inner name form a b c is e h f i n =
     both_added a b c (heading_points form x region) (block_points y inner) (routine_points w region) e h
-    (ap (λ v. routine_points v region) is ∙ routine_Whole x y region ∙ ap (λ g. heading_points g x region ++ block_points y (within region (heading x).0)) (sym f) ∙ ap (λ k. heading_points form x region ++ block_points y (within region k)) (sym n) ∙ ap (λ k. heading_points form x region ++ block_points y k) (sym i))
+    (ap (λ v. routine_points v region) is ∙ routine_Whole x y region ∙ ap (λ g. heading_points g x region ++ block_points y (within region (heading x).name)) (sym f) ∙ ap (λ k. heading_points form x region ++ block_points y (within region k)) (sym n) ∙ ap (λ k. heading_points form x region ++ block_points y k) (sym i))

@@ -42,5 +42,5 @@ module _ (region : Region) (points : Points) (index : ℕ) where
       let s : suc i ≡ i + 1 = omega arith in
       record { rest = next i left d lt c ∙ counted_off (is_of region (get_or points i d)) (get_or points i d).form (form_at region (drop (suc i) points)) left m e h ∙ ap (λ k. form_at region (drop k points) m) s }
 
-  pub formal_here : (i left : ℕ) (d : Point) (form : Form) → i < length points → Counting region points index i left → is_of region (get_or points i d) ≡ true → left ≡ 0 → (get_or points i d).form ≡ form → form_at region points index ≡ Some form
-  formal_here i left d form lt c e h f = next i left d lt c ∙ reached (is_of region (get_or points i d)) (get_or points i d).form (form_at region (drop (suc i) points)) left e h ∙ ap (λ (g : Form). Some g) f
+  pub formal_here : (i left : ℕ) (d : Point) → i < length points → Counting region points index i left → is_of region (get_or points i d) ≡ true → left ≡ 0 → form_at region points index ≡ Some (get_or points i d).form
+  formal_here i left d lt c e h = next i left d lt c ∙ reached (is_of region (get_or points i d)) (get_or points i d).form (form_at region (drop (suc i) points)) left e h

@@ -1,5 +1,5 @@
 -- Searches among the uses of a part, by those of the parts in it.
-use Rattle.std.proofs.Common.{◌≡◌, ℕ, zero, suc, ◌+◌, ◌<◌, List, [], ◌∷◌, ◌++◌, length, get_or, map, Option, Some, None, refl, sym, ap, subst, arith}
+use Rattle.std.proofs.Common.{◌≡◌, Bool, false, ℕ, zero, suc, ◌+◌, ◌<◌, List, [], ◌∷◌, ◌++◌, length, get_or, map, Option, Some, None, refl, sym, ap, subst, arith}
 use Rattle.std.specs.Prelude.{Contains}
 use Rattle.ps_text.specs.declared.Span.{Span}
 use Rattle.ps_syntax.specs.declared.expression.Relation.{Relation}
@@ -18,9 +18,11 @@ use Rattle.ps_syntax.specs.declared.expression.MultipliedFactor.{MultipliedFacto
 use Rattle.ps_syntax.specs.declared.expression.Variable.{Variable, out-Variable}
 use Rattle.ps_syntax.specs.declared.statement.Constant.{Constant}
 use Rattle.ps_syntax.specs.declared.statement.Parameter.{Parameter}
-use Rattle.ps_points.specs.declared.uses.Way.TheVariants.{Named, Selected, Assigned, Passed}
+use Rattle.ps_points.specs.declared.uses.Way.TheVariants.{Applied, Selected, Passed, Given}
 use Rattle.ps_points.specs.declared.uses.Use.{Use}
-use Rattle.ps_points.specs.Uses.{Uses, Part, IsFound, either, used, no_name, all_uses, argument_of, argument, arguments, assigned_of, assigned, constant_uses, parameter_part, expr_part, factor_part, member_uses, selector_uses, added_uses, multiplied_uses, simple_part, term_part, variable_part}
+use Rattle.ps_points.specs.declared.uses.Way.{Way}
+use Rattle.ps_points.specs.declared.uses.Whole.TheVariants.{Alone, Other}
+use Rattle.ps_points.specs.Uses.{Uses, Part, IsFound, either, used, no_variable, based, all_uses, argument_of, argument, arguments, entire_of, entire, record_uses, constant_uses, parameter_part, expr_part, factor_part, member_uses, selector_uses, added_uses, multiplied_uses, simple_part, term_part, variable_part}
 use Rattle.ps_points.proofs.UseEquations.{expr_Simple, expr_Compare, factor_Variable, factor_Call, factor_Set, factor_Group, factor_Not, member_One, member_Range, selector_Index, selector_Field, added_is, multiplied_is, simple_is, term_is, variable_is}
 
 pub found_none : (xs : Uses) → IsFound xs None
@@ -84,7 +86,7 @@ multiplied_found xs i x r lt at h = all_found multiplied_uses xs i x r lt at (mo
 pub factor_found_variable : (x : Variable) (r : Option Use) → IsFound (variable_part x).uses r → IsFound (factor_part (f.Variable x)).uses r
 factor_found_variable x r h = moved _ _ r (ap (λ (p : Part). p.uses) (factor_Variable x)) h
 
-pub factor_found_call : (name : Span) (xs : List Expr) (r : Option Use) → IsFound (used name Named ∷ arguments name 0 (map expr_part xs)) r → IsFound (factor_part (f.Call name xs)).uses r
+pub factor_found_call : (name : Span) (xs : List Expr) (r : Option Use) → IsFound (used name Applied ∷ arguments name 0 (map expr_part xs)) r → IsFound (factor_part (f.Call name xs)).uses r
 factor_found_call name xs r h = moved _ _ r (ap (λ (p : Part). p.uses) (factor_Call name xs)) h
 
 pub factor_found_set : (at : Span) (xs : List Member) (r : Option Use) → IsFound (all_uses member_uses xs) r → IsFound (factor_part (f.Set at xs)).uses r
@@ -121,8 +123,8 @@ member_found_one x r h = moved _ _ r (member_One x) h
 pub member_found_range : (x y : Expr) (a b : Option Use) → IsFound (expr_part x).uses a → IsFound (expr_part y).uses b → IsFound (member_uses (m.Range x y)) (either a b)
 member_found_range x y a b f g = moved _ _ (either a b) (member_Range x y) (found_both (expr_part x).uses (expr_part y).uses a b f g)
 
-pub variable_found : (x : Variable) (a b : Option Use) → IsFound (used (out-Variable x).name Named ∷ []) a → IsFound (all_uses selector_uses (out-Variable x).selectors) b → IsFound (variable_part x).uses (either a b)
-variable_found x a b f g = moved _ _ (either a b) (variable_is x) (found_cons (used (out-Variable x).name Named) (all_uses selector_uses (out-Variable x).selectors) a b f g)
+pub variable_found : (x : Variable) (way : Way) (a b : Option Use) → way ≡ based (out-Variable x).selectors → IsFound (used (out-Variable x).name way ∷ []) a → IsFound (all_uses selector_uses (out-Variable x).selectors) b → IsFound (variable_part x).uses (either a b)
+variable_found x way a b is f g = moved _ _ (either a b) (variable_is x) (found_cons (used (out-Variable x).name (based (out-Variable x).selectors)) (all_uses selector_uses (out-Variable x).selectors) a b (subst (λ w. IsFound (used (out-Variable x).name w ∷ []) a) is f) g)
 
 pub selectors_found : (xs : List Selector) (i : ℕ) (x : Selector) (r : Option Use) → i < length xs → x ≡ get_or xs i x → IsFound (selector_uses x) r → IsFound (all_uses selector_uses xs) r
 selectors_found xs i x r lt at h = all_found selector_uses xs i x r lt at h
@@ -136,8 +138,8 @@ selector_found_field at r h = moved _ _ r (selector_Field at) h
 pub exprs_found : (xs : List Expr) (i : ℕ) (x : Expr) (r : Option Use) → i < length xs → x ≡ get_or xs i x → IsFound (expr_part x).uses r → IsFound (all_uses (λ x. (expr_part x).uses) xs) r
 exprs_found xs i x r lt at h = all_found (λ (x : Expr). (expr_part x).uses) xs i x r lt at h
 
-pub records_found : (xs : List Variable) (i : ℕ) (x : Variable) (r : Option Use) → i < length xs → x ≡ get_or xs i x → IsFound (variable_part x).uses r → IsFound (all_uses (λ x. (variable_part x).uses) xs) r
-records_found xs i x r lt at h = all_found (λ (x : Variable). (variable_part x).uses) xs i x r lt at h
+pub records_found : (xs : List Variable) (i : ℕ) (x : Variable) (r : Option Use) → i < length xs → x ≡ get_or xs i x → IsFound (record_uses x) r → IsFound (all_uses record_uses xs) r
+records_found xs i x r lt at h = all_found record_uses xs i x r lt at h
 
 -- of a list whose items have a default
 pub get_any : {A : Type 0} (xs : List A) (i : ℕ) (c d : A) → i < length xs → get_or xs i c ≡ get_or xs i d
@@ -148,22 +150,22 @@ get_any (x ∷ xs) (suc i) c d lt = get_any xs i c d (let q : suc i < suc (lengt
 pub constants_found : (xs : List Constant) (i : ℕ) (d : Constant) (r : Option Use) → i < length xs → IsFound (constant_uses (get_or xs i d)) r → IsFound (all_uses constant_uses xs) r
 constants_found xs i d r lt h = all_found constant_uses xs i (get_or xs i d) r lt (get_any xs i d (get_or xs i d) lt) h
 
-pub argument_alone : (routine : Span) (index : ℕ) (part : Part) (name : Span) (r : Option Use) → Some name ≡ part.alone → IsFound (used name (Passed routine index) ∷ []) r → IsFound (argument routine index part) r
+pub argument_alone : (routine : Span) (index : ℕ) (part : Part) (name : Span) (r : Option Use) → Alone name ≡ part.whole → IsFound (used name (Passed routine index) ∷ []) r → IsFound (argument routine index part) r
 unfolding argument
-argument_alone routine index part name r e h = subst (λ a. IsFound (argument_of routine index part a) r) e h
+argument_alone routine index part name r e h = subst (λ w. IsFound (argument_of routine index part.uses w) r) e h
 
-pub argument_other : (routine : Span) (index : ℕ) (part : Part) (r : Option Use) → None ≡ part.alone → IsFound part.uses r → IsFound (argument routine index part) r
+pub argument_other : (routine : Span) (index at : ℕ) (variable : Bool) (part : Part) (a b : Option Use) → Other at variable ≡ part.whole → IsFound (used routine (Given index at variable) ∷ []) a → IsFound part.uses b → IsFound (argument routine index part) (either a b)
 unfolding argument
-argument_other routine index part r e h = subst (λ a. IsFound (argument_of routine index part a) r) e h
+argument_other routine index at variable part a b e f g = subst (λ w. IsFound (argument_of routine index part.uses w) (either a b)) e (found_cons (used routine (Given index at variable)) part.uses a b f g)
 
-pub assigned_alone : (part : Part) (name : Span) (r : Option Use) → Some name ≡ part.alone → IsFound (used name Assigned ∷ []) r → IsFound (assigned part) r
-unfolding assigned
-assigned_alone part name r e h = subst (λ a. IsFound (assigned_of part a) r) e h
+pub entire_alone : (way : Way) (part : Part) (name : Span) (r : Option Use) → Alone name ≡ part.whole → IsFound (used name way ∷ []) r → IsFound (entire way part) r
+unfolding entire
+entire_alone way part name r e h = subst (λ w. IsFound (entire_of way part.uses w) r) e h
 
-pub assigned_other : (part : Part) (r : Option Use) → None ≡ part.alone → IsFound part.uses r → IsFound (assigned part) r
-unfolding assigned
-assigned_other part r e h = subst (λ a. IsFound (assigned_of part a) r) e h
+pub entire_other : (way : Way) (at : ℕ) (variable : Bool) (part : Part) (r : Option Use) → Other at variable ≡ part.whole → IsFound part.uses r → IsFound (entire way part) r
+unfolding entire
+entire_other way at variable part r e h = subst (λ w. IsFound (entire_of way part.uses w) r) e h
 
-pub width_found : (routine : Span) (index : ℕ) (xs ys : Uses) (a b : Option Use) → IsFound xs a → IsFound ys b → IsFound (argument routine index (no_name (xs ++ ys))) (either a b)
+pub width_found : (routine : Span) (index at : ℕ) (xs ys : Uses) (a b c : Option Use) → IsFound (used routine (Given index at false) ∷ []) a → IsFound xs b → IsFound ys c → IsFound (argument routine index (no_variable at (xs ++ ys))) (either a (either b c))
 unfolding argument
-width_found routine index xs ys a b f g = found_both xs ys a b f g
+width_found routine index at xs ys a b c f g h = found_cons (used routine (Given index at false)) (xs ++ ys) a (either b c) f (found_both xs ys b c g h)

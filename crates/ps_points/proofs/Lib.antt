@@ -11,3 +11,4 @@ pub mod UnknownLemmas
 pub mod WalkLemmas
 pub mod EarlyLemmas
 pub mod ListedLemmas
+pub mod KindLemmas

@@ -1,7 +1,8 @@
 -- The uses in expressions, construction by construction.
-use Rattle.std.proofs.Common.{◌≡◌, List, [], ◌∷◌, ◌++◌, map, Option, Some, None, refl, sym, ap, ◌∙◌}
+use Rattle.std.proofs.Common.{◌≡◌, false, List, [], ◌∷◌, ◌++◌, map, Option, Some, None, refl, sym, ap, ◌∙◌}
 use Rattle.ps_text.specs.declared.Span.{Span}
 use Rattle.ps_syntax.specs.declared.expression.Relation.{Relation}
+use Rattle.ps_syntax.specs.declared.expression.Sign.{Sign}
 use Rattle.ps_syntax.specs.declared.expression.Expr.{Expr}
 use Rattle.ps_syntax.specs.declared.expression.Expr.TheVariants as e
 use Rattle.ps_syntax.specs.declared.expression.Factor.{Factor}
@@ -16,24 +17,33 @@ use Rattle.ps_syntax.specs.declared.expression.MultipliedFactor.{MultipliedFacto
 use Rattle.ps_syntax.specs.declared.expression.Variable.{Variable, out-Variable}
 use Rattle.ps_syntax.specs.declared.expression.Expr.TheOpen.{Expr-F, Factor-F, Member-F, Selector-F}
 use Rattle.ps_syntax.specs.declared.expression.Expr.TheFolds.{fold-roll-Expr, fold-roll-Factor, fold-roll-Member, fold-roll-Selector, fold_out-AddedTerm, fold_out-MultipliedFactor, fold_out-Simple, fold_out-Term, fold_out-Variable}
-use Rattle.ps_points.specs.declared.uses.Way.TheVariants.{Named, Selected}
-use Rattle.ps_points.specs.Uses.{Uses, Part, used, no_name, all_uses, only, no_sign, arguments, expr_step, factor_step, member_step, selector_step, added_step, multiplied_step, simple_step, term_step, variable_step, expr_part, factor_part, member_uses, selector_uses, added_uses, multiplied_uses, simple_part, term_part, variable_part}
+use Rattle.ps_points.specs.declared.uses.Way.TheVariants.{Applied, Selected}
+use Rattle.ps_points.specs.declared.uses.Whole.{Whole}
+use Rattle.ps_points.specs.declared.uses.Whole.TheVariants.{Other}
+use Rattle.ps_points.specs.Uses.{Uses, Part, used, begin, no_variable, all_uses, only, no_sign, selected, based, arguments, expr_step, factor_step, member_step, selector_step, added_step, multiplied_step, simple_step, term_step, variable_step, expr_part, factor_part, member_uses, selector_uses, added_uses, multiplied_uses, simple_part, term_part, variable_part}
 
 pub all_uses-map : {A B : Type 0} (f : B → Uses) (g : A → B) (xs : List A) → all_uses f (map g xs) ≡ all_uses (λ x. f (g x)) xs
 all_uses-map f g [] = refl
 all_uses-map f g (x ∷ xs) = ap (λ l. f (g x) ++ l) (all_uses-map f g xs)
 
-only-map : {S A B : Type 0} (sign : Option S) (g : A → B) (xs : List A) (name : Option Span) → only sign (map g xs) name ≡ only sign xs name
-only-map None g [] name = refl
-only-map None g (x ∷ xs) name = refl
-only-map (Some s) g [] name = refl
-only-map (Some s) g (x ∷ xs) name = refl
+only-map : {A B : Type 0} (sign : Option (Sign × Span)) (g : A → B) (xs : List A) (whole : Whole) → only sign (map g xs) whole ≡ only sign xs whole
+only-map None g [] whole = refl
+only-map None g (x ∷ xs) whole = refl
+only-map (Some s) g xs whole = refl
+
+selected-map : {A B : Type 0} (name : Span) (g : A → B) (xs : List A) → selected name (map g xs) ≡ selected name xs
+selected-map name g [] = refl
+selected-map name g (x ∷ xs) = refl
+
+based-map : {A B : Type 0} (g : A → B) (xs : List A) → based (map g xs) ≡ based xs
+based-map g [] = refl
+based-map g (x ∷ xs) = refl
 
 pub expr_Simple : (x : Simple) → expr_part (e.Simple x) ≡ simple_part x
 unfolding expr_step
 expr_Simple x = ap expr_part (sym (e.rolls-Simple x)) ∙ fold-roll-Expr Part Part Uses Uses Uses Uses Part Part Part expr_step factor_step member_step selector_step added_step multiplied_step simple_step term_step variable_step (Expr-F.Simple x) ∙ refl
 
-pub expr_Compare : (x : Simple) (relation : Relation) (at : Span) (y : Simple) → expr_part (e.Compare x relation at y) ≡ no_name ((simple_part x).uses ++ (simple_part y).uses)
+pub expr_Compare : (x : Simple) (relation : Relation) (at : Span) (y : Simple) → expr_part (e.Compare x relation at y) ≡ no_variable (begin (simple_part x).whole) ((simple_part x).uses ++ (simple_part y).uses)
 unfolding expr_step
 expr_Compare x relation at y = ap expr_part (sym (e.rolls-Compare x relation at y)) ∙ fold-roll-Expr Part Part Uses Uses Uses Uses Part Part Part expr_step factor_step member_step selector_step added_step multiplied_step simple_step term_step variable_step (Expr-F.Compare x relation at y) ∙ refl
 
@@ -41,31 +51,31 @@ pub factor_Variable : (x : Variable) → factor_part (f.Variable x) ≡ variable
 unfolding factor_step
 factor_Variable x = ap factor_part (sym (f.rolls-Variable x)) ∙ fold-roll-Factor Part Part Uses Uses Uses Uses Part Part Part expr_step factor_step member_step selector_step added_step multiplied_step simple_step term_step variable_step (Factor-F.Variable x) ∙ refl
 
-pub factor_Call : (name : Span) (xs : List Expr) → factor_part (f.Call name xs) ≡ no_name (used name Named ∷ arguments name 0 (map expr_part xs))
+pub factor_Call : (name : Span) (xs : List Expr) → factor_part (f.Call name xs) ≡ no_variable name.from (used name Applied ∷ arguments name 0 (map expr_part xs))
 unfolding factor_step
 factor_Call name xs = ap factor_part (sym (f.rolls-Call name xs)) ∙ fold-roll-Factor Part Part Uses Uses Uses Uses Part Part Part expr_step factor_step member_step selector_step added_step multiplied_step simple_step term_step variable_step (Factor-F.Call name xs) ∙ refl
 
-pub factor_Number : (at : Span) → factor_part (f.Number at) ≡ no_name []
+pub factor_Number : (at : Span) → factor_part (f.Number at) ≡ no_variable at.from []
 unfolding factor_step
 factor_Number at = ap factor_part (sym (f.rolls-Number at)) ∙ fold-roll-Factor Part Part Uses Uses Uses Uses Part Part Part expr_step factor_step member_step selector_step added_step multiplied_step simple_step term_step variable_step (Factor-F.Number at) ∙ refl
 
-pub factor_Text : (at : Span) → factor_part (f.Text at) ≡ no_name []
+pub factor_Text : (at : Span) → factor_part (f.Text at) ≡ no_variable at.from []
 unfolding factor_step
 factor_Text at = ap factor_part (sym (f.rolls-Text at)) ∙ fold-roll-Factor Part Part Uses Uses Uses Uses Part Part Part expr_step factor_step member_step selector_step added_step multiplied_step simple_step term_step variable_step (Factor-F.Text at) ∙ refl
 
-pub factor_Nil : (at : Span) → factor_part (f.Nil at) ≡ no_name []
+pub factor_Nil : (at : Span) → factor_part (f.Nil at) ≡ no_variable at.from []
 unfolding factor_step
 factor_Nil at = ap factor_part (sym (f.rolls-Nil at)) ∙ fold-roll-Factor Part Part Uses Uses Uses Uses Part Part Part expr_step factor_step member_step selector_step added_step multiplied_step simple_step term_step variable_step (Factor-F.Nil at) ∙ refl
 
-pub factor_Set : (at : Span) (members : List Member) → factor_part (f.Set at members) ≡ no_name (all_uses member_uses members)
+pub factor_Set : (at : Span) (members : List Member) → factor_part (f.Set at members) ≡ no_variable at.from (all_uses member_uses members)
 unfolding factor_step
-factor_Set at members = ap factor_part (sym (f.rolls-Set at members)) ∙ fold-roll-Factor Part Part Uses Uses Uses Uses Part Part Part expr_step factor_step member_step selector_step added_step multiplied_step simple_step term_step variable_step (Factor-F.Set at members) ∙ ap no_name (all_uses-map (λ (u : Uses). u) member_uses members)
+factor_Set at members = ap factor_part (sym (f.rolls-Set at members)) ∙ fold-roll-Factor Part Part Uses Uses Uses Uses Part Part Part expr_step factor_step member_step selector_step added_step multiplied_step simple_step term_step variable_step (Factor-F.Set at members) ∙ ap (no_variable at.from) (all_uses-map (λ (u : Uses). u) member_uses members)
 
-pub factor_Group : (at : Span) (x : Expr) → factor_part (f.Group at x) ≡ no_name (expr_part x).uses
+pub factor_Group : (at : Span) (x : Expr) → factor_part (f.Group at x) ≡ no_variable at.from (expr_part x).uses
 unfolding factor_step
 factor_Group at x = ap factor_part (sym (f.rolls-Group at x)) ∙ fold-roll-Factor Part Part Uses Uses Uses Uses Part Part Part expr_step factor_step member_step selector_step added_step multiplied_step simple_step term_step variable_step (Factor-F.Group at x) ∙ refl
 
-pub factor_Not : (at : Span) (x : Factor) → factor_part (f.Not at x) ≡ no_name (factor_part x).uses
+pub factor_Not : (at : Span) (x : Factor) → factor_part (f.Not at x) ≡ no_variable at.from (factor_part x).uses
 unfolding factor_step
 factor_Not at x = ap factor_part (sym (f.rolls-Not at x)) ∙ fold-roll-Factor Part Part Uses Uses Uses Uses Part Part Part expr_step factor_step member_step selector_step added_step multiplied_step simple_step term_step variable_step (Factor-F.Not at x) ∙ refl
 
@@ -101,46 +111,49 @@ pub simple_is : (x : Simple) → (simple_part x).uses ≡ (term_part (out-Simple
 unfolding simple_step
 simple_is x = ap (λ (p : Part). p.uses) (fold_out-Simple Part Part Uses Uses Uses Uses Part Part Part expr_step factor_step member_step selector_step added_step multiplied_step simple_step term_step variable_step x) ∙ ap (λ l. (term_part (out-Simple x).first).uses ++ l) (all_uses-map (λ (u : Uses). u) added_uses (out-Simple x).more)
 
-pub simple_alone : (x : Simple) → (simple_part x).alone ≡ only (out-Simple x).sign (out-Simple x).more (term_part (out-Simple x).first).alone
+pub simple_whole : (x : Simple) → (simple_part x).whole ≡ only (out-Simple x).sign (out-Simple x).more (term_part (out-Simple x).first).whole
 unfolding simple_step
-simple_alone x = ap (λ (p : Part). p.alone) (fold_out-Simple Part Part Uses Uses Uses Uses Part Part Part expr_step factor_step member_step selector_step added_step multiplied_step simple_step term_step variable_step x) ∙ only-map (out-Simple x).sign added_uses (out-Simple x).more (term_part (out-Simple x).first).alone
+simple_whole x = ap (λ (p : Part). p.whole) (fold_out-Simple Part Part Uses Uses Uses Uses Part Part Part expr_step factor_step member_step selector_step added_step multiplied_step simple_step term_step variable_step x) ∙ only-map (out-Simple x).sign added_uses (out-Simple x).more (term_part (out-Simple x).first).whole
 
 pub term_is : (x : Term) → (term_part x).uses ≡ (factor_part (out-Term x).first).uses ++ all_uses multiplied_uses (out-Term x).more
 unfolding term_step
 term_is x = ap (λ (p : Part). p.uses) (fold_out-Term Part Part Uses Uses Uses Uses Part Part Part expr_step factor_step member_step selector_step added_step multiplied_step simple_step term_step variable_step x) ∙ ap (λ l. (factor_part (out-Term x).first).uses ++ l) (all_uses-map (λ (u : Uses). u) multiplied_uses (out-Term x).more)
 
-pub term_alone : (x : Term) → (term_part x).alone ≡ only no_sign (out-Term x).more (factor_part (out-Term x).first).alone
+pub term_whole : (x : Term) → (term_part x).whole ≡ only no_sign (out-Term x).more (factor_part (out-Term x).first).whole
 unfolding term_step
-term_alone x = ap (λ (p : Part). p.alone) (fold_out-Term Part Part Uses Uses Uses Uses Part Part Part expr_step factor_step member_step selector_step added_step multiplied_step simple_step term_step variable_step x) ∙ only-map no_sign multiplied_uses (out-Term x).more (factor_part (out-Term x).first).alone
+term_whole x = ap (λ (p : Part). p.whole) (fold_out-Term Part Part Uses Uses Uses Uses Part Part Part expr_step factor_step member_step selector_step added_step multiplied_step simple_step term_step variable_step x) ∙ only-map no_sign multiplied_uses (out-Term x).more (factor_part (out-Term x).first).whole
 
-pub variable_is : (x : Variable) → (variable_part x).uses ≡ used (out-Variable x).name Named ∷ all_uses selector_uses (out-Variable x).selectors
+pub variable_is : (x : Variable) → (variable_part x).uses ≡ used (out-Variable x).name (based (out-Variable x).selectors) ∷ all_uses selector_uses (out-Variable x).selectors
 unfolding variable_step
-variable_is x = ap (λ (p : Part). p.uses) (fold_out-Variable Part Part Uses Uses Uses Uses Part Part Part expr_step factor_step member_step selector_step added_step multiplied_step simple_step term_step variable_step x) ∙ ap (λ l. used (out-Variable x).name Named ∷ l) (all_uses-map (λ (u : Uses). u) selector_uses (out-Variable x).selectors)
+variable_is x =
+    ap (λ (p : Part). p.uses) (fold_out-Variable Part Part Uses Uses Uses Uses Part Part Part expr_step factor_step member_step selector_step added_step multiplied_step simple_step term_step variable_step x)
+    ∙ ap (λ w. used (out-Variable x).name w ∷ all_uses (λ (u : Uses). u) (map selector_uses (out-Variable x).selectors)) (based-map selector_uses (out-Variable x).selectors)
+    ∙ ap (λ l. used (out-Variable x).name (based (out-Variable x).selectors) ∷ l) (all_uses-map (λ (u : Uses). u) selector_uses (out-Variable x).selectors)
 
-pub variable_alone : (x : Variable) → (variable_part x).alone ≡ only no_sign (out-Variable x).selectors (Some (out-Variable x).name)
+pub variable_whole : (x : Variable) → (variable_part x).whole ≡ selected (out-Variable x).name (out-Variable x).selectors
 unfolding variable_step
-variable_alone x = ap (λ (p : Part). p.alone) (fold_out-Variable Part Part Uses Uses Uses Uses Part Part Part expr_step factor_step member_step selector_step added_step multiplied_step simple_step term_step variable_step x) ∙ only-map no_sign selector_uses (out-Variable x).selectors (Some (out-Variable x).name)
+variable_whole x = ap (λ (p : Part). p.whole) (fold_out-Variable Part Part Uses Uses Uses Uses Part Part Part expr_step factor_step member_step selector_step added_step multiplied_step simple_step term_step variable_step x) ∙ selected-map (out-Variable x).name selector_uses (out-Variable x).selectors
 
-pub alone_Compare : (x : Simple) (relation : Relation) (at : Span) (y : Simple) → (expr_part (e.Compare x relation at y)).alone ≡ None
-alone_Compare x relation at y = ap (λ (p : Part). p.alone) (expr_Compare x relation at y)
+pub whole_Compare : (x : Simple) (relation : Relation) (at : Span) (y : Simple) → (expr_part (e.Compare x relation at y)).whole ≡ Other (begin (simple_part x).whole) false
+whole_Compare x relation at y = ap (λ (p : Part). p.whole) (expr_Compare x relation at y)
 
-pub alone_Call : (name : Span) (xs : List Expr) → (factor_part (f.Call name xs)).alone ≡ None
-alone_Call name xs = ap (λ (p : Part). p.alone) (factor_Call name xs)
+pub whole_Call : (name : Span) (xs : List Expr) → (factor_part (f.Call name xs)).whole ≡ Other name.from false
+whole_Call name xs = ap (λ (p : Part). p.whole) (factor_Call name xs)
 
-pub alone_Number : (at : Span) → (factor_part (f.Number at)).alone ≡ None
-alone_Number at = ap (λ (p : Part). p.alone) (factor_Number at)
+pub whole_Number : (at : Span) → (factor_part (f.Number at)).whole ≡ Other at.from false
+whole_Number at = ap (λ (p : Part). p.whole) (factor_Number at)
 
-pub alone_Text : (at : Span) → (factor_part (f.Text at)).alone ≡ None
-alone_Text at = ap (λ (p : Part). p.alone) (factor_Text at)
+pub whole_Text : (at : Span) → (factor_part (f.Text at)).whole ≡ Other at.from false
+whole_Text at = ap (λ (p : Part). p.whole) (factor_Text at)
 
-pub alone_Nil : (at : Span) → (factor_part (f.Nil at)).alone ≡ None
-alone_Nil at = ap (λ (p : Part). p.alone) (factor_Nil at)
+pub whole_Nil : (at : Span) → (factor_part (f.Nil at)).whole ≡ Other at.from false
+whole_Nil at = ap (λ (p : Part). p.whole) (factor_Nil at)
 
-pub alone_Set : (at : Span) (members : List Member) → (factor_part (f.Set at members)).alone ≡ None
-alone_Set at members = ap (λ (p : Part). p.alone) (factor_Set at members)
+pub whole_Set : (at : Span) (members : List Member) → (factor_part (f.Set at members)).whole ≡ Other at.from false
+whole_Set at members = ap (λ (p : Part). p.whole) (factor_Set at members)
 
-pub alone_Group : (at : Span) (x : Expr) → (factor_part (f.Group at x)).alone ≡ None
-alone_Group at x = ap (λ (p : Part). p.alone) (factor_Group at x)
+pub whole_Group : (at : Span) (x : Expr) → (factor_part (f.Group at x)).whole ≡ Other at.from false
+whole_Group at x = ap (λ (p : Part). p.whole) (factor_Group at x)
 
-pub alone_Not : (at : Span) (x : Factor) → (factor_part (f.Not at x)).alone ≡ None
-alone_Not at x = ap (λ (p : Part). p.alone) (factor_Not at x)
+pub whole_Not : (at : Span) (x : Factor) → (factor_part (f.Not at x)).whole ≡ Other at.from false
+whole_Not at x = ap (λ (p : Part). p.whole) (factor_Not at x)

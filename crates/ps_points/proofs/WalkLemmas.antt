@@ -68,7 +68,7 @@ module _ (asked : Asked) (text : List ℕ) (points : Points) where
   unfolding routines_levels
   routines_one xs region outer i x at lt is h = one_of (λ (x : Routine). routine_levels x region outer) xs i x at lt is h
 
-  whole_is : (x : Heading) (b : Block) (region : Region) (outer : Nested) → routine_levels (r.Whole x b) region outer ≡ block_levels b (within region (heading x).0) outer
+  whole_is : (x : Heading) (b : Block) (region : Region) (outer : Nested) → routine_levels (r.Whole x b) region outer ≡ block_levels b (within region (heading x).name) outer
   unfolding routine_levels_step
   whole_is x b region outer = ap (λ w. routine_levels w region outer) (sym (r.rolls-Whole x b)) ∙ ap (λ (x : RoutineLevels). x.nested region outer) (fold-roll-Routine RoutineLevels NestedIn routine_levels_step block_levels_step (Routine-F.Whole x b))
 
@@ -76,9 +76,9 @@ module _ (asked : Asked) (text : List ℕ) (points : Points) where
   unfolding routine_levels_step
   completion_is name b region outer = ap (λ w. routine_levels w region outer) (sym (r.rolls-Completion name b)) ∙ ap (λ (x : RoutineLevels). x.nested region outer) (fold-roll-Routine RoutineLevels NestedIn routine_levels_step block_levels_step (Routine-F.Completion name b))
 
-  pub routine_whole : (x : Heading) (b : Block) (region inner : Region) (name : Span) (outer : Nested) (at : ℕ) → inner ≡ within region name → name ≡ (heading x).0 → IsSomewhere asked text points (block_levels b inner outer) at → IsSomewhere asked text points (routine_levels (r.Whole x b) region outer) at
+  pub routine_whole : (x : Heading) (b : Block) (region inner : Region) (name : Span) (outer : Nested) (at : ℕ) → inner ≡ within region name → name ≡ (heading x).name → IsSomewhere asked text points (block_levels b inner outer) at → IsSomewhere asked text points (routine_levels (r.Whole x b) region outer) at
   routine_whole x b region inner name outer at is named h =
-      let e : inner ≡ within region (heading x).0 = is ∙ ap (λ n. within region n) named in
+      let e : inner ≡ within region (heading x).name = is ∙ ap (λ n. within region n) named in
       subst (λ l. IsSomewhere asked text points l at) (sym (whole_is x b region outer)) (subst (λ i. IsSomewhere asked text points (block_levels b i outer) at) e h)
 
   pub routine_completion : (name : Span) (b : Block) (region inner : Region) (outer : Nested) (at : ℕ) → inner ≡ within region name → IsSomewhere asked text points (block_levels b inner outer) at → IsSomewhere asked text points (routine_levels (r.Completion name b) region outer) at
@@ -86,11 +86,11 @@ module _ (asked : Asked) (text : List ℕ) (points : Points) where
 
 -- ---- the names of routines
 
-pub whole_name : (x : Heading) (b : Block) → (routine_heading (r.Whole x b)).name ≡ (heading x).0
+pub whole_name : (x : Heading) (b : Block) → (routine_heading (r.Whole x b)).name ≡ (heading x).name
 unfolding routine_levels_step
 whole_name x b = ap (λ w. (routine_heading w).name) (sym (r.rolls-Whole x b)) ∙ ap (λ (x : RoutineLevels). x.name) (fold-roll-Routine RoutineLevels NestedIn routine_levels_step block_levels_step (Routine-F.Whole x b))
 
-pub forward_name : (x : Heading) → (routine_heading (r.Forward x)).name ≡ (heading x).0
+pub forward_name : (x : Heading) → (routine_heading (r.Forward x)).name ≡ (heading x).name
 unfolding routine_levels_step
 forward_name x = ap (λ w. (routine_heading w).name) (sym (r.rolls-Forward x)) ∙ ap (λ (x : RoutineLevels). x.name) (fold-roll-Routine RoutineLevels NestedIn routine_levels_step block_levels_step (Routine-F.Forward x))
 

@@ -3,9 +3,10 @@ use Rattle.std.specs.Prelude.{◌≡◌, ℕ, Bool, true, false, ◌||◌, List,
 use Rattle.ps_regions.specs.Spelling.{spelled}
 use Rattle.ps_points.specs.declared.point.Point.{Point}
 use Rattle.ps_points.specs.declared.point.Form.{Form}
-use Rattle.ps_points.specs.declared.point.Form.TheVariants.{TypeName, Variable, WholeProcedure, WholeFunction, ProcedureBlock, FunctionBlock}
+use Rattle.ps_points.specs.declared.point.Form.TheVariants.{Variable, WholeProcedure, WholeFunction, ProcedureBlock, FunctionBlock}
 use Rattle.ps_points.specs.declared.absent.Kind.{Kind}
-use Rattle.ps_points.specs.declared.absent.Kind.TheVariants.{Every, Ahead, AheadOrType, WithBlock, OfVariable}
+use Rattle.ps_points.specs.declared.absent.Kind.TheVariants.{Every, Ahead, AheadOrType, WithBlock, OfVariable, Fitting}
+use Rattle.ps_points.specs.Needs.{is_type, fits}
 use Rattle.ps_points.specs.Points.{Points}
 
 -- both stand in one region, and are spelled alike
@@ -22,10 +23,6 @@ has_block ProcedureBlock = true
 has_block FunctionBlock = true
 has_block _ = false
 
-abbrev pub is_type : Form → Bool
-is_type TypeName = true
-is_type _ = false
-
 abbrev pub is_variable : Form → Bool
 is_variable Variable = true
 is_variable _ = false
@@ -37,6 +34,7 @@ is_kind Ahead p q = nat_lt q.name.from p.name.from
 is_kind AheadOrType p q = nat_lt q.name.from p.name.from || is_type q.form
 is_kind WithBlock p q = has_block q.form
 is_kind OfVariable p q = is_variable q.form
+is_kind (Fitting need) p q = fits need q.form
 
 -- no point of this kind is alike
 abbrev pub IsAbsent : List ℕ → Points → Kind → Point → Type 0

@@ -3,7 +3,7 @@ use Rattle.std.specs.Prelude.{◌≡◌, ◌<◌, ℕ, Bool, true, false, List, 
 use Rattle.ps_syntax.specs.declared.program.Program.{Program}
 use Rattle.ps_regions.specs.Spelling.{line_in}
 use Rattle.ps_regions.specs.declared.refusal.Rule.{Rule}
-use Rattle.ps_regions.specs.declared.refusal.Rule.TheVariants.{Unknown, Twice, UsedBefore, ControlVariable, ForwardOpen, NoInputOutput, NoResultAssigned}
+use Rattle.ps_regions.specs.declared.refusal.Rule.TheVariants.{Unknown, Twice, UsedBefore, WrongKind, ControlVariable, ForwardOpen, NoInputOutput, NoResultAssigned}
 use Rattle.ps_regions.specs.declared.refusal.CheckRefusal.{CheckRefusal}
 use Rattle.ps_regions.specs.declared.refusal.CheckRefusal.TheVariants as refusal
 use Rattle.ps_points.specs.declared.point.Point.{Point}
@@ -13,7 +13,7 @@ use Rattle.ps_points.specs.declared.absent.Kind.TheVariants.{WithBlock}
 use Rattle.ps_points.specs.Points.{Points, program_points}
 use Rattle.ps_points.specs.Absent.{AreAlike, IsAbsent}
 use Rattle.ps_points.specs.Levels.{program_levels}
-use Rattle.ps_points.specs.declared.walk.Asked.TheVariants.{OfControl, OfUnknown, OfEarly, OfFiles}
+use Rattle.ps_points.specs.declared.walk.Asked.TheVariants.{OfControl, OfUnknown, OfEarly, OfFiles, OfKind}
 use Rattle.ps_points.specs.Walk.{IsSomewhere}
 
 -- `procedure` or `function` and the name alone, with a block: it completes a forward heading of that kind
@@ -60,12 +60,13 @@ pub record IsFunction (points : Points) (at : ℕ) : Type 0 where
   pub form : is_function function.form ≡ true
   pub told : function.name.from ≡ at
 
--- The rule is broken at this token, by its offset, where it is one of the first six; of the seventh it is a token that may break it, and of the others
+-- The rule is broken at this token, by its offset, where it is one of the first seven; of the eighth it is a token that may break it, and of the others
 -- nothing is said.
 abbrev pub BrokenAt : List ℕ → Program → Rule → ℕ → Type 0
 BrokenAt text p Twice at = IsTwice text (program_points p) at
 BrokenAt text p Unknown at = IsSomewhere OfUnknown text (program_points p) (program_levels p) at
 BrokenAt text p UsedBefore at = IsSomewhere OfEarly text (program_points p) (program_levels p) at
+BrokenAt text p WrongKind at = IsSomewhere OfKind text (program_points p) (program_levels p) at
 BrokenAt text p ControlVariable at = IsSomewhere OfControl text (program_points p) (program_levels p) at
 BrokenAt text p ForwardOpen at = IsOpen text (program_points p) at
 BrokenAt text p NoInputOutput at = IsSomewhere OfFiles text (program_points p) (program_levels p) at

@@ -9,7 +9,7 @@ use Rattle.ps_points.specs.declared.point.Form.{Form}
 use Rattle.ps_points.specs.declared.point.Form.TheVariants.{Constant, Field, VariableParameter}
 use Rattle.ps_points.specs.declared.absent.Kind.TheVariants.{Every, OfVariable}
 use Rattle.ps_points.specs.declared.uses.Way.{Way}
-use Rattle.ps_points.specs.declared.uses.Way.TheVariants.{Named, Pointed, Selected, Completed, Assigned, Counted, CountedWithin, Passed}
+use Rattle.ps_points.specs.declared.uses.Way.TheVariants.{Assigned, Counted, CountedWithin, Passed}
 use Rattle.ps_points.specs.declared.uses.Use.{Use}
 use Rattle.ps_points.specs.declared.bodies.Repeated.{Repeated}
 use Rattle.ps_points.specs.Points.{Points, point, within}
@@ -37,13 +37,17 @@ unfoldable pub form_at : Region → Points → ℕ → Option Form
 form_at region [] i = None
 form_at region (p ∷ ps) i = form_if (is_of region p) p.form (form_at region ps) i
 
--- 6.6.3.3: A routine of the region has the name, and the formal parameter with this number is a variable parameter. Its list stands behind its name.
-pub record IsByVariable (text : List ℕ) (points : Points) (region : Region) (routine : Span) (index : ℕ) : Type 0 where
+-- 6.6.3.1: A routine of the region has the name, and its formal parameter with this number is of this form. Its list stands behind its name.
+pub record IsFormal (text : List ℕ) (points : Points) (region : Region) (routine : Span) (index : ℕ) (form : Form) : Type 0 where
   pub place : ℕ
   pub heading : Point
   pub stands : slice_get points place ≡ Some heading
   pub alike : AreAlike text (point region routine Constant) heading
-  pub formal : form_at (within heading.region heading.name) (drop (suc place) points) index ≡ Some VariableParameter
+  pub formal : form_at (within heading.region heading.name) (drop (suc place) points) index ≡ Some form
+
+-- 6.6.3.3: it is a variable parameter
+abbrev pub IsByVariable : List ℕ → Points → Region → Span → ℕ → Type 0
+IsByVariable text points region routine index = IsFormal text points region routine index VariableParameter
 
 -- the name is spelled like this
 abbrev pub IsCalled : List ℕ → List ℕ → Span → Type 0
@@ -62,14 +66,11 @@ Takes text points (l ∷ ls) routine index = IsByVariable text points l.region r
 
 -- 6.8.3.9: The use threatens what its name denotes. Where it is passed to a routine, it stands in the innermost of these blocks.
 abbrev pub Threatens : List ℕ → Points → Nested → Way → Type 0
-Threatens text points levels Named = ⊥
-Threatens text points levels Pointed = ⊥
-Threatens text points levels Selected = ⊥
-Threatens text points levels Completed = ⊥
 Threatens text points levels Assigned = Unit {0}
 Threatens text points levels Counted = Unit {0}
 Threatens text points levels CountedWithin = Unit {0}
 Threatens text points levels (Passed routine index) = Takes text points levels routine index
+Threatens text points levels _ = ⊥
 
 -- 6.8.3.9: the statement that a `for` statement of the block repeats threatens its control variable
 pub record IsInLoop (text : List ℕ) (points : Points) (own : Level) (outer : Nested) (at : ℕ) : Type 0 where

@@ -15,13 +15,13 @@ use Rattle.ps_syntax.specs.declared.program.Heading.{Heading}
 use Rattle.ps_syntax.specs.declared.program.Section.{Section}
 use Rattle.ps_syntax.specs.declared.program.Heading.TheOpen.{Heading-F, Section-F}
 use Rattle.ps_syntax.specs.declared.program.Heading.TheFolds.{fold-Heading, fold-Section}
-use Rattle.ps_points.specs.declared.uses.Way.TheVariants.{Named, Pointed}
+use Rattle.ps_points.specs.declared.uses.Way.TheVariants.{Typed, Pointed}
 use Rattle.ps_points.specs.Uses.{Uses, used, all_uses, constant_uses}
 
 -- ---- types (6.4)
 
 unfoldable pub ordinal_uses : Ordinal → Uses
-ordinal_uses (o.Name at) = used at Named ∷ []
+ordinal_uses (o.Name at) = used at Typed ∷ []
 ordinal_uses (o.Enumeration at names) = []
 ordinal_uses (o.Subrange low high) = constant_uses low ++ constant_uses high
 
@@ -51,13 +51,13 @@ fields_uses = fold-Fields Uses Uses Uses structure_uses_step type_uses_step fiel
 -- ---- headings (6.6.1, 6.6.2, 6.6.3.1)
 
 unfoldable pub section_uses_step : Section-F Uses Uses → Uses
-section_uses_step (Section-F.Value names type) = used type Named ∷ []
-section_uses_step (Section-F.Variable names type) = used type Named ∷ []
+section_uses_step (Section-F.Value names type) = used type Typed ∷ []
+section_uses_step (Section-F.Variable names type) = used type Typed ∷ []
 section_uses_step (Section-F.Routine h) = h
 
 unfoldable pub heading_uses_step : Heading-F Uses Uses → Uses
 heading_uses_step (Heading-F.Procedure name xs) = all_uses (λ x. x) xs
-heading_uses_step (Heading-F.Function name xs type) = all_uses (λ x. x) xs ++ used type Named ∷ []
+heading_uses_step (Heading-F.Function name xs type) = all_uses (λ x. x) xs ++ used type Typed ∷ []
 
 abbrev pub heading_uses : Heading → Uses
 heading_uses = fold-Heading Uses Uses heading_uses_step section_uses_step

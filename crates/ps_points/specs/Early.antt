@@ -5,11 +5,11 @@ use Rattle.ps_regions.specs.Spelling.{spelled}
 use Rattle.ps_points.specs.declared.point.Point.{Point}
 use Rattle.ps_points.specs.declared.point.Region.{Region}
 use Rattle.ps_points.specs.declared.point.Form.{Form}
-use Rattle.ps_points.specs.declared.point.Form.TheVariants.{Constant, Field, ValueParameter, VariableParameter, RoutineParameter}
+use Rattle.ps_points.specs.declared.point.Form.TheVariants.{Constant, Field, ValueParameter, VariableParameter, ProcedureParameter, FunctionParameter}
 use Rattle.ps_points.specs.declared.absent.Kind.{Kind}
 use Rattle.ps_points.specs.declared.absent.Kind.TheVariants.{Ahead, AheadOrType}
 use Rattle.ps_points.specs.declared.uses.Way.{Way}
-use Rattle.ps_points.specs.declared.uses.Way.TheVariants.{Named, Pointed, Selected, Completed}
+use Rattle.ps_points.specs.declared.uses.Way.TheVariants.{Typed, Fixed, Pointed, Selected, Completed, Given}
 use Rattle.ps_points.specs.declared.uses.Use.{Use}
 use Rattle.ps_points.specs.Points.{Points, point}
 use Rattle.ps_points.specs.Absent.{AreAlike, IsAbsent}
@@ -19,11 +19,12 @@ use Rattle.ps_points.specs.Control.{Lacks}
 
 -- ---- defining points behind a use
 
--- The name is looked up in the blocks round the use. That of a field behind a point is looked up in its record, and that of a function's block without its
+-- The name is looked up in the blocks round the use. (That of a routine that is given a parameter is looked up where it is called.) That of a field behind a point is looked up in its record, and that of a function's block without its
 -- heading is no name that is used too early, but an unknown one.
 abbrev pub is_looked_up : Way → Bool
 is_looked_up Selected = false
 is_looked_up Completed = false
+is_looked_up (Given index at variable) = false
 is_looked_up _ = true
 
 -- 6.2.2.9: A use denotes a point that stands before it; a domain type may also be one whose point stands further behind in the type definitions of its block.
@@ -60,7 +61,8 @@ abbrev pub is_hidden : Form → Bool
 is_hidden Field = true
 is_hidden ValueParameter = true
 is_hidden VariableParameter = true
-is_hidden RoutineParameter = true
+is_hidden ProcedureParameter = true
+is_hidden FunctionParameter = true
 is_hidden _ = false
 
 -- A field or formal parameter behind the use has the name. Its record begins before the use (the word `record`), or its list (the name of the routine): so the
@@ -85,7 +87,8 @@ pub record IsBeforeField (text : List ℕ) (points : Points) (own : Level) (at :
 -- ---- uses of a name within its own definition
 
 abbrev pub is_named : Way → Bool
-is_named Named = true
+is_named Typed = true
+is_named Fixed = true
 is_named _ = false
 
 -- a use of this name, but not as that of a domain type

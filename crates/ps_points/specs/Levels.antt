@@ -40,8 +40,8 @@ pub record RoutineLevels : Type 0 where
   pub nested : NestedIn
 
 unfoldable pub routine_levels_step : Routine-F RoutineLevels NestedIn → RoutineLevels
-routine_levels_step (Routine-F.Whole h b) = record { name = (heading h).0; heading = heading_uses h; nested = λ region outer. b (within region (heading h).0) outer }
-routine_levels_step (Routine-F.Forward h) = record { name = (heading h).0; heading = heading_uses h; nested = λ region outer. [] }
+routine_levels_step (Routine-F.Whole h b) = record { name = (heading h).name; heading = heading_uses h; nested = λ region outer. b (within region (heading h).name) outer }
+routine_levels_step (Routine-F.Forward h) = record { name = (heading h).name; heading = heading_uses h; nested = λ region outer. [] }
 routine_levels_step (Routine-F.Completion name b) = record { name = name; heading = used name Completed ∷ []; nested = λ region outer. b (within region name) outer }
 
 abbrev pub routine_definition : RoutineLevels → Definition

@@ -1,4 +1,5 @@
 pub mod Points
+pub mod Needs
 pub mod Absent
 pub mod Uses
 pub mod DeclaredUses
@@ -7,5 +8,6 @@ pub mod Control
 pub mod Unknown
 pub mod Early
 pub mod Listed
+pub mod Kinds
 pub mod Walk
 pub mod Broken

@@ -4,7 +4,7 @@ use Rattle.ps_text.specs.declared.Span.{Span}
 use Rattle.ps_points.specs.declared.point.Point.{Point}
 use Rattle.ps_points.specs.declared.point.Form.TheVariants.{ProgramParameter}
 use Rattle.ps_points.specs.declared.uses.Way.{Way}
-use Rattle.ps_points.specs.declared.uses.Way.TheVariants.{Named, Passed}
+use Rattle.ps_points.specs.declared.uses.Way.TheVariants.{Named, Called, Applied, Passed}
 use Rattle.ps_points.specs.declared.uses.Use.{Use}
 use Rattle.ps_points.specs.Points.{Points}
 use Rattle.ps_points.specs.Levels.{Level, Nested}
@@ -14,6 +14,8 @@ use Rattle.ps_points.specs.Unknown.{AllLack}
 -- the name of a call, or of a factor alone
 abbrev pub is_called : Way → Bool
 is_called Named = true
+is_called Called = true
+is_called Applied = true
 is_called (Passed routine index) = true
 is_called _ = false
 

@@ -23,7 +23,7 @@ use Rattle.ps_syntax.specs.declared.program.Program as syntax
 use Rattle.ps_points.specs.declared.point.Point.{Point}
 use Rattle.ps_points.specs.declared.point.Region.{Region}
 use Rattle.ps_points.specs.declared.point.Form.{Form}
-use Rattle.ps_points.specs.declared.point.Form.TheVariants.{Constant, TypeName, Variable, Field, ValueParameter, VariableParameter, RoutineParameter, ProgramParameter, WholeProcedure, WholeFunction, ForwardProcedure, ForwardFunction, ProcedureBlock, FunctionBlock}
+use Rattle.ps_points.specs.declared.point.Form.TheVariants.{Constant, TypeName, Variable, Field, ValueParameter, VariableParameter, ProcedureParameter, FunctionParameter, ProgramParameter, WholeProcedure, WholeFunction, ForwardProcedure, ForwardFunction, ProcedureBlock, FunctionBlock}
 
 abbrev pub Points : Type 0
 Points = List Point
@@ -88,18 +88,20 @@ fields_points = fold-Fields Reading Reading FieldsReading structure_step type_st
 
 -- ---- formal parameters, which are defined for their list and for the block behind it (6.6.3.1)
 
--- a heading: its name, and the points of its list by the region of its routine
-abbrev pub HeadingReading : Type 0
-HeadingReading = Span × Reading
+-- a heading: its name, its form as that of a formal parameter, and the points of its list by the region of its routine
+pub record HeadingReading : Type 0 where
+  pub name : Span
+  pub formal : Form
+  pub list : Reading
 
 unfoldable pub section_step : Section-F HeadingReading Reading → Reading
 section_step (Section-F.Value names type) region = named ValueParameter region names
 section_step (Section-F.Variable names type) region = named VariableParameter region names
-section_step (Section-F.Routine h) region = point region h.0 RoutineParameter ∷ h.1 (within region h.0)
+section_step (Section-F.Routine h) region = point region h.name h.formal ∷ h.list (within region h.name)
 
 unfoldable pub heading_step : Heading-F HeadingReading Reading → HeadingReading
-heading_step (Heading-F.Procedure name xs) = (name, λ region. gathered (λ x. x region) xs)
-heading_step (Heading-F.Function name xs type) = (name, λ region. gathered (λ x. x region) xs)
+heading_step (Heading-F.Procedure name xs) = record { name = name; formal = ProcedureParameter; list = λ region. gathered (λ x. x region) xs }
+heading_step (Heading-F.Function name xs type) = record { name = name; formal = FunctionParameter; list = λ region. gathered (λ x. x region) xs }
 
 abbrev pub heading : Heading → HeadingReading
 heading = fold-Heading HeadingReading Reading heading_step section_step
@@ -109,7 +111,7 @@ section_points = fold-Section HeadingReading Reading heading_step section_step
 
 -- the name of a routine, and its formal parameters
 abbrev pub heading_points : Form → Heading → Reading
-heading_points form h region = point region (heading h).0 form ∷ (heading h).1 (within region (heading h).0)
+heading_points form h region = point region (heading h).name form ∷ (heading h).list (within region (heading h).name)
 
 -- ---- routines and blocks
 
@@ -143,7 +145,7 @@ unfoldable pub declared_points : List ConstantDefinition → List TypeDefinition
 declared_points cs ts vs region = gathered (λ c. constant_points c region) cs ++ gathered (λ t. definition_points t region) ts ++ gathered (λ v. variables_points v region) vs
 
 unfoldable pub routine_step : Routine-F Reading Reading → Reading
-routine_step (Routine-F.Whole h b) region = heading_points (whole_form h) h region ++ b (within region (heading h).0)
+routine_step (Routine-F.Whole h b) region = heading_points (whole_form h) h region ++ b (within region (heading h).name)
 routine_step (Routine-F.Forward h) region = heading_points (forward_form h) h region
 routine_step (Routine-F.Completion name b) region = point region name FunctionBlock ∷ b (within region name)
 

@@ -22,8 +22,10 @@ use Rattle.ps_syntax.specs.declared.statement.Element.{Element}
 use Rattle.ps_syntax.specs.declared.statement.Statement.TheOpen.{Statement-F, Element-F}
 use Rattle.ps_syntax.specs.declared.statement.Statement.TheFolds.{fold-Statement, fold-Element}
 use Rattle.ps_points.specs.declared.uses.Way.{Way}
-use Rattle.ps_points.specs.declared.uses.Way.TheVariants.{Named, Selected, Assigned, Counted, CountedWithin, Passed}
+use Rattle.ps_points.specs.declared.uses.Way.TheVariants.{Fixed, Named, Based, Called, Applied, Selected, Assigned, Counted, CountedWithin, Passed, Given}
 use Rattle.ps_points.specs.declared.uses.Use.{Use}
+use Rattle.ps_points.specs.declared.uses.Whole.{Whole}
+use Rattle.ps_points.specs.declared.uses.Whole.TheVariants.{Alone, Other}
 use Rattle.ps_points.specs.declared.bodies.Repeated.{Repeated}
 
 abbrev pub Uses : Type 0
@@ -48,48 +50,64 @@ either None y = y
 
 -- ---- expressions (6.5, 6.7)
 
--- a part: its name, where it is a name alone, which is a variable as a whole if it is one; and its uses
+-- where a part begins
+abbrev pub begin : Whole → ℕ
+begin (Alone name) = name.from
+begin (Other at variable) = at
+
+-- a part: what it is as a whole, and its uses
 pub record Part : Type 0 where
-  pub alone : Option Span
+  pub whole : Whole
   pub uses : Uses
 
--- a part that is no name alone
-abbrev pub no_name : Uses → Part
-no_name uses = record { alone = None; uses = uses }
+-- a part that is no variable, and begins there
+abbrev pub no_variable : ℕ → Uses → Part
+no_variable at uses = record { whole = Other at false; uses = uses }
 
--- 6.6.3.3, 6.9.1: an actual parameter that is a name alone may be a variable parameter, by the routine that it is passed to, and its number in the list
-abbrev pub argument_of : (routine : Span) (index : ℕ) → Part → Option Span → Uses
-argument_of routine index part (Some name) = used name (Passed routine index) ∷ []
-argument_of routine index part None = part.uses
+-- 6.6.3.3, 6.9.1: An actual parameter that is a name alone may be a variable parameter, by the routine that it is passed to, and its number in the list. Of another
+-- one it is a use of the routine's name that it is given.
+abbrev pub argument_of : (routine : Span) (index : ℕ) → Uses → Whole → Uses
+argument_of routine index uses (Alone name) = used name (Passed routine index) ∷ []
+argument_of routine index uses (Other at variable) = used routine (Given index at variable) ∷ uses
 
 unfoldable pub argument : (routine : Span) (index : ℕ) → Part → Uses
-argument routine index part = argument_of routine index part part.alone
+argument routine index part = argument_of routine index part.uses part.whole
 
 unfoldable pub arguments : (routine : Span) (index : ℕ) → List Part → Uses
 arguments routine index [] = []
 arguments routine index (part ∷ parts) = argument routine index part ++ arguments routine (suc index) parts
 
 -- the part is the first of some, if no other follows and no sign stands before it
-abbrev pub only : {S A : Type 0} → Option S → List A → Option Span → Option Span
-only None [] name = name
-only _ _ name = None
+abbrev pub only : {A : Type 0} → Option (Sign × Span) → List A → Whole → Whole
+only None [] whole = whole
+only None (x ∷ xs) whole = Other (begin whole) false
+only (Some sign) xs whole = Other sign.1.from false
 
 abbrev pub no_sign : Option (Sign × Span)
 no_sign = None
 
+-- the variable of this name with such selectors
+abbrev pub selected : {A : Type 0} → Span → List A → Whole
+selected name [] = Alone name
+selected name (x ∷ xs) = Other name.from true
+
+abbrev pub based : {A : Type 0} → List A → Way
+based [] = Named
+based (x ∷ xs) = Based
+
 unfoldable pub expr_step : Expr-F Part Part Uses Uses Uses Uses Part Part Part → Part
 expr_step (Expr-F.Simple x) = x
-expr_step (Expr-F.Compare x relation at y) = no_name (x.uses ++ y.uses)
+expr_step (Expr-F.Compare x relation at y) = no_variable (begin x.whole) (x.uses ++ y.uses)
 
 unfoldable pub factor_step : Factor-F Part Part Uses Uses Uses Uses Part Part Part → Part
 factor_step (Factor-F.Variable x) = x
-factor_step (Factor-F.Call name xs) = no_name (used name Named ∷ arguments name 0 xs)
-factor_step (Factor-F.Number at) = no_name []
-factor_step (Factor-F.Text at) = no_name []
-factor_step (Factor-F.Nil at) = no_name []
-factor_step (Factor-F.Set at members) = no_name (all_uses (λ x. x) members)
-factor_step (Factor-F.Group at x) = no_name x.uses
-factor_step (Factor-F.Not at x) = no_name x.uses
+factor_step (Factor-F.Call name xs) = no_variable name.from (used name Applied ∷ arguments name 0 xs)
+factor_step (Factor-F.Number at) = no_variable at.from []
+factor_step (Factor-F.Text at) = no_variable at.from []
+factor_step (Factor-F.Nil at) = no_variable at.from []
+factor_step (Factor-F.Set at members) = no_variable at.from (all_uses (λ x. x) members)
+factor_step (Factor-F.Group at x) = no_variable at.from x.uses
+factor_step (Factor-F.Not at x) = no_variable at.from x.uses
 
 unfoldable pub member_step : Member-F Part Part Uses Uses Uses Uses Part Part Part → Uses
 member_step (Member-F.One x) = x.uses
@@ -107,13 +125,13 @@ unfoldable pub multiplied_step : MultipliedFactor-F Part Part Uses Uses Uses Use
 multiplied_step x = x.factor.uses
 
 unfoldable pub simple_step : Simple-F Part Part Uses Uses Uses Uses Part Part Part → Part
-simple_step x = record { alone = only x.sign x.more x.first.alone; uses = x.first.uses ++ all_uses (λ u. u) x.more }
+simple_step x = record { whole = only x.sign x.more x.first.whole; uses = x.first.uses ++ all_uses (λ u. u) x.more }
 
 unfoldable pub term_step : Term-F Part Part Uses Uses Uses Uses Part Part Part → Part
-term_step x = record { alone = only no_sign x.more x.first.alone; uses = x.first.uses ++ all_uses (λ u. u) x.more }
+term_step x = record { whole = only no_sign x.more x.first.whole; uses = x.first.uses ++ all_uses (λ u. u) x.more }
 
 unfoldable pub variable_step : Variable-F Part Part Uses Uses Uses Uses Part Part Part → Part
-variable_step x = record { alone = only no_sign x.selectors (Some x.name); uses = used x.name Named ∷ all_uses (λ u. u) x.selectors }
+variable_step x = record { whole = selected x.name x.selectors; uses = used x.name (based x.selectors) ∷ all_uses (λ u. u) x.selectors }
 
 abbrev pub expr_part : Expr → Part
 expr_part = fold-Expr Part Part Uses Uses Uses Uses Part Part Part expr_step factor_step member_step selector_step added_step multiplied_step simple_step term_step variable_step
@@ -146,20 +164,24 @@ variable_part = fold-Variable Part Part Uses Uses Uses Uses Part Part Part expr_
 
 unfoldable pub constant_uses : Constant → Uses
 constant_uses (constant.Number sign at) = []
-constant_uses (constant.Name sign at) = used at Named ∷ []
+constant_uses (constant.Name sign at) = used at Fixed ∷ []
 constant_uses (constant.Text at) = []
 
 unfoldable pub parameter_part : Parameter → Part
 parameter_part (Plain x) = expr_part x
-parameter_part (Width x width) = no_name ((expr_part x).uses ++ (expr_part width).uses)
+parameter_part (Width x width) = no_variable (begin (expr_part x).whole) ((expr_part x).uses ++ (expr_part width).uses)
 
--- the variable of an assignment: it is assigned to where it is a name alone
-abbrev pub assigned_of : Part → Option Span → Uses
-assigned_of part (Some name) = used name Assigned ∷ []
-assigned_of part None = part.uses
+-- a variable whose name, where it is one alone, is used this way
+abbrev pub entire_of : Way → Uses → Whole → Uses
+entire_of way uses (Alone name) = used name way ∷ []
+entire_of way uses (Other at variable) = uses
 
-unfoldable pub assigned : Part → Uses
-assigned part = assigned_of part part.alone
+unfoldable pub entire : Way → Part → Uses
+entire way part = entire_of way part.uses part.whole
+
+-- a variable of a `with` statement
+abbrev pub record_uses : Variable → Uses
+record_uses x = entire Based (variable_part x)
 
 -- a `for` statement: the name of its control variable, and the uses in the statement that it repeats
 pub record Loop : Type 0 where
@@ -214,8 +236,8 @@ Opened = Bool → Body
 
 unfoldable pub statement_step : Statement-F Opened Opened → Opened
 statement_step Statement-F.Empty opened = straight []
-statement_step (Statement-F.Assign x at y) opened = straight (assigned (variable_part x) ++ (expr_part y).uses)
-statement_step (Statement-F.Call name parameters) opened = straight (used name Named ∷ arguments name 0 (map parameter_part parameters))
+statement_step (Statement-F.Assign x at y) opened = straight (entire Assigned (variable_part x) ++ (expr_part y).uses)
+statement_step (Statement-F.Call name parameters) opened = straight (used name Called ∷ arguments name 0 (map parameter_part parameters))
 statement_step (Statement-F.Compound statements) opened = all_bodies (λ s. s opened) statements
 statement_step (Statement-F.If x s) opened = behind (expr_part x).uses (s opened)
 statement_step (Statement-F.IfElse x s t) opened = behind (expr_part x).uses (both (s opened) (t opened))
@@ -226,7 +248,7 @@ statement_step (Statement-F.For name x direction y s) opened = record {
   uses = used name (counted opened) ∷ (expr_part x).uses ++ (expr_part y).uses ++ (s opened).uses;
   loops = (record { name = name; repeated = (s opened).uses }) ∷ (s opened).loops;
 }
-statement_step (Statement-F.With xs s) opened = behind (all_uses (λ x. (variable_part x).uses) xs) (s true)
+statement_step (Statement-F.With xs s) opened = behind (all_uses record_uses xs) (s true)
 
 unfoldable pub element_step : Element-F Opened Opened → Opened
 element_step x opened = behind (all_uses constant_uses x.constants) (x.statement opened)

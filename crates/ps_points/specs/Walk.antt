@@ -1,13 +1,14 @@
 -- Rules that are broken in a block, by the blocks round it.
 use Rattle.std.specs.Prelude.{ℕ, List, [], ◌∷◌, Contains}
 use Rattle.ps_points.specs.declared.walk.Asked.{Asked}
-use Rattle.ps_points.specs.declared.walk.Asked.TheVariants.{OfControl, OfUnknown, OfEarly, OfFiles}
+use Rattle.ps_points.specs.declared.walk.Asked.TheVariants.{OfControl, OfUnknown, OfEarly, OfFiles, OfKind}
 use Rattle.ps_points.specs.Points.{Points}
 use Rattle.ps_points.specs.Levels.{Nested}
 use Rattle.ps_points.specs.Control.{IsControlIn}
 use Rattle.ps_points.specs.Unknown.{IsUnknown}
 use Rattle.ps_points.specs.Early.{IsEarly}
 use Rattle.ps_points.specs.Listed.{IsUnlisted}
+use Rattle.ps_points.specs.Kinds.{IsMiscast}
 
 -- the rule is broken in the innermost of these blocks
 abbrev pub IsIn : Asked → List ℕ → Points → Nested → ℕ → Type 0
@@ -18,6 +19,8 @@ IsIn OfEarly text points [] at = ⊥
 IsIn OfEarly text points (own ∷ outer) at = IsEarly text points own outer at
 IsIn OfFiles text points [] at = ⊥
 IsIn OfFiles text points (own ∷ outer) at = IsUnlisted text points own outer at
+IsIn OfKind text points [] at = ⊥
+IsIn OfKind text points (own ∷ outer) at = IsMiscast text points own outer at
 
 -- it is broken in one of the program's blocks
 pub record IsSomewhere (asked : Asked) (text : List ℕ) (points : Points) (blocks : List Nested) (at : ℕ) : Type 0 where

@@ -1,8 +1,9 @@
 //! Names that have no defining point of some kind in a region.
 
 ghost use Rattle.std.specs.Prelude.{◌≡◌, true, false};
-ghost use Rattle.ps_points.specs.Absent.{AreAlike, IsAbsent, has_block, is_type, is_variable, is_kind};
+ghost use Rattle.ps_points.specs.Absent.{AreAlike, IsAbsent, has_block, is_variable, is_kind};
 
+use crate::needs::{Need, fits, is_type};
 use crate::point::{Form, Point};
 use crate::twice::are_alike;
 use ps_regions::reading::Reading;
@@ -20,6 +21,8 @@ pub enum Kind {
     WithBlock,
     /// Those of variable parts.
     OfVariable,
+    /// Those that can stand where that is needed.
+    Fitting(Need),
 }
 
 /// Whether it is a routine with its block.
@@ -29,15 +32,6 @@ pub fn has_block(form: Form) -> bool
     match form {
         Form::WholeProcedure | Form::WholeFunction | Form::ProcedureBlock | Form::FunctionBlock =>
             true,
-        _ => false,
-    }
-}
-
-fn is_type(form: Form) -> bool
-    ensures { result ≡ is_type form }
-{
-    match form {
-        Form::TypeName => true,
         _ => false,
     }
 }
@@ -61,6 +55,7 @@ fn is_kind(kind: Kind, like: Point, point: Point) -> bool
         Kind::AheadOrType => point.name.from < like.name.from || is_type(point.form),
         Kind::WithBlock => has_block(point.form),
         Kind::OfVariable => is_variable(point.form),
+        Kind::Fitting(need) => fits(need, point.form),
     }
 }
 

@@ -1,12 +1,13 @@
 //! The search for a use in statements, and in what their `for` statements repeat.
 
 ghost use Rattle.std.specs.Prelude.{◌≡◌, ◌∷◌, map, true, IfSome, Contains};
-ghost use Rattle.ps_points.specs.Uses.{IsFound, used, all_uses, argument, arguments, assigned, constant_uses, parameter_part, variable_part, counted, statement_body, statements_body, elements_body, IsFoundIn, IsRepeatedThere, earlier};
-ghost use Rattle.ps_points.specs.declared.uses.Way.TheVariants.{Named};
+ghost use Rattle.ps_points.specs.Uses.{IsFound, used, all_uses, argument, arguments, entire, record_uses, constant_uses, parameter_part, variable_part, counted, statement_body, statements_body, elements_body, IsFoundIn, IsRepeatedThere, earlier};
+ghost use Rattle.ps_points.specs.declared.uses.Way.TheVariants.{Called};
 
 use crate::twice::same_name;
 use crate::uses::{
-    Sought, Use, Way, first, in_argument, in_expr, in_variable, one_use, variable_name,
+    Sought, Use, Way, Whole, begin, expr_whole, first, in_argument, in_expr, in_variable, one_use,
+    variable_whole,
 };
 use ps_regions::reading::Reading;
 use ps_syntax::{Constant, Element, Parameter, Statement, Variable};
@@ -19,14 +20,14 @@ pub struct Repeated {
     pub changed: Use,
 }
 
-/// A use in the variable of an assignment, which is the one of its name where it is a name alone.
-#[tactic(auto, using(crate::proofs::Found::assigned_alone, crate::proofs::Found::assigned_other))]
-fn in_assigned(variable: &Variable, sought: Sought<'_>) -> Option<Use>
-    ensures { IsFound (assigned (variable_part variable.now)) result }
+/// A use in a variable, which is one of its name, and this way, where it is a name alone.
+#[tactic(auto, using(crate::proofs::Found::entire_alone, crate::proofs::Found::entire_other))]
+fn in_entire(variable: &Variable, way: Way, sought: Sought<'_>) -> Option<Use>
+    ensures { IsFound (entire way (variable_part variable.now)) result }
 {
-    match variable_name(variable) {
-        Some(name) => one_use(name, Way::Assigned, sought),
-        None => in_variable(variable, sought),
+    match variable_whole(variable) {
+        Whole::Alone(name) => one_use(name, way, sought),
+        Whole::Other { .. } => in_variable(variable, sought),
     }
 }
 
@@ -35,7 +36,7 @@ pub fn in_constant(constant: &Constant, sought: Sought<'_>) -> Option<Use>
     ensures { IsFound (constant_uses constant.now) result }
 {
     match constant {
-        Constant::Name(_, name) => one_use(*name, Way::Named, sought),
+        Constant::Name(_, name) => one_use(*name, Way::Fixed, sought),
         Constant::Number(..) | Constant::Text(_) => None,
     }
 }
@@ -65,9 +66,18 @@ fn in_parameter(
     match parameter {
         Parameter::Plain(x) => in_argument(routine, index, x, sought),
         Parameter::Width(x, width) => {
+            let own = one_use(
+                routine,
+                Way::Given {
+                    index,
+                    at: begin(expr_whole(x)),
+                    variable: false,
+                },
+                sought,
+            );
             let written = in_expr(x, sought);
             let width = in_expr(width.get(), sought);
-            first(written, width)
+            first(own, first(written, width))
         }
     }
 }
@@ -87,19 +97,19 @@ fn in_parameters(routine: Span, list: &[Parameter], sought: Sought<'_>) -> Optio
 
 #[tactic(auto, using(crate::proofs::Found::found_cons))]
 fn in_procedure(name: Span, list: &[Parameter], sought: Sought<'_>) -> Option<Use>
-    ensures { IsFound (used name Named ∷ arguments name 0 (map parameter_part list.now)) result }
+    ensures { IsFound (used name Called ∷ arguments name 0 (map parameter_part list.now)) result }
 {
-    let own = one_use(name, Way::Named, sought);
+    let own = one_use(name, Way::Called, sought);
     let more = in_parameters(name, list, sought);
     first(own, more)
 }
 
 #[tactic(auto, using(crate::proofs::Found::records_found, crate::proofs::Found::found_none))]
 fn in_records(list: &[Variable], sought: Sought<'_>) -> Option<Use>
-    ensures { IsFound (all_uses (λ x. (variable_part x).uses) list.now) result }
+    ensures { IsFound (all_uses record_uses list.now) result }
 {
     for variable in list {
-        let found = in_variable(variable, sought);
+        let found = in_entire(variable, Way::Based, sought);
         if found.is_some() {
             return found;
         }
@@ -127,7 +137,10 @@ fn in_statement(statement: &Statement, opened: bool, sought: Sought<'_>) -> Opti
     match statement {
         Statement::Empty => None,
         Statement::Assign(variable, _, x) => {
-            first(in_assigned(variable, sought), in_expr(x.get(), sought))
+            first(
+                in_entire(variable, Way::Assigned, sought),
+                in_expr(x.get(), sought),
+            )
         }
         Statement::Call(name, list) => in_procedure(*name, list.as_slice(), sought),
         Statement::Compound(list) => in_statements(list.as_slice(), opened, sought),

@@ -50,18 +50,9 @@ fn with_rule(rule: Rule, at: Option<u32>) -> Option<(Rule, u32)>
 }
 
 /// The first in the text of a name that isn't defined and one that is defined twice.
-fn first_of(
-    reading: &Reading,
-    written: &Program,
-    unknown: Option<u32>,
-    repeated: Option<u32>,
-) -> Option<(Rule, u32)>
-    requires unknown { IfSome unknown (BrokenAt reading.now.source.now written.now Unknown) }
-    requires repeated { IfSome repeated (BrokenAt reading.now.source.now written.now Twice) }
-    ensures { IfSome result (λ told. BrokenAt reading.now.source.now written.now told.0 told.1) }
+fn first_of(unknown: Option<u32>, repeated: Option<u32>) -> Option<(Rule, u32)>
+    ensures { (text : List ℕ) (p : Program) → IfSome unknown (BrokenAt text p Unknown) → IfSome repeated (BrokenAt text p Twice) → IfSome result (λ told. BrokenAt text p told.0 told.1) }
 {
-    let _reading = reading;
-    let _written = written;
     match unknown {
         None => with_rule(Rule::Twice, repeated),
         Some(at) => match repeated {
@@ -106,7 +97,7 @@ fn undefined_or_repeated(
     let points = program_points(alloc, written)?;
     let unknown = first_unknown(alloc, reading, points.as_slice(), written, known)?;
     let repeated = first_repeated(reading, alloc, points.as_slice())?;
-    Ok(first_of(reading, written, unknown, repeated))
+    Ok(first_of(unknown, repeated))
 }
 
 /// The offset, if the rule is broken there.
@@ -126,7 +117,7 @@ fn looked_at(
 /// A rule that a program breaks, and where, by one that it is known to break. Where that is `Unknown` or `Twice`, it is the
 /// one of both that is broken first in the text. It is broken at the first token of the text that breaks it, where it is
 /// `Unknown`, `Twice` or `ForwardOpen`, and else where it is known to, which is looked at anew where the rule is
-/// `UsedBefore`, `ControlVariable`, `NoInputOutput` or `NoResultAssigned`.
+/// `UsedBefore`, `WrongKind`, `ControlVariable`, `NoInputOutput` or `NoResultAssigned`.
 fn place(
     alloc: Global,
     reading: &Reading,
@@ -148,6 +139,10 @@ fn place(
             let found = looked_at(alloc, Asked::OfEarly, reading, written, at)?;
             Ok(with_rule(Rule::UsedBefore, found))
         }
+        Rule::WrongKind => {
+            let found = looked_at(alloc, Asked::OfKind, reading, written, at)?;
+            Ok(with_rule(Rule::WrongKind, found))
+        }
         Rule::ControlVariable => {
             let found = looked_at(alloc, Asked::OfControl, reading, written, at)?;
             Ok(with_rule(Rule::ControlVariable, found))
@@ -162,7 +157,6 @@ fn place(
             Ok(with_rule(Rule::NoResultAssigned, found))
         }
         Rule::NotInProfile
-        | Rule::WrongKind
         | Rule::WrongType
         | Rule::NotAssignable
         | Rule::BadSubrange
@@ -189,8 +183,8 @@ fn told(alloc: Global, reading: &Reading, written: &Program, rule: Rule, at: u32
 
 /// What is told of a fault of a program: a rule, and the line of the token that breaks it. Where the fault is `Unknown` or
 /// `Twice`, the first name of the text that isn't defined or is defined twice is looked for anew and told; where it is
-/// `ForwardOpen`, the first heading; and where it is `UsedBefore`, `ControlVariable`, `NoInputOutput` or `NoResultAssigned`,
-/// its token is looked at anew.
+/// `ForwardOpen`, the first heading; and where it is `UsedBefore`, `WrongKind`, `ControlVariable`, `NoInputOutput` or
+/// `NoResultAssigned`, its token is looked at anew.
 /// `OutOfMemory` is also answered where memory is wanting for that, or where no such token is found.
 pub fn refusal(alloc: Global, reading: &Reading, written: &Program, fault: Fault) -> CheckRefusal
     ensures fault { IsRefusal result → IsFault fault }

@@ -1,10 +1,10 @@
 //! Control variables, and the threats to them (6.8.3.9).
 
-ghost use Rattle.std.specs.Prelude.{◌≡◌, ◌∷◌, true, Some, Contains};
+ghost use Rattle.std.specs.Prelude.{◌≡◌, ◌∷◌, true, Some, IfSome, Contains};
 ghost use Rattle.ps_points.specs.declared.point.Form.TheVariants.{Constant, Field, VariableParameter};
 ghost use Rattle.ps_points.specs.Points.{point};
 ghost use Rattle.ps_points.specs.Levels.{own_level, levels_of};
-ghost use Rattle.ps_points.specs.Control.{Lacks, is_of, form_at, IsByVariable, IsRead, Takes, Threatens, IsInLoop, is_counted, IsCounted, IsCountedIn, IsInRoutine, IsField, IsForeign, IsNotLocal, IsControlIn};
+ghost use Rattle.ps_points.specs.Control.{Lacks, is_of, form_at, IsFormal, IsByVariable, IsRead, Takes, Threatens, IsInLoop, is_counted, IsCounted, IsCountedIn, IsInRoutine, IsField, IsForeign, IsNotLocal, IsControlIn};
 
 use crate::absent::{Kind, is_absent};
 use crate::bodies::{changed_in, in_statements};
@@ -50,23 +50,47 @@ fn is_variable_parameter(form: Form) -> bool
     }
 }
 
-/// Whether the formal parameter of a region that has this number is a variable parameter.
-fn is_formal_variable(points: &[Point], region: Region, index: usize) -> bool
-    ensures { result ≡ true → form_at region points.now index ≡ Some VariableParameter }
+/// The form of the formal parameter of a region that has this number.
+fn formal_at(points: &[Point], region: Region, index: usize) -> Option<Form>
+    ensures { IfSome result (λ form. form_at region points.now index ≡ Some form) }
 {
     let mut left = index;
     for point in points {
         if is_of(region, *point) {
             if left == 0 {
-                return is_variable_parameter(point.form);
+                return Some(point.form);
             }
             left -= 1;
         }
     }
-    false
+    None
+}
+
+/// The form of the formal parameter with this number of a routine of a region that has this name.
+pub fn formal_of(
+    reading: &Reading,
+    points: &[Point],
+    region: Region,
+    routine: Span,
+    index: usize,
+) -> Option<Form>
+    ensures { IfSome result (IsFormal reading.now.source.now points.now region routine index) }
+{
+    for place in 0..points.len() {
+        let heading = points[place];
+        if are_alike(reading, named(region, routine), heading) {
+            let formals = within(heading.region, heading.name);
+            let found = formal_at(&points[place + 1..], formals, index);
+            if found.is_some() {
+                return found;
+            }
+        }
+    }
+    None
 }
 
 /// Whether a routine of a region has this name, and takes the parameter with this number by variable.
+#[tactic(auto, using(crate::proofs::ControlLemmas::by_variable))]
 fn is_by_variable(
     reading: &Reading,
     points: &[Point],
@@ -76,16 +100,10 @@ fn is_by_variable(
 ) -> bool
     ensures { result ≡ true → IsByVariable reading.now.source.now points.now region routine index }
 {
-    for place in 0..points.len() {
-        let heading = points[place];
-        if are_alike(reading, named(region, routine), heading) {
-            let formals = within(heading.region, heading.name);
-            if is_formal_variable(&points[place + 1..], formals, index) {
-                return true;
-            }
-        }
+    match formal_of(reading, points, region, routine, index) {
+        None => false,
+        Some(form) => is_variable_parameter(form),
     }
-    false
 }
 
 /// Whether it is the name of a required procedure that reads.
@@ -116,12 +134,9 @@ fn threatens(reading: &Reading, points: &[Point], levels: &Levels, way: Way) -> 
     ensures { result ≡ true → Threatens reading.now.source.now points.now (levels_of levels.now) way }
 {
     match way {
-        Way::Named => false,
-        Way::Pointed => false,
-        Way::Selected => false,
-        Way::Completed => false,
         Way::Assigned | Way::Counted | Way::CountedWithin => true,
         Way::Passed { routine, index } => takes(reading, points, levels, routine, index),
+        _ => false,
     }
 }
 
@@ -157,12 +172,7 @@ fn is_counted(way: Way) -> bool
 {
     match way {
         Way::Counted | Way::CountedWithin => true,
-        Way::Named
-        | Way::Pointed
-        | Way::Selected
-        | Way::Completed
-        | Way::Assigned
-        | Way::Passed { .. } => false,
+        _ => false,
     }
 }
 
@@ -239,7 +249,7 @@ fn is_field(form: Form) -> bool
 
 /// Whether a record of the program has a field with this name.
 #[tactic(auto, using(crate::proofs::ControlLemmas::field_found))]
-fn has_field(reading: &Reading, points: &[Point], name: Span) -> bool
+pub fn has_field(reading: &Reading, points: &[Point], name: Span) -> bool
     ensures { result ≡ true → IsField reading.now.source.now points.now name }
 {
     for point in points {
@@ -262,12 +272,7 @@ fn is_foreign(reading: &Reading, points: &[Point], region: Region, control: Use)
             is_absent(reading, points, Kind::OfVariable, like)
                 || has_field(reading, points, control.name)
         }
-        Way::Named
-        | Way::Pointed
-        | Way::Selected
-        | Way::Completed
-        | Way::Assigned
-        | Way::Passed { .. } => false,
+        _ => false,
     }
 }
 

@@ -17,7 +17,7 @@ fn in_ordinal(ordinal: &Ordinal, sought: Sought<'_>) -> Option<Use>
     ensures { IsFound (ordinal_uses ordinal.now) result }
 {
     match ordinal {
-        Ordinal::Name(name) => one_use(*name, Way::Named, sought),
+        Ordinal::Name(name) => one_use(*name, Way::Typed, sought),
         Ordinal::Enumeration(..) => None,
         Ordinal::Subrange(low, high) => {
             let low = in_constant(low, sought);
@@ -133,7 +133,7 @@ fn in_heading(heading: &Heading, sought: Sought<'_>) -> Option<Use>
         Heading::Procedure(_, list) => in_sections(list.as_slice(), sought),
         Heading::Function(_, list, result) => {
             let list = in_sections(list.as_slice(), sought);
-            let result = one_use(*result, Way::Named, sought);
+            let result = one_use(*result, Way::Typed, sought);
             first(list, result)
         }
     }
@@ -159,8 +159,8 @@ fn in_section(section: &Section, sought: Sought<'_>) -> Option<Use>
     ensures { IsFound (section_uses section.now) result }
 {
     match section {
-        Section::Value(_, ty) => one_use(*ty, Way::Named, sought),
-        Section::Variable(_, ty) => one_use(*ty, Way::Named, sought),
+        Section::Value(_, ty) => one_use(*ty, Way::Typed, sought),
+        Section::Variable(_, ty) => one_use(*ty, Way::Typed, sought),
         Section::Routine(heading) => in_heading(heading, sought),
     }
 }

@@ -20,18 +20,12 @@ use ps_syntax::{Block, ConstantDefinition, Routine, TypeDefinition};
 use ps_text::Span;
 
 /// Whether the name of such a use is looked up in the blocks round it.
-fn is_looked_up(way: Way) -> bool
+pub fn is_looked_up(way: Way) -> bool
     ensures { result ≡ is_looked_up way }
 {
     match way {
-        Way::Selected => false,
-        Way::Completed => false,
-        Way::Named => true,
-        Way::Pointed => true,
-        Way::Assigned => true,
-        Way::Counted => true,
-        Way::CountedWithin => true,
-        Way::Passed { .. } => true,
+        Way::Selected | Way::Completed | Way::Given { .. } => false,
+        _ => true,
     }
 }
 
@@ -41,19 +35,13 @@ fn reach(way: Way) -> Kind
 {
     match way {
         Way::Pointed => Kind::AheadOrType,
-        Way::Selected => Kind::Ahead,
-        Way::Completed => Kind::Ahead,
-        Way::Named => Kind::Ahead,
-        Way::Assigned => Kind::Ahead,
-        Way::Counted => Kind::Ahead,
-        Way::CountedWithin => Kind::Ahead,
-        Way::Passed { .. } => Kind::Ahead,
+        _ => Kind::Ahead,
     }
 }
 
 /// Whether the region has the name.
 #[tactic(auto, using(crate::proofs::EarlyLemmas::defined))]
-fn is_defined(reading: &Reading, points: &[Point], region: Region, name: Span) -> bool
+pub fn is_defined(reading: &Reading, points: &[Point], region: Region, name: Span) -> bool
     ensures { result ≡ true → IsDefined reading.now.source.now points.now region name }
 {
     for point in points {
@@ -156,19 +144,13 @@ fn is_before_field(
     }
 }
 
-/// Whether the use is of a name, but not as that of a domain type.
+/// Whether the use is that of a type or a constant, but of no domain type.
 fn is_named(way: Way) -> bool
     ensures { result ≡ is_named way }
 {
     match way {
-        Way::Named => true,
-        Way::Pointed => false,
-        Way::Selected => false,
-        Way::Completed => false,
-        Way::Assigned => false,
-        Way::Counted => false,
-        Way::CountedWithin => false,
-        Way::Passed { .. } => false,
+        Way::Typed | Way::Fixed => true,
+        _ => false,
     }
 }
 

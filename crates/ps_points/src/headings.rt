@@ -12,7 +12,7 @@ use std::alloc::AllocError;
 /// The name of a heading's routine.
 #[tactic(auto, using(crate::proofs::Equations::name_Procedure, crate::proofs::Equations::name_Function))]
 pub fn heading_name(written: &Heading) -> Span
-    ensures { result ≡ (heading written.now).0 }
+    ensures { result ≡ (heading written.now).name }
 {
     match written {
         Heading::Procedure(name, _) | Heading::Function(name, ..) => *name,
@@ -59,11 +59,22 @@ pub fn forward_form(written: &Heading) -> Form
     }
 }
 
+/// The form of a heading as that of a formal parameter.
+#[tactic(auto, using(crate::proofs::Equations::formal_Procedure, crate::proofs::Equations::formal_Function))]
+fn formal(written: &Heading) -> Form
+    ensures { result ≡ (heading written.now).formal }
+{
+    match written {
+        Heading::Procedure(..) => Form::ProcedureParameter,
+        Heading::Function(..) => Form::FunctionParameter,
+    }
+}
+
 /// The points of a heading's formal parameters, by the region of its routine.
 #[cycle(heading)]
 #[tactic(auto, using(crate::proofs::Equations::list_Procedure, crate::proofs::Equations::list_Function))]
 fn add_list(points: &mut Vec<Point>, region: Region, written: &Heading) -> Result<(), AllocError>
-    ensures { OnOk result (points.new.items ≡ points.old.items ++ (heading written.now).1 region) }
+    ensures { OnOk result (points.new.items ≡ points.old.items ++ (heading written.now).list region) }
 {
     match written {
         Heading::Procedure(_, list) | Heading::Function(_, list, _) => {
@@ -95,7 +106,7 @@ fn add_section(points: &mut Vec<Point>, region: Region, section: &Section) -> Re
         Section::Variable(names, _) => {
             add_names(points, region, Form::VariableParameter, names.as_slice())
         }
-        Section::Routine(written) => add_heading(points, region, Form::RoutineParameter, written),
+        Section::Routine(written) => add_heading(points, region, formal(written), written),
     }
 }
 

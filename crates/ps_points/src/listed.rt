@@ -23,14 +23,8 @@ fn is_called(way: Way) -> bool
     ensures { result ≡ is_called way }
 {
     match way {
-        Way::Named => true,
-        Way::Passed { .. } => true,
-        Way::Pointed => false,
-        Way::Selected => false,
-        Way::Completed => false,
-        Way::Assigned => false,
-        Way::Counted => false,
-        Way::CountedWithin => false,
+        Way::Named | Way::Called | Way::Applied | Way::Passed { .. } => true,
+        _ => false,
     }
 }
 
@@ -47,7 +41,7 @@ fn reads_input(reading: &Reading, name: Span) -> bool
     is_read(reading, name) || is_look(reading, name)
 }
 
-fn writes_output(reading: &Reading, name: Span) -> bool
+pub fn writes_output(reading: &Reading, name: Span) -> bool
     ensures { result ≡ true → WritesOutput reading.now.source.now name }
 {
     is_spelled(reading, name, b"write") || is_spelled(reading, name, b"writeln")

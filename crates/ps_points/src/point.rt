@@ -21,8 +21,10 @@ pub enum Form {
     ValueParameter,
     /// A variable parameter.
     VariableParameter,
-    /// A procedural or functional parameter.
-    RoutineParameter,
+    /// A procedural parameter.
+    ProcedureParameter,
+    /// A functional parameter.
+    FunctionParameter,
     /// A name of the program heading's list.
     ProgramParameter,
     /// A procedure with its block, whose heading is more than `procedure` and a name.

@@ -21,6 +21,22 @@ pub const REQUIRED: [&[u8]; 40] = [
     b"output",
 ];
 
+/// The required names of types.
+pub const TYPES: [&[u8]; 3] = [b"integer", b"char", b"boolean"];
+
+/// Those of constants.
+pub const CONSTANTS: [&[u8]; 3] = [b"maxint", b"false", b"true"];
+
+/// Those of functions, but for those that the profile leaves out.
+pub const FUNCTIONS: [&[u8]; 9] = [
+    b"abs", b"sqr", b"odd", b"chr", b"ord", b"succ", b"pred", b"eof", b"eoln",
+];
+
+/// Those of procedures, but for those that the profile leaves out.
+pub const PROCEDURES: [&[u8]; 7] = [
+    b"read", b"readln", b"write", b"writeln", b"new", b"pack", b"unpack",
+];
+
 /// What a name in a region is looked up by: the spelling, and what the region is known by.
 pub fn key(
     reading: &Reading,
@@ -66,8 +82,11 @@ pub fn is_hidden(form: Form) -> bool
     ensures { result ≡ is_hidden form }
 {
     match form {
-        Form::Field | Form::ValueParameter | Form::VariableParameter | Form::RoutineParameter =>
-            true,
+        Form::Field
+        | Form::ValueParameter
+        | Form::VariableParameter
+        | Form::ProcedureParameter
+        | Form::FunctionParameter => true,
         _ => false,
     }
 }

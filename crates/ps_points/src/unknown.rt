@@ -77,12 +77,7 @@ fn is_lacking(reading: &Reading, points: &[Point], levels: &Levels, found: Use) 
     match found.way {
         Way::Selected => true,
         Way::Completed => has_no_heading(reading, points, levels, found.name),
-        Way::Named => is_nowhere(reading, points, levels, found.name),
-        Way::Pointed => is_nowhere(reading, points, levels, found.name),
-        Way::Assigned => is_nowhere(reading, points, levels, found.name),
-        Way::Counted => is_nowhere(reading, points, levels, found.name),
-        Way::CountedWithin => is_nowhere(reading, points, levels, found.name),
-        Way::Passed { .. } => is_nowhere(reading, points, levels, found.name),
+        _ => is_nowhere(reading, points, levels, found.name),
     }
 }
 

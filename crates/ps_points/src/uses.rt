@@ -1,8 +1,10 @@
 //! The uses of names, and the search for one in expressions.
 
-ghost use Rattle.std.specs.Prelude.{◌≡◌, [], ◌∷◌, map};
-ghost use Rattle.ps_points.specs.Uses.{IsFound, either, used, all_uses, argument, arguments, assigned, expr_part, factor_part, member_uses, selector_uses, added_uses, multiplied_uses, simple_part, term_part, variable_part};
-ghost use Rattle.ps_points.specs.declared.uses.Way.TheVariants.{Named};
+ghost use Rattle.std.specs.Prelude.{◌≡◌, [], ◌∷◌, map, false};
+ghost use Rattle.ps_points.specs.Uses.{IsFound, either, used, begin, based, all_uses, argument, arguments, expr_part, factor_part, member_uses, selector_uses, added_uses, multiplied_uses, simple_part, term_part, variable_part};
+ghost use Rattle.ps_syntax.specs.declared.expression.Variable.{out-Variable};
+ghost use Rattle.ps_points.specs.declared.uses.Way.TheVariants.{Applied};
+ghost use Rattle.ps_points.specs.declared.uses.Whole.TheVariants.{Other};
 
 use crate::undefined::{Open, is_undefined};
 use ps_regions::reading::Reading;
@@ -14,10 +16,20 @@ use ps_text::Span;
 /// What a use of a name does to what the name denotes.
 #[derive(Clone, Copy)]
 pub enum Way {
-    /// Nothing.
-    Named,
+    /// It is named as a type.
+    Typed,
     /// It is the domain type of a pointer type.
     Pointed,
+    /// It is named as a constant.
+    Fixed,
+    /// It is named alone in an expression.
+    Named,
+    /// It is a variable, with selectors or in the list of a `with` statement.
+    Based,
+    /// A procedure statement calls it.
+    Called,
+    /// It is called with actual parameters in an expression.
+    Applied,
     /// It is that of a field behind a point, and looked up in the record's type.
     Selected,
     /// The routine of this name, a function, has its block there, and its heading further up.
@@ -29,7 +41,26 @@ pub enum Way {
     /// The same within a `with` statement.
     CountedWithin,
     /// It is passed to a routine of this name, by its number in the list of actual parameters.
-    Passed { routine: Span, index: usize },
+    Passed {
+        routine: Span,
+        index: usize,
+    },
+    /// It is a routine's, which is given an actual parameter that is no name alone: its number in the list, the offset where
+    /// it begins, and whether it is a variable.
+    Given {
+        index: usize,
+        at: u32,
+        variable: bool,
+    },
+}
+
+/// What a part of an expression is as a whole.
+#[derive(Clone, Copy)]
+pub enum Whole {
+    /// This name alone.
+    Alone(Span),
+    /// Something else, which begins at this offset; whether it is a variable.
+    Other { at: u32, variable: bool },
 }
 
 /// A use of a name.
@@ -44,6 +75,8 @@ pub struct Use {
 pub enum Sought<'a> {
     /// The one whose name is at this offset.
     At(u32),
+    /// The one of a routine's name that is given the actual parameter at this offset.
+    GivenAt(u32),
     /// One as a control variable with the spelling of this name.
     CountedAs(&'a Reading<'a>, Span),
     /// One whose name is defined in none of the blocks that are open; whether names of records and of lists of formal
@@ -55,7 +88,7 @@ impl<'a> Sought<'a> {
     /// The same within a `with` statement, also in its list behind the first, where names of fields may be meant.
     pub fn within_records(self) -> Sought<'a> {
         match self {
-            Sought::At(_) | Sought::CountedAs(..) => self,
+            Sought::At(_) | Sought::GivenAt(_) | Sought::CountedAs(..) => self,
             Sought::Undefined(open, _) => Sought::Undefined(open, true),
         }
     }
@@ -63,18 +96,17 @@ impl<'a> Sought<'a> {
     fn is(self, found: Use) -> bool {
         match self {
             Sought::At(at) => found.name.from == at,
+            Sought::GivenAt(start) => match found.way {
+                Way::Given { at, .. } => at == start,
+                _ => false,
+            },
             Sought::CountedAs(reading, name) => match found.way {
                 Way::Counted | Way::CountedWithin => {
                     reading
                         .bytes(name)
                         .eq_ignore_ascii_case(reading.bytes(found.name))
                 }
-                Way::Named
-                | Way::Pointed
-                | Way::Selected
-                | Way::Completed
-                | Way::Assigned
-                | Way::Passed { .. } => false,
+                _ => false,
             },
             Sought::Undefined(open, is_hiding) => is_undefined(open, found, is_hiding),
         }
@@ -100,63 +132,93 @@ pub fn first(found: Option<Use>, next: Option<Use>) -> Option<Use>
     }
 }
 
-/// The name that a variable is alone.
-#[tactic(auto, using(crate::proofs::UseEquations::variable_alone))]
-pub fn variable_name(variable: &Variable) -> Option<Span>
-    ensures { result ≡ (variable_part variable.now).alone }
+/// Where a part begins.
+pub fn begin(whole: Whole) -> u32
+    ensures { result ≡ begin whole }
+{
+    match whole {
+        Whole::Alone(name) => name.from,
+        Whole::Other { at, .. } => at,
+    }
+}
+
+/// What a variable is as a whole.
+#[tactic(auto, using(crate::proofs::UseEquations::variable_whole))]
+pub fn variable_whole(variable: &Variable) -> Whole
+    ensures { result ≡ (variable_part variable.now).whole }
 {
     if variable.selectors.is_empty() {
-        Some(variable.name)
+        Whole::Alone(variable.name)
     } else {
-        None
+        Whole::Other {
+            at: variable.name.from,
+            variable: true,
+        }
     }
 }
 
-fn factor_name(factor: &Factor) -> Option<Span>
-    ensures { result ≡ (factor_part factor.now).alone }
+/// Something that is no variable, and begins at this offset.
+fn no_variable(at: u32) -> Whole
+    ensures { result ≡ Other at false }
+{
+    Whole::Other {
+        at,
+        variable: false,
+    }
+}
+
+fn factor_whole(factor: &Factor) -> Whole
+    ensures { result ≡ (factor_part factor.now).whole }
 {
     match factor {
-        Factor::Variable(variable) => variable_name(variable),
-        Factor::Call(..) => None,
-        Factor::Number(_) => None,
-        Factor::Text(_) => None,
-        Factor::Nil(_) => None,
-        Factor::Set(..) => None,
-        Factor::Group(..) => None,
-        Factor::Not(..) => None,
+        Factor::Variable(variable) => variable_whole(variable),
+        Factor::Call(name, _) => no_variable(name.from),
+        Factor::Number(at) => no_variable(at.from),
+        Factor::Text(at) => no_variable(at.from),
+        Factor::Nil(at) => no_variable(at.from),
+        Factor::Set(at, _) => no_variable(at.from),
+        Factor::Group(at, _) => no_variable(at.from),
+        Factor::Not(at, _) => no_variable(at.from),
     }
 }
 
-#[tactic(auto, using(crate::proofs::UseEquations::term_alone))]
-fn term_name(term: &Term) -> Option<Span>
-    ensures { result ≡ (term_part term.now).alone }
+#[tactic(auto, using(crate::proofs::UseEquations::term_whole))]
+fn term_whole(term: &Term) -> Whole
+    ensures { result ≡ (term_part term.now).whole }
 {
+    let first = factor_whole(&term.first);
     if term.more.is_empty() {
-        factor_name(&term.first)
+        first
     } else {
-        None
+        no_variable(begin(first))
     }
 }
 
-#[tactic(auto, using(crate::proofs::UseEquations::simple_alone))]
-fn simple_name(simple: &Simple) -> Option<Span>
-    ensures { result ≡ (simple_part simple.now).alone }
+#[tactic(auto, using(crate::proofs::UseEquations::simple_whole))]
+fn simple_whole(simple: &Simple) -> Whole
+    ensures { result ≡ (simple_part simple.now).whole }
 {
-    if simple.sign.is_none() && simple.more.is_empty() {
-        term_name(&simple.first)
-    } else {
-        None
+    match &simple.sign {
+        Some((_, sign)) => no_variable(sign.from),
+        None => {
+            let first = term_whole(&simple.first);
+            if simple.more.is_empty() {
+                first
+            } else {
+                no_variable(begin(first))
+            }
+        }
     }
 }
 
-/// The name that an expression is alone.
-#[tactic(auto, using(crate::proofs::UseEquations::expr_Simple, crate::proofs::UseEquations::alone_Compare))]
-fn expr_name(x: &Expr) -> Option<Span>
-    ensures { result ≡ (expr_part x.now).alone }
+/// What an expression is as a whole.
+#[tactic(auto, using(crate::proofs::UseEquations::expr_Simple, crate::proofs::UseEquations::whole_Compare))]
+pub fn expr_whole(x: &Expr) -> Whole
+    ensures { result ≡ (expr_part x.now).whole }
 {
     match x {
-        Expr::Simple(only) => simple_name(only),
-        Expr::Compare(..) => None,
+        Expr::Simple(only) => simple_whole(only),
+        Expr::Compare(left, ..) => no_variable(begin(simple_whole(left))),
     }
 }
 
@@ -242,9 +304,9 @@ fn in_factor(factor: &Factor, sought: Sought<'_>) -> Option<Use>
 #[cycle(uses)]
 #[tactic(auto, using(crate::proofs::Found::found_cons))]
 fn in_call(name: Span, list: &[Expr], sought: Sought<'_>) -> Option<Use>
-    ensures { IsFound (used name Named ∷ arguments name 0 (map expr_part list.now)) result }
+    ensures { IsFound (used name Applied ∷ arguments name 0 (map expr_part list.now)) result }
 {
-    let own = one_use(name, Way::Named, sought);
+    let own = one_use(name, Way::Applied, sought);
     let more = in_arguments(name, list, sought);
     first(own, more)
 }
@@ -269,9 +331,20 @@ fn in_arguments(name: Span, list: &[Expr], sought: Sought<'_>) -> Option<Use>
 pub fn in_argument(routine: Span, index: usize, x: &Expr, sought: Sought<'_>) -> Option<Use>
     ensures { IsFound (argument routine index (expr_part x.now)) result }
 {
-    match expr_name(x) {
-        Some(name) => one_use(name, Way::Passed { routine, index }, sought),
-        None => in_expr(x, sought),
+    match expr_whole(x) {
+        Whole::Alone(name) => one_use(name, Way::Passed { routine, index }, sought),
+        Whole::Other { at, variable } => {
+            let own = one_use(
+                routine,
+                Way::Given {
+                    index,
+                    at,
+                    variable,
+                },
+                sought,
+            );
+            first(own, in_expr(x, sought))
+        }
     }
 }
 
@@ -304,13 +377,24 @@ fn in_member(member: &Member, sought: Sought<'_>) -> Option<Use>
     }
 }
 
+/// How the name of a variable is used, by whether selectors stand behind it.
+fn variable_way(variable: &Variable) -> Way
+    ensures { result ≡ based (out-Variable variable.now).selectors }
+{
+    if variable.selectors.is_empty() {
+        Way::Named
+    } else {
+        Way::Based
+    }
+}
+
 /// A use in a variable.
 #[cycle(uses)]
 #[tactic(auto, using(crate::proofs::Found::variable_found))]
 pub fn in_variable(variable: &Variable, sought: Sought<'_>) -> Option<Use>
     ensures { IsFound (variable_part variable.now).uses result }
 {
-    let own = one_use(variable.name, Way::Named, sought);
+    let own = one_use(variable.name, variable_way(variable), sought);
     let more = in_selectors(variable.selectors.as_slice(), sought);
     first(own, more)
 }

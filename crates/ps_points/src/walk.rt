@@ -7,6 +7,7 @@ ghost use Rattle.ps_points.specs.Walk.{IsIn, IsSomewhere};
 use crate::control::is_broken_in;
 use crate::early::is_early;
 use crate::headings::heading_name;
+use crate::kinds::is_miscast;
 use crate::levels::Levels;
 use crate::listed::is_unlisted;
 use crate::point::{Point, Region, within};
@@ -25,6 +26,8 @@ pub enum Asked {
     OfEarly,
     /// That of the required files, which the program heading lists.
     OfFiles,
+    /// That of the kind of what a name denotes.
+    OfKind,
 }
 
 /// Whether the rule is broken at an offset in the innermost of these blocks.
@@ -44,6 +47,7 @@ fn is_in(
         Asked::OfUnknown => is_unknown(reading, points, region, block, outer, at),
         Asked::OfEarly => is_early(reading, points, region, block, outer, at),
         Asked::OfFiles => is_unlisted(reading, points, region, block, outer, at),
+        Asked::OfKind => is_miscast(reading, points, region, block, outer, at),
     }
 }
 

@@ -8,6 +8,6 @@ pub add_routine-returns-in_ok-add_heading-in-Whole : goal.add_routine-returns-in
 add_routine-returns-in_ok-add_heading-in-Whole t c =
     let own : c.add_heading.new.points.items ≡ c.args.points.now.items ++ heading_points c.whole_form.result c.in-Whole.heading c.args.region = search rules in
     let form : c.whole_form.result ≡ whole_form c.in-Whole.heading = search rules in
-    let name : c.heading_name.result ≡ (heading c.in-Whole.heading).0 = search rules in
+    let name : c.heading_name.result ≡ (heading c.in-Whole.heading).name = search rules in
     let inner : c.within.result ≡ within c.args.region c.heading_name.result = search rules in
     on_ok_weaker c.add_block.result (λ e. whole_added c.args.written.now c.in-Whole.heading c.in-Whole.block c.args.region c.within.result c.heading_name.result c.whole_form.result c.args.points.now.items c.add_heading.new.points.items c.add_block.new.points.items c.in-Whole.is own e form inner name) c.add_block.ensures

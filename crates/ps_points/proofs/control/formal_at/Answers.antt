@@ -1,11 +1,10 @@
 use Rattle.std.proofs.Common.{◌≡◌, suc, ◌+◌, sym, ◌∙◌, subst, arith}
-use Rattle.ps_points.specs.declared.point.Form.TheVariants.{VariableParameter}
 use Rattle.ps_points.proofs.Formals.{Counting, formal_skipped, formal_passed, formal_here}
-use Rattle.ps_points.proofs.control.is_formal_variable.Goals.{then-is_of+else-left-eq0, else-is_of}
-use Rattle.ps_points.proofs.control.is_formal_variable.Goals as goal
+use Rattle.ps_points.proofs.control.formal_at.Goals.{then-is_of+else-left-eq0, else-is_of}
+use Rattle.ps_points.proofs.control.formal_at.Goals as goal
 
 pub returns-then-left-eq0 : goal.returns-then-left-eq0
-returns-then-left-eq0 c = λ e. formal_here c.args.region c.args.points.now c.args.index c.loop-point.point-index c.loop-point.left _ VariableParameter c.loop-point-test.true c.loop-point.invariant (sym c.is_of.ensures ∙ c.if-is_of.true) c.if-left-eq0.true (c.is_variable_parameter.ensures e)
+returns-then-left-eq0 c = formal_here c.args.region c.args.points.now c.args.index c.loop-point.point-index c.loop-point.left _ c.loop-point-test.true c.loop-point.invariant (sym c.is_of.ensures ∙ c.if-is_of.true) c.if-left-eq0.true
 
 pub loop-point-preserved : goal.loop-point-preserved
 loop-point-preserved c = elim c.if-is_of.branch [
