@@ -1,12 +1,13 @@
 // The code of read and readln.
 
-ghost use Rattle.std.specs.Prelude.{◌≡◌, ◌++◌, ◌+◌, ◌≤◌, ◌∷◌, [], pos, map, OnOk};
+ghost use Rattle.std.specs.Prelude.{◌≡◌, ◌++◌, ◌+◌, ◌≤◌, ◌∷◌, [], pos, true, None, map, OnOk};
 ghost use Rattle.ps_bounds.specs.Weights.{read_weight, reads_weight, statement_weight};
-ghost use Rattle.ps_code.specs.Scopes.{even_from, beside, greatest, range_code, site_code, input_site, ReadCharacter, ReadNumber, ReadLine, helper};
+ghost use Rattle.ps_code.specs.Scopes.{even_from, beside, greatest, range_code, fitting_code, site_code, input_site, ReadCharacter, ReadNumber, ReadLine, helper};
 ghost use Rattle.ps_code.specs.Statements.{read_code, reads_code, statement_code};
 ghost use Rattle.ps_lower.specs.Levels.{scope_of};
 ghost use Rattle.ps_lower.specs.Reads.{character_taken, number_taken, line_taken};
 ghost use Rattle.ps_tree.specs.Tree as tree;
+ghost use Rattle.ps_tree.specs.declared.tree.Range.TheVariants.{Within};
 ghost use Rattle.ps_tree.specs.View.{place_of, read_of};
 ghost use Rattle.tac_code.specs.declared.code.Base.TheVariants as base;
 ghost use Rattle.tac_code.specs.declared.code.Instruction.TheVariants as i;
@@ -14,12 +15,13 @@ ghost use Rattle.tac_code.specs.declared.code.Instruction.TheVariants as i;
 use crate::depth::{DEEPEST, beside, even_above, even_from, held};
 use crate::helpers::help;
 use crate::input::input;
+use crate::known::has_bytes;
 use crate::level::Level;
 use crate::out::Code;
-use crate::pieces::{fitting, range};
+use crate::pieces::range;
 use crate::places::{address, is_byte, keep};
 use crate::values::place;
-use ps_tree::tree::{Place, Range, ReadVariable};
+use ps_tree::tree::{Place, ReadVariable};
 use std::alloc::AllocError;
 use tac_code::code::Base;
 
@@ -44,6 +46,17 @@ fn fits(out: &mut Code, t: u32, low: &i32, high: &i32, line: u16) -> Result<(), 
     range(out, t, *low, *high, 4, line)
 }
 
+/// The same for a byte, which needs none if the range has all bytes.
+fn byte_fits(out: &mut Code, t: u32, low: &i32, high: &i32, line: u16) -> Result<(), AllocError>
+    ensures { OnOk result (out.new ≡ out.old ++ fitting_code true None t (Within low.now high.now) line) }
+{
+    if has_bytes(*low, *high) {
+        Ok(())
+    } else {
+        fits(out, t, low, high, line)
+    }
+}
+
 /// A character from the input whose address is in a, or error 9.
 fn take_character(
     out: &mut Code,
@@ -57,11 +70,7 @@ fn take_character(
 {
     help(out, k, READ_CHARACTER, &[a], a)?;
     out.check_range(a, 0, i32::MAX, 9, line)?;
-    let range = Range::Within {
-        low: *low,
-        high: *high,
-    };
-    fitting(out, true, None, a, range, line)
+    byte_fits(out, a, low, high, line)
 }
 
 /// How the reading of a number went: error 9 at the end of the input, 10 if there is no number, 4 if it is too large.
