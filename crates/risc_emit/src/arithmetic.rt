@@ -196,7 +196,17 @@ fn put_sum(
     save(frame, pieces, to)
 }
 
-// H is the sign of the low word where the product has 32 bits.
+// R15 takes 0 where the product has 32 bits: H is 0, or all ones above a negative low word.
+fn put_beyond(pieces: &mut Pieces) -> Result<(), OutOfMemory>
+    ensures { OnOk result (pieces.new ≡ pieces.old ++ form.beyond) }
+{
+    pieces.plain(skip(Condition::Plus, 3))?;
+    pieces.plain(Instr::MoveHigh { to: r15() })?;
+    pieces.plain(computed(Operation::Add, r15(), r15(), constant(1)))?;
+    pieces.plain(skip(Condition::Always, 1))?;
+    pieces.plain(Instr::MoveHigh { to: r15() })
+}
+
 fn put_product(
     frame: &Frame<'_>,
     pieces: &mut Pieces,
@@ -209,11 +219,9 @@ fn put_product(
     ensures { OnOk result (pieces.new ≡ pieces.old ++ form.multiply_form (context_of frame.now) frame.now.number to left operand error line) }
 {
     put_operate(frame, pieces, Operation::Mul, to, left, operand)?;
-    save(frame, pieces, to)?;
-    pieces.plain(Instr::MoveHigh { to: r15() })?;
-    pieces.plain(computed(Operation::Asr, r12(), target(frame, to), constant(31)))?;
-    pieces.plain(computed(Operation::Sub, r12(), r12(), Right::Content(r15())))?;
-    pieces.push(Piece::Fails(Condition::NotEqual, error, line))
+    put_beyond(pieces)?;
+    pieces.push(Piece::Fails(Condition::NotEqual, error, line))?;
+    save(frame, pieces, to)
 }
 
 // The floored quotient in a register rounded toward zero.

@@ -1,5 +1,5 @@
 -- Sums, differences, products and bits followed by their words.
-use Rattle.std.proofs.Common.{◌≡◌, ◌≢◌, ℕ, suc, ◌+◌, ◌-◌, ◌/◌, ◌%◌, ◌^◌, ◌<◌, inr, Bool, true, false, cond, not, ◌||◌, nat_eq, nat_lt, nat_le, List, [], ◌∷◌, ◌++◌, length, take, Some, ℤ, pos, negsuc, ◌+ℤ◌, ◌-ℤ◌, ◌*ℤ◌, refl, sym, ap, ◌∙◌, subst, arith, length-append, append_assoc}
+use Rattle.std.proofs.Common.{◌≡◌, ◌≢◌, ℕ, zero, suc, ◌+◌, ◌-◌, ◌/◌, ◌%◌, ◌^◌, ◌<◌, ◌≤◌, inr, Bool, true, false, cond, not, ◌||◌, nat_eq, nat_lt, nat_le, List, [], ◌∷◌, ◌++◌, length, take, Some, ℤ, pos, negsuc, ◌+ℤ◌, ◌-ℤ◌, ◌*ℤ◌, refl, sym, ap, ◌∙◌, subst, arith, length-append, append_assoc}
 use Rattle.std.specs.Int.{w32, int_shr}
 use Rattle.std.proofs.lemmas.Int.{ints, of_z-to_z}
 use Rattle.risc_word.specs.declared.instr.Operation.TheVariants as op
@@ -41,10 +41,51 @@ use Rattle.risc_steps.specs.Follows.{machine_of, Built, Belongs, Comes, Follows}
 use Rattle.risc_steps.proofs.Basics.{left_after, left_next, left_at, is_read, writes_it, among_first, among_rest}
 use Rattle.risc_steps.proofs.Flags.{silent}
 use Rattle.risc_steps.proofs.Runs.{Aside, step_to, save_run, target_not}
-use Rattle.risc_steps.proofs.Comes.{framed, fetched_is, come_to, come_way, arrive_here, fails_not, fails_walked, walk_near, tells_end}
+use Rattle.risc_steps.proofs.Comes.{framed, fetched_is, come_to, come_way, arrive_here, fails_not, fails_walked, walk_near, skip_run, skip_not, gives_end, tells_end}
 use Rattle.risc_steps.proofs.Operands.{code, two_run}
 use Rattle.risc_steps.proofs.Branches.{right_sound}
 use Rattle.risc_steps.proofs.Calls.{follows_way, follows_to}
+
+-- the sign of a low word, all ones or 0
+sign_above : (low : ℕ) → 2147483648 ≤ low → low < 4294967296 → sign_of low ≡ 4294967295
+sign_above low h k =
+    let e : signed low ≡ negsuc (4294967296 - suc low) = rw (not_less low 2147483648 h) in
+    ap (λ z. word_of_int (int_shr z 31)) e ∙ over low h k
+  where
+    not_less : (x y : ℕ) → y ≤ x → nat_lt x y ≡ false
+    not_less x y h = grind arith
+
+    over : (low : ℕ) → 2147483648 ≤ low → low < 4294967296 → 4294967296 - suc ((4294967296 - suc low) / 2147483648) ≡ 4294967295
+    over low h k = omega arith
+
+sign_below : (low : ℕ) → low < 2147483648 → sign_of low ≡ 0
+sign_below low h =
+    let e : signed low ≡ pos low = omega (arith, ints) in
+    ap (λ z. word_of_int (int_shr z 31)) e ∙ over low h
+  where
+    over : (low : ℕ) → low < 2147483648 → low / 2147483648 ≡ 0
+    over low h = omega arith
+
+same_test : (x y : ℕ) → ((x ≡ 0) → (y ≡ 0)) → ((y ≡ 0) → (x ≡ 0)) → nat_eq x 0 ≡ nat_eq y 0
+same_test zero zero f g = refl
+same_test zero (suc y) f g = absurd (cc (f refl))
+same_test (suc x) zero f g = absurd (cc (g refl))
+same_test (suc x) (suc y) f g = refl
+
+-- one more than H is 0 where H is that sign of a negative word, and H is 0 where it is that of another
+all_ones : (low h : ℕ) → 2147483648 ≤ low → low < 4294967296 → h < 4294967296 → nat_eq ((h + 1 + 0) % 2 ^ 32) 0 ≡ nat_eq (difference_of (sign_of low) h) 0
+all_ones low h ge lt k =
+    same_test _ (difference_of 4294967295 h) (λ e. omega (arith, e, k)) (λ e. omega (arith, e, k)) ∙ ap (λ q. nat_eq (difference_of q h) 0) (sym (sign_above low ge lt))
+
+no_ones : (low h : ℕ) → low < 2147483648 → h < 4294967296 → nat_eq h 0 ≡ nat_eq (difference_of (sign_of low) h) 0
+no_ones low h lt k =
+    same_test h (difference_of 0 h) (λ e. omega (arith, e, k)) (λ e. omega (arith, e, k)) ∙ ap (λ q. nat_eq (difference_of q h) 0) (sym (sign_below low lt))
+
+large : (n : ℕ) → nat_le 2147483648 n ≡ true → 2147483648 ≤ n
+large n e = grind arith
+
+small : (n : ℕ) → nat_le 2147483648 n ≡ false → n < 2147483648
+small n e = grind arith
 
 pub read_back : (n : ℕ) → n < 4294967296 → word_of (number_of n) ≡ n
 read_back n lt = of_z-to_z w32 n lt
@@ -203,17 +244,22 @@ module _ (c : Context) (words : List ℕ) (b : Built c words) (p : Places) (s : 
 
   -- ---- products
 
-  -- the relation does not hang on the two scratch registers
-  related_near : (s1 : State) (m0 m1 : Machine) → Related c p s1 m0 f → Near m0 m1 → Related c p s1 m1 f
-  related_near s1 m0 m1 h n =
-      record {
-        stack = n.registers 14 (omega arith) (omega arith) ∙ h.stack;
-        globals = n.registers 13 (omega arith) (omega arith) ∙ h.globals;
-        held = held_slots c b.laid b.placed p s1 m0.words m1.words f (λ a side. n.words a) h.held;
-        homes = λ u x live e.
-            let k = h.homes u x live e in
-            (k.0, value_near c b.laid b.placed p s1.current.routine f m0 m1 (home c s1.current.routine u) (λ q is. b.placed.register s1.current.routine u q is) n ∙ k.1);
-      }
+  -- a product in its register, and whether it is too long
+  product_ends : (t a : ℕ) (o : Operand) (error line : ℕ) (z : ℤ) (n : machine.State) (w : View) → fetch c.code s.current.routine s.current.place ≡ Some (Arithmetic Multiply t a o error line) → Shows words c.size n w → (IsNumber z → w.registers (target c s.current.routine (home c s.current.routine t)) ≡ word_of z) → w.equal ≡ not (overflows z) → ((q : ℕ) → q ≢ 12 → q ≢ 15 → q ≢ target c s.current.routine (home c s.current.routine t) → w.registers q ≡ v.registers q) → ((x : ℕ) → w.words x ≡ v.words x) → Left c words w.place (piece.Fails on.NotEqual error line ∷ save c s.current.routine (home c s.current.routine t)) (c.site s.current.routine (suc s.current.place)) → Follows c words (gives_computed c.code t (within error z) line s) s n
+  product_ends t a o error line z n w here sh' value equal regs mem l = go (is_integer z) refl
+    where
+      go : (fit : Bool) → is_integer z ≡ fit → Follows c words (gives_computed c.code t (cond fit (Gives z) (Fails error)) line s) s n
+      go true e =
+          let r = s.current.routine in
+          let i = Arithmetic Multiply t a o error line in
+          let t1 = fails_not c words b on.NotEqual error line _ _ n w sh' l (ap not (equal ∙ ap not (overflow_is z ∙ ap not e))) in
+          let w1 = at_view (w.place + 1) w in
+          let is = number_of_integer z e in
+          come_to c words b s (record s { current = giving t (Number z) s.current }) n same_tape w1 t1 refl (gives_end c words b p s (machine_of v) f t (Number z) t1.to w1 be.related be.input (writes_it c r s.current.place i here t refl refl) (silent c r s.current.place i here refl) is t1.shows (record { here = value is; registers = regs; words = mem }) (left_next c words w.place _ _ (save c r (home c r t)) l))
+      go false e =
+          let r = s.current.routine in
+          let n14 = target_not c words b.stood b.laid b.placed r f (framed c words b p s (machine_of v) f be.related) t 14 (omega arith) in
+          inr (fails_walked c words b s on.NotEqual error line _ _ n w (walk_near c words b p s (machine_of v) f w be.related (regs 14 (omega arith) (omega arith) (λ x. n14 (sym x))) mem) sh' l (ap not (equal ∙ ap not (overflow_is z ∙ ap not e))))
 
   pub multiply_follows : (t a : ℕ) (o : Operand) (error line : ℕ) (x y : ℤ) → fetch c.code s.current.routine s.current.place ≡ Some (Arithmetic Multiply t a o error line) → s.current.temporaries a ≡ Some (Number x) → operand_value s.current.temporaries o ≡ Some (Number y) → Follows c words (gives_computed c.code t (within error (x *ℤ y)) line s) s m
   multiply_follows t a o error line x y here ea eo =
@@ -223,60 +269,60 @@ module _ (c : Context) (words : List ℕ) (b : Built c words) (p : Places) (s : 
       let so = fetched_is c words b r k i here in
       let h = home c r t in
       let d = target c r h in
-      let fr = framed c words b p s (machine_of v) f be.related in
       let j = word.Operate op.Mul d (fetched c r 12 (home c r a)) (right_operand c r o) in
-      let j3 = word.MoveHigh 15 in
-      let j4 = word.Operate op.Asr 12 d (instr_operand.Constant (pos 31)) in
-      let j5 = word.Operate op.Sub 12 12 (instr_operand.Content 15) in
-      let tail = Plain j3 ∷ Plain j4 ∷ Plain j5 ∷ piece.Fails on.NotEqual error line ∷ [] in
-      let g = operands_run i a o x y (Plain j ∷ (save c r h ++ tail)) _ _ here refl so.sound.2 ea eo (code c words b p s f m v sh be i here) in
+      let rest = form.beyond ++ piece.Fails on.NotEqual error line ∷ save c r h in
+      let g = operands_run i a o x y (Plain j ∷ rest) _ _ here refl so.sound.2 ea eo (code c words b p s f m v sh be i here) in
       let v1 = g.view in
       let t2 = step_to c words b.stood j g.way.to v1 g.way.shows g.left.stands.0 tt in
       let v2 = after j v1 in
-      let step = gives_computed c.code t (within error (x *ℤ y)) line s in
       let n = product_of (word_of x) (word_of y) in
       let whole : product (v1.registers (fetched c r 12 (home c r a))) (operand_view v1 (right_operand c r o)) ≡ product (word_of x) (word_of y) = ap (λ q. product q (operand_view v1 (right_operand c r o))) g.first ∙ ap (product (word_of x)) g.second in
       let is : v2.registers d ≡ n = update_same v1.registers d _ ∙ ap (λ q. q % 2 ^ 32) whole in
-      let aside : Aside d n (machine_of v) v2 = record { here = is; registers = λ q n12 n15 nd. update_other v1.registers d _ q nd ∙ g.near.registers q n12 n15; words = g.near.words } in
-      let l2 = left_next c words v1.place _ _ (save c r h ++ tail) g.left in
-      let z = save_run c words b.stood b.laid b.placed r f fr t n tail _ (machine_of v) t2.to v2 t2.shows be.related.stack aside l2 in
-      let v3 = z.view in
-      let l3 = left_after c words v2.place v3.place _ (save c r h) tail l2 z.place in
-      let low : n < 4294967296 = modulo (product (word_of x) (word_of y)) in
-      let wr = writes_it c r k i here t refl refl in
-      let s1 = record s { current = giving t (Number (number_of n)) s.current } in
-      let rel : Related c p s1 (machine_of v3) f = related_gives c b.laid b.placed p s (machine_of v) (machine_of v3) f t (Number (number_of n)) be.related wr (number_in n) (record { here = z.settled.here ∙ sym (read_back n low); others = z.settled.others; words = z.settled.words; globals = z.settled.globals; stack = z.settled.stack }) in
-      let t4 = step_to c words b.stood j3 z.way.to v3 z.way.shows l3.stands.0 tt in
-      let v4 = after j3 v3 in
-      let t5 = step_to c words b.stood j4 t4.to v4 t4.shows l3.stands.2.0 tt in
-      let v5 = after j4 v4 in
-      let t6 = step_to c words b.stood j5 t5.to v5 t5.shows l3.stands.2.2.0 tt in
-      let v6 = after j5 v5 in
-      let l6 = left_next c words v5.place _ _ _ (left_next c words v4.place _ _ _ (left_next c words v3.place _ _ _ l3)) in
-      let n15 = target_not c words b.stood b.laid b.placed r f fr t 15 (omega arith) in
-      let high : v3.high ≡ product (word_of x) (word_of y) / 2 ^ 32 = z.high ∙ ap (λ q. q / 2 ^ 32) whole in
-      let kept : v4.registers d ≡ n = update_other v3.registers 15 _ d n15 ∙ z.kept in
-      let sign : v5.registers 12 ≡ sign_of n = ap (λ q. word_of_int (int_shr (signed q) 31)) kept in
-      let equal : v6.equal ≡ not (overflows (x *ℤ y)) = ap (λ q. nat_eq (difference_of q (v5.registers 15)) 0) sign ∙ ap (λ q. nat_eq (difference_of (sign_of n) q) 0) high ∙ product_test x y g.good g.good_right in
-      let near : Near (machine_of v3) (machine_of v6) = record { registers = λ q n12 n15. update_other v5.registers 12 _ q n12 ∙ update_other v4.registers 12 _ q n12 ∙ update_other v3.registers 15 _ q n15; words = λ q. refl } in
-      let run = to_join words c.size z.way.to same_tape same_tape v4 v6 t4 (to_join words c.size t4.to same_tape same_tape v5 v6 t5 t6) in
-      follows_way c words b s m v1 g.way step (follows_to c words b s g.way.to v2 t2 step (follows_way c words b s t2.to v3 z.way step (follows_to c words b s z.way.to v6 run step (ends run.to v6 run.shows l6 (related_near s1 (machine_of v3) (machine_of v6) rel near) equal (product_word x y g.good g.good_right) wr (is_integer (x *ℤ y)) refl))))
+      let high : v2.high ≡ product (word_of x) (word_of y) / 2 ^ 32 = ap (λ q. q / 2 ^ 32) whole in
+      let negative : v2.negative ≡ nat_le 2147483648 n = ap (λ q. nat_le 2147483648 (q % 2 ^ 32)) whole in
+      follows_way c words b s m v1 g.way (gives_computed c.code t (within error (x *ℤ y)) line s) (follows_to c words b s g.way.to v2 t2 (gives_computed c.code t (within error (x *ℤ y)) line s) (tested g.good g.good_right t2.to v2 t2.shows is high (modulo (product (word_of x) (word_of y))) (λ q n12 n15 nd. update_other v1.registers d _ q nd ∙ g.near.registers q n12 n15) g.near.words (left_next c words v1.place _ _ rest g.left) v2.negative refl negative))
     where
       modulo : (q : ℕ) → q % 2 ^ 32 < 4294967296
       modulo q = omega arith
 
-      open_same : (n : ℕ) (xs : List Activation) → open_calls n (giving t (Number (number_of (product_of (word_of x) (word_of y)))) s.current) xs ≡ open_calls n s.current xs
-      open_same n [] = refl
-      open_same n (y ∷ ys) = refl
-
-      ends : (n : machine.State) (w : View) → Shows words c.size n w → Left c words w.place (piece.Fails on.NotEqual error line ∷ []) (c.site s.current.routine (suc s.current.place)) → Related c p (record s { current = giving t (Number (number_of (product_of (word_of x) (word_of y)))) s.current }) (machine_of w) f → w.equal ≡ not (overflows (x *ℤ y)) → (IsNumber (x *ℤ y) → product_of (word_of x) (word_of y) ≡ word_of (x *ℤ y)) → Writes c s.current.routine s.current.place t → (fit : Bool) → is_integer (x *ℤ y) ≡ fit → Follows c words (gives_computed c.code t (cond fit (Gives (x *ℤ y)) (Fails error)) line s) s n
-      ends n w sh' l rel equal value wr true e =
-          let is = number_of_integer (x *ℤ y) e in
-          let t1 = fails_not c words b on.NotEqual error line [] _ n w sh' l (ap not (equal ∙ ap not (overflow_is (x *ℤ y) ∙ ap not e))) in
-          let w1 = at_view (w.place + 1) w in
-          let same : number_of (product_of (word_of x) (word_of y)) ≡ x *ℤ y = ap number_of (value is) ∙ signed_word (x *ℤ y) is in
-          let s' = record s { current = giving t (Number (x *ℤ y)) s.current } in
-          let rel' : Related c p s' (machine_of w1) f = subst (λ q. Related c p (record s { current = giving t (Number q) s.current }) (machine_of w1) f) same rel in
-          come_to c words b s s' n same_tape w1 t1 refl (arrive_here c words b p s' t1.to w1 f t1.shows (record { related = rel'; place = sym l.ends; input = be.input; flags = silent c s.current.routine s.current.place (Arithmetic Multiply t a o error line) here refl w1 }))
-      ends n w sh' l rel equal value wr false e =
-          inr (fails_walked c words b s on.NotEqual error line [] _ n w (walk_is c b.laid p b.stood.unlinked 16 (record s { current = giving t (Number (number_of (product_of (word_of x) (word_of y)))) s.current }) (machine_of w) f rel ∙ ap (take 16) (open_same (length c.code.program) s.callers)) sh' l (ap not (equal ∙ ap not (overflow_is (x *ℤ y) ∙ ap not e))))
+      tested : IsNumber x → IsNumber y → (n2 : machine.State) (v2 : View) → Shows words c.size n2 v2 → v2.registers (target c s.current.routine (home c s.current.routine t)) ≡ product_of (word_of x) (word_of y) → v2.high ≡ product (word_of x) (word_of y) / 2 ^ 32 → product_of (word_of x) (word_of y) < 4294967296 → ((q : ℕ) → q ≢ 12 → q ≢ 15 → q ≢ target c s.current.routine (home c s.current.routine t) → v2.registers q ≡ v.registers q) → ((q : ℕ) → v2.words q ≡ v.words q) → Left c words v2.place (form.beyond ++ piece.Fails on.NotEqual error line ∷ save c s.current.routine (home c s.current.routine t)) (c.site s.current.routine (suc s.current.place)) → (minus : Bool) → v2.negative ≡ minus → v2.negative ≡ nat_le 2147483648 (product_of (word_of x) (word_of y)) → Follows c words (gives_computed c.code t (within error (x *ℤ y)) line s) s n2
+      tested g_good g_right n2 v2 sh2 is high low regs mem l2 true minus told =
+          let r = s.current.routine in
+          let d = target c r (home c r t) in
+          let n = product_of (word_of x) (word_of y) in
+          let step = gives_computed c.code t (within error (x *ℤ y)) line s in
+          let fr = framed c words b p s (machine_of v) f be.related in
+          let n15 = target_not c words b.stood b.laid b.placed r f fr t 15 (omega arith) in
+          let j3 = word.MoveHigh 15 in
+          let j4 = word.Operate op.Add 15 15 (instr_operand.Constant (pos 1)) in
+          let t3 = skip_not c words b on.Plus 3 _ _ n2 v2 sh2 l2 (ap not minus) in
+          let v3 = at_view (v2.place + 1) v2 in
+          let l3 = left_next c words v2.place _ _ _ l2 in
+          let t4 = step_to c words b.stood j3 t3.to v3 t3.shows l3.stands.0 tt in
+          let v4 = after j3 v3 in
+          let l4 = left_next c words v3.place _ _ _ l3 in
+          let t5 = step_to c words b.stood j4 t4.to v4 t4.shows l4.stands.0 tt in
+          let v5 = after j4 v4 in
+          let l5 = left_next c words v4.place _ _ _ l4 in
+          let t6 = skip_run c words b on.Always 1 _ _ t5.to v5 t5.shows l5 refl (omega arith) in
+          let v6 = at_view (v5.place + 1 + 1) v5 in
+          let l6 = left_next c words (v5.place + 1) _ _ _ (left_next c words v5.place _ _ _ l5) in
+          let up : v4.registers 15 ≡ product (word_of x) (word_of y) / 2 ^ 32 = update_same v3.registers 15 _ ∙ high in
+          let equal : v6.equal ≡ not (overflows (x *ℤ y)) = ap (λ q. nat_eq ((q + 1 + 0) % 2 ^ 32) 0) up ∙ all_ones n (product (word_of x) (word_of y) / 2 ^ 32) (large n (sym told ∙ minus)) low (subst (λ q. q < 4294967296) high sh2.high_narrow) ∙ product_test x y g_good g_right in
+          follows_to c words b s n2 v3 t3 step (follows_to c words b s t3.to v4 t4 step (follows_to c words b s t4.to v5 t5 step (follows_to c words b s t5.to v6 t6 step (product_ends t a o error line (x *ℤ y) t6.to v6 here t6.shows (λ z. update_other v4.registers 15 _ d n15 ∙ update_other v3.registers 15 _ d n15 ∙ is ∙ product_word x y g_good g_right z) equal (λ q n12 ne nd. update_other v4.registers 15 _ q ne ∙ update_other v3.registers 15 _ q ne ∙ regs q n12 ne nd) mem l6))))
+      tested g_good g_right n2 v2 sh2 is high low regs mem l2 false minus told =
+          let r = s.current.routine in
+          let d = target c r (home c r t) in
+          let n = product_of (word_of x) (word_of y) in
+          let step = gives_computed c.code t (within error (x *ℤ y)) line s in
+          let fr = framed c words b p s (machine_of v) f be.related in
+          let n15 = target_not c words b.stood b.laid b.placed r f fr t 15 (omega arith) in
+          let j3 = word.MoveHigh 15 in
+          let t3 = skip_run c words b on.Plus 3 _ _ n2 v2 sh2 l2 (ap not minus) (omega arith) in
+          let v3 = at_view (v2.place + 1 + 3) v2 in
+          let l3 = left_at c words _ v3.place _ _ (left_next c words (v2.place + 1 + 1 + 1) _ _ _ (left_next c words (v2.place + 1 + 1) _ _ _ (left_next c words (v2.place + 1) _ _ _ (left_next c words v2.place _ _ _ l2)))) (omega arith) in
+          let t4 = step_to c words b.stood j3 t3.to v3 t3.shows l3.stands.0 tt in
+          let v4 = after j3 v3 in
+          let l4 = left_next c words v3.place _ _ _ l3 in
+          let equal : v4.equal ≡ not (overflows (x *ℤ y)) = ap (λ q. nat_eq q 0) high ∙ no_ones n (product (word_of x) (word_of y) / 2 ^ 32) (small n (sym told ∙ minus)) (subst (λ q. q < 4294967296) high sh2.high_narrow) ∙ product_test x y g_good g_right in
+          follows_to c words b s n2 v3 t3 step (follows_to c words b s t3.to v4 t4 step (product_ends t a o error line (x *ℤ y) t4.to v4 here t4.shows (λ z. update_other v3.registers 15 _ d n15 ∙ is ∙ product_word x y g_good g_right z) equal (λ q n12 ne nd. update_other v3.registers 15 _ q ne ∙ regs q n12 ne nd) mem l4))

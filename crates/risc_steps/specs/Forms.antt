@@ -294,10 +294,14 @@ module _ (c : Context) (r : ℕ) where
 
   -- ---- numbers
 
-  -- H is the sign of the low word where the product has 32 bits
+  -- R15 takes 0 where the product has 32 bits, whose sign N tells: H is 0, or all ones above a negative low word
+  abbrev pub beyond : List Piece
+  beyond =
+      skip on.Plus 3 ∷ Plain (word.MoveHigh 15) ∷ Plain (word.Operate op.Add 15 15 (Constant (pos 1))) ∷ skip on.Always 1 ∷ Plain (word.MoveHigh 15) ∷ []
+
   abbrev pub multiply_form : ℕ → ℕ → Operand → ℕ → ℕ → List Piece
   multiply_form t a b error line =
-      both a b (operate op.Mul (home c r t) a b ∷ (save (home c r t) ++ (Plain (word.MoveHigh 15) ∷ Plain (word.Operate op.Asr 12 (target (home c r t)) (Constant (pos 31))) ∷ Plain (word.Operate op.Sub 12 12 (Content 15)) ∷ Fails on.NotEqual error line ∷ [])))
+      both a b (operate op.Mul (home c r t) a b ∷ (beyond ++ Fails on.NotEqual error line ∷ save (home c r t)))
 
   -- R15 takes a right operand, with N and Z
   abbrev pub divisor : Operand → List Piece
