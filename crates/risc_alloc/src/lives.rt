@@ -1,4 +1,5 @@
-// The lives of a routine's temporaries. Nothing is proved of them but that they are told: what is chosen by them is tested.
+// Which of a routine's temporaries are alive together, and what each register would spare. Nothing is proved of it: what is chosen by
+// it is tested.
 
 use crate::claims::Claims;
 use crate::flow::{exit_of, is_call, read_first, read_passed, read_second, written};
@@ -8,194 +9,245 @@ use crate::walk::settle;
 use std::alloc::Global;
 use tac_code::code::{Instruction, OutOfMemory, TacRoutine};
 
-/// A temporary's life: from the first to the last time at which it is alive, and whether it spans a call. The entry of a routine is
-/// time 0; what is alive before the instruction at a place is so at an odd time, what it writes begins at the even time behind.
-/// What is never alive begins after its end.
+/// So many temporaries of a routine are considered, those of the lowest numbers: a group of them is a word, with a bit for each.
+const CONSIDERED: u32 = 64;
+
+/// A temporary that may get a register.
 #[derive(Clone, Copy)]
-pub(crate) struct Life {
+pub(crate) struct Candidate {
     pub temporary: u32,
-    pub from: u64,
-    pub to: u64,
+    /// Those that are alive where it is or is written, itself among them. No other of them may share a register with it.
+    pub meets: u64,
+    /// Whether it is alive across a call.
     pub spans: bool,
-    /// The register in which it comes as a parameter, goes as an operand, or else comes or goes as a result.
-    pub wish: Option<u8>,
+    /// The words that each register spares, each as often as it is executed, which is only guessed; below 0 those that it takes.
+    pub votes: [i64; REGISTERS],
 }
 
 // So many operands come in registers.
-const CARRIED: u8 = 8;
+const CARRIED: usize = 8;
 
-fn time_before(place: usize) -> u64 {
-    (place as u64).wrapping_mul(2).wrapping_add(1)
-}
+// What a parameter in its own register spares: a store and a load, at each entry of the routine, which is somewhat more than all of its
+// places are executed.
+const ENTERED: i64 = 3;
 
-fn time_behind(place: usize) -> u64 {
-    (place as u64).wrapping_mul(2).wrapping_add(2)
-}
+// The loops around a place that are counted, since a product for each would soon be too large.
+const MOST_LOOPS: u32 = 3;
 
-fn unborn(alloc: Global, temporaries: u32) -> Result<Vec<Life>, OutOfMemory> {
-    let mut lives = Vec::with_capacity(alloc, temporaries as usize)?;
-    for temporary in 0..temporaries {
-        lives.push(Life {
-            temporary,
-            from: u64::MAX,
-            to: 0,
-            spans: false,
-            wish: None,
-        })?;
-    }
-    Ok(lives)
-}
-
-// A temporary is alive at a time.
-fn note(lives: &mut [Life], temporary: u32, time: u64) {
-    let index = temporary as usize;
-    if index < lives.len() {
-        let life = &mut lives[index];
-        if time < life.from {
-            life.from = time;
-        }
-        if life.to < time {
-            life.to = time;
-        }
+/// The group of one temporary, which is empty where it isn't considered.
+pub(crate) fn group_of(temporary: u32) -> u64 {
+    if temporary < CONSIDERED {
+        1u64.wrapping_shl(temporary)
+    } else {
+        0
     }
 }
 
-fn note_some(lives: &mut [Life], temporary: Option<u32>, time: u64) {
-    if let Some(t) = temporary {
-        note(lives, t, time);
+fn group_of_some(temporary: Option<u32>) -> u64 {
+    match temporary {
+        Some(t) => group_of(t),
+        None => 0,
     }
 }
 
-fn note_each(lives: &mut [Life], list: &[u32], time: u64) {
+fn group_of_all(list: &[u32]) -> u64 {
+    let mut group = 0;
     for temporary in list {
-        note(lives, *temporary, time);
+        group |= group_of(*temporary);
+    }
+    group
+}
+
+// What an instruction reads.
+fn group_read(instruction: &Instruction) -> u64 {
+    group_of_some(read_first(instruction))
+        | group_of_some(read_second(instruction))
+        | group_of_all(read_passed(instruction))
+}
+
+fn unmet(alloc: Global, temporaries: u32) -> Result<Vec<Candidate>, OutOfMemory> {
+    let mut candidates = Vec::new(alloc);
+    for temporary in 0..temporaries {
+        if temporary < CONSIDERED {
+            candidates.push(Candidate {
+                temporary,
+                meets: 0,
+                spans: false,
+                votes: [0; REGISTERS],
+            })?;
+        }
+    }
+    Ok(candidates)
+}
+
+// All of a group are alive together.
+fn meet(candidates: &mut [Candidate], group: u64) {
+    for candidate in candidates {
+        if group & group_of(candidate.temporary) != 0 {
+            candidate.meets |= group;
+        }
     }
 }
 
-// All who hold a seat are.
-fn note_held(lives: &mut [Life], table: &Table, time: u64) {
-    for seat in 0..table.top() {
-        note_some(lives, table.holder(seat), time);
+// All of a group are alive across a call.
+fn span(candidates: &mut [Candidate], group: u64) {
+    for candidate in candidates {
+        if group & group_of(candidate.temporary) != 0 {
+            candidate.spans = true;
+        }
     }
 }
 
-// All who hold a seat span a call, but for the one that takes its result.
-fn note_spans(lives: &mut [Life], table: &Table, taken: Option<u32>) {
-    for seat in 0..table.top() {
-        if let Some(temporary) = table.holder(seat)
-            && taken != Some(temporary)
-        {
-            let index = temporary as usize;
-            if index < lives.len() {
-                lives[index].spans = true;
+// A register spares a temporary so many words.
+fn vote(candidates: &mut [Candidate], temporary: u32, register: usize, words: i64) {
+    let index = temporary as usize;
+    if index < candidates.len() && register < REGISTERS {
+        let candidate = &mut candidates[index];
+        candidate.votes[register] = candidate.votes[register].saturating_add(words);
+    }
+}
+
+// Operand j of so many that come in registers spares a word in register j. In a later one it takes a word more, since that one is taken
+// before its turn.
+fn vote_operand(
+    candidates: &mut [Candidate],
+    temporary: u32,
+    j: usize,
+    carried: usize,
+    words: i64,
+) {
+    vote(candidates, temporary, j, words);
+    for register in j..carried {
+        if register != j {
+            vote(candidates, temporary, register, words.wrapping_neg());
+        }
+    }
+}
+
+fn vote_operands(candidates: &mut [Candidate], list: &[u32], words: i64) {
+    let carried = list.len().min(CARRIED);
+    for (j, temporary) in list.iter().enumerate() {
+        if j < carried {
+            vote_operand(candidates, *temporary, j, carried, words);
+        }
+    }
+}
+
+// What is returned goes in register 0, and so the result of a call comes.
+fn vote_result(candidates: &mut [Candidate], instruction: &Instruction, words: i64) {
+    match instruction {
+        Instruction::Return { from } => vote(candidates, *from, 0, words),
+        Instruction::Call { to, .. } | Instruction::CallValue { to, .. } => vote(
+            candidates, *to, 0, words,
+        ),
+        _ => {}
+    }
+}
+
+fn vote_parameters(candidates: &mut [Candidate], parameters: u32) {
+    for parameter in 0..CARRIED as u32 {
+        if parameter < parameters {
+            vote(candidates, parameter, parameter as usize, ENTERED);
+        }
+    }
+}
+
+/// Where a walk over a body stands, from its end to its begin.
+#[derive(Drop)]
+struct Survey {
+    candidates: Vec<Candidate>,
+    // who is alive there
+    alive: u64,
+    // how many loops are around
+    loops: u32,
+    // how many loops begin at each place
+    begins: Vec<u32>,
+}
+
+impl Survey {
+    fn new(alloc: Global, routine: &TacRoutine) -> Result<Survey, OutOfMemory> {
+        Ok(Survey {
+            candidates: unmet(alloc, routine.temporaries)?,
+            alive: 0,
+            loops: 0,
+            begins: vec![in alloc; 0; routine.body.as_slice().len()]?,
+        })
+    }
+
+    // A jump to a place, which ends a loop if it isn't one ahead.
+    fn end_loop(&mut self, place: usize, target: usize) {
+        if target <= place && target < self.begins.len() {
+            self.begins[target] = self.begins[target].saturating_add(1);
+            self.loops = self.loops.saturating_add(1);
+        }
+    }
+
+    fn begin_loops(&mut self, place: usize) {
+        if place < self.begins.len() {
+            self.loops = self.loops.saturating_sub(self.begins[place]);
+        }
+    }
+
+    // From what is alive at the next place to what is alive behind an instruction.
+    fn go_behind(
+        &mut self,
+        claims: &Claims,
+        instruction: &Instruction,
+        place: usize,
+        places: usize,
+    ) {
+        let Some(exit) = exit_of(instruction, place, places) else {
+            return;
+        };
+        if !exit.falls {
+            self.alive = 0;
+        }
+        if let Some(target) = exit.target {
+            self.end_loop(place, target);
+            if let Some(claim) = claims.get(target) {
+                self.alive |= group_of_all(claim);
             }
         }
     }
-}
 
-fn wish(lives: &mut [Life], temporary: u32, register: u8) {
-    let index = temporary as usize;
-    if index < lives.len() {
-        lives[index].wish = Some(register);
+    // Each loop makes four of one execution.
+    fn weight(&self) -> i64 {
+        1i64.wrapping_shl(self.loops.min(MOST_LOOPS).wrapping_mul(2))
+    }
+
+    fn go_before(&mut self, instruction: &Instruction) {
+        let weight = self.weight();
+        let result = group_of_some(written(instruction));
+        let candidates = self.candidates.as_mut_slice();
+        meet(candidates, self.alive | result);
+        if is_call(instruction) {
+            span(candidates, self.alive & !result);
+        }
+        vote_result(candidates, instruction, weight);
+        vote_operands(candidates, read_passed(instruction), weight);
+        self.alive = self.alive & !result | group_read(instruction);
+        meet(candidates, self.alive);
     }
 }
 
-// The first operands of a call go in the registers of their numbers.
-fn wish_passed(lives: &mut [Life], list: &[u32]) {
-    for j in 0..CARRIED {
-        if (j as usize) < list.len() {
-            wish(lives, list[j as usize], j);
+// All parameters come at the entry, beside what is alive there.
+fn enter(survey: &mut Survey, parameters: u32) {
+    let mut group = survey.alive;
+    for parameter in 0..CONSIDERED {
+        if parameter < parameters {
+            group |= group_of(parameter);
         }
     }
+    let candidates = survey.candidates.as_mut_slice();
+    meet(candidates, group);
+    vote_parameters(candidates, parameters);
 }
 
-// What is returned, and the result of a call, in register 0.
-fn wish_result(lives: &mut [Life], instruction: &Instruction) {
-    let result = match instruction {
-        Instruction::Return { from } => *from,
-        Instruction::Call { to, .. } | Instruction::CallValue { to, .. } => *to,
-        _ => return,
-    };
-    let index = result as usize;
-    if index < lives.len() && lives[index].wish.is_none() {
-        lives[index].wish = Some(0);
-    }
-}
-
-// From what is alive at the next place to what is alive behind an instruction.
-fn live_behind(
-    lives: &mut [Life],
-    table: &mut Table,
-    claims: &Claims,
-    seats: &[usize],
-    instruction: &Instruction,
-    place: usize,
-    places: usize,
-) {
-    let Some(exit) = exit_of(instruction, place, places) else {
-        return;
-    };
-    if !exit.falls {
-        note_held(lives, table, time_before(place.wrapping_add(1)));
-        table.clear();
-    }
-    if let Some(target) = exit.target
-        && let Some(claim) = claims.get(target)
-    {
-        let _ = table.add_all(seats, claim);
-        note_each(lives, claim, time_behind(place));
-    }
-}
-
-fn live_before(
-    lives: &mut [Life],
-    table: &mut Table,
-    seats: &[usize],
-    instruction: &Instruction,
-    place: usize,
-) {
-    wish_result(lives, instruction);
-    wish_passed(lives, read_passed(instruction));
-    if is_call(instruction) {
-        note_spans(lives, table, written(instruction));
-    }
-    if let Some(to) = written(instruction) {
-        note(lives, to, time_behind(place));
-        let _ = table.free(seats, to);
-    }
-    let _ = table.add_some(seats, read_first(instruction));
-    let _ = table.add_some(seats, read_second(instruction));
-    let _ = table.add_all(seats, read_passed(instruction));
-    note_some(lives, read_first(instruction), time_before(place));
-    note_some(lives, read_second(instruction), time_before(place));
-    note_each(lives, read_passed(instruction), time_before(place));
-}
-
-// One instruction back.
-fn live_back(
-    lives: &mut [Life],
-    table: &mut Table,
-    claims: &Claims,
-    seats: &[usize],
-    body: &[Instruction],
-    place: usize,
-) {
-    if place >= body.len() {
-        return;
-    }
-    let instruction = &body[place];
-    live_behind(lives, table, claims, seats, instruction, place, body.len());
-    live_before(lives, table, seats, instruction, place);
-    if claims.get(place).is_some() {
-        note_held(lives, table, time_before(place));
-    }
-}
-
-/// The lives of a routine's temporaries, in their order. None where walks go on to find more.
-pub(crate) fn lives_of(
+/// A routine's temporaries that may get registers, in their order. None where walks go on to find who is alive.
+pub(crate) fn candidates_of(
     alloc: Global,
     routine: &TacRoutine,
-) -> Result<Option<Vec<Life>>, OutOfMemory> {
+) -> Result<Option<Vec<Candidate>>, OutOfMemory> {
     let count = routine.temporaries as usize;
     let seats = own_seats(alloc, count)?;
     let mut table = Table::new(alloc, count.saturating_add(REGISTERS))?;
@@ -203,26 +255,13 @@ pub(crate) fn lives_of(
     let Some(claims) = settle(alloc, &mut table, seats.as_slice(), body)? else {
         return Ok(None);
     };
-    let mut lives = unborn(alloc, routine.temporaries)?;
-    table.clear();
+    let mut survey = Survey::new(alloc, routine)?;
     for place in (0..body.len()).rev() {
-        live_back(
-            lives.as_mut_slice(),
-            &mut table,
-            &claims,
-            seats.as_slice(),
-            body,
-            place,
-        );
+        let instruction = &body[place];
+        survey.go_behind(&claims, instruction, place, body.len());
+        survey.go_before(instruction);
+        survey.begin_loops(place);
     }
-    note_held(lives.as_mut_slice(), &table, 0);
-    for parameter in 0..routine.parameters {
-        note(lives.as_mut_slice(), parameter, 0);
-    }
-    for parameter in 0..CARRIED {
-        if u32::from(parameter) < routine.parameters {
-            wish(lives.as_mut_slice(), u32::from(parameter), parameter);
-        }
-    }
-    Ok(Some(lives))
+    enter(&mut survey, routine.parameters);
+    Ok(Some(survey.candidates))
 }

@@ -1,9 +1,7 @@
-// Linear scan: registers for temporaries in the order of their lives.
-
-ghost use Rattle.std.specs.Prelude.{◌<◌, IfSome};
+// Registers for temporaries, by what each would spare.
 
 use crate::homes::Home;
-use crate::lives::{Life, lives_of};
+use crate::lives::{Candidate, candidates_of, group_of};
 use crate::placement::{Placement, are_placed, count_of_routines};
 use crate::placer::{EverySlot, Placer, add_slots};
 use crate::seats::REGISTERS;
@@ -11,9 +9,8 @@ use std::alloc::Global;
 use tac_code::code::{OutOfMemory, TacRoutine};
 use tac_code::tac::Tac;
 
-/// Goes through each routine's temporaries in the order of their lives and gives registers 0 to 11, and the slot of its number to
-/// what finds none free or spans a call. A life gets the register in which it comes or goes at a call, where that is free, and else
-/// the lowest one.
+/// Scans each routine, and gives registers 0 to 11 to its temporaries, a pair at a time: the temporary and the free register that spare
+/// the most words at calls. What spans a call, or finds no register free, has the slot of its number.
 #[derive(Clone, Copy, Drop)]
 pub struct Scan;
 
@@ -28,44 +25,82 @@ impl Placer for Scan {
     }
 }
 
-// The first register that is free from before a time on.
-fn free_register(busy: &[u64; REGISTERS], from: u64) -> Option<u8>
-    ensures { IfSome result (λ register. register < 12) }
-{
+// A register for a temporary, and the words that it spares.
+#[derive(Clone, Copy)]
+struct Choice {
+    temporary: u32,
+    register: u8,
+    words: i64,
+}
+
+fn spares_more(words: i64, best: Option<Choice>) -> bool {
+    match best {
+        Some(choice) => choice.words < words,
+        None => true,
+    }
+}
+
+// The better one of a choice and the best for one more temporary, whose register is held by nobody that it meets.
+fn best_with(
+    best: Option<Choice>,
+    candidate: &Candidate,
+    held: &[u64; REGISTERS],
+) -> Option<Choice> {
+    let mut best = best;
     for register in 0..12u8 {
-        if busy[register as usize] < from {
-            return Some(register);
+        let words = candidate.votes[register as usize];
+        if held[register as usize] & candidate.meets == 0 && spares_more(words, best) {
+            best = Some(Choice {
+                temporary: candidate.temporary,
+                register,
+                words,
+            });
         }
     }
-    None
+    best
 }
 
-// The register that a life wishes for, if it is free, or else the first that is.
-fn register_for(busy: &[u64; REGISTERS], life: Life) -> Option<u8>
-    ensures { IfSome result (λ register. register < 12) }
-{
-    let from = life.from.saturating_add(1);
-    if let Some(register) = life.wish
-        && register < 12
-        && busy[register as usize] < from
-    {
-        return Some(register);
+// The best choice for those of a group.
+fn best_of(candidates: &[Candidate], group: u64, held: &[u64; REGISTERS]) -> Option<Choice> {
+    let mut best = None;
+    for candidate in candidates {
+        if group & group_of(candidate.temporary) != 0 {
+            best = best_with(best, candidate, held);
+        }
     }
-    free_register(busy, from)
+    best
 }
 
-// Gives a register to a life, where it may have one and one is free.
-fn choose(homes: &mut [Home], busy: &mut [u64; REGISTERS], life: Life) {
-    if life.spans || life.to < life.from {
-        return;
+// Who lives somewhere, but not across a call.
+fn group_of_short(candidates: &[Candidate]) -> u64 {
+    let mut group = 0;
+    for candidate in candidates {
+        if candidate.meets != 0 && !candidate.spans {
+            group |= group_of(candidate.temporary);
+        }
     }
-    let Some(register) = register_for(busy, life) else {
-        return;
-    };
-    let index = life.temporary as usize;
-    if index < homes.len() {
-        homes[index] = Home::Reg(register);
-        busy[register as usize] = life.to.saturating_add(1);
+    group
+}
+
+fn give(homes: &mut [Home], held: &mut [u64; REGISTERS], choice: Choice) {
+    let index = choice.temporary as usize;
+    let register = choice.register as usize;
+    if index < homes.len() && register < REGISTERS {
+        homes[index] = Home::Reg(choice.register);
+        held[register] |= group_of(choice.temporary);
+    }
+}
+
+// Gives registers in the order of what they spare.
+fn give_registers(homes: &mut [Home], candidates: &[Candidate]) {
+    let mut held = [0; REGISTERS];
+    let mut group = group_of_short(candidates);
+    for _ in candidates {
+        let Some(choice) = best_of(candidates, group, &held) else {
+            return;
+        };
+        give(homes, &mut held, choice);
+        group &= !group_of(choice.temporary);
     }
 }
 
@@ -75,15 +110,10 @@ fn scan_routine(
     homes: &mut Vec<Home>,
     routine: &TacRoutine,
 ) -> Result<(), OutOfMemory> {
-    let Some(mut lives) = lives_of(alloc, routine)? else {
-        return add_slots(homes, routine.temporaries);
-    };
     let mut chosen = Vec::new(alloc);
     add_slots(&mut chosen, routine.temporaries)?;
-    lives.sort_by_key(|life| life.from)?;
-    let mut busy = [0; REGISTERS];
-    for life in &lives {
-        choose(chosen.as_mut_slice(), &mut busy, *life);
+    if let Some(candidates) = candidates_of(alloc, routine)? {
+        give_registers(chosen.as_mut_slice(), candidates.as_slice());
     }
     homes.extend_from_slice(chosen.as_slice())
 }
