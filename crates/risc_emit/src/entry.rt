@@ -39,11 +39,55 @@ fn stands(frame: &Frame<'_>, j: u32) -> bool
     }
 }
 
-// A parameter that comes in another register goes to the operands of the caller, so many bytes behind the frame.
-fn put_spill(frame: &Frame<'_>, pieces: &mut Pieces, behind: u64, j: u32) -> Result<(), OutOfMemory>
-    requires { behind < 1099511627776 }
-    ensures { OnOk result (pieces.new ≡ pieces.old ++ form.spill_one (context_of frame.now) frame.now.number behind j (home (context_of frame.now) frame.now.number j)) }
+// So many of the parameters come in registers.
+fn carried(count: u32) -> u32
+    ensures { result ≡ form.carried count }
 {
+    if count < CARRIED { count } else { CARRIED }
+}
+
+// Whether its home takes a parameter at once: where none of so many that are carried comes.
+fn is_clear(frame: &Frame<'_>, carried: u32, j: u32) -> bool
+    ensures { result ≡ form.is_clear carried j (home (context_of frame.now) frame.now.number j) }
+{
+    match frame.seat(j) {
+        Seat::Register(register) => j < CARRIED && u32::from(register.number()) >= carried,
+        Seat::Slot(_) => j < CARRIED,
+    }
+}
+
+fn is_direct(frame: &Frame<'_>, carried: u32, j: u32) -> bool
+    ensures { result ≡ form.is_direct carried j (home (context_of frame.now) frame.now.number j) }
+{
+    stands(frame, j) || is_clear(frame, carried, j)
+}
+
+// The home of a parameter takes it from its register.
+fn put_taken(frame: &Frame<'_>, pieces: &mut Pieces, j: u32) -> Result<(), OutOfMemory>
+    requires { j < 8 }
+    ensures { OnOk result (pieces.new ≡ pieces.old ++ form.take (context_of frame.now) frame.now.number j (home (context_of frame.now) frame.now.number j)) }
+{
+    let from = Register::new(j as u8);
+    match frame.seat(j) {
+        Seat::Register(register) => pieces.plain(copied(register, from)),
+        Seat::Slot(slot) => put_store(pieces, from, r14(), frame.slot_at(slot)),
+    }
+}
+
+// A parameter that comes in another register goes to its home, or to the operands of the caller, so many bytes behind the frame.
+fn put_spill(
+    frame: &Frame<'_>,
+    pieces: &mut Pieces,
+    carried: u32,
+    behind: u64,
+    j: u32,
+) -> Result<(), OutOfMemory>
+    requires { behind < 1099511627776 }
+    ensures { OnOk result (pieces.new ≡ pieces.old ++ form.spill_one (context_of frame.now) frame.now.number carried behind j (home (context_of frame.now) frame.now.number j)) }
+{
+    if j < CARRIED && is_clear(frame, carried, j) {
+        return put_taken(frame, pieces, j);
+    }
     if j < CARRIED && !stands(frame, j) {
         put_store(
             pieces,
@@ -62,10 +106,10 @@ fn put_spills(
     count: u32,
 ) -> Result<(), OutOfMemory>
     requires { behind < 1099511627776 }
-    ensures { OnOk result (pieces.new ≡ pieces.old ++ form.spill (context_of frame.now) frame.now.number behind 0 count) }
+    ensures { OnOk result (pieces.new ≡ pieces.old ++ form.spill (context_of frame.now) frame.now.number (form.carried count) behind 0 count) }
 {
     for j in 0..count {
-        put_spill(frame, pieces, behind, j)?;
+        put_spill(frame, pieces, carried(count), behind, j)?;
     }
     Ok(())
 }
@@ -74,13 +118,14 @@ fn put_spills(
 fn put_parameter(
     frame: &Frame<'_>,
     pieces: &mut Pieces,
+    carried: u32,
     behind: u64,
     j: u32,
 ) -> Result<(), OutOfMemory>
     requires { behind < 1099511627776 }
-    ensures { OnOk result (pieces.new ≡ pieces.old ++ form.parameter (context_of frame.now) frame.now.number behind j (home (context_of frame.now) frame.now.number j)) }
+    ensures { OnOk result (pieces.new ≡ pieces.old ++ form.parameter (context_of frame.now) frame.now.number carried behind j (home (context_of frame.now) frame.now.number j)) }
 {
-    if stands(frame, j) {
+    if is_direct(frame, carried, j) {
         return Ok(());
     }
     put_load(
@@ -99,12 +144,26 @@ fn put_parameters(
     count: u32,
 ) -> Result<(), OutOfMemory>
     requires { behind < 1099511627776 }
-    ensures { OnOk result (pieces.new ≡ pieces.old ++ form.parameters (context_of frame.now) frame.now.number behind 0 count) }
+    ensures { OnOk result (pieces.new ≡ pieces.old ++ form.parameters (context_of frame.now) frame.now.number (form.carried count) behind 0 count) }
 {
     for j in 0..count {
-        put_parameter(frame, pieces, behind, j)?;
+        put_parameter(frame, pieces, carried(count), behind, j)?;
     }
     Ok(())
+}
+
+// All parameters come to their homes.
+fn put_arrival(
+    frame: &Frame<'_>,
+    pieces: &mut Pieces,
+    behind: u64,
+    count: u32,
+) -> Result<(), OutOfMemory>
+    requires { behind < 1099511627776 }
+    ensures { OnOk result (pieces.new ≡ pieces.old ++ form.arrive (context_of frame.now) frame.now.number behind count) }
+{
+    put_spills(frame, pieces, behind, count)?;
+    put_parameters(frame, pieces, behind, count)
 }
 
 // R12 takes the new frame's address.
@@ -135,8 +194,7 @@ fn put_enter(
     pieces.plain(stored(Width::Word, r15(), r12(), 0))?;
     pieces.plain(stored(Width::Word, r14(), r12(), 4))?;
     pieces.plain(copied(r14(), r12()))?;
-    put_spills(frame, pieces, frame.cost(), routine.parameters)?;
-    put_parameters(frame, pieces, frame.cost(), routine.parameters)
+    put_arrival(frame, pieces, frame.cost(), routine.parameters)
 }
 
 // A run-time routine stands within its caller's frame.
@@ -144,8 +202,7 @@ fn put_join(frame: &Frame<'_>, pieces: &mut Pieces, routine: &TacRoutine) -> Res
     ensures { OnOk result (pieces.new ≡ pieces.old ++ form.join_form (context_of frame.now) frame.now.number routine.now) }
 {
     pieces.plain(stored(Width::Word, r15(), r14(), frame.link_at()))?;
-    put_spills(frame, pieces, 0, routine.parameters)?;
-    put_parameters(frame, pieces, 0, routine.parameters)
+    put_arrival(frame, pieces, 0, routine.parameters)
 }
 
 fn is_entered(frame: &Frame<'_>, routine: &TacRoutine) -> bool

@@ -232,18 +232,26 @@ module _ (c : Context) (r : ℕ) where
   form_bare k (New t type line) = rw (receive_bare (home c r t)) refl
   form_bare k End = refl
 
-  spill_bare : (n j count : ℕ) → form.spill b r n j count ≡ form.spill c r n j count
-  spill_bare n j zero = refl
-  spill_bare n j (suc count) = rw (spill_bare n (suc j) count) refl
+  take_bare : (j : ℕ) (h : Home) → form.take b r j h ≡ form.take c r j h
+  take_bare j (Reg q) = refl
+  take_bare j (Slot k) = refl
 
-  parameters_bare : (n j count : ℕ) → form.parameters b r n j count ≡ form.parameters c r n j count
-  parameters_bare n j zero = refl
-  parameters_bare n j (suc count) =
-      rw (target_bare (home c r j)) (rw (save_bare (home c r j)) (rw (parameters_bare n (suc j) count) refl))
+  spill_bare : (m n j count : ℕ) → form.spill b r m n j count ≡ form.spill c r m n j count
+  spill_bare m n j zero = refl
+  spill_bare m n j (suc count) = rw (take_bare j (home c r j)) (rw (spill_bare m n (suc j) count) refl)
+
+  parameters_bare : (m n j count : ℕ) → form.parameters b r m n j count ≡ form.parameters c r m n j count
+  parameters_bare m n j zero = refl
+  parameters_bare m n j (suc count) =
+      rw (target_bare (home c r j)) (rw (save_bare (home c r j)) (rw (parameters_bare m n (suc j) count) refl))
+
+  arrive_bare : (n count : ℕ) → form.arrive b r n count ≡ form.arrive c r n count
+  arrive_bare n count =
+      rw (spill_bare (form.carried count) n 0 count) (rw (parameters_bare (form.carried count) n 0 count) refl)
 
   entry_bare : (routine : TacRoutine) → form.entry_form b r routine ≡ form.entry_form c r routine
   entry_bare routine =
-      rw (spill_bare (c.costs r) 0 routine.parameters) (rw (parameters_bare (c.costs r) 0 routine.parameters) (rw (spill_bare 0 0 routine.parameters) (rw (parameters_bare 0 0 routine.parameters) refl)))
+      rw (arrive_bare (c.costs r) routine.parameters) (rw (arrive_bare 0 routine.parameters) refl)
 
 start_bare : (c : Context) (block : TacRoutine) → start_form (bare c) block ≡ start_form c block
 start_bare c block = refl

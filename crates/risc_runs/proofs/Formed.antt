@@ -158,7 +158,7 @@ module _ (c : Context) (sound : IsSound c.code) where
     where
       go : (b e : Bool) → 1 ≤ length (cond b (cond e (form.enter_form c r x) (Fails on.Always 12 x.line ∷ [])) (form.join_form c r x))
       go true true =
-          let n = length-append (form.frame_below c r (c.costs r)) (Plain (word.Load Word 11 13 (pos 268)) ∷ Plain (word.Operate op.Sub 11 12 (Content 11)) ∷ Fails on.Less 12 x.line ∷ Plain (word.Store Word 15 12 (pos 0)) ∷ Plain (word.Store Word 14 12 (pos 4)) ∷ Plain (word.Move 14 (Content 12)) ∷ (form.spill c r (c.costs r) 0 x.parameters ++ form.parameters c r (c.costs r) 0 x.parameters)) in
+          let n = length-append (form.frame_below c r (c.costs r)) (Plain (word.Load Word 11 13 (pos 268)) ∷ Plain (word.Operate op.Sub 11 12 (Content 11)) ∷ Fails on.Less 12 x.line ∷ Plain (word.Store Word 15 12 (pos 0)) ∷ Plain (word.Store Word 14 12 (pos 4)) ∷ Plain (word.Move 14 (Content 12)) ∷ form.arrive c r (c.costs r) x.parameters) in
           omega (arith, n)
       go true false = omega arith
       go false e = omega arith

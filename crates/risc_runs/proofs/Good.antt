@@ -164,7 +164,7 @@ module _ (c : Context) (r : ℕ) where
   arithmetic_good Add t a o error line e l = both_good a o _ (tt, ((e, l), save_good (home c r t)))
   arithmetic_good Subtract t a o error line e l = both_good a o _ (tt, ((e, l), save_good (home c r t)))
   arithmetic_good Multiply t a o error line e l =
-      both_good a o _ (tt, good_append (form.save c r (home c r t)) _ (save_good (home c r t)) (tt, (tt, (tt, ((e, l), tt)))))
+      both_good a o _ (tt, (tt, (tt, (tt, (tt, (tt, ((e, l), save_good (home c r t))))))))
   arithmetic_good Divide t a o error line e l = divide_good t a o error line e l
   arithmetic_good Modulo t a o error line e l = modulo_good t a o line l
 
@@ -287,24 +287,30 @@ module _ (c : Context) (r : ℕ) where
       (tt, (tt, (tt, good_append (form.number 12 (pos (c.sizes type))) _ (number_good 12 (pos (c.sizes type))) (tt, ((error_heap, h.2), (tt, (tt, (tt, (tt, receive_good (home c r t))))))))))
   form_good limits k End h = (tt, (tt, (tt, tt)))
 
-  spill_one_good : (n j : ℕ) (h : Home) → AreGood (form.spill_one c r n j h)
-  spill_one_good n j h = by_test (nat_lt j 8 && not (stands j h)) _ _ (store_good j 14 (n + 8 + 4 * j)) tt
+  take_good : (j : ℕ) (h : Home) → AreGood (form.take c r j h)
+  take_good j (Reg q) = (tt, tt)
+  take_good j (Slot k) = store_good j 14 (slot_at c r k)
 
-  spill_good : (n j count : ℕ) → AreGood (form.spill c r n j count)
-  spill_good n j zero = tt
-  spill_good n j (suc count) = good_append (form.spill_one c r n j (home c r j)) _ (spill_one_good n j (home c r j)) (spill_good n (suc j) count)
+  spill_one_good : (m n j : ℕ) (h : Home) → AreGood (form.spill_one c r m n j h)
+  spill_one_good m n j h =
+      by_test (form.is_clear m j h) _ _ (take_good j h) (by_test (nat_lt j 8 && not (stands j h)) _ _ (store_good j 14 (n + 8 + 4 * j)) tt)
 
-  parameter_good : (n j : ℕ) (h : Home) → AreGood (form.parameter c r n j h)
-  parameter_good n j h =
-      by_test (stands j h) _ _ tt (good_append (form.load (form.target c r h) 14 (n + 8 + 4 * j)) _ (load_good _ 14 _) (save_good h))
+  spill_good : (m n j count : ℕ) → AreGood (form.spill c r m n j count)
+  spill_good m n j zero = tt
+  spill_good m n j (suc count) = good_append (form.spill_one c r m n j (home c r j)) _ (spill_one_good m n j (home c r j)) (spill_good m n (suc j) count)
 
-  parameters_good : (n j count : ℕ) → AreGood (form.parameters c r n j count)
-  parameters_good n j zero = tt
-  parameters_good n j (suc count) =
-      good_append (form.parameter c r n j (home c r j)) _ (parameter_good n j (home c r j)) (parameters_good n (suc j) count)
+  parameter_good : (m n j : ℕ) (h : Home) → AreGood (form.parameter c r m n j h)
+  parameter_good m n j h =
+      by_test (form.is_direct m j h) _ _ tt (good_append (form.load (form.target c r h) 14 (n + 8 + 4 * j)) _ (load_good _ 14 _) (save_good h))
 
-  arrived_good : (n count : ℕ) → AreGood (form.spill c r n 0 count ++ form.parameters c r n 0 count)
-  arrived_good n count = good_append (form.spill c r n 0 count) _ (spill_good n 0 count) (parameters_good n 0 count)
+  parameters_good : (m n j count : ℕ) → AreGood (form.parameters c r m n j count)
+  parameters_good m n j zero = tt
+  parameters_good m n j (suc count) =
+      good_append (form.parameter c r m n j (home c r j)) _ (parameter_good m n j (home c r j)) (parameters_good m n (suc j) count)
+
+  arrived_good : (n count : ℕ) → AreGood (form.arrive c r n count)
+  arrived_good n count =
+      good_append (form.spill c r (form.carried count) n 0 count) _ (spill_good (form.carried count) n 0 count) (parameters_good (form.carried count) n 0 count)
 
   below_good : (n : ℕ) → AreGood (form.frame_below c r n)
   below_good n = by_test (nat_lt n 65536) _ _ (tt, tt) (tt, (tt, (tt, tt)))

@@ -35,7 +35,8 @@ use Rattle.risc_related.specs.Walk.{walk}
 use Rattle.risc_related.proofs.Basics.{get_within, update_same, update_other}
 use Rattle.risc_related.proofs.Start.{related_starts}
 use Rattle.risc_steps.specs.Pieces.{AtEntry, Piece, Plain, Goes, Fails, Stands, Left}
-use Rattle.risc_steps.specs.Forms.{frame_below, spill, parameters, enter_form, join_form, is_entered, entry_form}
+use Rattle.risc_steps.specs.Forms as form
+use Rattle.risc_steps.specs.Forms.{frame_below, enter_form, join_form, is_entered, entry_form}
 use Rattle.risc_steps.specs.Follows.{machine_of, stub, Stood, Built, Belongs, Comes, Stops, trapped, told, tape_of}
 use Rattle.risc_steps.proofs.Basics.{left_after, left_next, left_at}
 use Rattle.risc_steps.proofs.Flags.{entered_silent}
@@ -153,7 +154,7 @@ module _ (code : Code) (homes : List Home) (image : Image) (sound : IsSound code
 
   abbrev behind_test : List Piece
   behind_test =
-      Fails on.Less 12 block.line ∷ Plain (word.Store Word 15 12 (pos 0)) ∷ Plain (word.Store Word 14 12 (pos 4)) ∷ Plain (word.Move 14 (Content 12)) ∷ (spill c 0 n 0 block.parameters ++ parameters c 0 n 0 block.parameters)
+      Fails on.Less 12 block.line ∷ Plain (word.Store Word 15 12 (pos 0)) ∷ Plain (word.Store Word 14 12 (pos 4)) ∷ Plain (word.Move 14 (Content 12)) ∷ form.arrive c 0 n block.parameters
 
   entry_left : n < 16777153 → (at : ℕ) → at ≡ c.entry 0 → Left c words at (enter_form c 0 block) (c.site 0 0)
   entry_left lt at e = left_at c words (c.entry 0) at _ (enter_form c 0 block) (taken (stand.entry 0 block is)) e
@@ -200,7 +201,7 @@ module _ (code : Code) (homes : List Home) (image : Image) (sound : IsSound code
       let t7 = step_to c words b.stood i7 t6.to v6 t6.shows l1.stands.2.2.0 tt in
       let v7 = after i7 v6 in
       let l7 = left_next c words v6.place _ _ _ (left_next c words v5.place _ _ _ (left_next c words v1.place _ _ _ l1)) in
-      let no_more : length (spill c 0 n 0 block.parameters ++ parameters c 0 n 0 block.parameters) ≡ 0 = ap (λ k. length (spill c 0 n 0 k ++ parameters c 0 n 0 k)) none in
+      let no_more : length (form.arrive c 0 n block.parameters) ≡ 0 = ap (λ k. length (form.arrive c 0 n k)) none in
       let other : (a : ℕ) → a ≢ c.bottom → a ≢ c.bottom + 4 → v7.words a ≡ v.words a = λ a n0 n4. let m0 : a ≢ v1.registers 12 + 0 = omega (arith, e12) in let m4 : a ≢ v5.registers 12 + 4 = omega (arith, e12) in update_other v5.words (v5.registers 12 + 4) (v5.registers 14) a m4 ∙ update_other v1.words (v1.registers 12 + 0) (v1.registers 15) a m0 ∙ z.memory a in
       let at_link : v7.words c.bottom ≡ 0 = let far : c.bottom ≢ v5.registers 12 + 4 = omega (arith, e12) in update_other v5.words (v5.registers 12 + 4) (v5.registers 14) c.bottom far ∙ ap v5.words (plus_zero c.bottom (v1.registers 12) (sym e12)) ∙ update_same v1.words (v1.registers 12 + 0) (v1.registers 15) ∙ r15 in
       let starting : Starting c (machine_of v7) = record {

@@ -28,7 +28,8 @@ use Rattle.risc_related.proofs.Frames.{program_room, leaf_room, cost_program, op
 use Rattle.risc_related.proofs.Calls.{related_enters}
 use Rattle.risc_related.proofs.Walk.{stack_exact}
 use Rattle.risc_steps.specs.Pieces.{Piece, Plain, Fails, Left}
-use Rattle.risc_steps.specs.Forms.{constant, spill, parameters, frame_below, enter_form, join_form, is_entered, entry_form}
+use Rattle.risc_steps.specs.Forms as form
+use Rattle.risc_steps.specs.Forms.{constant, frame_below, enter_form, join_form, is_entered, entry_form}
 use Rattle.risc_steps.specs.Follows.{machine_of, Stood, Built, Belongs, Comes, Stops, Follows}
 use Rattle.risc_steps.proofs.Basics.{left_after, left_next, left_at}
 use Rattle.risc_steps.proofs.Flags.{entered_silent}
@@ -192,7 +193,7 @@ module _ (c : Context) (words : List ℕ) (b : Built c words) (p : Places) (S H 
       fails_walked c words b s condition 12 routine.line ps _ n' w' (walk_near c words b p s offering f w' passed (e14 ∙ k.stack) same) sh' l' h
 
   -- the frame made and the parameters received
-  made : (g : ℕ) → is_program c q ≡ true → g + c.costs q ≡ f → c.base ≤ g → (n' : machine.State) (w' : View) → Shows words c.size n' w' → w'.registers 12 ≡ g → ((z : ℕ) → z ≢ 11 → z ≢ 12 → w'.registers z ≡ w.registers z) → ((a : ℕ) → w'.words a ≡ w.words a) → Left c words w'.place (Plain (word.Store Word 15 12 (pos 0)) ∷ Plain (word.Store Word 14 12 (pos 4)) ∷ Plain (word.Move 14 (Content 12)) ∷ (spill c q (c.costs q) 0 routine.parameters ++ parameters c q (c.costs q) 0 routine.parameters)) (c.site q 0) → Arrives c words inside n'
+  made : (g : ℕ) → is_program c q ≡ true → g + c.costs q ≡ f → c.base ≤ g → (n' : machine.State) (w' : View) → Shows words c.size n' w' → w'.registers 12 ≡ g → ((z : ℕ) → z ≢ 11 → z ≢ 12 → w'.registers z ≡ w.registers z) → ((a : ℕ) → w'.words a ≡ w.words a) → Left c words w'.place (Plain (word.Store Word 15 12 (pos 0)) ∷ Plain (word.Store Word 14 12 (pos 4)) ∷ Plain (word.Move 14 (Content 12)) ∷ form.arrive c q (c.costs q) routine.parameters) (c.site q 0) → Arrives c words inside n'
   made g prog below low n' w' sh' e12 regs mem l' =
       let pr = b.laid.program q prog in
       let cq = cost_program c q prog in
@@ -291,10 +292,10 @@ module _ (c : Context) (words : List ℕ) (b : Built c words) (p : Places) (S H 
           let hs = both _ _ entered in
           let lt = ltb-true (c.costs q) 16777153 hs.0 in
           let under : f ≤ c.bottom = ⊎_elim (λ e. omega (arith, e.0)) (λ le. omega arith) (open_bottom c b.laid p v.words f (owner_of s.current) s.callers s.memory.frames s.memory.scratch be.related.held.frames) in
-          let z = test_run c words b (c.costs q) f (Fails on.Less 12 routine.line ∷ Plain (word.Store Word 15 12 (pos 0)) ∷ Plain (word.Store Word 14 12 (pos 4)) ∷ Plain (word.Move 14 (Content 12)) ∷ (spill c q (c.costs q) 0 routine.parameters ++ parameters c q (c.costs q) 0 routine.parameters)) _ n w shows frame_is_passed (k.globals ∙ be.related.globals) passed.held.limit low_frame (omega (arith, lt)) l' in
+          let z = test_run c words b (c.costs q) f (Fails on.Less 12 routine.line ∷ Plain (word.Store Word 15 12 (pos 0)) ∷ Plain (word.Store Word 14 12 (pos 4)) ∷ Plain (word.Move 14 (Content 12)) ∷ form.arrive c q (c.costs q) routine.parameters) _ n w shows frame_is_passed (k.globals ∙ be.related.globals) passed.held.limit low_frame (omega (arith, lt)) l' in
           ends x ex z
         where
-          ends : (x : Bool) → nat_lt f (c.base + c.costs q) ≡ x → Tested c words b (c.costs q) f (Fails on.Less 12 routine.line ∷ Plain (word.Store Word 15 12 (pos 0)) ∷ Plain (word.Store Word 14 12 (pos 4)) ∷ Plain (word.Move 14 (Content 12)) ∷ (spill c q (c.costs q) 0 routine.parameters ++ parameters c q (c.costs q) 0 routine.parameters)) (c.site q 0) n w → Follows c words (cond x (Over (Stack routine.line)) (Goes inside)) s n
+          ends : (x : Bool) → nat_lt f (c.base + c.costs q) ≡ x → Tested c words b (c.costs q) f (Fails on.Less 12 routine.line ∷ Plain (word.Store Word 15 12 (pos 0)) ∷ Plain (word.Store Word 14 12 (pos 4)) ∷ Plain (word.Move 14 (Content 12)) ∷ form.arrive c q (c.costs q) routine.parameters) (c.site q 0) n w → Follows c words (cond x (Over (Stack routine.line)) (Goes inside)) s n
           ends true ex z =
               inr (stop_to c words b s n (Stack routine.line) z.view z.to (stopped _ on.Less z.to.to z.view z.to.shows (z.registers 14 (omega arith) (omega arith)) z.memory z.left (z.less ∙ ex)))
           ends false ex z =

@@ -66,11 +66,14 @@ sign_below low h =
     over : (low : ℕ) → low < 2147483648 → low / 2147483648 ≡ 0
     over low h = omega arith
 
+suc_test : (x : ℕ) → nat_eq (suc x) 0 ≡ false
+suc_test x = grind arith
+
 same_test : (x y : ℕ) → ((x ≡ 0) → (y ≡ 0)) → ((y ≡ 0) → (x ≡ 0)) → nat_eq x 0 ≡ nat_eq y 0
 same_test zero zero f g = refl
 same_test zero (suc y) f g = absurd (cc (f refl))
 same_test (suc x) zero f g = absurd (cc (g refl))
-same_test (suc x) (suc y) f g = refl
+same_test (suc x) (suc y) f g = suc_test x ∙ sym (suc_test y)
 
 -- one more than H is 0 where H is that sign of a negative word, and H is 0 where it is that of another
 all_ones : (low h : ℕ) → 2147483648 ≤ low → low < 4294967296 → h < 4294967296 → nat_eq ((h + 1 + 0) % 2 ^ 32) 0 ≡ nat_eq (difference_of (sign_of low) h) 0

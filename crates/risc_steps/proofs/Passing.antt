@@ -1,6 +1,7 @@
 -- Operands passed into the caller's frame, and parameters that come from there to their homes.
-use Rattle.std.proofs.Common.{◌≡◌, ◌≢◌, ℕ, zero, suc, ◌+◌, ◌*◌, ◌%◌, ◌<◌, ◌≤◌, ◌⊎◌, inl, inr, ⊎_elim, Bool, true, false, cond, ◌&&◌, not, nat_eq, nat_lt, List, [], ◌∷◌, ◌++◌, length, Option, Some, None, slice_get, slice_index, pos, refl, sym, ap, ◌∙◌, subst, arith, length-append, append_assoc}
+use Rattle.std.proofs.Common.{◌≡◌, ◌≢◌, ℕ, zero, suc, ◌+◌, ◌*◌, ◌%◌, ◌<◌, ◌≤◌, ◌⊎◌, inl, inr, ⊎_elim, Bool, true, false, cond, ◌&&◌, ◌||◌, not, nat_eq, nat_lt, List, [], ◌∷◌, ◌++◌, length, Option, Some, None, slice_get, slice_index, pos, refl, sym, ap, ◌∙◌, subst, arith, length-append, append_assoc}
 use Rattle.std.proofs.lemmas.Bool.{cases_eq}
+use Rattle.risc_word.specs.declared.instr.Operand.TheVariants as instr_operand
 use Rattle.risc_word.specs.declared.instr.Width.TheVariants.{Word}
 use Rattle.risc_word.specs.declared.instr.Instr.{Instr}
 use Rattle.risc_word.specs.declared.instr.Instr.TheVariants as word
@@ -20,11 +21,11 @@ use Rattle.risc_related.proofs.Basics.{eq_of, update_same, update_at, update_oth
 use Rattle.risc_related.proofs.Frames.{program_room, open_bottom, inside_program}
 use Rattle.risc_related.proofs.Kept.{objects_keep}
 use Rattle.risc_steps.specs.Pieces.{Piece, Plain, Left}
-use Rattle.risc_steps.specs.Forms.{is_taken, is_stored, stands, fetched, target, save, load, store, into, pass_one, pass, carry_one, carry, spill_one, spill, parameter, parameters}
+use Rattle.risc_steps.specs.Forms.{carried, is_taken, is_stored, stands, is_clear, is_direct, fetched, target, save, load, store, into, pass_one, pass, carry_one, carry, spill_one, spill, parameter, parameters}
 use Rattle.risc_steps.specs.Forms as form
 use Rattle.risc_steps.specs.Follows.{machine_of, Built}
 use Rattle.risc_steps.proofs.Basics.{left_after}
-use Rattle.risc_steps.proofs.Runs.{Framed, step_to, load_run, store_run, fetch_run, into_run, save_run, target_not}
+use Rattle.risc_steps.proofs.Runs.{Framed, step_to, load_run, store_run, fetch_run, into_run, save_run, in_register, in_slot, target_not}
 
 append_nil : (ps : List Piece) → ps ++ [] ≡ ps
 append_nil [] = refl
@@ -310,25 +311,53 @@ related_passed c words b p s m m' f h prog regs same =
 
 -- ---- parameters come to their homes
 
-module _ (c : Context) (words : List ℕ) (b : Built c words) (p : Places) (q g n o : ℕ) (framed : Framed c words q g) (routine : TacRoutine) (is : slice_get (routines c.code) q ≡ Some routine) (vs : List Value) (at : g + n + 8 ≡ o) where
+module _ (c : Context) (words : List ℕ) (b : Built c words) (p : Places) (q g n o : ℕ) (framed : Framed c words q g) (routine : TacRoutine) (is_routine : slice_get (routines c.code) q ≡ Some routine) (vs : List Value) (at : g + n + 8 ≡ o) where
   -- where operand j stands, apart from the slots
   pub record Offered : Type 0 where
     pub readable : (j : ℕ) → j < routine.parameters → IsReadable c.size (o + 4 * j)
     pub writable : (j : ℕ) → j < routine.parameters → IsWritable words c.size (o + 4 * j)
     pub apart : (j : ℕ) → j < routine.parameters → (o + 4 * j < g + c.slots_at q) ⊎ (g + c.frame_at q ≤ o + 4 * j)
 
-  -- parameter k went from its register to the frame, if it doesn't come in its home
+  -- so many come in registers
+  abbrev few : ℕ
+  few = carried routine.parameters
+
+  low_is : (u : ℕ) → u < routine.parameters → u < 8 → u < few
+  low_is u lt k = go (nat_lt routine.parameters 8)
+    where
+      go : (t : Bool) → u < cond t routine.parameters 8
+      go true = lt
+      go false = k
+
+  abbrev Aside_of : ℕ → Type 0
+  Aside_of a = (a < g + c.slots_at q) ⊎ (g + c.frame_at q ≤ a)
+
+  -- parameter k went from its register to its home or to the frame, if it doesn't come in its home
   record SpilledOne (k len : ℕ) (m : machine.State) (v : View) : Type 0 where
     view : View
     way : Way words c.size m same_tape view
-    registers : (z : ℕ) → z ≢ 15 → view.registers z ≡ v.registers z
-    same : (a : ℕ) → a ≢ o + 4 * k → view.words a ≡ v.words a
+    low : (z : ℕ) → z < few → view.registers z ≡ v.registers z
+    globals : view.registers 13 ≡ v.registers 13
+    stack : view.registers 14 ≡ v.registers 14
+    same : (a : ℕ) → Aside_of a → a ≢ o + 4 * k → view.words a ≡ v.words a
     aside : 8 ≤ k → (a : ℕ) → view.words a ≡ v.words a
-    stored : k < 8 → stands k (home c q k) ≡ false → view.words (o + 4 * k) ≡ v.registers k
+    stored : k < 8 → is_direct few k (home c q k) ≡ false → view.words (o + 4 * k) ≡ v.registers k
+    here : is_clear few k (home c q k) ≡ true → value_of c q g (machine_of view) (home c q k) ≡ v.registers k
+    others : (u : ℕ) → IsAlive c q 0 u → u ≢ k → value_of c q g (machine_of view) (home c q u) ≡ value_of c q g (machine_of v) (home c q u)
     place : view.place ≡ v.place + len
 
-  spill_one_run : (offered : Offered) (k : ℕ) (ps : List Piece) (next : ℕ) (m : machine.State) (v : View) → Shows words c.size m v → Left c words v.place (spill_one c q n k (home c q k) ++ ps) next → k < routine.parameters → v.registers 14 ≡ g → SpilledOne k (length (spill_one c q n k (home c q k))) m v
-  spill_one_run offered k ps next m v sh l count e14 = go (nat_lt k 8) (stands k (home c q k)) refl refl l
+  -- what stands beside the operands in the frame
+  home_beside : (offered : Offered) (k : ℕ) (v2 v1 : View) → k < routine.parameters → ((z : ℕ) → z ≢ 15 → v2.registers z ≡ v1.registers z) → ((a : ℕ) → a ≢ o + 4 * k → v2.words a ≡ v1.words a) → (u : ℕ) → value_of c q g (machine_of v2) (home c q u) ≡ value_of c q g (machine_of v1) (home c q u)
+  home_beside offered k v2 v1 lt regs mem u = go (home c q u) refl (offered.apart k lt)
+    where
+      go : (h : Home) → home c q u ≡ h → (o + 4 * k < g + c.slots_at q) ⊎ (g + c.frame_at q ≤ o + 4 * k) → value_of c q g (machine_of v2) h ≡ value_of c q g (machine_of v1) h
+      go (Slot j) e (inl side) = mem _ (omega (arith, side))
+      go (Slot j) e (inr side) = let le = b.laid.slots q u j e in mem _ (omega (arith, side, le))
+      go (Reg z) e side = let lt' = b.placed.register q u z e in regs z (omega (arith, lt'))
+
+  -- a home that no parameter comes in takes one at once
+  take_run : (k : ℕ) (ps : List Piece) (next : ℕ) (m : machine.State) (v : View) → Shows words c.size m v → Left c words v.place (form.take c q k (home c q k) ++ ps) next → k < routine.parameters → v.registers 14 ≡ g → is_clear few k (home c q k) ≡ true → SpilledOne k (length (form.take c q k (home c q k))) m v
+  take_run k ps next m v sh l count e14 clear = go (home c q k) refl clear l
     where
       less : (x y : ℕ) → nat_lt x y ≡ true → x < y
       less x y e = grind arith
@@ -336,83 +365,184 @@ module _ (c : Context) (words : List ℕ) (b : Built c words) (p : Places) (q g 
       not_less : (x y : ℕ) → nat_lt x y ≡ false → y ≤ x
       not_less x y e = grind arith
 
-      go : (s t : Bool) → nat_lt k 8 ≡ s → stands k (home c q k) ≡ t → Left c words v.place (cond (s && not t) (store k 14 (n + 8 + 4 * k)) [] ++ ps) next → SpilledOne k (length (cond (s && not t) (store k 14 (n + 8 + 4 * k)) [])) m v
-      go true false is own l =
-          let lt = less k 8 is in
-          let aim : o + 4 * k ≡ v.registers 14 + (n + 8 + 4 * k) = omega (arith, e14, at) in
-          let st = store_run c words b.stood k 14 (n + 8 + 4 * k) ps next m v sh (omega (arith, lt)) (omega arith) (subst (IsWritable words c.size) aim (offered.writable k count)) l in
+      both : (x y : Bool) → x && not y ≡ true → (x ≡ true) × (y ≡ false)
+      both true true e = absurd (cc e)
+      both true false e = (refl, refl)
+      both false y e = absurd (cc e)
+
+      few_is : few ≤ 8
+      few_is = bound (nat_lt routine.parameters 8) refl
+        where
+          bound : (t : Bool) → nat_lt routine.parameters 8 ≡ t → cond t routine.parameters 8 ≤ 8
+          bound true e = let lt = less _ _ e in omega (arith, lt)
+          bound false e = omega arith
+
+      no_direct : {X : Type 0} (x y : Bool) → y ≡ true → x || y ≡ false → X
+      no_direct true y ey e = absurd (cc e)
+      no_direct false y ey e = let z : true ≡ false = sym ey ∙ e in absurd (cc z)
+
+      go : (h : Home) → home c q k ≡ h → is_clear few k h ≡ true → Left c words v.place (form.take c q k h ++ ps) next → SpilledOne k (length (form.take c q k h)) m v
+      go (Slot j) is clear l =
+          let lt = less k 8 clear in
+          let at : g + slot_at c q j ≡ v.registers 14 + slot_at c q j = ap (λ x. x + slot_at c q j) (sym e14) in
+          let st = store_run c words b.stood k 14 (slot_at c q j) ps next m v sh (omega (arith, lt)) (omega arith) (subst (IsWritable words c.size) at (framed.writable k j is)) l in
+          let se = in_slot c words b.stood b.laid b.placed q g framed k j k (v.registers k) (machine_of v) v st.view is e14 (record { registers = λ z n12 n15. refl; words = λ x. refl }) refl st.registers st.memory in
           record {
             view = st.view;
             way = way_of words c.size m same_tape st.view st.to;
-            registers = st.registers;
-            same = λ a ne. let far : a ≢ v.registers 14 + (n + 8 + 4 * k) = omega (arith, aim) in st.memory a ∙ update_other v.words _ _ a far;
+            low = λ z zlt. st.registers z (let le = few_is in omega (arith, zlt, le));
+            globals = se.globals;
+            stack = se.stack;
+            same = λ a side ne. se.words a side;
             aside = λ ge. absurd (omega (arith, ge, lt));
-            stored = λ lt' own'. st.memory _ ∙ update_at v.words (v.registers 14 + (n + 8 + 4 * k)) (v.registers k) (o + 4 * k) aim;
+            stored = λ lt' un. no_direct (stands k (home c q k)) (is_clear few k (home c q k)) (ap (is_clear few k) is ∙ clear) un;
+            here = λ e. ap (value_of c q g (machine_of st.view)) is ∙ se.here;
+            others = λ u live ne. se.others (home c q u) (λ e. b.placed.entered q k u routine is_routine count live ne (e ∙ sym is)) (λ z e. b.placed.register q u z e);
             place = st.place;
           }
-      go true true is own l =
+      go (Reg z) is clear l =
+          let parts = both (nat_lt k 8) (nat_lt z few) clear in
+          let lt = less k 8 parts.0 in
+          let ge = not_less z few parts.1 in
+          let i = word.Move z (instr_operand.Content k) in
+          let t1 = step_to c words b.stood i m v sh l.stands.0 tt in
+          let v1 = after i v in
+          let se = in_register c words b.stood b.laid b.placed q g framed z (v.registers k) (machine_of v) v1 (b.placed.register q k z is) (record { here = update_same v.registers z _; registers = λ x n12 n15 nd. update_other v.registers z _ x nd; words = λ x. refl }) in
+          record {
+            view = v1;
+            way = way_of words c.size m same_tape v1 t1;
+            low = λ x xlt. update_other v.registers z _ x (omega (arith, xlt, ge));
+            globals = se.globals;
+            stack = se.stack;
+            same = λ a side ne. refl;
+            aside = λ ge' a. refl;
+            stored = λ lt' un. no_direct (stands k (home c q k)) (is_clear few k (home c q k)) (ap (is_clear few k) is ∙ clear) un;
+            here = λ e. ap (value_of c q g (machine_of v1)) is ∙ se.here;
+            others = λ u live ne. se.others (home c q u) (λ e. b.placed.entered q k u routine is_routine count live ne (e ∙ sym is)) (λ z' e. b.placed.register q u z' e);
+            place = refl;
+          }
+
+  spill_one_run : (offered : Offered) (k : ℕ) (ps : List Piece) (next : ℕ) (m : machine.State) (v : View) → Shows words c.size m v → Left c words v.place (spill_one c q few n k (home c q k) ++ ps) next → k < routine.parameters → v.registers 14 ≡ g → SpilledOne k (length (spill_one c q few n k (home c q k))) m v
+  spill_one_run offered k ps next m v sh l count e14 = by_home (is_clear few k (home c q k)) refl l
+    where
+      less : (x y : ℕ) → nat_lt x y ≡ true → x < y
+      less x y e = grind arith
+
+      not_less : (x y : ℕ) → nat_lt x y ≡ false → y ≤ x
+      not_less x y e = grind arith
+
+      few_is : few ≤ 8
+      few_is = bound (nat_lt routine.parameters 8) refl
+        where
+          bound : (t : Bool) → nat_lt routine.parameters 8 ≡ t → cond t routine.parameters 8 ≤ 8
+          bound true e = let lt = less _ _ e in omega (arith, lt)
+          bound false e = omega arith
+
+      none : is_clear few k (home c q k) ≡ false → {X : Type 0} → is_clear few k (home c q k) ≡ true → X
+      none e clear = let z : true ≡ false = sym clear ∙ e in absurd (cc z)
+
+      direct_stands : (x y : Bool) → x ≡ true → x || y ≡ false → ⊥
+      direct_stands true y ex e = cc e
+      direct_stands false y ex e = cc ex
+
+      stays : (len : ℕ) → len ≡ 0 → is_clear few k (home c q k) ≡ false → (k < 8 → is_direct few k (home c q k) ≡ false → v.words (o + 4 * k) ≡ v.registers k) → SpilledOne k len m v
+      stays len zero_is unclear stored =
           record {
             view = v;
             way = way_here words c.size m v sh;
-            registers = λ z ne. refl;
-            same = λ a ne. refl;
+            low = λ z lt. refl;
+            globals = refl;
+            stack = refl;
+            same = λ a side ne. refl;
             aside = λ ge a. refl;
-            stored = λ lt own'. let no : true ≡ false = sym own ∙ own' in absurd (cc no);
-            place = omega arith;
+            stored = stored;
+            here = none unclear;
+            others = λ u live ne. refl;
+            place = omega (arith, zero_is);
           }
-      go false t is own l =
+
+      go : (s t : Bool) → nat_lt k 8 ≡ s → stands k (home c q k) ≡ t → is_clear few k (home c q k) ≡ false → Left c words v.place (cond (s && not t) (store k 14 (n + 8 + 4 * k)) [] ++ ps) next → SpilledOne k (length (cond (s && not t) (store k 14 (n + 8 + 4 * k)) [])) m v
+      go true false is own unclear l =
+          let lt = less k 8 is in
+          let aim : o + 4 * k ≡ v.registers 14 + (n + 8 + 4 * k) = omega (arith, e14, at) in
+          let st = store_run c words b.stood k 14 (n + 8 + 4 * k) ps next m v sh (omega (arith, lt)) (omega arith) (subst (IsWritable words c.size) aim (offered.writable k count)) l in
+          let mem : (a : ℕ) → a ≢ o + 4 * k → st.view.words a ≡ v.words a = λ a ne. let far : a ≢ v.registers 14 + (n + 8 + 4 * k) = omega (arith, aim) in st.memory a ∙ update_other v.words _ _ a far in
           record {
-            view = v;
-            way = way_here words c.size m v sh;
-            registers = λ z ne. refl;
-            same = λ a ne. refl;
-            aside = λ ge a. refl;
-            stored = λ lt own'. let ge = not_less k 8 is in absurd (omega (arith, ge, lt));
-            place = omega arith;
+            view = st.view;
+            way = way_of words c.size m same_tape st.view st.to;
+            low = λ z zlt. st.registers z (let le = few_is in omega (arith, zlt, le));
+            globals = st.registers 13 (omega arith);
+            stack = st.registers 14 (omega arith);
+            same = λ a side ne. mem a ne;
+            aside = λ ge. absurd (omega (arith, ge, lt));
+            stored = λ lt' un. st.memory _ ∙ update_at v.words (v.registers 14 + (n + 8 + 4 * k)) (v.registers k) (o + 4 * k) aim;
+            here = none unclear;
+            others = λ u live ne. home_beside offered k st.view v count st.registers mem u;
+            place = st.place;
           }
+      go true true is own unclear l =
+          stays 0 refl unclear (λ lt un. absurd (direct_stands (stands k (home c q k)) (is_clear few k (home c q k)) own un))
+      go false t is own unclear l =
+          stays 0 refl unclear (λ lt un. let ge = not_less k 8 is in absurd (omega (arith, ge, lt)))
+
+      by_home : (t : Bool) → is_clear few k (home c q k) ≡ t → Left c words v.place (cond t (form.take c q k (home c q k)) (cond (nat_lt k 8 && not (stands k (home c q k))) (store k 14 (n + 8 + 4 * k)) []) ++ ps) next → SpilledOne k (length (cond t (form.take c q k (home c q k)) (cond (nat_lt k 8 && not (stands k (home c q k))) (store k 14 (n + 8 + 4 * k)) []))) m v
+      by_home true clear l = take_run k ps next m v sh l count e14 clear
+      by_home false unclear l = go (nat_lt k 8) (stands k (home c q k)) refl refl unclear l
 
   -- so did those from number k on
   pub record Spilled (k count : ℕ) (len : ℕ) (m : machine.State) (v : View) : Type 0 where
     pub view : View
     pub way : Way words c.size m same_tape view
-    pub registers : (z : ℕ) → z ≢ 15 → view.registers z ≡ v.registers z
-    pub same : (a : ℕ) → ((j : ℕ) → k ≤ j → j < k + count → j < 8 → a ≢ o + 4 * j) → view.words a ≡ v.words a
-    pub stored : (j : ℕ) → k ≤ j → j < k + count → j < 8 → stands j (home c q j) ≡ false → view.words (o + 4 * j) ≡ v.registers j
+    pub low : (z : ℕ) → z < few → view.registers z ≡ v.registers z
+    pub globals : view.registers 13 ≡ v.registers 13
+    pub stack : view.registers 14 ≡ v.registers 14
+    pub same : (a : ℕ) → Aside_of a → ((j : ℕ) → k ≤ j → j < k + count → j < 8 → a ≢ o + 4 * j) → view.words a ≡ v.words a
+    pub stored : (j : ℕ) → k ≤ j → j < k + count → j < 8 → is_direct few j (home c q j) ≡ false → view.words (o + 4 * j) ≡ v.registers j
+    pub here : (u : ℕ) → k ≤ u → u < k + count → u < 8 → IsAlive c q 0 u → is_clear few u (home c q u) ≡ true → value_of c q g (machine_of view) (home c q u) ≡ v.registers u
+    pub others : (u : ℕ) → IsAlive c q 0 u → u < k → value_of c q g (machine_of view) (home c q u) ≡ value_of c q g (machine_of v) (home c q u)
     pub place : view.place ≡ v.place + len
 
-  pub spill_run : (offered : Offered) (k count : ℕ) (ps : List Piece) (next : ℕ) (m : machine.State) (v : View) → Shows words c.size m v → Left c words v.place (spill c q n k count ++ ps) next → k + count ≤ routine.parameters → v.registers 14 ≡ g → Spilled k count (length (spill c q n k count)) m v
+  pub spill_run : (offered : Offered) (k count : ℕ) (ps : List Piece) (next : ℕ) (m : machine.State) (v : View) → Shows words c.size m v → Left c words v.place (spill c q few n k count ++ ps) next → k + count ≤ routine.parameters → v.registers 14 ≡ g → Spilled k count (length (spill c q few n k count)) m v
   spill_run offered k zero ps next m v sh l count e14 =
       record {
         view = v;
         way = way_here words c.size m v sh;
-        registers = λ z ne. refl;
-        same = λ a far. refl;
+        low = λ z lt. refl;
+        globals = refl;
+        stack = refl;
+        same = λ a side far. refl;
         stored = λ j ge lt few own. absurd (omega (arith, ge, lt));
+        here = λ u ge lt small live e. absurd (omega (arith, ge, lt));
+        others = λ u live lt. refl;
         place = omega arith;
       }
   spill_run offered k (suc more) ps next m v sh l count e14 =
-      let first = spill_one c q n k (home c q k) in
-      let rest = spill c q n (suc k) more in
+      let first = spill_one c q few n k (home c q k) in
+      let rest = spill c q few n (suc k) more in
       let l0 = subst (λ z. Left c words v.place z next) (append_assoc first rest ps) l in
       let s1 = spill_one_run offered k (rest ++ ps) next m v sh l0 (omega (arith, count)) e14 in
       let v1 = s1.view in
       let l1 = left_after c words v.place v1.place next first (rest ++ ps) l0 s1.place in
-      let tail = spill_run offered (suc k) more ps next s1.way.to v1 s1.way.shows l1 (omega (arith, count)) (s1.registers 14 (omega arith) ∙ e14) in
+      let tail = spill_run offered (suc k) more ps next s1.way.to v1 s1.way.shows l1 (omega (arith, count)) (s1.stack ∙ e14) in
       record {
         view = tail.view;
         way = way_then words c.size m same_tape same_tape v1 tail.view s1.way tail.way;
-        registers = λ z ne. tail.registers z ne ∙ s1.registers z ne;
-        same = λ a far. tail.same a (λ j ge lt few. far j (omega (arith, ge)) (omega (arith, lt)) few) ∙ by_size v1 s1.same s1.aside a far (few_or_more k);
-        stored = λ j ge lt few own. ⊎_elim (λ (here : j ≡ k). let few' : k < 8 = omega (arith, here, few) in let own' : stands k (home c q k) ≡ false = subst (λ z. stands z (home c q z) ≡ false) here own in ap (λ z. tail.view.words (o + 4 * z)) here ∙ tail.same (o + 4 * k) (λ i ge' lt' few''. omega (arith, ge')) ∙ s1.stored few' own' ∙ ap v.registers (sym here)) (λ (ne : j ≢ k). tail.stored j (omega arith) (omega (arith, lt)) few own ∙ s1.registers j (omega (arith, few))) (cases_eq j k);
+        low = λ z lt. tail.low z lt ∙ s1.low z lt;
+        globals = tail.globals ∙ s1.globals;
+        stack = tail.stack ∙ s1.stack;
+        same = λ a side far. tail.same a side (λ j ge lt small. far j (omega (arith, ge)) (omega (arith, lt)) small) ∙ by_size v1 s1.same s1.aside a side far (few_or_more k);
+        stored = λ j ge lt small own. ⊎_elim (λ (here : j ≡ k). let small' : k < 8 = omega (arith, here, small) in let own' : is_direct few k (home c q k) ≡ false = subst (λ z. is_direct few z (home c q z) ≡ false) here own in ap (λ z. tail.view.words (o + 4 * z)) here ∙ tail.same (o + 4 * k) (offered.apart k (omega (arith, count))) (λ i ge' lt' small''. omega (arith, ge')) ∙ s1.stored small' own' ∙ ap v.registers (sym here)) (λ (ne : j ≢ k). tail.stored j (omega arith) (omega (arith, lt)) small own ∙ s1.low j (low_is j (omega (arith, lt, count)) small)) (cases_eq j k);
+        here = λ u ge lt small live e. ⊎_elim (λ (is : u ≡ k). let live' : IsAlive c q 0 k = subst (IsAlive c q 0) is live in let e' : is_clear few k (home c q k) ≡ true = subst (λ z. is_clear few z (home c q z) ≡ true) is e in ap (λ z. value_of c q g (machine_of tail.view) (home c q z)) is ∙ tail.others k live' (omega arith) ∙ s1.here e' ∙ ap v.registers (sym is)) (λ (ne : u ≢ k). tail.here u (omega arith) (omega (arith, lt)) small live e ∙ s1.low u (low_is u (omega (arith, lt, count)) small)) (cases_eq u k);
+        others = λ u live lt. tail.others u live (omega (arith, lt)) ∙ s1.others u live (omega (arith, lt));
         place = let z = length-append first rest in omega (arith, tail.place, s1.place, z);
       }
     where
       few_or_more : (x : ℕ) → (x < 8) ⊎ (8 ≤ x)
       few_or_more x = grind arith
 
-      by_size : (v1 : View) → ((a : ℕ) → a ≢ o + 4 * k → v1.words a ≡ v.words a) → (8 ≤ k → (a : ℕ) → v1.words a ≡ v.words a) → (a : ℕ) → ((j : ℕ) → k ≤ j → j < k + suc more → j < 8 → a ≢ o + 4 * j) → (k < 8) ⊎ (8 ≤ k) → v1.words a ≡ v.words a
-      by_size v1 same aside a far (inl lt) = same a (far k (omega arith) (omega arith) lt)
-      by_size v1 same aside a far (inr ge) = aside ge a
+      by_size : (v1 : View) → ((a : ℕ) → Aside_of a → a ≢ o + 4 * k → v1.words a ≡ v.words a) → (8 ≤ k → (a : ℕ) → v1.words a ≡ v.words a) → (a : ℕ) → Aside_of a → ((j : ℕ) → k ≤ j → j < k + suc more → j < 8 → a ≢ o + 4 * j) → (k < 8) ⊎ (8 ≤ k) → v1.words a ≡ v.words a
+      by_size v1 same aside a side far (inl lt) = same a side (far k (omega arith) (omega arith) lt)
+      by_size v1 same aside a side far (inr ge) = aside ge a
 
   pub record Received (k : ℕ) (len : ℕ) (m : machine.State) (v : View) : Type 0 where
     pub view : View
@@ -425,8 +555,8 @@ module _ (c : Context) (words : List ℕ) (b : Built c words) (p : Places) (q g 
 
   -- what comes in its home stands there; the others stand in the frame
   pub record Come (v : View) : Type 0 where
-    pub own : (u : ℕ) (x : Value) → u < routine.parameters → stands u (home c q u) ≡ true → IsAlive c q 0 u → slice_get vs u ≡ Some x → value_of c q g (machine_of v) (home c q u) ≡ ctx.word c p x
-    pub stored : (j : ℕ) (x : Value) → j < routine.parameters → stands j (home c q j) ≡ false → slice_get vs j ≡ Some x → v.words (o + 4 * j) ≡ ctx.word c p x
+    pub own : (u : ℕ) (x : Value) → u < routine.parameters → is_direct few u (home c q u) ≡ true → IsAlive c q 0 u → slice_get vs u ≡ Some x → value_of c q g (machine_of v) (home c q u) ≡ ctx.word c p x
+    pub stored : (j : ℕ) (x : Value) → j < routine.parameters → is_direct few j (home c q j) ≡ false → slice_get vs j ≡ Some x → v.words (o + 4 * j) ≡ ctx.word c p x
 
   -- parameter k came to its home
   record ReceivedOne (k len : ℕ) (m : machine.State) (v : View) : Type 0 where
@@ -439,14 +569,14 @@ module _ (c : Context) (words : List ℕ) (b : Built c words) (p : Places) (q g 
     others : (u : ℕ) → IsAlive c q 0 u → u ≢ k → value_of c q g (machine_of view) (home c q u) ≡ value_of c q g (machine_of v) (home c q u)
     place : view.place ≡ v.place + len
 
-  receive_one_run : (offered : Offered) (k : ℕ) (ps : List Piece) (next : ℕ) (m : machine.State) (v : View) → Shows words c.size m v → Left c words v.place (parameter c q n k (home c q k) ++ ps) next → k < routine.parameters → v.registers 14 ≡ g → Come v → ReceivedOne k (length (parameter c q n k (home c q k))) m v
-  receive_one_run offered k ps next m v sh l count e14 come = go (stands k (home c q k)) refl l
+  receive_one_run : (offered : Offered) (k : ℕ) (ps : List Piece) (next : ℕ) (m : machine.State) (v : View) → Shows words c.size m v → Left c words v.place (parameter c q few n k (home c q k) ++ ps) next → k < routine.parameters → v.registers 14 ≡ g → Come v → ReceivedOne k (length (parameter c q few n k (home c q k))) m v
+  receive_one_run offered k ps next m v sh l count e14 come = go (is_direct few k (home c q k)) refl l
     where
       step_way : {n : machine.State} {v2 v3 : View} (t : To words c.size n same_tape v2) → Way words c.size t.to same_tape v3 → Way words c.size n same_tape v3
       step_way t w =
           record { to = w.to; shows = w.shows; runs = λ k y. let z = w.runs k y in let x = t.runs z.0 y in (x.0, omega (arith, z.1, x.1), x.2 ∙ z.2) }
 
-      go : (t : Bool) → stands k (home c q k) ≡ t → Left c words v.place (cond t [] (load (target c q (home c q k)) 14 (n + 8 + 4 * k) ++ save c q (home c q k)) ++ ps) next → ReceivedOne k (length (cond t [] (load (target c q (home c q k)) 14 (n + 8 + 4 * k) ++ save c q (home c q k)))) m v
+      go : (t : Bool) → is_direct few k (home c q k) ≡ t → Left c words v.place (cond t [] (load (target c q (home c q k)) 14 (n + 8 + 4 * k) ++ save c q (home c q k)) ++ ps) next → ReceivedOne k (length (cond t [] (load (target c q (home c q k)) 14 (n + 8 + 4 * k) ++ save c q (home c q k)))) m v
       go true own l =
           record {
             view = v;
@@ -477,11 +607,11 @@ module _ (c : Context) (words : List ℕ) (b : Built c words) (p : Places) (q g 
             stack = s2.settled.stack;
             same = s2.settled.words;
             here = λ x live e. s2.settled.here ∙ ap v.words (sym aim) ∙ come.stored k x count own e;
-            others = λ u live ne. s2.settled.others (home c q u) (b.placed.entered q k u routine is count live ne) (λ z e. b.placed.register q u z e);
+            others = λ u live ne. s2.settled.others (home c q u) (b.placed.entered q k u routine is_routine count live ne) (λ z e. b.placed.register q u z e);
             place = let z = length-append (load d 14 (n + 8 + 4 * k)) (save c q h) in omega (arith, s2.place, g1.place, z);
           }
 
-  pub receive_run : (offered : Offered) (k count : ℕ) (ps : List Piece) (next : ℕ) (m : machine.State) (v : View) → Shows words c.size m v → Left c words v.place (parameters c q n k count ++ ps) next → k + count ≤ routine.parameters → v.registers 14 ≡ g → Come v → ((u : ℕ) (x : Value) → u < k → IsAlive c q 0 u → slice_get vs u ≡ Some x → value_of c q g (machine_of v) (home c q u) ≡ ctx.word c p x) → Received (k + count) (length (parameters c q n k count)) m v
+  pub receive_run : (offered : Offered) (k count : ℕ) (ps : List Piece) (next : ℕ) (m : machine.State) (v : View) → Shows words c.size m v → Left c words v.place (parameters c q few n k count ++ ps) next → k + count ≤ routine.parameters → v.registers 14 ≡ g → Come v → ((u : ℕ) (x : Value) → u < k → IsAlive c q 0 u → slice_get vs u ≡ Some x → value_of c q g (machine_of v) (home c q u) ≡ ctx.word c p x) → Received (k + count) (length (parameters c q few n k count)) m v
   receive_run offered k zero ps next m v sh l count e14 come done =
       record {
         view = v;
@@ -493,8 +623,8 @@ module _ (c : Context) (words : List ℕ) (b : Built c words) (p : Places) (q g 
         place = omega arith;
       }
   receive_run offered k (suc more) ps next m v sh l count e14 come done =
-      let first = parameter c q n k (home c q k) in
-      let rest = parameters c q n (suc k) more in
+      let first = parameter c q few n k (home c q k) in
+      let rest = parameters c q few n (suc k) more in
       let l0 = subst (λ z. Left c words v.place z next) (append_assoc first rest ps) l in
       let o1 = receive_one_run offered k (rest ++ ps) next m v sh l0 (omega (arith, count)) e14 come in
       let v1 = o1.view in
@@ -539,24 +669,42 @@ module _ (c : Context) (words : List ℕ) (b : Built c words) (p : Places) (q g 
     pub homes : (u : ℕ) (x : Value) → u < routine.parameters → IsAlive c q 0 u → slice_get vs u ≡ Some x → value_of c q g (machine_of view) (home c q u) ≡ ctx.word c p x
     pub place : view.place ≡ v.place + len
 
-  pub arrive_run : (offered : Offered) (next : ℕ) (m : machine.State) (v : View) → Shows words c.size m v → Left c words v.place (spill c q n 0 routine.parameters ++ parameters c q n 0 routine.parameters) next → v.registers 14 ≡ g → ((j : ℕ) (x : Value) → j < 8 → slice_get vs j ≡ Some x → v.registers j ≡ ctx.word c p x) → ((j : ℕ) (x : Value) → 8 ≤ j → slice_get vs j ≡ Some x → v.words (o + 4 * j) ≡ ctx.word c p x) → Arrived (length (spill c q n 0 routine.parameters ++ parameters c q n 0 routine.parameters)) m v
+  direct_is : (x y : Bool) → x || y ≡ true → (x ≡ true) ⊎ (y ≡ true)
+  direct_is true y e = inl refl
+  direct_is false y e = inr e
+
+  clear_small : (u : ℕ) (h : Home) → is_clear few u h ≡ true → u < 8
+  clear_small u (Slot k) e = less u 8 e
+    where
+      less : (x y : ℕ) → nat_lt x y ≡ true → x < y
+      less x y e = grind arith
+  clear_small u (Reg z) e = first (nat_lt u 8) (nat_lt z few) refl e
+    where
+      less : (x y : ℕ) → nat_lt x y ≡ true → x < y
+      less x y e = grind arith
+
+      first : (x y : Bool) → nat_lt u 8 ≡ x → x && not y ≡ true → u < 8
+      first true y ex e = less u 8 ex
+      first false y ex e = absurd (cc e)
+
+  pub arrive_run : (offered : Offered) (next : ℕ) (m : machine.State) (v : View) → Shows words c.size m v → Left c words v.place (form.arrive c q n routine.parameters) next → v.registers 14 ≡ g → ((j : ℕ) (x : Value) → j < 8 → slice_get vs j ≡ Some x → v.registers j ≡ ctx.word c p x) → ((j : ℕ) (x : Value) → 8 ≤ j → slice_get vs j ≡ Some x → v.words (o + 4 * j) ≡ ctx.word c p x) → Arrived (length (form.arrive c q n routine.parameters)) m v
   arrive_run offered next m v sh l e14 low high =
-      let first = spill c q n 0 routine.parameters in
-      let rest = parameters c q n 0 routine.parameters in
+      let first = spill c q few n 0 routine.parameters in
+      let rest = parameters c q few n 0 routine.parameters in
       let s1 = spill_run offered 0 routine.parameters rest next m v sh l (omega arith) e14 in
       let v1 = s1.view in
       let l1 = left_after c words v.place v1.place next first rest l s1.place in
       let come : Come v1 = record {
-        own = λ u x lt own live e. let k = stands_is u (home c q u) own in ap (value_of c q g (machine_of v1)) k.0 ∙ s1.registers u (omega (arith, k.1)) ∙ low u x k.1 e;
-        stored = λ j x lt own e. ⊎_elim (λ (few : j < 8). s1.stored j (omega arith) (omega (arith, lt)) few own ∙ low j x few e) (λ (ge : 8 ≤ j). s1.same (o + 4 * j) (λ i a1 a2 few. omega (arith, few, ge)) ∙ high j x ge e) (few_or_more j);
+        own = λ u x lt own live e. ⊎_elim (λ (st : stands u (home c q u) ≡ true). let k = stands_is u (home c q u) st in ap (value_of c q g (machine_of v1)) k.0 ∙ s1.low u (low_is u lt k.1) ∙ low u x k.1 e) (λ (cl : is_clear few u (home c q u) ≡ true). let small = clear_small u (home c q u) cl in s1.here u (omega arith) (omega (arith, lt)) small live cl ∙ low u x small e) (direct_is (stands u (home c q u)) (is_clear few u (home c q u)) own);
+        stored = λ j x lt own e. ⊎_elim (λ (small : j < 8). s1.stored j (omega arith) (omega (arith, lt)) small own ∙ low j x small e) (λ (ge : 8 ≤ j). s1.same (o + 4 * j) (offered.apart j lt) (λ i a1 a2 small. omega (arith, small, ge)) ∙ high j x ge e) (few_or_more j);
       } in
-      let r1 = receive_run offered 0 routine.parameters [] next s1.way.to v1 s1.way.shows (subst (λ z. Left c words v1.place z next) (sym (append_nil rest)) l1) (omega arith) (s1.registers 14 (omega arith) ∙ e14) come (λ u x lt. absurd (omega (arith, lt))) in
+      let r1 = receive_run offered 0 routine.parameters [] next s1.way.to v1 s1.way.shows (subst (λ z. Left c words v1.place z next) (sym (append_nil rest)) l1) (omega arith) (s1.stack ∙ e14) come (λ u x lt. absurd (omega (arith, lt))) in
       record {
         view = r1.view;
         way = way_then words c.size m same_tape same_tape v1 r1.view s1.way r1.way;
-        globals = r1.globals ∙ s1.registers 13 (omega arith);
-        stack = r1.stack ∙ s1.registers 14 (omega arith);
-        same = λ a side far. r1.same a side ∙ s1.same a (λ j ge lt few. beside a j lt far);
+        globals = r1.globals ∙ s1.globals;
+        stack = r1.stack ∙ s1.stack;
+        same = λ a side far. r1.same a side ∙ s1.same a side (λ j ge lt small. beside a j lt far);
         homes = λ u x lt live e. r1.homes u x (omega (arith, lt)) live e;
         place = let z = length-append first rest in omega (arith, r1.place, s1.place, z);
       }

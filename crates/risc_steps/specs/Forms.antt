@@ -102,6 +102,11 @@ abbrev pub rounded : ℕ → List Piece
 rounded d =
     skip on.Plus 3 ∷ Plain (word.MoveHigh 15) ∷ skip on.Equal 1 ∷ Plain (word.Operate op.Add d d (Constant (pos 1))) ∷ []
 
+-- R15 takes 0 where a product has 32 bits: H is 0, or all ones above a negative low word, whose sign N tells
+abbrev pub beyond : List Piece
+beyond =
+    skip on.Plus 3 ∷ Plain (word.MoveHigh 15) ∷ Plain (word.Operate op.Add 15 15 (Constant (pos 1))) ∷ skip on.Always 1 ∷ Plain (word.MoveHigh 15) ∷ []
+
 -- whether a right operand is the number 0
 abbrev pub is_null : Operand → Bool
 is_null (operand.Temporary t) = false
@@ -140,6 +145,15 @@ is_stored n j h = not (nat_lt j n) || is_taken n j h
 abbrev pub stands : ℕ → Home → Bool
 stands j (Reg q) = nat_eq q j && nat_lt j 8
 stands j (Slot k) = false
+
+-- its home takes parameter j at once, where none of the n that are carried comes: a slot, or a register behind theirs
+abbrev pub is_clear : ℕ → ℕ → Home → Bool
+is_clear n j (Reg q) = nat_lt j 8 && not (nat_lt q n)
+is_clear n j (Slot k) = nat_lt j 8
+
+-- it goes by way of no memory of the caller
+abbrev pub is_direct : ℕ → ℕ → Home → Bool
+is_direct n j h = stands j h || is_clear n j h
 
 -- the device page is FFFFC0H
 abbrev pub device : ℕ → Piece
@@ -293,11 +307,6 @@ module _ (c : Context) (r : ℕ) where
   compare_form told GreaterEqual t a b = truth_form GreaterEqual t a b
 
   -- ---- numbers
-
-  -- R15 takes 0 where the product has 32 bits, whose sign N tells: H is 0, or all ones above a negative low word
-  abbrev pub beyond : List Piece
-  beyond =
-      skip on.Plus 3 ∷ Plain (word.MoveHigh 15) ∷ Plain (word.Operate op.Add 15 15 (Constant (pos 1))) ∷ skip on.Always 1 ∷ Plain (word.MoveHigh 15) ∷ []
 
   abbrev pub multiply_form : ℕ → ℕ → Operand → ℕ → ℕ → List Piece
   multiply_form t a b error line =
@@ -529,22 +538,33 @@ module _ (c : Context) (r : ℕ) where
 
   -- ---- entries
 
-  -- parameter j goes from its register to the operands of the caller, n bytes behind the frame
-  abbrev pub spill_one : ℕ → ℕ → Home → List Piece
-  spill_one n j h = if nat_lt j 8 && not (stands j h) then store j 14 (n + 8 + 4 * j) else []
+  -- a home takes what register j holds
+  abbrev pub take : ℕ → Home → List Piece
+  take j (Reg q) = Plain (word.Move q (Content j)) ∷ []
+  take j (Slot k) = store j 14 (slot_at c r k)
 
-  abbrev pub spill : ℕ → ℕ → ℕ → List Piece
-  spill n j zero = []
-  spill n j (suc count) = spill_one n j (home c r j) ++ spill n (suc j) count
+  -- parameter j, of which m are carried, goes from its register to its home, or to the operands of the caller, n bytes behind the frame
+  abbrev pub spill_one : ℕ → ℕ → ℕ → Home → List Piece
+  spill_one m n j h =
+      if is_clear m j h then take j h
+      else if nat_lt j 8 && not (stands j h) then store j 14 (n + 8 + 4 * j) else []
+
+  abbrev pub spill : ℕ → ℕ → ℕ → ℕ → List Piece
+  spill m n j zero = []
+  spill m n j (suc count) = spill_one m n j (home c r j) ++ spill m n (suc j) count
 
   -- and from there to its home
-  abbrev pub parameter : ℕ → ℕ → Home → List Piece
-  parameter n j h = if stands j h then [] else load (target h) 14 (n + 8 + 4 * j) ++ save h
+  abbrev pub parameter : ℕ → ℕ → ℕ → Home → List Piece
+  parameter m n j h = if is_direct m j h then [] else load (target h) 14 (n + 8 + 4 * j) ++ save h
 
   -- those from number j on
-  abbrev pub parameters : ℕ → ℕ → ℕ → List Piece
-  parameters n j zero = []
-  parameters n j (suc count) = parameter n j (home c r j) ++ parameters n (suc j) count
+  abbrev pub parameters : ℕ → ℕ → ℕ → ℕ → List Piece
+  parameters m n j zero = []
+  parameters m n j (suc count) = parameter m n j (home c r j) ++ parameters m n (suc j) count
+
+  -- all, with n bytes between the frame and that of the caller
+  abbrev pub arrive : ℕ → ℕ → List Piece
+  arrive n count = spill (carried count) n 0 count ++ parameters (carried count) n 0 count
 
   -- R12 takes the new frame's address
   abbrev pub frame_below : ℕ → List Piece
@@ -554,11 +574,11 @@ module _ (c : Context) (r : ℕ) where
 
   abbrev pub enter_form : TacRoutine → List Piece
   enter_form routine =
-      frame_below (c.costs r) ++ (Plain (word.Load Word 11 13 (pos 268)) ∷ Plain (word.Operate op.Sub 11 12 (Content 11)) ∷ Fails on.Less 12 routine.line ∷ Plain (word.Store Word 15 12 (pos 0)) ∷ Plain (word.Store Word 14 12 (pos 4)) ∷ Plain (word.Move 14 (Content 12)) ∷ (spill (c.costs r) 0 routine.parameters ++ parameters (c.costs r) 0 routine.parameters))
+      frame_below (c.costs r) ++ (Plain (word.Load Word 11 13 (pos 268)) ∷ Plain (word.Operate op.Sub 11 12 (Content 11)) ∷ Fails on.Less 12 routine.line ∷ Plain (word.Store Word 15 12 (pos 0)) ∷ Plain (word.Store Word 14 12 (pos 4)) ∷ Plain (word.Move 14 (Content 12)) ∷ arrive (c.costs r) routine.parameters)
 
   abbrev pub join_form : TacRoutine → List Piece
   join_form routine =
-      Plain (word.Store Word 15 14 (pos (c.link_at r))) ∷ (spill 0 0 routine.parameters ++ parameters 0 0 routine.parameters)
+      Plain (word.Store Word 15 14 (pos (c.link_at r))) ∷ arrive 0 routine.parameters
 
   -- a frame that no stack holds, and parameters that no call passes
   abbrev pub is_entered : TacRoutine → Bool
