@@ -35,7 +35,6 @@ def replace_parts(folder, progress):
     """Puts the gate's places, verdicts and edits into the kit's `rt ci`."""
     rt = kit.rt()
     rt.in_lanes = places.Places(folder, progress).run
-    kit.allow_kept_work(rt.rtlib)
     verdicts.replace_ci()
     if kit.is_before_keeping():
         rt.must_fail_all = edits.try_all

@@ -2,14 +2,15 @@
 
 A check tells of each function whether it is proved, so one check can try many edits, each of another function's body. Such an edit is refused where
 its own function is not proved, by an obligation of that function's own code: not because it calls what is not proved, and not because a text cannot be
-read. What a round does not settle is tried in a further round, and at last alone, by the rule of `rt ci`: edits of clauses and of what stands outside
-functions, edits of one function, and those that another hides.
+read. What a round does not settle is tried in a further round, then alone at its function, and at last alone from nothing, by the rule of `rt ci`: edits of
+clauses and of what stands outside functions, and those that another hides.
 """
 
 import os
 import re
 import resource
 import shutil
+import signal
 
 import kit
 import verdicts
@@ -65,7 +66,8 @@ def puts_body(text, function, old, new):
 
 
 class Edit:
-    """A must-fail edit: the pairs of texts that it changes, with the file of each, and the function at which it must fail, if a line `at:` tells one."""
+    """A must-fail edit: the pairs of texts that it changes, with the file of each; the function at which it must fail, if a line `at:` tells one; the places of the
+    functions whose bodies it changes, if it changes nothing else; and the names of the functions at which it can be tried, if there are any."""
 
     def __init__(self, path, crate):
         self.path, self.name = path, os.path.basename(path)
@@ -82,6 +84,9 @@ class Edit:
             elif line.startswith("new:"):
                 self.pairs.append((at, old, re.sub(r"\A ", "", line[4:])))
         self.places = self.find(crate)
+        self.names = names_of(self.places, verdicts.facts_of(crate).get("functions", [])) if self.places else None
+        if self.names is None:
+            self.places, self.names = None, [self.at] if self.at else None
 
     def find(self, crate):
         """The functions whose bodies the edit changes, as (file, name, type), or None where it changes anything else."""
@@ -183,36 +188,45 @@ def names_match(at, function, above, last, member):
     return [*above, last] == [*module_of(at), *([function.owner] if function.owner else []), function.name]
 
 
-def checked(crate, texts, flags):
-    """The check of a round's copy, or None where it ends without a verdict, or refuses nothing."""
-    ran = kit.rt().checked(crate, texts, flags, verdicts.kept_work(crate))
-    if ran.returncode == 1 and re.search(r"^(logic=not-proved|only=\d+)", ran.stdout.rstrip("\n").split("\n")[-1]):
-        return ran
-    print(f"a round of edits told nothing: {ran.stdout[-400:]}", flush=True)
-    return None
+class Work:
+    """What the trials of a crate's edits have proved so far, which those that follow need not prove again, in a folder that is made empty here."""
+
+    def __init__(self, crate):
+        self.crate, self.at = crate, f"{crate.folder}/out/tried"
+        self.remove()
+        os.makedirs(self.at)
+
+    def remove(self):
+        shutil.rmtree(self.at, ignore_errors=True)
+
+    def checked(self, texts, names, flags):
+        """The check of functions of the crate with these texts in place of its own. One that is killed, most likely for memory, is made once more."""
+        words = [*flags, *(word for it in names for word in ("--only", it))]
+        ran = kit.rt().checked(self.crate, texts, words, self.at)
+        return kit.rt().checked(self.crate, texts, words, self.at) if ran.returncode == -signal.SIGKILL else ran
 
 
-def round_of(crate, edits, flags):
+def round_of(work, edits, flags):
     """Tries edits together and returns those that are refused, each with what was said."""
-    group, texts = side_by_side(edits, crate)
+    group, texts = side_by_side(edits, work.crate)
     if not group:
         return {}
-    known = verdicts.facts_of(crate).get("functions", [])
-    names = [names_of(it.places, known) for it in group]
-    only = [] if None in names else [word for it in names for name in it for word in ("--only", name)]
-    ran = checked(crate, texts, [*flags, *only])
-    if ran is None and only:
-        ran = checked(crate, texts, flags)
-    if ran is None:
+    said = work.checked(texts, [name for it in group for name in it.names], flags)
+    if said.returncode != 1 or not re.match(r"only=\d+", last_line(said)):
+        print(f"a round of edits told nothing: {said.stdout[-400:]}", flush=True)
         return {}
-    found = refused_at(ran.stdout, texts, crate)
+    found = refused_at(said.stdout, texts, work.crate)
     done = {}
     for edit in group:
         at = next((it for it in edit.places if it in found), None)
         if at:
-            done[edit] = f"must-fail {crate.name}/{edit.name}: refused, as it must be: {found[at][:160]}"
+            done[edit] = found[at]
     print(f"a round of {len(group)} edits refused {len(done)}", flush=True)
     return done
+
+
+def last_line(ran):
+    return ran.stdout.rstrip("\n").split("\n")[-1]
 
 
 class Spent:
@@ -227,45 +241,45 @@ class Spent:
         return usage.ru_utime + usage.ru_stime
 
     def part(self, what):
+        """Tells what a part took, if it took anything."""
         now = self.now()
-        self.parts.append(f"{what} {now - self.last:.0f} s")
+        if now - self.last >= 1:
+            self.parts.append(f"{what} {now - self.last:.0f} s")
         self.last = now
 
     def tell(self):
         print(f"gate: its edits took of a processor: {', '.join(self.parts)}", flush=True)
 
 
-def tried(crate, edit, flags, kept=None):
-    """Whether `rt ci` refuses an edit, as it must, and what it says. One that cannot be applied, compiled or read counts as not refused."""
+def tried(crate, edit, flags):
+    """Whether `rt ci` refuses an edit, as it must, and what it says: the whole crate is checked, from nothing. One that cannot be applied, compiled or read
+    counts as not refused."""
     rt = kit.rt()
-    kind, said = rt.must_fail(crate, edit.path, flags, kept)
+    kind, said = rt.must_fail(crate, edit.path, flags, None)
     return kind if kit.is_before_keeping() else kind in (rt.REFUSED, rt.AT_LIMIT), said
 
 
-def named(crate, edit, flags):
-    """Tries an edit at the function that its line `at:` names, and returns why that is not proved: then the crate is not, either. None where that is not told, or
-    only because a proof names what the edit took away."""
-    texts = edit.apply({}, crate)
-    ran = kit.rt().checked(crate, texts or {}, [*flags, "--only", edit.at], verdicts.kept_work(crate))
-    lines = ran.stdout.rstrip("\n").split("\n")
-    if not texts or ran.returncode != 1 or not re.match(r"only=1 proved=0\b", lines[-1]) or any(kit.rt().unread(it, texts) for it in lines):
+def named(work, edit, flags):
+    """Tries an edit at its function, and returns why that is not proved: then the crate is not, either. None where that is not told, or only because a proof
+    names what the edit took away."""
+    texts, names = edit.apply({}, work.crate), [edit.at] if edit.at else edit.names
+    if not (texts and names):
         return None
-    return next((it for it in lines if re.match(r"(\./)?(src|specs|proofs)/\S+:\d+:\d+: error", it) and not re.search(TAKEN_AWAY, it)), None)
+    ran = work.checked(texts, names, flags)
+    lines = ran.stdout.split("\n")
+    told = re.match(rf"only={len(names)} proved=(\d+)", last_line(ran))
+    if ran.returncode != 1 or not told or int(told[1]) == len(names) or any(kit.rt().unread(it, texts) for it in lines):
+        return None
+    errors = [it for it in lines if re.match(r"(note: )?(\./)?(src|specs|proofs)/\S+:\d+:\d+: (error|it is not proved)", it)]
+    of = [it for it in lines if any(it.startswith(f"fn {work.crate.name}::{name}: no proof: expected ") for name in names)]
+    return next((it for it in errors or of if not re.search(TAKEN_AWAY, it)), None)
 
 
-def alone(crate, edit, flags):
-    """Tries an edit by the rule of `rt ci`; where kept work seems to let it through, from nothing."""
-    told = tried(crate, edit, flags, verdicts.kept_work(crate))
-    return told if told[0] else tried(crate, edit, flags)
-
-
-def is_sound(crate, names, flags):
-    """Whether what is refused over the kept work is the edits' doing: this run has just proved the crate over it, or the functions of these names, at which its
-    edits were tried, are proved so now without the edits; the whole crate, where there are no names."""
-    if not verdicts.facts_of(crate).get("kept"):
-        return True
-    only = [word for name in names or [] for word in ("--only", name)]
-    return not kit.rt().checked(crate, {}, [*flags, *only], verdicts.kept_work(crate)).returncode
+def are_proved(work, edits, flags):
+    """Whether the functions at which edits are to be tried over what is kept are proved over it without the edits, so that what is then refused is the edits'
+    doing."""
+    names = sorted({name for it in edits for name in it.names or []})
+    return bool(names) and not work.checked({}, names, flags).returncode
 
 
 def key_of(crate, edit):
@@ -315,42 +329,43 @@ def try_all(crate, paths, flags):
     verdicts.note(crate, False, {**verdicts.facts_of(crate), "tried": len(left)})
     if left:
         told.update(try_anew(crate, left, flags))
-    shutil.rmtree(verdicts.kept_work(crate), ignore_errors=True)
     return [told[it] for it in paths]
 
 
-def names_tried(crate, edits):
-    """The functions at which edits were tried by themselves or by their `at:`."""
-    known = verdicts.facts_of(crate).get("functions", [])
-    found = [names_of(it.places, known) if it.places else [it.at] for it in edits]
-    return None if None in found else sorted({name for names in found for name in names})
-
-
 def try_anew(crate, edits, flags):
-    os.makedirs(verdicts.kept_work(crate), exist_ok=True)
-    told, left, spent = {}, edits, Spent()
-    while True:
-        done = round_of(crate, left, flags)
-        spent.part(f"a round that refused {len(done)} of {len(left)}")
-        told.update({it.path: (True, said) for it, said in done.items()})
-        left = [it for it in left if it not in done]
-        if not done:
-            break
-    by_name = [it for it in edits if it not in left]
-    for it in left:
-        why = it.at and named(crate, it, flags)
-        if why:
-            by_name.append(it)
-            told[it.path] = True, f"must-fail {crate.name}/{it.name}: refused, as it must be: {why[:160]}"
-        else:
-            told[it.path] = alone(crate, it, flags)
-        spent.part(f"{it.name} alone")
-    sound = is_sound(crate, names_tried(crate, edits) if len(by_name) == len(edits) else None, flags)
-    spent.part("the functions without the edits")
+    """Tries edits of which the store knows nothing, and keeps there those that are refused."""
+    spent = Spent()
+    why = refused_by_name(crate, edits, flags, spent)
+    told = {it.path: (True, f"must-fail {crate.name}/{it.name}: refused, as it must be: {said[:160]}") for it, said in why.items()}
+    for it in edits:
+        if it not in why:
+            told[it.path] = tried(crate, it, flags)
+            spent.part(f"{it.name} alone, from nothing")
     spent.tell()
-    if not sound:
-        told = {it.path: tried(crate, it, flags) for it in edits}
     for it in edits:
         if told[it.path][0]:
             verdicts.store.put(key_of(crate, it), {"crate": crate.name, "said": told[it.path][1]}, None, [])
     return told
+
+
+def refused_by_name(crate, edits, flags, spent):
+    """The edits that are refused at functions, each with what was said. The first round begins with nothing. Before any trial over what that left, the functions of
+    the edits that are not settled are proved over it."""
+    work, refused, left, is_proved = Work(crate), {}, edits, None
+    while True:
+        done = round_of(work, left, flags)
+        spent.part(f"a round that refused {len(done)} of {len(left)}")
+        refused.update(done)
+        left = [it for it in left if it not in done]
+        if is_proved is None and any(it.names for it in left):
+            is_proved = are_proved(work, left, flags)
+            spent.part("the functions of those left, without the edits")
+        if not (done and is_proved and len(left) > 1):
+            break
+    for it in left if is_proved else []:
+        why = named(work, it, flags)
+        spent.part(f"{it.name} at its function")
+        if why:
+            refused[it] = why
+    work.remove()
+    return refused

@@ -11,7 +11,6 @@ import hashlib
 import importlib.machinery
 import importlib.util
 import os
-import re
 import shutil
 import sys
 
@@ -79,12 +78,6 @@ class NothingKept:
 def say_less(usual):
     """`rt ci` counts at its end what it kept itself, which is nothing here."""
     return lambda text, *given: usual(text.partition("; every proof and")[0], *given)
-
-
-def allow_kept_work(rtlib):
-    """A crate's proof keeps its work in a folder that the run has made empty, for the crate's edits. Its last line then has one word more."""
-    pattern = rtlib.VERDICT.pattern.replace("statements=trusted", "statements=trusted( incremental=trusted)?")
-    rtlib.VERDICT = re.compile(pattern, rtlib.VERDICT.flags)
 
 
 def name():

@@ -16,9 +16,9 @@ import edits
 import kit
 
 PR_SET_PDEATHSIG = 1
-# (what a kit reckons for a check was measured at two to six times what it takes; some take a fifth more than half)
+# (what a kit reckons for a check was measured at two to six times what it takes, and for a library's that writes statements at 1.7 times and more)
 SHARE_OF_MEMORY = 0.85
-SHARE_OF_RECKONING = 0.5
+SHARE_OF_RECKONING = 0.6
 
 
 class Task:

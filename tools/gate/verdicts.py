@@ -7,13 +7,12 @@ was built of it.
 import json
 import os
 import re
-import shutil
 
 import kit
 from store import Store
 
 # Raised where what is kept, or how it is made, changes.
-FORM = "1"
+FORM = "2"
 store = Store(None)
 
 
@@ -49,26 +48,6 @@ def files_made(crate, tests):
     return [it for it in names if os.path.isfile(f"{out}/{it}")]
 
 
-def has_edits(crate):
-    return bool(kit.rt().edits_of(crate)[0])
-
-
-def kept_work(crate):
-    """The folder in which a crate's proof from nothing keeps its work for the crate's edits."""
-    return f"{crate.folder}/out/kept"
-
-
-def prove(crate, flags, tests, usual):
-    """Proves a crate from nothing. A library with edits keeps its work beside it, in a folder that is made empty here."""
-    if tests or crate.is_program or crate.is_static or not has_edits(crate):
-        return usual(crate, flags, tests)
-    for it in (kept_work(crate), os.path.dirname(crate.rlib)):
-        shutil.rmtree(it, ignore_errors=True)
-        os.makedirs(it)
-    words = [*crate.words(flags, keeps=False), "--incremental", kept_work(crate)]
-    return crate.prove(["build", *words, "-o", crate.rlib])
-
-
 def functions_in(crate):
     """The functions that the proof has told of, by their names below the crate."""
     crate.out.flush()
@@ -93,7 +72,7 @@ def replace_ci():
         if facts:
             note(crate, tests, {**facts, "kept": True})
             return 0
-        status = prove(crate, flags, tests, usual)
+        status = usual(crate, flags, tests)
         if status:
             return status
         files = files_made(crate, tests)
