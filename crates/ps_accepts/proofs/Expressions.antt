@@ -31,7 +31,8 @@ use Rattle.ps_typing.specs.Places.{variable_at, indexed}
 use Rattle.ps_typing.specs.Values.{Value, Variable, Operand, plain, loaded, ordinal_of, member_list}
 use Rattle.ps_typing.specs.Operators.{added}
 use Rattle.ps_typing.specs.Expressions.{constant_value, alone, through, TypedMember, single, several as several_members, Gathered, gathered, constructed, set_value, standing, named_value, named_variable, first_term, variable_seen, term_seen, simple_seen, call_value, operand, factor_operand, member_at, select, add_term, multiply_factor, simple_operand, term_operand, variable_operand}
-use Rattle.ps_typing.proofs.Equations.{operand_simple, operand_compare, factor_variable, factor_call, factor_number, factor_text, factor_nil, factor_set, factor_group, factor_not, member_single, member_several, select_index, select_field, select_content, simple_is, term_is, add_term_is, multiply_factor_is, variable_is}
+use Rattle.ps_typing.proofs.Equations.{operand_simple, operand_compare, factor_variable, factor_call, factor_number, factor_text, factor_nil, factor_set, factor_not, member_single, member_several, select_index, select_field, select_content, simple_is, term_is, add_term_is, multiply_factor_is, variable_is}
+use Rattle.ps_accepts.proofs.Groups.{grouped_operand}
 use Rattle.ps_accepts.proofs.Aims.{ExpressionsTell, VariablesTell}
 use Rattle.ps_accepts.proofs.Calls.{called_told, ordinal_told, char_known}
 use Rattle.ps_accepts.proofs.Lists.{Each, inside, none_some, then_some, provided_some}
@@ -319,7 +320,7 @@ module _ (D : Table) (k : Scope) (os : List Shape) where
         factors_tell x ts r (g.nil {at = at}) = subst (OperandTold D k os) (sym (factor_nil c Γ at)) (plain_told at.from _ (λ v q. subst (ValueTold D k os) (inside _ v q) (λ n. ((n, refl), tt))))
         factors_tell x ts r (g.empty {left = at}) = subst (OperandTold D k os) (sym (factor_set c Γ at [])) (plain_told at.from _ (λ v q. set_told [] v tt q))
         factors_tell x ts r (g.set {left = at} {xs = xs} d) = subst (OperandTold D k os) (sym (factor_set c Γ at xs)) (plain_told at.from _ (λ v q. set_told (map (member_at c Γ) xs) v (members_told xs _ _ d) q))
-        factors_tell x ts r (g.group {left = at} {x = y} d) = subst (OperandTold D k os) (sym (factor_group c Γ at y)) (plain_told at.from (operand c Γ y).value (let told = exprs_tell y _ _ d in told.value))
+        factors_tell x ts r (g.group {left = at} {x = y} d) = subst (OperandTold D k os) (sym (grouped_operand c Γ at y)) (plain_told at.from (operand c Γ y).value (let told = exprs_tell y _ _ d in told.value))
         factors_tell x ts r (g.not {at = at} {x = y} d) = subst (OperandTold D k os) (sym (factor_not c Γ at y)) (plain_told at.from _ (λ v q.
             let w = then_some (factor_operand c Γ y).value _ v q in
             let told = factors_tell' y _ _ d in

@@ -13,6 +13,7 @@ pub mod Strings
 pub mod Operators
 pub mod Selected
 pub mod Calls
+mod Groups
 pub mod Expressions
 pub mod Firsts
 pub mod Assigned

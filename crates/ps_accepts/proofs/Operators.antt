@@ -24,7 +24,7 @@ use Rattle.ps_accepts.proofs.Tidy.{ExprSound, StepsSound, OperandsSound, SetSoun
 use Rattle.tac_code.specs.Sound.{IsLine}
 use Rattle.ps_regions.specs.Option.{◌>>=◌}
 use Rattle.ps_regions.specs.Constants.{integer, boolean}
-use Rattle.ps_typing.specs.Chains.{arithmetic_step_after, calculated, operand_after, connected, set_step_after, combined}
+use Rattle.ps_tree.specs.Chains.{arithmetic_step_after, calculated, operand_after, connected, set_step_after, combined}
 use Rattle.ps_typing.specs.Values.{Value, SimpleValue, SetValue, StructureValue, set_type_of_both}
 use Rattle.ps_typing.specs.Operators.{number, truth, operand_of, with_sign, negated, arithmetic, arithmetic_or_set, logic, added, multiplied, ordered, of_pointers, of_sets, simple_comparison, may_be_member, is_in, compared}
 use Rattle.ps_accepts.proofs.Lists.{right, never, inside, none_some, then_some, provided_some, if_some}

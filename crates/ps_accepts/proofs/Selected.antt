@@ -13,7 +13,7 @@ use Rattle.ps_code.specs.Fits.{SortOf, CountIs, shape_in}
 use Rattle.ps_accepts.proofs.Tidy.{PlaceSound, SelectorsSound, SelectorSound, ExprSound}
 use Rattle.tac_code.specs.Sound.{IsLine}
 use Rattle.ps_regions.specs.Regions.{Context, Region, Point, BlockPoint, FieldPoint, ConstantMeaning, TextMeaning, TypeMeaning, VariableMeaning, ParameterMeaning, RoutineParameterMeaning, RoutineMeaning, FileMeaning, RequiredMeaning, LeftOutMeaning}
-use Rattle.ps_typing.specs.Chains.{selector_after, selected}
+use Rattle.ps_tree.specs.Chains.{selector_after, selected}
 use Rattle.ps_typing.specs.Values.{Value, SimpleValue, SetValue, StructureValue, Variable, contents, loaded}
 use Rattle.ps_typing.specs.Places.{variable_at, index_operand, element, field_of, component, target}
 use Rattle.ps_accepts.proofs.Lists.{left, right, never, inside, none_some, then_some, provided_some}

@@ -14,6 +14,7 @@ use Rattle.ps_syntax.specs.Height.{height_of_expr, height_of_factor, height_of_m
 use Rattle.ps_grammar.specs.Symbols.{Tokens, Symbol, nothing, Many, Separated}
 use Rattle.ps_grammar.specs.Expressions.{IsMember, single, range, IsSelector, index, field, content, IsVariable, selected, IsFactor, variable, call, number, text, nil, empty, set, group, not, IsMultiplied, multiplied, IsTerm, term, IsAdded, added, IsSimple, plain, signed, IsExpr, alone, compare, factor_within, expr_within}
 use Rattle.ps_grammar.proofs.Heights as height
+use Rattle.ps_grammar.proofs.Groups.{height-grouped}
 use Rattle.ps_grammar.proofs.Levels.{Level, greatest_of, no_level, many_level, separated_level}
 
 module _ (E E' : Symbol Expr) (k n : ℕ) (l : Level E height_of_expr k n E') where
@@ -72,7 +73,7 @@ module _ (E E' : Symbol Expr) (k n : ℕ) (l : Level E height_of_expr k n E') wh
     factor_bounded y ts r (nil {at = at}) = omega (arith, height.height-nil at)
     factor_bounded y ts r (empty {left = left}) = omega (arith, height.height-set left [])
     factor_bounded y ts r (set {left = left} {xs = xs} {ts = m} d) = omega (arith, height.height-set left xs, members_level.bounded xs m _ d)
-    factor_bounded y ts r (group {left = left} {x = x} {ts = m} d) = omega (arith, height.height-group left x, l.bounded x m _ d)
+    factor_bounded y ts r (group {left = left} {x = x} {ts = m} d) = omega (arith, height-grouped left x, l.bounded x m _ d)
     factor_bounded y ts r (not {at = at} {x = x} {ts = m} d) = omega (arith, height.height-not at x, i.bounded x m r d)
 
     factor_lowers : (y : Factor) (ts r : Tokens) → IsFactor E F y ts r → height_of_factor y ≤ n → IsFactor E' F' y ts r
@@ -83,7 +84,7 @@ module _ (E E' : Symbol Expr) (k n : ℕ) (l : Level E height_of_expr k n E') wh
     factor_lowers y ts r nil le = nil
     factor_lowers y ts r empty le = empty
     factor_lowers y ts r (set {left = left} {xs = xs} {ts = m} d) le = set (members_level.lowers xs m _ d (omega (arith, height.height-set left xs, le)))
-    factor_lowers y ts r (group {left = left} {x = x} {ts = m} d) le = group (l.lowers x m _ d (omega (arith, height.height-group left x, le)))
+    factor_lowers y ts r (group {left = left} {x = x} {ts = m} d) le = group (l.lowers x m _ d (omega (arith, height-grouped left x, le)))
     factor_lowers y ts r (not {at = at} {x = x} {ts = m} d) le = not (i.lowers x m r d (omega (arith, height.height-not at x, le)))
 
     pub factor_level : Level (IsFactor E F) height_of_factor k n (IsFactor E' F')

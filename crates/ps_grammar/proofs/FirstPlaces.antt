@@ -22,6 +22,7 @@ use Rattle.ps_grammar.specs.Expressions.{IsMember, single, range, selected, IsFa
 use Rattle.ps_grammar.specs.Statements.{IsConstant, number as plain_number, signed_number, name, signed_name, text as plain_text}
 use Rattle.ps_grammar.specs.Programs.{IsOrdinal, named, enumeration, subrange, IsStructure, array, empty_record, filled_record, set as set_type, IsType, ordinal, pointer, structure, packed, index_within, type_within}
 use Rattle.ps_grammar.specs.Places.{BeginsAtFirst, PartsBeginAtFirst}
+use Rattle.ps_grammar.proofs.Groups.{grouped_first}
 
 factor_first : (E : Symbol Expr) (F : Symbol Factor) → BeginsAtFirst (IsFactor E F) first_of_factor
 unfolding factors.out-Factor denote.Hole.Carrier.out
@@ -32,7 +33,7 @@ factor_first E F x ts r text = refl
 factor_first E F x ts r nil = refl
 factor_first E F x ts r empty = refl
 factor_first E F x ts r (set d) = refl
-factor_first E F x ts r (group d) = refl
+factor_first E F x ts r (group {left = left} {x = y} d) = grouped_first left y
 factor_first E F x ts r (not d) = refl
 
 term_first : (F : Symbol Factor) → BeginsAtFirst F first_of_factor → BeginsAtFirst (IsTerm F) first_of_term

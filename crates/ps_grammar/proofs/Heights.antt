@@ -1,5 +1,5 @@
 -- The height of each construction.
-use Rattle.std.proofs.Common.{◌≡◌, ℕ, suc, max, List, map, Option, sym, ap, ◌∙◌}
+use Rattle.std.proofs.Common.{◌≡◌, ℕ, suc, ◌+◌, max, List, map, Option, sym, ap, ◌∙◌}
 use Rattle.ps_text.specs.declared.Span.{Span}
 use Rattle.ps_syntax.specs.declared.expression.AddedTerm.{AddedTerm, roll-AddedTerm}
 use Rattle.ps_syntax.specs.declared.expression.Adding.{Adding}
@@ -76,8 +76,8 @@ height-nil at = ap height_of_factor (sym (f.rolls-Nil at)) ∙ fold-roll-Factor 
 pub height-set : (at : Span) (xs : List Member) → height_of_factor (f.Set at xs) ≡ greatest (map height_of_member xs)
 height-set at xs = ap height_of_factor (sym (f.rolls-Set at xs)) ∙ fold-roll-Factor ℕ ℕ ℕ ℕ ℕ ℕ ℕ ℕ ℕ expr_step factor_step member_step selector_step added_step multiplied_step simple_step term_step variable_step (Factor-F.Set at xs)
 
-pub height-group : (at : Span) (x : Expr) → height_of_factor (f.Group at x) ≡ height_of_expr x
-height-group at x = ap height_of_factor (sym (f.rolls-Group at x)) ∙ fold-roll-Factor ℕ ℕ ℕ ℕ ℕ ℕ ℕ ℕ ℕ expr_step factor_step member_step selector_step added_step multiplied_step simple_step term_step variable_step (Factor-F.Group at x)
+pub height-group : (at : Span) (n : ℕ) (x : Expr) → height_of_factor (f.Group at n x) ≡ n + height_of_expr x
+height-group at n x = ap height_of_factor (sym (f.rolls-Group at n x)) ∙ fold-roll-Factor ℕ ℕ ℕ ℕ ℕ ℕ ℕ ℕ ℕ expr_step factor_step member_step selector_step added_step multiplied_step simple_step term_step variable_step (Factor-F.Group at n x)
 
 pub height-not : (at : Span) (x : Factor) → height_of_factor (f.Not at x) ≡ suc (height_of_factor x)
 height-not at x = ap height_of_factor (sym (f.rolls-Not at x)) ∙ fold-roll-Factor ℕ ℕ ℕ ℕ ℕ ℕ ℕ ℕ ℕ expr_step factor_step member_step selector_step added_step multiplied_step simple_step term_step variable_step (Factor-F.Not at x)

@@ -1,4 +1,5 @@
 pub mod Heights
+pub mod Groups
 pub mod Levels
 pub mod ExpressionLevels
 pub mod StatementLevels

@@ -24,6 +24,7 @@ use Rattle.ps_syntax.specs.declared.expression.Selector.{Selector}
 use Rattle.ps_syntax.specs.declared.expression.Selector.TheVariants as selector
 use Rattle.ps_syntax.specs.declared.expression.Member.{Member}
 use Rattle.ps_syntax.specs.declared.expression.Member.TheVariants as member
+use Rattle.ps_grammar.specs.Groups.{grouped}
 use Rattle.ps_grammar.specs.Symbols.{Tokens, Symbol, nothing, token, Many, Separated}
 
 -- how an operator is written
@@ -75,7 +76,7 @@ pub data IsFactor (expr : Symbol Expr) (factor' : Symbol Factor) : Factor → To
   nil : {at : Span} {r : Tokens} → IsFactor expr factor' (f.Nil at) (token k.Nil at ∷ r) r
   empty : {left right : Span} {r : Tokens} → IsFactor expr factor' (f.Set left []) (token k.LeftBracket left ∷ token k.RightBracket right ∷ r) r
   set : {left right : Span} {xs : List Member} {ts r : Tokens} → Separated k.Comma (IsMember expr) xs ts (token k.RightBracket right ∷ r) → IsFactor expr factor' (f.Set left xs) (token k.LeftBracket left ∷ ts) r
-  group : {left right : Span} {x : Expr} {ts r : Tokens} → expr x ts (token k.RightParen right ∷ r) → IsFactor expr factor' (f.Group left x) (token k.LeftParen left ∷ ts) r
+  group : {left right : Span} {x : Expr} {ts r : Tokens} → expr x ts (token k.RightParen right ∷ r) → IsFactor expr factor' (grouped left x) (token k.LeftParen left ∷ ts) r
   not : {at : Span} {x : Factor} {ts r : Tokens} → factor' x ts r → IsFactor expr factor' (f.Not at x) (token k.Not at ∷ ts) r
 
 -- term = factor {operator factor}

@@ -3,5 +3,6 @@ pub mod Expressions
 pub mod Statements
 pub mod Programs
 pub mod Forward
+pub mod Groups
 pub mod Trees
 pub mod Places

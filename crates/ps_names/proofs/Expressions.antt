@@ -318,9 +318,9 @@ module _ (c : Context) (Γ : List Region) where
       let z : Factor-F Expr Factor Member Selector AddedTerm MultipliedFactor Simple Term syntax.Variable = Factor-F.Set at (parts ys) in
       told_by (factor_operand c Γ (roll-Factor z)) _ (factor_uses (roll-Factor z)) (all (map member_uses (parts ys))) (ap (factor_operand c Γ) (f.rolls-Set at (parts ys)) ∙ factor_set c Γ at (parts ys)) (factor_uses_are z)
       (of_value _ _ refl refl (λ v h. (let g = then_some (steps (λ (g : Gathered) (m : Option TypedMember). m >>= gathered g) ([], None) (map (member_at c Γ) (parts ys))) _ v h in steps_found (λ (g : Gathered) (m : Option TypedMember). m >>= gathered g) (member_at c Γ) member_uses (λ y s t h. (let m = then_some (member_at c Γ y.0) _ t h in y.1 m.0 m.1)) ys ([], None) g.0 g.1)))
-  factor_layer (Factor-F.Group at x) =
-      let z : Factor-F Expr Factor Member Selector AddedTerm MultipliedFactor Simple Term syntax.Variable = Factor-F.Group at x.0 in
-      told_by (factor_operand c Γ (roll-Factor z)) _ (factor_uses (roll-Factor z)) (expr_uses x.0) (ap (factor_operand c Γ) (f.rolls-Group at x.0) ∙ factor_group c Γ at x.0) (factor_uses_are z) (of_value _ _ refl refl (λ v h. x.1.value v h))
+  factor_layer (Factor-F.Group at n x) =
+      let z : Factor-F Expr Factor Member Selector AddedTerm MultipliedFactor Simple Term syntax.Variable = Factor-F.Group at n x.0 in
+      told_by (factor_operand c Γ (roll-Factor z)) _ (factor_uses (roll-Factor z)) (expr_uses x.0) (ap (factor_operand c Γ) (f.rolls-Group at n x.0) ∙ factor_group c Γ at n x.0) (factor_uses_are z) (of_value _ _ refl refl (λ v h. x.1.value v h))
   factor_layer (Factor-F.Not at x) =
       let z : Factor-F Expr Factor Member Selector AddedTerm MultipliedFactor Simple Term syntax.Variable = Factor-F.Not at x.0 in
       told_by (factor_operand c Γ (roll-Factor z)) _ (factor_uses (roll-Factor z)) (factor_uses x.0) (ap (factor_operand c Γ) (f.rolls-Not at x.0) ∙ factor_not c Γ at x.0) (factor_uses_are z) (of_value _ _ refl refl (λ v h. (let a = then_some (factor_operand c Γ x.0).value _ v h in x.1.value a.0 a.1)))

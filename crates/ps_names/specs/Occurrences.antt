@@ -29,7 +29,7 @@ factor_step (Factor-F.Number at) = []
 factor_step (Factor-F.Text at) = []
 factor_step (Factor-F.Nil at) = []
 factor_step (Factor-F.Set at members) = all members
-factor_step (Factor-F.Group at x) = x
+factor_step (Factor-F.Group at n x) = x
 factor_step (Factor-F.Not at x) = x
 
 abbrev pub member_step : Member-F Points Points Points Points Points Points Points Points Points → Points

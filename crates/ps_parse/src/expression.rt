@@ -1,6 +1,6 @@
 //! Expressions.
 
-ghost use Rattle.std.specs.Prelude.{◌≡◌, Ok, Some};
+ghost use Rattle.std.specs.Prelude.{◌≡◌, Ok, Some, drop};
 ghost use Rattle.ps_scan.specs.declared.token.Kind.TheVariants as k;
 ghost use Rattle.ps_parse.specs.Steps.{Reads, separated, many};
 ghost use Rattle.ps_parse.specs.ReadExpressions as read;
@@ -378,14 +378,45 @@ impl<'a> Parser<'a> {
         self.factor(depth - 1)
     }
 
+    /// Goes past the parentheses that come next, at most so many, and answers how many they are.
+    fn opened(&mut self, most: u32) -> u32
+        ensures count { result ≡ read.parentheses most self.old.rest.now }
+        ensures after { self.new.rest.now ≡ drop result self.old.rest.now }
+        ensures kept { self.new.left_out ≡ self.old.left_out }
+    {
+        let mut count = 0;
+        for _turn in 0..most {
+            if !self.eat(Kind::LeftParen) {
+                return count;
+            }
+            count += 1;
+        }
+        count
+    }
+
+    /// A group after its parenthesis. Those that come next are taken at once and closed one by one, so that parentheses
+    /// which stand directly within others need no call and no memory of their own.
     #[cycle(expression)]
-    #[tactic(auto, unfolding(crate::specs::ReadExpressions::group))]
     fn group(&mut self, depth: u32, at: Span) -> Result<Factor, Fault>
         ensures { Reads (read.group (read.read_expr depth) at self.old.rest.now) result self.new.rest.now }
     {
-        let inner = self.boxed_expr(depth)?;
+        let tokens = self.rest;
+        let opened = self.opened(depth);
+        let mut inner = self.boxed_expr(depth - opened)?;
+        let mut redundant = 0;
+        for closed in 0..opened {
+            self.expect(Kind::RightParen)?;
+            let open = opened - closed - 1;
+            if self.sees_operator() {
+                let first = Factor::Group(tokens[open as usize].span, redundant, inner);
+                inner = self.boxed_from(depth - open - 1, None, first)?;
+                redundant = 0;
+            } else {
+                redundant += 1;
+            }
+        }
         self.expect(Kind::RightParen)?;
-        Ok(Factor::Group(at, inner))
+        Ok(Factor::Group(at, redundant, inner))
     }
 
     #[cycle(expression)]

@@ -92,8 +92,8 @@ factor_found_call name xs r h = moved _ _ r (ap (λ (p : Part). p.uses) (factor_
 pub factor_found_set : (at : Span) (xs : List Member) (r : Option Use) → IsFound (all_uses member_uses xs) r → IsFound (factor_part (f.Set at xs)).uses r
 factor_found_set at xs r h = moved _ _ r (ap (λ (p : Part). p.uses) (factor_Set at xs)) h
 
-pub factor_found_group : (at : Span) (x : Expr) (r : Option Use) → IsFound (expr_part x).uses r → IsFound (factor_part (f.Group at x)).uses r
-factor_found_group at x r h = moved _ _ r (ap (λ (p : Part). p.uses) (factor_Group at x)) h
+pub factor_found_group : (at : Span) (n : ℕ) (x : Expr) (r : Option Use) → IsFound (expr_part x).uses r → IsFound (factor_part (f.Group at n x)).uses r
+factor_found_group at n x r h = moved _ _ r (ap (λ (p : Part). p.uses) (factor_Group at n x)) h
 
 pub factor_found_not : (at : Span) (x : Factor) (r : Option Use) → IsFound (factor_part x).uses r → IsFound (factor_part (f.Not at x)).uses r
 factor_found_not at x r h = moved _ _ r (ap (λ (p : Part). p.uses) (factor_Not at x)) h

@@ -1,5 +1,5 @@
 -- The uses in expressions, construction by construction.
-use Rattle.std.proofs.Common.{◌≡◌, false, List, [], ◌∷◌, ◌++◌, map, Option, Some, None, refl, sym, ap, ◌∙◌}
+use Rattle.std.proofs.Common.{◌≡◌, false, ℕ, List, [], ◌∷◌, ◌++◌, map, Option, Some, None, refl, sym, ap, ◌∙◌}
 use Rattle.ps_text.specs.declared.Span.{Span}
 use Rattle.ps_syntax.specs.declared.expression.Relation.{Relation}
 use Rattle.ps_syntax.specs.declared.expression.Sign.{Sign}
@@ -71,9 +71,9 @@ pub factor_Set : (at : Span) (members : List Member) → factor_part (f.Set at m
 unfolding factor_step
 factor_Set at members = ap factor_part (sym (f.rolls-Set at members)) ∙ fold-roll-Factor Part Part Uses Uses Uses Uses Part Part Part expr_step factor_step member_step selector_step added_step multiplied_step simple_step term_step variable_step (Factor-F.Set at members) ∙ ap (no_variable at.from) (all_uses-map (λ (u : Uses). u) member_uses members)
 
-pub factor_Group : (at : Span) (x : Expr) → factor_part (f.Group at x) ≡ no_variable at.from (expr_part x).uses
+pub factor_Group : (at : Span) (n : ℕ) (x : Expr) → factor_part (f.Group at n x) ≡ no_variable at.from (expr_part x).uses
 unfolding factor_step
-factor_Group at x = ap factor_part (sym (f.rolls-Group at x)) ∙ fold-roll-Factor Part Part Uses Uses Uses Uses Part Part Part expr_step factor_step member_step selector_step added_step multiplied_step simple_step term_step variable_step (Factor-F.Group at x) ∙ refl
+factor_Group at n x = ap factor_part (sym (f.rolls-Group at n x)) ∙ fold-roll-Factor Part Part Uses Uses Uses Uses Part Part Part expr_step factor_step member_step selector_step added_step multiplied_step simple_step term_step variable_step (Factor-F.Group at n x) ∙ refl
 
 pub factor_Not : (at : Span) (x : Factor) → factor_part (f.Not at x) ≡ no_variable at.from (factor_part x).uses
 unfolding factor_step
@@ -152,8 +152,8 @@ whole_Nil at = ap (λ (p : Part). p.whole) (factor_Nil at)
 pub whole_Set : (at : Span) (members : List Member) → (factor_part (f.Set at members)).whole ≡ Other at.from false
 whole_Set at members = ap (λ (p : Part). p.whole) (factor_Set at members)
 
-pub whole_Group : (at : Span) (x : Expr) → (factor_part (f.Group at x)).whole ≡ Other at.from false
-whole_Group at x = ap (λ (p : Part). p.whole) (factor_Group at x)
+pub whole_Group : (at : Span) (n : ℕ) (x : Expr) → (factor_part (f.Group at n x)).whole ≡ Other at.from false
+whole_Group at n x = ap (λ (p : Part). p.whole) (factor_Group at n x)
 
 pub whole_Not : (at : Span) (x : Factor) → (factor_part (f.Not at x)).whole ≡ Other at.from false
 whole_Not at x = ap (λ (p : Part). p.whole) (factor_Not at x)

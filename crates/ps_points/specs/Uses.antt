@@ -106,7 +106,7 @@ factor_step (Factor-F.Number at) = no_variable at.from []
 factor_step (Factor-F.Text at) = no_variable at.from []
 factor_step (Factor-F.Nil at) = no_variable at.from []
 factor_step (Factor-F.Set at members) = no_variable at.from (all_uses (λ x. x) members)
-factor_step (Factor-F.Group at x) = no_variable at.from x.uses
+factor_step (Factor-F.Group at n x) = no_variable at.from x.uses
 factor_step (Factor-F.Not at x) = no_variable at.from x.uses
 
 unfoldable pub member_step : Member-F Part Part Uses Uses Uses Uses Part Part Part → Uses

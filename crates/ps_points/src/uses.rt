@@ -296,7 +296,7 @@ fn in_factor(factor: &Factor, sought: Sought<'_>) -> Option<Use>
         Factor::Call(name, list) => in_call(*name, list.as_slice(), sought),
         Factor::Number(_) | Factor::Text(_) | Factor::Nil(_) => None,
         Factor::Set(_, members) => in_members(members.as_slice(), sought),
-        Factor::Group(_, x) => in_expr(x.get(), sought),
+        Factor::Group(_, _, x) => in_expr(x.get(), sought),
         Factor::Not(_, x) => in_factor(x.get(), sought),
     }
 }

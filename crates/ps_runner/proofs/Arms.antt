@@ -101,13 +101,13 @@ pub new_is : (x : Statement) (place : Place) (pointer : ℕ) (line : Line) → x
 unfolding statement_of
 new_is x place pointer line is = sym (ap statement_of is)
 
-pub pack_is : (x : Statement) (from : Place) (from_ty : Ty) (index : Expr) (line : Line) (to : Place) (to_ty : Ty) → x ≡ Pack from from_ty index line to to_ty → t.Pack (place_of from) (type_of from_ty) (expr_of index) line.number (place_of to) (type_of to_ty) ≡ statement_of x
+pub pack_is : (x : Statement) (from_box : Box Place Global) (from : Place) (from_ty : Ty) (index : Expr) (line : Line) (to_box : Box Place Global) (to : Place) (to_ty : Ty) → x ≡ Pack from_box from_ty index line to_box to_ty → from ≡ from_box.value → to ≡ to_box.value → t.Pack (place_of from) (type_of from_ty) (expr_of index) line.number (place_of to) (type_of to_ty) ≡ statement_of x
 unfolding statement_of
-pack_is x from from_ty index line to to_ty is = sym (ap statement_of is)
+pack_is x from_box from from_ty index line to_box to to_ty is h0 h1 = ap (λ k. t.Pack (place_of k) (type_of from_ty) (expr_of index) line.number (place_of to) (type_of to_ty)) h0 ∙ ap (λ k. t.Pack (place_of from_box.value) (type_of from_ty) (expr_of index) line.number (place_of k) (type_of to_ty)) h1 ∙ sym (ap statement_of is)
 
-pub unpack_is : (x : Statement) (from : Place) (from_ty : Ty) (to : Place) (to_ty : Ty) (index : Expr) (line : Line) → x ≡ Unpack from from_ty to to_ty index line → t.Unpack (place_of from) (type_of from_ty) (place_of to) (type_of to_ty) (expr_of index) line.number ≡ statement_of x
+pub unpack_is : (x : Statement) (from_box : Box Place Global) (from : Place) (from_ty : Ty) (to_box : Box Place Global) (to : Place) (to_ty : Ty) (index : Expr) (line : Line) → x ≡ Unpack from_box from_ty to_box to_ty index line → from ≡ from_box.value → to ≡ to_box.value → t.Unpack (place_of from) (type_of from_ty) (place_of to) (type_of to_ty) (expr_of index) line.number ≡ statement_of x
 unfolding statement_of
-unpack_is x from from_ty to to_ty index line is = sym (ap statement_of is)
+unpack_is x from_box from from_ty to_box to to_ty index line is h0 h1 = ap (λ k. t.Unpack (place_of k) (type_of from_ty) (place_of to) (type_of to_ty) (expr_of index) line.number) h0 ∙ ap (λ k. t.Unpack (place_of from_box.value) (type_of from_ty) (place_of k) (type_of to_ty) (expr_of index) line.number) h1 ∙ sym (ap statement_of is)
 
 pub read_is : (x : Statement) (variables_items : Vec ReadVariable Global) (variables : List ReadVariable) → x ≡ Read variables_items → variables ≡ variables_items.items → t.Read (map read_of variables) ≡ statement_of x
 unfolding statement_of

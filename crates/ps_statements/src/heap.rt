@@ -9,6 +9,7 @@ ghost use Rattle.ps_statements.specs.Procedures as spec;
 
 use crate::argument::{first_token, parameter_value, parameter_variable, wrong_number};
 use ps_regions::answer::paired;
+use std::alloc::Global;
 use ps_regions::refusal::Fault;
 use ps_syntax::Parameter;
 use ps_text::Span;
@@ -141,7 +142,7 @@ fn pack(a: &Parameter, i: &Parameter, z: &Parameter, site: Site<'_>) -> Result<S
         packed: first_token(z),
         index: first_token(i),
     };
-    packed_from(from, index, to, site.reading.line(at.index), at)
+    packed_from(site.alloc, from, index, to, site.reading.line(at.index), at)
 }
 
 /// The statement of pack, which has three parameters.
@@ -174,7 +175,7 @@ fn unpack(z: &Parameter, a: &Parameter, i: &Parameter, site: Site<'_>) -> Result
         packed: first_token(z),
         index: first_token(i),
     };
-    unpacked_to(from, to, index, site.reading.line(at.index), at)
+    unpacked_to(site.alloc, from, to, index, site.reading.line(at.index), at)
 }
 
 /// The statement of unpack, which has three parameters.
@@ -196,6 +197,7 @@ pub(crate) fn unpack_statement(
 /// The statement of pack, with the line of its index.
 #[tactic(auto, unfolding(ps_tree::specs::View::statement_of))]
 fn packed_from(
+    alloc: Global,
     from: TypedPlace,
     index: (Expr, Ordinal),
     to: TypedPlace,
@@ -210,11 +212,11 @@ fn packed_from(
         return Err(fault);
     }
     Ok(Statement::Pack {
-        from: from.place,
+        from: Box::new(alloc, from.place)?,
         from_ty: from.ty,
         index: index.0,
         line,
-        to: to.place,
+        to: Box::new(alloc, to.place)?,
         to_ty: to.ty,
     })
 }
@@ -222,6 +224,7 @@ fn packed_from(
 /// The statement of unpack, with the line of its index.
 #[tactic(auto, unfolding(ps_tree::specs::View::statement_of))]
 fn unpacked_to(
+    alloc: Global,
     from: TypedPlace,
     to: TypedPlace,
     index: (Expr, Ordinal),
@@ -236,9 +239,9 @@ fn unpacked_to(
         return Err(fault);
     }
     Ok(Statement::Unpack {
-        from: from.place,
+        from: Box::new(alloc, from.place)?,
         from_ty: from.ty,
-        to: to.place,
+        to: Box::new(alloc, to.place)?,
         to_ty: to.ty,
         index: index.0,
         line,

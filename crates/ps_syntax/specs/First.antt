@@ -38,7 +38,7 @@ factor_layer_first (Factor-F.Number at) = at.from
 factor_layer_first (Factor-F.Text at) = at.from
 factor_layer_first (Factor-F.Nil at) = at.from
 factor_layer_first (Factor-F.Set at xs) = at.from
-factor_layer_first (Factor-F.Group at x) = at.from
+factor_layer_first (Factor-F.Group at n x) = at.from
 factor_layer_first (Factor-F.Not at x) = at.from
 
 abbrev pub first_of_factor : Factor → ℕ

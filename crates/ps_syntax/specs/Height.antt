@@ -1,5 +1,5 @@
 -- The height of a tree: the greatest number of blocks, formal lists, types, index and base ordinals, statements, expressions and factors after `not` that lie one inside the other. Variables, terms, and the `begin` and `end` of a block don't count.
-use Rattle.std.specs.Prelude.{ℕ, suc, max, List, [], ◌∷◌, map}
+use Rattle.std.specs.Prelude.{ℕ, suc, ◌+◌, max, List, [], ◌∷◌, map}
 use Rattle.ps_syntax.specs.declared.expression.Expr.{Expr}
 use Rattle.ps_syntax.specs.declared.expression.Factor.{Factor}
 use Rattle.ps_syntax.specs.declared.expression.Member.{Member}
@@ -62,7 +62,7 @@ factor_step (Factor-F.Number at) = 0
 factor_step (Factor-F.Text at) = 0
 factor_step (Factor-F.Nil at) = 0
 factor_step (Factor-F.Set at xs) = greatest xs
-factor_step (Factor-F.Group at x) = x
+factor_step (Factor-F.Group at n x) = n + x
 factor_step (Factor-F.Not at x) = suc x
 
 abbrev pub multiplied_step : MultipliedFactor-F ℕ ℕ ℕ ℕ ℕ ℕ ℕ ℕ ℕ → ℕ

@@ -95,8 +95,9 @@ pub enum Factor {
     Nil(Span),
     /// The bracket, and the members.
     Set(Span, Items<Member>),
-    /// The parenthesis, and the expression in it.
-    Group(Span, Boxed<Expr>),
+    /// The outermost of parentheses that stand directly within one another, how many stand within it, and the
+    /// expression in the innermost. That is no group alone, so a text has one tree.
+    Group(Span, u32, Boxed<Expr>),
     Not(Span, Boxed<Factor>),
 }
 
@@ -179,7 +180,7 @@ impl Factor {
             | Factor::Text(at)
             | Factor::Nil(at)
             | Factor::Set(at, _)
-            | Factor::Group(at, _)
+            | Factor::Group(at, ..)
             | Factor::Not(at, _) => at.from,
         }
     }

@@ -81,7 +81,7 @@ fn factor_height(factor: &Factor) -> u32
         Factor::Call(_, parameters) => exprs_height(parameters.as_slice()),
         Factor::Number(_) | Factor::Text(_) | Factor::Nil(_) => 0,
         Factor::Set(_, members) => members_height(members.as_slice()),
-        Factor::Group(_, inner) => expr_height(inner.get()),
+        Factor::Group(_, redundant, inner) => expr_height(inner.get()).saturating_add(*redundant),
         Factor::Not(_, inner) => factor_height(inner.get()).saturating_add(1),
     }
 }

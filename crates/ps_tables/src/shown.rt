@@ -109,9 +109,15 @@ impl<'a> Shown<'a> {
                 }
                 self.word("}")
             }
-            Factor::Group(_, inner) => {
+            Factor::Group(_, redundant, inner) => {
+                for _level in 0..*redundant {
+                    self.word("(")?;
+                }
                 self.word("(")?;
                 self.expr(inner.get())?;
+                for _level in 0..*redundant {
+                    self.word(")")?;
+                }
                 self.word(")")
             }
             Factor::Not(_, inner) => {

@@ -7,3 +7,4 @@ pub mod SizeLemmas
 pub mod Sums
 pub mod FormalLemmas
 pub mod DropLemmas
+pub mod ChainLemmas

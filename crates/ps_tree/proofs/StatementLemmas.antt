@@ -66,10 +66,16 @@ pub for_counted : (s : Statement) (variable at : ℕ) (low high : ℤ) (a : Expr
 unfolding statement_extent statement_of
 for_counted s variable at low high a from_line direction b to_line body inner f g = ap (λ t. node ⊕ (node ⊕ expr_extent (expr_of a)) ⊕ expr_extent (expr_of b) ⊕ statement_extent (statement_of t)) g ∙ sym (ap (λ t. statement_extent (statement_of t)) f)
 
-pub pack_counted : (s : Statement) (p : Place) (from_ty : Ty) (e : Expr) (line : Line) (q : Place) (to_ty : Ty) → s ≡ Pack p from_ty e line q to_ty → node ⊕ (node ⊕ place_extent (place_of p)) ⊕ (node ⊕ expr_extent (expr_of e)) ⊕ (node ⊕ place_extent (place_of q)) ≡ statement_extent (statement_of s)
+pub pack_counted : (s : Statement) (from : Box Place Global) (p : Place) (from_ty : Ty) (e : Expr) (line : Line) (to : Box Place Global) (q : Place) (to_ty : Ty) → s ≡ Pack from from_ty e line to to_ty → p ≡ from.value → q ≡ to.value → node ⊕ (node ⊕ place_extent (place_of p)) ⊕ (node ⊕ expr_extent (expr_of e)) ⊕ (node ⊕ place_extent (place_of q)) ≡ statement_extent (statement_of s)
 unfolding statement_extent statement_of
-pack_counted s p from_ty e line q to_ty f = sym (ap (λ t. statement_extent (statement_of t)) f)
+pack_counted s from p from_ty e line to q to_ty f g h =
+    ap (λ x. node ⊕ (node ⊕ place_extent (place_of x)) ⊕ (node ⊕ expr_extent (expr_of e)) ⊕ (node ⊕ place_extent (place_of q))) g
+    ∙ ap (λ x. node ⊕ (node ⊕ place_extent (place_of from.value)) ⊕ (node ⊕ expr_extent (expr_of e)) ⊕ (node ⊕ place_extent (place_of x))) h
+    ∙ sym (ap (λ t. statement_extent (statement_of t)) f)
 
-pub unpack_counted : (s : Statement) (p : Place) (from_ty : Ty) (q : Place) (to_ty : Ty) (e : Expr) (line : Line) → s ≡ Unpack p from_ty q to_ty e line → node ⊕ (node ⊕ place_extent (place_of p)) ⊕ (node ⊕ place_extent (place_of q)) ⊕ (node ⊕ expr_extent (expr_of e)) ≡ statement_extent (statement_of s)
+pub unpack_counted : (s : Statement) (from : Box Place Global) (p : Place) (from_ty : Ty) (to : Box Place Global) (q : Place) (to_ty : Ty) (e : Expr) (line : Line) → s ≡ Unpack from from_ty to to_ty e line → p ≡ from.value → q ≡ to.value → node ⊕ (node ⊕ place_extent (place_of p)) ⊕ (node ⊕ place_extent (place_of q)) ⊕ (node ⊕ expr_extent (expr_of e)) ≡ statement_extent (statement_of s)
 unfolding statement_extent statement_of
-unpack_counted s p from_ty q to_ty e line f = sym (ap (λ t. statement_extent (statement_of t)) f)
+unpack_counted s from p from_ty to q to_ty e line f g h =
+    ap (λ x. node ⊕ (node ⊕ place_extent (place_of x)) ⊕ (node ⊕ place_extent (place_of q)) ⊕ (node ⊕ expr_extent (expr_of e))) g
+    ∙ ap (λ x. node ⊕ (node ⊕ place_extent (place_of from.value)) ⊕ (node ⊕ place_extent (place_of x)) ⊕ (node ⊕ expr_extent (expr_of e))) h
+    ∙ sym (ap (λ t. statement_extent (statement_of t)) f)

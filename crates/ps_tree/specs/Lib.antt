@@ -7,4 +7,5 @@ pub mod TypeDepth
 pub mod Tree
 pub mod Counts
 pub mod View
+pub mod Chains
 pub mod Checked

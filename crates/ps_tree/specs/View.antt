@@ -164,8 +164,8 @@ unfoldable mutual
   statement_of (For' variable at low high a from_line direction b to_line p s) = Tree.For variable low high (expr_of a) from_line.number direction (expr_of b) to_line.number (statement_of s)
   statement_of (With' places p s) = Tree.With (map place_of places.items) (statement_of s)
   statement_of (New place pointer line) = Tree.New (place_of place) pointer line.number
-  statement_of (Pack a from_ty e line z to_ty) = Tree.Pack (place_of a) (type_of from_ty) (expr_of e) line.number (place_of z) (type_of to_ty)
-  statement_of (Unpack z from_ty a to_ty e line) = Tree.Unpack (place_of z) (type_of from_ty) (place_of a) (type_of to_ty) (expr_of e) line.number
+  statement_of (Pack a from_ty e line z to_ty) = Tree.Pack (place_of a.value) (type_of from_ty) (expr_of e) line.number (place_of z.value) (type_of to_ty)
+  statement_of (Unpack z from_ty a to_ty e line) = Tree.Unpack (place_of z.value) (type_of from_ty) (place_of a.value) (type_of to_ty) (expr_of e) line.number
   statement_of (Read variables) = Tree.Read (map read_of variables.items)
   statement_of (Readln variables line) = Tree.Readln (map read_of variables.items) line.number
   statement_of (Write parameters) = Tree.Write (map write_of parameters.items)

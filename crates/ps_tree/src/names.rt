@@ -9,9 +9,14 @@ use std::marker::Model;
 
 /// The spellings of a region's defining points, in small letters, in their order. Finding one takes as long as reading it.
 /// A contract sees the list of them.
-#[derive(Drop)]
 pub struct Names {
     set: IndexSet<Vec<u8>>,
+}
+
+impl Drop for Names {
+    fn drop(self) {
+        let Names { set: _ } = self;
+    }
 }
 
 impl Model for Names {

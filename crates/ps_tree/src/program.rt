@@ -198,10 +198,18 @@ fn are_within_limits(routines: &[Routine], domains: &[Ty]) -> bool
 
 /// A checked program: its routines by their numbers, of which 0 is the program block, and the domain types of its
 /// pointer types by theirs.
-#[derive(Drop)]
 pub struct Checked {
     routines: Vec<Routine>,
     domains: Vec<Ty>,
+}
+
+impl Drop for Checked {
+    fn drop(self) {
+        let Checked {
+            routines: _,
+            domains: _,
+        } = self;
+    }
 }
 
 impl Model for Checked {

@@ -1,7 +1,12 @@
 // The checked tree: the program with every name resolved, and with the line of each token that an error is told at.
 
+ghost use Rattle.std.specs.Prelude.{◌≡◌, ◌++◌, ◌∷◌, [], IfOk};
+ghost use Rattle.ps_tree.specs.View.{place_of, selector_of, expr_of, set_of};
+ghost use Rattle.ps_tree.specs.Chains.{selected, calculated, begun, connected, combined};
+
 use crate::line::Line;
 use crate::types::Ty;
+use std::alloc::{AllocError, Global};
 
 /// An operator on two integers (6.7.2.2).
 #[derive(Clone, Copy, PartialEq, Eq, Debug)]
@@ -84,7 +89,6 @@ pub enum Direction {
 /// A variable (6.5): what its name denotes, and the selectors behind the name, from left to right. `at` is where the name
 /// begins in the text; it means nothing for what the program does, and serves to tell a refusal there.
 #[cycle(tree)]
-#[derive(Drop)]
 pub struct Place {
     pub base: PlaceBase,
     pub selectors: Vec<Selector>,
@@ -92,7 +96,6 @@ pub struct Place {
 }
 
 /// What a variable's name denotes by itself.
-#[derive(Drop)]
 pub enum PlaceBase {
     /// An entire variable, a formal parameter or a function's result: entry `index` of the routine `up` levels out.
     /// A routine's entries are its result, where it is a function, its formal parameters and its variables.
@@ -103,7 +106,6 @@ pub enum PlaceBase {
 
 /// A step from a variable to one that it contains or points to.
 #[cycle(tree)]
-#[derive(Drop)]
 pub enum Selector {
     /// `[index]`; `ty` is the array's type, `line` that of the index's first token.
     Element { ty: Ty, index: Expr, line: Line },
@@ -115,7 +117,6 @@ pub enum Selector {
 
 /// An expression of an ordinal or pointer type (6.7).
 #[cycle(tree)]
-#[derive(Drop)]
 pub enum Expr {
     /// A constant of an ordinal type.
     Number(i32),
@@ -192,7 +193,6 @@ pub enum Expr {
 
 /// An operator on integers and the operand behind it; `line` is that of the operator.
 #[cycle(tree)]
-#[derive(Drop)]
 pub struct ArithmeticStep {
     pub operator: ArithmeticOperator,
     pub operand: Expr,
@@ -201,7 +201,6 @@ pub struct ArithmeticStep {
 
 /// An expression of a set type.
 #[cycle(tree)]
-#[derive(Drop)]
 pub enum SetExpr {
     Load(Box<Place>),
     Constructor(Vec<Member>),
@@ -214,7 +213,6 @@ pub enum SetExpr {
 
 /// An operator on sets and the operand behind it.
 #[cycle(tree)]
-#[derive(Drop)]
 pub struct SetStep {
     pub operator: SetOperator,
     pub operand: SetExpr,
@@ -222,7 +220,6 @@ pub struct SetStep {
 
 /// A member of a set constructor; `line` is that of its first token.
 #[cycle(tree)]
-#[derive(Drop)]
 pub enum Member {
     One { value: Expr, line: Line },
     Range { from: Expr, to: Expr, line: Line },
@@ -230,7 +227,6 @@ pub enum Member {
 
 /// An operand of an array or record type: a string in the text, or the contents of a variable.
 #[cycle(tree)]
-#[derive(Drop)]
 pub enum Structure {
     Literal(Vec<u8>),
     Contents { place: Box<Place>, ty: Ty },
@@ -238,7 +234,6 @@ pub enum Structure {
 
 /// An actual parameter (6.6.3); `line` is that of its first token.
 #[cycle(tree)]
-#[derive(Drop)]
 pub enum Argument {
     /// By value, of an ordinal or pointer type; `range` is the formal parameter's.
     Value {
@@ -273,7 +268,6 @@ pub enum Argument {
 }
 
 /// A variable in read or readln; `line` is that of its first token.
-#[derive(Drop)]
 pub enum ReadVariable {
     Char {
         place: Place,
@@ -290,14 +284,12 @@ pub enum ReadVariable {
 }
 
 /// The width of a parameter of write or writeln; `line` is that of its first token.
-#[derive(Drop)]
 pub enum Width {
     Default,
     Given { value: Expr, line: Line },
 }
 
 /// A parameter of write or writeln.
-#[derive(Drop)]
 pub enum WriteParameter {
     Integer { value: Expr, width: Width },
     Char { value: Expr, width: Width },
@@ -307,7 +299,6 @@ pub enum WriteParameter {
 
 /// A statement (6.8).
 #[cycle(statement)]
-#[derive(Drop)]
 pub enum Statement {
     Empty,
     /// An assignment at an ordinal or pointer type; `line` is that of the `:=`, as in the next one.
@@ -392,18 +383,18 @@ pub enum Statement {
     },
     /// `pack(from, index, to)`, with the types of the two arrays; `line` is that of the index's first token.
     Pack {
-        from: Place,
+        from: Box<Place>,
         from_ty: Ty,
         index: Expr,
         line: Line,
-        to: Place,
+        to: Box<Place>,
         to_ty: Ty,
     },
     /// `unpack(from, to, index)`
     Unpack {
-        from: Place,
+        from: Box<Place>,
         from_ty: Ty,
-        to: Place,
+        to: Box<Place>,
         to_ty: Ty,
         index: Expr,
         line: Line,
@@ -426,7 +417,6 @@ pub enum Statement {
 
 /// An element of a `case` statement.
 #[cycle(statement)]
-#[derive(Drop)]
 pub struct CaseElement {
     pub constants: Vec<i32>,
     pub body: Statement,
@@ -434,7 +424,6 @@ pub struct CaseElement {
 
 /// A formal parameter (6.6.3).
 #[cycle(formal)]
-#[derive(Drop)]
 pub enum Formal {
     Value(Ty),
     Variable(Ty),
@@ -447,7 +436,6 @@ pub enum Formal {
 
 /// A routine. `chain` has its number and those of the routines round it, the innermost first; routine 0 is the
 /// program block. `line` is that of its block's `begin`.
-#[derive(Drop)]
 pub struct Routine {
     pub chain: Vec<u32>,
     pub formals: Vec<Formal>,
@@ -455,4 +443,522 @@ pub struct Routine {
     pub variables: Vec<Ty>,
     pub body: Vec<Statement>,
     pub line: Line,
+}
+
+// Chains (6.5 and 6.7.2): what comes next goes to the end of the chain that stands before it.
+
+/// A list with one more item at its end. Most lists stay at one item, so there is room for no more at first.
+fn appended<A: Drop>(list: Vec<A>, item: A) -> Result<Vec<A>, AllocError>
+    ensures { IfOk result (λ longer. longer.items ≡ list.items ++ item ∷ []) }
+{
+    let mut longer = list;
+    if longer.is_empty() {
+        longer.reserve_exact(1)?;
+    }
+    longer.push(item)?;
+    Ok(longer)
+}
+
+/// A first operand, on the heap, and the list of the one item behind it.
+fn chain<A: Drop, B: Drop>(alloc: Global, first: A, item: B) -> Result<(Box<A>, Vec<B>), AllocError>
+    ensures first { IfOk result (λ pair. pair.0.value ≡ first) }
+    ensures rest { IfOk result (λ pair. pair.1.items ≡ item ∷ []) }
+{
+    let first = Box::new(alloc, first)?;
+    let rest = appended(Vec::new(alloc), item)?;
+    Ok((first, rest))
+}
+
+impl Place {
+    /// The variable with one more selector (6.5.3, 6.5.4).
+    #[tactic(auto, using(crate::proofs::ChainLemmas::selectors_pushed))]
+    pub fn selected(self, selector: Selector) -> Result<Place, AllocError>
+        ensures place { IfOk result (λ p. place_of p ≡ selected (place_of self) (selector_of selector)) }
+        ensures named { IfOk result (λ p. p.at ≡ self.at) }
+    {
+        let Place {
+            base,
+            selectors,
+            at,
+        } = self;
+        let selectors = appended(selectors, selector)?;
+        Ok(Place {
+            base,
+            selectors,
+            at,
+        })
+    }
+}
+
+/// A chain of one operator on two Boolean operands.
+#[tactic(auto, using(crate::proofs::ChainLemmas::begun_is))]
+fn begun(
+    alloc: Global,
+    operator: BooleanOperator,
+    first: Expr,
+    operand: Expr,
+) -> Result<Expr, AllocError>
+    ensures { IfOk result (λ e. expr_of e ≡ begun operator (expr_of first) (expr_of operand)) }
+{
+    let (first, rest) = chain(alloc, first, operand)?;
+    Ok(Expr::Logic {
+        operator,
+        first,
+        rest,
+    })
+}
+
+impl Expr {
+    /// An operator on two integers (6.7.2.2).
+    #[tactic(auto, using(crate::proofs::ChainLemmas::calculated_on, crate::proofs::ChainLemmas::calculated_begun))]
+    pub fn calculated(
+        self,
+        alloc: Global,
+        operator: ArithmeticOperator,
+        line: Line,
+        operand: Expr,
+    ) -> Result<Expr, AllocError>
+        ensures { IfOk result (λ e. expr_of e ≡ calculated operator line.number (expr_of self) (expr_of operand)) }
+    {
+        let step = ArithmeticStep {
+            operator,
+            operand,
+            line,
+        };
+        match self {
+            Expr::Arithmetic { first, steps } => {
+                let steps = appended(steps, step)?;
+                Ok(Expr::Arithmetic { first, steps })
+            }
+            first => {
+                let (first, steps) = chain(alloc, first, step)?;
+                Ok(Expr::Arithmetic { first, steps })
+            }
+        }
+    }
+
+    /// An operator on two Boolean operands (6.7.2.3).
+    #[tactic(auto, using(crate::proofs::ChainLemmas::connected_on, crate::proofs::ChainLemmas::connected_other, crate::proofs::ChainLemmas::connected_begun))]
+    pub fn connected(
+        self,
+        alloc: Global,
+        operator: BooleanOperator,
+        operand: Expr,
+    ) -> Result<Expr, AllocError>
+        ensures { IfOk result (λ e. expr_of e ≡ connected operator (expr_of self) (expr_of operand)) }
+    {
+        match self {
+            Expr::Logic {
+                operator: before,
+                first,
+                rest,
+            } => {
+                if before == operator {
+                    let rest = appended(rest, operand)?;
+                    Ok(Expr::Logic {
+                        operator,
+                        first,
+                        rest,
+                    })
+                } else {
+                    let first = Expr::Logic {
+                        operator: before,
+                        first,
+                        rest,
+                    };
+                    begun(alloc, operator, first, operand)
+                }
+            }
+            first => begun(alloc, operator, first, operand),
+        }
+    }
+}
+
+impl SetExpr {
+    /// An operator on two sets (6.7.2.4).
+    #[tactic(auto, using(crate::proofs::ChainLemmas::combined_on, crate::proofs::ChainLemmas::combined_begun))]
+    pub fn combined(
+        self,
+        alloc: Global,
+        operator: SetOperator,
+        operand: SetExpr,
+    ) -> Result<SetExpr, AllocError>
+        ensures { IfOk result (λ e. set_of e ≡ combined operator (set_of self) (set_of operand)) }
+    {
+        let step = SetStep { operator, operand };
+        match self {
+            SetExpr::Combine { first, steps } => {
+                let steps = appended(steps, step)?;
+                Ok(SetExpr::Combine { first, steps })
+            }
+            first => {
+                let (first, steps) = chain(alloc, first, step)?;
+                Ok(SetExpr::Combine { first, steps })
+            }
+        }
+    }
+}
+
+// How values of these types are let go: part by part. Said here, it is proved once; were it derived, each crate above that
+// lets a value go would prove it again.
+impl Drop for Place {
+    #[cycle(letting_go)]
+    fn drop(self) {
+        let Place {
+            base: _,
+            selectors: _,
+            at: _,
+        } = self;
+    }
+}
+
+impl Drop for PlaceBase {
+    fn drop(self) {
+        match self {
+            PlaceBase::Entry { up: _, index: _ } => {}
+            PlaceBase::Opened {
+                which: _,
+                ty: _,
+                number: _,
+            } => {}
+        }
+    }
+}
+
+impl Drop for Selector {
+    #[cycle(letting_go)]
+    fn drop(self) {
+        match self {
+            Selector::Element {
+                ty: _,
+                index: _,
+                line: _,
+            } => {}
+            Selector::Field { ty: _, number: _ } => {}
+            Selector::Target {
+                pointer: _,
+                line: _,
+            } => {}
+        }
+    }
+}
+
+impl Drop for Expr {
+    #[cycle(letting_go)]
+    fn drop(self) {
+        match self {
+            Expr::Number(_) => {}
+            Expr::Nil => {}
+            Expr::Load(_) => {}
+            Expr::Plus(_) => {}
+            Expr::Minus {
+                operand: _,
+                line: _,
+            } => {}
+            Expr::Not(_) => {}
+            Expr::Arithmetic { first: _, steps: _ } => {}
+            Expr::Logic {
+                operator: _,
+                first: _,
+                rest: _,
+            } => {}
+            Expr::Compare {
+                relation: _,
+                left: _,
+                right: _,
+            } => {}
+            Expr::ComparePointers {
+                relation: _,
+                left: _,
+                right: _,
+            } => {}
+            Expr::CompareSets {
+                relation: _,
+                left: _,
+                right: _,
+            } => {}
+            Expr::CompareStrings {
+                relation: _,
+                left: _,
+                right: _,
+            } => {}
+            Expr::In { left: _, right: _ } => {}
+            Expr::Apply {
+                function: _,
+                operand: _,
+                line: _,
+            } => {}
+            Expr::Eof => {}
+            Expr::Eoln { line: _ } => {}
+            Expr::Call {
+                routine: _,
+                up: _,
+                arguments: _,
+                line: _,
+            } => {}
+            Expr::CallFormal {
+                up: _,
+                index: _,
+                arguments: _,
+                line: _,
+            } => {}
+        }
+    }
+}
+
+impl Drop for ArithmeticStep {
+    #[cycle(letting_go)]
+    fn drop(self) {
+        let ArithmeticStep {
+            operator: _,
+            operand: _,
+            line: _,
+        } = self;
+    }
+}
+
+impl Drop for SetExpr {
+    #[cycle(letting_go)]
+    fn drop(self) {
+        match self {
+            SetExpr::Load(_) => {}
+            SetExpr::Constructor(_) => {}
+            SetExpr::Combine { first: _, steps: _ } => {}
+        }
+    }
+}
+
+impl Drop for SetStep {
+    #[cycle(letting_go)]
+    fn drop(self) {
+        let SetStep {
+            operator: _,
+            operand: _,
+        } = self;
+    }
+}
+
+impl Drop for Member {
+    #[cycle(letting_go)]
+    fn drop(self) {
+        match self {
+            Member::One { value: _, line: _ } => {}
+            Member::Range {
+                from: _,
+                to: _,
+                line: _,
+            } => {}
+        }
+    }
+}
+
+impl Drop for Structure {
+    #[cycle(letting_go)]
+    fn drop(self) {
+        match self {
+            Structure::Literal(_) => {}
+            Structure::Contents { place: _, ty: _ } => {}
+        }
+    }
+}
+
+impl Drop for Argument {
+    #[cycle(letting_go)]
+    fn drop(self) {
+        match self {
+            Argument::Value {
+                value: _,
+                range: _,
+                line: _,
+            } => {}
+            Argument::Set {
+                value: _,
+                low: _,
+                high: _,
+                line: _,
+            } => {}
+            Argument::Copy { value: _, ty: _ } => {}
+            Argument::Variable(_) => {}
+            Argument::Routine { routine: _, up: _ } => {}
+            Argument::Formal { up: _, index: _ } => {}
+        }
+    }
+}
+
+impl Drop for ReadVariable {
+    fn drop(self) {
+        match self {
+            ReadVariable::Char {
+                place: _,
+                low: _,
+                high: _,
+                line: _,
+            } => {}
+            ReadVariable::Integer {
+                place: _,
+                low: _,
+                high: _,
+                line: _,
+            } => {}
+        }
+    }
+}
+
+impl Drop for Width {
+    fn drop(self) {
+        match self {
+            Width::Default => {}
+            Width::Given { value: _, line: _ } => {}
+        }
+    }
+}
+
+impl Drop for WriteParameter {
+    fn drop(self) {
+        match self {
+            WriteParameter::Integer { value: _, width: _ } => {}
+            WriteParameter::Char { value: _, width: _ } => {}
+            WriteParameter::Boolean { value: _, width: _ } => {}
+            WriteParameter::Text { value: _, width: _ } => {}
+        }
+    }
+}
+
+impl Drop for Statement {
+    #[cycle(letting_statements)]
+    fn drop(self) {
+        match self {
+            Statement::Empty => {}
+            Statement::Assign {
+                target: _,
+                range: _,
+                value: _,
+                line: _,
+            } => {}
+            Statement::AssignSet {
+                target: _,
+                low: _,
+                high: _,
+                value: _,
+                line: _,
+            } => {}
+            Statement::AssignStructure {
+                target: _,
+                value: _,
+            } => {}
+            Statement::Call {
+                routine: _,
+                up: _,
+                arguments: _,
+                line: _,
+            } => {}
+            Statement::CallFormal {
+                up: _,
+                index: _,
+                arguments: _,
+                line: _,
+            } => {}
+            Statement::Compound(_) => {}
+            Statement::If {
+                condition: _,
+                body: _,
+            } => {}
+            Statement::IfElse {
+                condition: _,
+                body: _,
+                otherwise: _,
+            } => {}
+            Statement::Case {
+                index: _,
+                elements: _,
+                line: _,
+            } => {}
+            Statement::While {
+                condition: _,
+                body: _,
+            } => {}
+            Statement::Repeat {
+                body: _,
+                condition: _,
+            } => {}
+            Statement::For {
+                variable: _,
+                at: _,
+                low: _,
+                high: _,
+                from: _,
+                from_line: _,
+                direction: _,
+                to: _,
+                to_line: _,
+                body: _,
+            } => {}
+            Statement::With { places: _, body: _ } => {}
+            Statement::New {
+                place: _,
+                pointer: _,
+                line: _,
+            } => {}
+            Statement::Pack {
+                from: _,
+                from_ty: _,
+                index: _,
+                line: _,
+                to: _,
+                to_ty: _,
+            } => {}
+            Statement::Unpack {
+                from: _,
+                from_ty: _,
+                to: _,
+                to_ty: _,
+                index: _,
+                line: _,
+            } => {}
+            Statement::Read { variables: _ } => {}
+            Statement::Readln {
+                variables: _,
+                line: _,
+            } => {}
+            Statement::Write { parameters: _ } => {}
+            Statement::Writeln { parameters: _ } => {}
+        }
+    }
+}
+
+impl Drop for CaseElement {
+    #[cycle(letting_statements)]
+    fn drop(self) {
+        let CaseElement {
+            constants: _,
+            body: _,
+        } = self;
+    }
+}
+
+impl Drop for Formal {
+    #[cycle(letting_formals)]
+    fn drop(self) {
+        match self {
+            Formal::Value(_) => {}
+            Formal::Variable(_) => {}
+            Formal::Routine {
+                formals: _,
+                result: _,
+            } => {}
+        }
+    }
+}
+
+impl Drop for Routine {
+    fn drop(self) {
+        let Routine {
+            chain: _,
+            formals: _,
+            result: _,
+            variables: _,
+            body: _,
+            line: _,
+        } = self;
+    }
 }

@@ -1,5 +1,5 @@
 -- The equations of the judgement, one for each construct.
-use Rattle.std.proofs.Common.{◌≡◌, List, [], ◌∷◌, Option, Some, map, refl, sym, ap, ◌∙◌}
+use Rattle.std.proofs.Common.{◌≡◌, ℕ, List, [], ◌∷◌, Option, Some, map, refl, sym, ap, ◌∙◌}
 use Rattle.ps_text.specs.declared.Span.{Span}
 use Rattle.ps_syntax.specs.declared.expression.Relation.{Relation}
 use Rattle.ps_syntax.specs.First as first
@@ -62,9 +62,9 @@ module _ (c : Context) (Γ : List Region) where
   unfolding operand factor_operand member_at select add_term multiply_factor simple_operand term_operand variable_operand factor_step
   factor_set at xs = ap (factor_operand c Γ) (sym (f.rolls-Set at xs)) ∙ fold-roll-Factor Operand Operand (Option TypedMember) (Variable → Option Variable) (Value → Option Value) (Value → Option Value) Operand Operand Operand (expr_step c Γ) (factor_step c Γ) (member_step c Γ) (selector_step c Γ) (added_step c Γ) (multiplied_step c Γ) (simple_step c Γ) (term_step c Γ) (variable_step c Γ) (Factor-F.Set at xs)
 
-  pub factor_group : (at : Span) (x : Expr) → factor_operand c Γ (f.Group at x) ≡ plain at.from (operand c Γ x).value
+  pub factor_group : (at : Span) (n : ℕ) (x : Expr) → factor_operand c Γ (f.Group at n x) ≡ plain at.from (operand c Γ x).value
   unfolding operand factor_operand member_at select add_term multiply_factor simple_operand term_operand variable_operand factor_step
-  factor_group at x = ap (factor_operand c Γ) (sym (f.rolls-Group at x)) ∙ fold-roll-Factor Operand Operand (Option TypedMember) (Variable → Option Variable) (Value → Option Value) (Value → Option Value) Operand Operand Operand (expr_step c Γ) (factor_step c Γ) (member_step c Γ) (selector_step c Γ) (added_step c Γ) (multiplied_step c Γ) (simple_step c Γ) (term_step c Γ) (variable_step c Γ) (Factor-F.Group at x)
+  factor_group at n x = ap (factor_operand c Γ) (sym (f.rolls-Group at n x)) ∙ fold-roll-Factor Operand Operand (Option TypedMember) (Variable → Option Variable) (Value → Option Value) (Value → Option Value) Operand Operand Operand (expr_step c Γ) (factor_step c Γ) (member_step c Γ) (selector_step c Γ) (added_step c Γ) (multiplied_step c Γ) (simple_step c Γ) (term_step c Γ) (variable_step c Γ) (Factor-F.Group at n x)
 
   pub factor_not : (at : Span) (x : Factor) → factor_operand c Γ (f.Not at x) ≡ plain at.from ((factor_operand c Γ x).value >>= negated)
   unfolding operand factor_operand member_at select add_term multiply_factor simple_operand term_operand variable_operand factor_step
@@ -125,7 +125,7 @@ module _ (c : Context) (Γ : List Region) where
   factor_layer (Factor-F.Text at) = ap (λ o. o.first) (fold-roll-Factor Operand Operand (Option TypedMember) (Variable → Option Variable) (Value → Option Value) (Value → Option Value) Operand Operand Operand (expr_step c Γ) (factor_step c Γ) (member_step c Γ) (selector_step c Γ) (added_step c Γ) (multiplied_step c Γ) (simple_step c Γ) (term_step c Γ) (variable_step c Γ) (Factor-F.Text at))
   factor_layer (Factor-F.Nil at) = ap (λ o. o.first) (fold-roll-Factor Operand Operand (Option TypedMember) (Variable → Option Variable) (Value → Option Value) (Value → Option Value) Operand Operand Operand (expr_step c Γ) (factor_step c Γ) (member_step c Γ) (selector_step c Γ) (added_step c Γ) (multiplied_step c Γ) (simple_step c Γ) (term_step c Γ) (variable_step c Γ) (Factor-F.Nil at))
   factor_layer (Factor-F.Set at xs) = ap (λ o. o.first) (fold-roll-Factor Operand Operand (Option TypedMember) (Variable → Option Variable) (Value → Option Value) (Value → Option Value) Operand Operand Operand (expr_step c Γ) (factor_step c Γ) (member_step c Γ) (selector_step c Γ) (added_step c Γ) (multiplied_step c Γ) (simple_step c Γ) (term_step c Γ) (variable_step c Γ) (Factor-F.Set at xs))
-  factor_layer (Factor-F.Group at x) = ap (λ o. o.first) (fold-roll-Factor Operand Operand (Option TypedMember) (Variable → Option Variable) (Value → Option Value) (Value → Option Value) Operand Operand Operand (expr_step c Γ) (factor_step c Γ) (member_step c Γ) (selector_step c Γ) (added_step c Γ) (multiplied_step c Γ) (simple_step c Γ) (term_step c Γ) (variable_step c Γ) (Factor-F.Group at x))
+  factor_layer (Factor-F.Group at n x) = ap (λ o. o.first) (fold-roll-Factor Operand Operand (Option TypedMember) (Variable → Option Variable) (Value → Option Value) (Value → Option Value) Operand Operand Operand (expr_step c Γ) (factor_step c Γ) (member_step c Γ) (selector_step c Γ) (added_step c Γ) (multiplied_step c Γ) (simple_step c Γ) (term_step c Γ) (variable_step c Γ) (Factor-F.Group at n x))
   factor_layer (Factor-F.Not at x) = ap (λ o. o.first) (fold-roll-Factor Operand Operand (Option TypedMember) (Variable → Option Variable) (Value → Option Value) (Value → Option Value) Operand Operand Operand (expr_step c Γ) (factor_step c Γ) (member_step c Γ) (selector_step c Γ) (added_step c Γ) (multiplied_step c Γ) (simple_step c Γ) (term_step c Γ) (variable_step c Γ) (Factor-F.Not at x))
 
   factor_first : (x : Factor) → (factor_operand c Γ x).first ≡ first.first_of_factor x

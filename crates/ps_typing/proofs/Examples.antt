@@ -23,7 +23,7 @@ use Rattle.ps_regions.specs.Spelling.{line_in}
 use Rattle.ps_regions.specs.Constants.{integer, char, number_at}
 use Rattle.ps_regions.specs.Regions.{Context, Region, BlockRegion, BlockPoint, ConstantMeaning, find, find_past}
 use Rattle.ps_typing.specs.Values.{Value, SimpleValue}
-use Rattle.ps_typing.specs.Chains.{selector_after, selected, arithmetic_step_after, calculated, connected}
+use Rattle.ps_tree.specs.Chains.{selector_after, selected, arithmetic_step_after, calculated, connected}
 use Rattle.ps_typing.specs.Operators.{operand_of, negated, added, arithmetic_or_set, arithmetic}
 use Rattle.ps_typing.specs.Places.{element, index_operand}
 use Rattle.ps_typing.specs.Calls.{by_variable}

@@ -1,4 +1,3 @@
-pub mod ChainLemmas
 pub mod Equations
 pub mod Judgement
 pub mod ParameterLemmas

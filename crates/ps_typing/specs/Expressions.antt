@@ -148,7 +148,7 @@ module _ (c : Context) (Γ : List Region) where
   factor_step (Factor-F.Text at) = plain at.from (constant_value (text_constant (characters (bytes_at c.text at))))
   factor_step (Factor-F.Nil at) = plain at.from (Some (SimpleValue Tree.Nil NilType))
   factor_step (Factor-F.Set at ms) = plain at.from (set_value ms)
-  factor_step (Factor-F.Group at x) = plain at.from x.value
+  factor_step (Factor-F.Group at n x) = plain at.from x.value
   factor_step (Factor-F.Not at x) = plain at.from (negation x)
 
   unfoldable pub member_step : Member-F Operand Operand (Option TypedMember) (Variable → Option Variable) (Value → Option Value) (Value → Option Value) Operand Operand Operand → Option TypedMember

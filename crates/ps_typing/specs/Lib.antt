@@ -1,5 +1,4 @@
 pub mod Values
-pub mod Chains
 pub mod Operators
 pub mod Names
 pub mod Places

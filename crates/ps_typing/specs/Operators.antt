@@ -25,7 +25,7 @@ use Rattle.ps_tree.specs.declared.types.Host.{Host}
 use Rattle.ps_tree.specs.declared.types.Host.TheVariants.{Integer, Boolean}
 use Rattle.ps_tree.specs.Tree as Tree
 use Rattle.ps_regions.specs.Option.{◌>>=◌, provided}
-use Rattle.ps_typing.specs.Chains.{calculated, connected, combined}
+use Rattle.ps_tree.specs.Chains.{calculated, connected, combined}
 use Rattle.ps_typing.specs.Values.{Value, SimpleValue, SetValue, StructureValue, has_host, set_type_of_both}
 use Rattle.ps_regions.specs.Constants.{integer, boolean}
 

@@ -6,7 +6,7 @@ use Rattle.ps_tree.specs.Tree as Tree
 use Rattle.ps_regions.specs.Option.{◌>>=◌, provided}
 use Rattle.ps_regions.specs.Spelling.{line_in}
 use Rattle.ps_regions.specs.Regions.{Context, Point, BlockPoint, FieldPoint, VariableMeaning, ParameterMeaning}
-use Rattle.ps_typing.specs.Chains.{selected}
+use Rattle.ps_tree.specs.Chains.{selected}
 use Rattle.ps_typing.specs.Values.{Value, SimpleValue, Variable, Operand, is_packed}
 
 -- 6.5.2, 6.8.3.10: the variable that a name denotes: one of a block, or a field of a record that a `with` opens

@@ -489,7 +489,7 @@ fn factor_value(x: &Factor, site: Site<'_>) -> Result<TypedValue, Fault>
         Factor::Text(at) => of_constant(text_at(site, *at)?, at.from),
         Factor::Nil(_) => Ok(TypedValue::Simple(Expr::Nil, Ty::Nil)),
         Factor::Set(_, members) => set_value(members.as_slice(), site),
-        Factor::Group(_, inner) => expr_value(inner.get(), site),
+        Factor::Group(_, _, inner) => expr_value(inner.get(), site),
         Factor::Not(_, inner) => negated_value(inner.get(), site),
     }
 }

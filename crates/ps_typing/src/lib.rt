@@ -1,7 +1,6 @@
 //! The typing of variables, expressions and statements (ISO 7185, 6.5 to 6.9).
 #![tactic(auto)]
 
-pub mod chain;
 pub mod expression;
 pub mod function;
 pub mod operators;

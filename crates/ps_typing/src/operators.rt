@@ -3,7 +3,7 @@
 ghost use Rattle.std.specs.Prelude.{◌≡◌, false, if◌then◌else◌, IfOk, IfErr, Some, None};
 ghost use Rattle.ps_tree.specs.View.{type_of, expr_of, set_of, structure_of};
 ghost use Rattle.ps_tree.specs.Types.{are_same, is_compatible, string_length, OrdinalType};
-ghost use Rattle.ps_typing.specs.Chains.{combined};
+ghost use Rattle.ps_tree.specs.Chains.{combined};
 ghost use Rattle.ps_regions.specs.Option.{provided};
 ghost use Rattle.ps_regions.specs.Refusal.{IsFault};
 ghost use Rattle.ps_regions.specs.declared.refusal.Fault.TheVariants.{Broken};
@@ -12,7 +12,6 @@ ghost use Rattle.ps_typing.specs.Values.{SimpleValue, SetValue, StructureValue, 
 ghost use Rattle.ps_typing.specs.Operators.{operand_of, number, with_sign, negated, arithmetic, arithmetic_or_set, logic, added, multiplied, ordered, of_pointers, of_sets, simple_comparison, may_be_member, is_in, compared, truth};
 ghost use Rattle.ps_typing.specs.View.{value_of};
 
-use crate::chain::{calculated, combined, connected};
 use crate::value::{TypedValue, has_host, set_type_of_both};
 use ps_regions::answer::{boxed_answer, paired};
 use ps_regions::constants::{BOOLEAN, INTEGER};
@@ -151,7 +150,7 @@ fn arithmetic(
     let left = operand_of(Host::Integer, left, at.first);
     let right = operand_of(Host::Integer, right, at.second);
     let (left, right) = paired(left, right)?;
-    Ok(number(calculated(alloc, operator, line, left, right)?))
+    Ok(number(left.calculated(alloc, operator, line, right)?))
 }
 
 /// An operator on two sets of compatible types.
@@ -171,7 +170,7 @@ fn set_operation(
         return Err(at.wrong(true));
     }
     let ty = set_type_of_both(&left.1, &right.1);
-    let value = combined(alloc, operator, left.0, right.0)?;
+    let value = left.0.combined(alloc, operator, right.0)?;
     Ok(TypedValue::Set(value, ty))
 }
 
@@ -218,7 +217,7 @@ fn logic(
     let left = operand_of(Host::Boolean, left, at.first);
     let right = operand_of(Host::Boolean, right, at.second);
     let (left, right) = paired(left, right)?;
-    Ok(truth(connected(alloc, operator, left, right)?))
+    Ok(truth(left.connected(alloc, operator, right)?))
 }
 
 /// An adding operator.

@@ -7,12 +7,11 @@ ghost use Rattle.ps_regions.specs.Refusal.{IsFault, IsToldAt};
 ghost use Rattle.ps_regions.specs.declared.refusal.Fault.TheVariants.{Broken};
 ghost use Rattle.ps_regions.specs.declared.refusal.Rule.TheVariants.{NotInProfile, WrongKind};
 ghost use Rattle.ps_regions.specs.Views.{point_of};
-ghost use Rattle.ps_typing.specs.Chains.{selected};
+ghost use Rattle.ps_tree.specs.Chains.{selected};
 ghost use Rattle.ps_typing.specs.Values.{is_packed};
 ghost use Rattle.ps_typing.specs.Places.{variable_at, index_operand, element, component, target};
 ghost use Rattle.ps_typing.specs.View.{context_at, value_of, variable_of};
 
-use crate::chain::selected;
 use crate::operators::{Operands, wrong_type};
 use crate::site::Site;
 use crate::value::{TypedPlace, TypedValue, is_packed};
@@ -182,7 +181,7 @@ pub(crate) fn element(
     let TypedPlace { place, ty, .. } = array;
     let in_packed = is_packed(&ty);
     let (index, component) = index_of(&ty, index, at)?;
-    let place = selected(place, Selector::Element { ty, index, line })?;
+    let place = place.selected(Selector::Element { ty, index, line })?;
     Ok(TypedPlace {
         place,
         ty: component,
@@ -228,7 +227,7 @@ pub(crate) fn component(
     let TypedPlace { place, ty, .. } = base;
     let (number, field) = field_of(&ty, name, first, at)?;
     let packed = is_packed(&ty);
-    let place = selected(place, Selector::Field { ty, number })?;
+    let place = place.selected(Selector::Field { ty, number })?;
     Ok(TypedPlace {
         place,
         ty: field,
@@ -270,7 +269,7 @@ pub(crate) fn target(
 {
     let TypedPlace { place, ty, .. } = variable;
     let (pointer, domain) = domain_of(site, &ty, first)?;
-    let place = selected(place, Selector::Target { pointer, line })?;
+    let place = place.selected(Selector::Target { pointer, line })?;
     Ok(TypedPlace {
         place,
         ty: domain,

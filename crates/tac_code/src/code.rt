@@ -8,9 +8,14 @@ use std::marker::Model;
 pub type OutOfMemory = AllocError;
 
 /// The temporaries whose values a call passes, first parameter first.
-#[derive(Drop)]
 pub struct Operands {
     list: SmallVec<u32, 8>,
+}
+
+impl Drop for Operands {
+    fn drop(self) {
+        let Operands { list: _ } = self;
+    }
 }
 
 impl Model for Operands {
@@ -128,9 +133,14 @@ pub enum Base {
 }
 
 /// The bytes of a constant, as those of a string.
-#[derive(Drop)]
 pub struct Constant {
     list: Vec<u8>,
+}
+
+impl Drop for Constant {
+    fn drop(self) {
+        let Constant { list: _ } = self;
+    }
 }
 
 impl Model for Constant {
@@ -311,9 +321,14 @@ pub enum Instruction {
 }
 
 /// The instructions of a routine.
-#[derive(Drop)]
 pub struct Body {
     list: Vec<Instruction>,
+}
+
+impl Drop for Body {
+    fn drop(self) {
+        let Body { list: _ } = self;
+    }
 }
 
 impl Model for Body {
@@ -342,7 +357,6 @@ impl Body {
 }
 
 /// A routine. Its parameters arrive in its first temporaries.
-#[derive(Drop)]
 pub struct TacRoutine {
     pub parameters: u32,
     pub temporaries: u32,
@@ -355,8 +369,20 @@ pub struct TacRoutine {
     pub body: Body,
 }
 
+impl Drop for TacRoutine {
+    fn drop(self) {
+        let TacRoutine {
+            parameters: _,
+            temporaries: _,
+            frame: _,
+            scratch: _,
+            line: _,
+            body: _,
+        } = self;
+    }
+}
+
 /// The parts of a `Tac`, untested. Routines are numbered through both lists, the program's first.
-#[derive(Drop)]
 pub struct TacRaw {
     /// The program block, routine 0, and the program's other routines.
     pub program: Vec<TacRoutine>,
@@ -364,4 +390,14 @@ pub struct TacRaw {
     pub run_time: Vec<TacRoutine>,
     /// The bytes of an object of each type.
     pub objects: Vec<u32>,
+}
+
+impl Drop for TacRaw {
+    fn drop(self) {
+        let TacRaw {
+            program: _,
+            run_time: _,
+            objects: _,
+        } = self;
+    }
 }

@@ -5,9 +5,14 @@ use crate::code::{TacRaw, TacRoutine};
 use std::marker::Model;
 
 /// Three-address code that keeps its invariant: each target and operand exists, and numbers lie in their ranges.
-#[derive(Drop)]
 pub struct Tac {
     raw: TacRaw,
+}
+
+impl Drop for Tac {
+    fn drop(self) {
+        let Tac { raw: _ } = self;
+    }
 }
 
 impl Model for Tac {

@@ -372,10 +372,10 @@ pub statements::act-returns-in-New : goal.statements::act-returns-in-New
 statements::act-returns-in-New t c = arm.statement_runs c.args.c.now.job.now c.args.fuel (context_of c.args.c.now) (world_of c.args.world.now) c.args.statement.now _ _ c.make.result c.make.new.world c.args.depth (arm.new_is _ _ _ _ c.in-New.is) refl c.make.ensures
 
 pub statements::act-returns-in-Pack : goal.statements::act-returns-in-Pack
-statements::act-returns-in-Pack t c = arm.statement_runs c.args.c.now.job.now c.args.fuel (context_of c.args.c.now) (world_of c.args.world.now) c.args.statement.now _ _ c.pack.result c.pack.new.world c.args.depth (arm.pack_is _ _ _ _ _ _ _ c.in-Pack.is) refl c.pack.ensures
+statements::act-returns-in-Pack t c = arm.statement_runs c.args.c.now.job.now c.args.fuel (context_of c.args.c.now) (world_of c.args.world.now) c.args.statement.now _ _ c.pack.result c.pack.new.world c.args.depth (arm.pack_is _ _ _ _ _ _ _ _ _ c.in-Pack.is c.deref-in-Pack.ensures c.deref-in-Pack-2.ensures) refl c.pack.ensures
 
 pub statements::act-returns-in-Unpack : goal.statements::act-returns-in-Unpack
-statements::act-returns-in-Unpack t c = arm.statement_runs c.args.c.now.job.now c.args.fuel (context_of c.args.c.now) (world_of c.args.world.now) c.args.statement.now _ _ c.unpack.result c.unpack.new.world c.args.depth (arm.unpack_is _ _ _ _ _ _ _ c.in-Unpack.is) refl c.unpack.ensures
+statements::act-returns-in-Unpack t c = arm.statement_runs c.args.c.now.job.now c.args.fuel (context_of c.args.c.now) (world_of c.args.world.now) c.args.statement.now _ _ c.unpack.result c.unpack.new.world c.args.depth (arm.unpack_is _ _ _ _ _ _ _ _ _ c.in-Unpack.is c.deref-in-Unpack.ensures c.deref-in-Unpack-2.ensures) refl c.unpack.ensures
 
 pub statements::act-returns-in-Read : goal.statements::act-returns-in-Read
 statements::act-returns-in-Read t c = arm.statement_runs c.args.c.now.job.now c.args.fuel (context_of c.args.c.now) (world_of c.args.world.now) c.args.statement.now _ _ c.read_all.result c.read_all.new.world c.args.depth (arm.read_is _ _ _ c.in-Read.is c.deref-in-Read.ensures.value) refl c.read_all.ensures

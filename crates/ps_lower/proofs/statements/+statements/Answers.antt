@@ -127,10 +127,10 @@ pub statement-returns-in-New : goal.statement-returns-in-New
 statement-returns-in-New t c = act (scope_of c.args.k.now) c.args.action.now _ c.args.d c.create.result c.create.new.out c.args.out.now (new_is _ _ _ _ c.in-New.is) c.create.ensures
 
 pub statement-returns-in-Pack : goal.statement-returns-in-Pack
-statement-returns-in-Pack t c = act (scope_of c.args.k.now) c.args.action.now _ c.args.d c.pack.result c.pack.new.out c.args.out.now (pack_is _ _ _ _ _ _ _ c.in-Pack.is) c.pack.ensures
+statement-returns-in-Pack t c = act (scope_of c.args.k.now) c.args.action.now _ c.args.d c.pack.result c.pack.new.out c.args.out.now (pack_is _ _ _ _ _ _ _ _ _ c.in-Pack.is c.deref-in-Pack.ensures c.deref-in-Pack-2.ensures) c.pack.ensures
 
 pub statement-returns-in-Unpack : goal.statement-returns-in-Unpack
-statement-returns-in-Unpack t c = act (scope_of c.args.k.now) c.args.action.now _ c.args.d c.unpack.result c.unpack.new.out c.args.out.now (unpack_is _ _ _ _ _ _ _ c.in-Unpack.is) c.unpack.ensures
+statement-returns-in-Unpack t c = act (scope_of c.args.k.now) c.args.action.now _ c.args.d c.unpack.result c.unpack.new.out c.args.out.now (unpack_is _ _ _ _ _ _ _ _ _ c.in-Unpack.is c.deref-in-Unpack.ensures c.deref-in-Unpack-2.ensures) c.unpack.ensures
 
 pub statement-returns-in-Read : goal.statement-returns-in-Read
 statement-returns-in-Read t c = act (scope_of c.args.k.now) c.args.action.now _ c.args.d c.reads.result c.reads.new.out c.args.out.now (read_is _ _ _ c.in-Read.is c.deref-in-Read.ensures.value) c.reads.ensures

@@ -31,7 +31,7 @@ pub count_statement-returns-in-For : goal.count_statement-returns-in-For
 count_statement-returns-in-For t c = c.three-in-For.ensures _ _ _ (c.with_node-in-For.ensures _ c.count_expr-in-For.ensures) c.count_expr-in-For-2.ensures c.count_statement-in-For.ensures ∙ ap capped (for_counted _ _ _ _ _ _ _ _ _ _ _ _ c.in-For.is c.deref-in-For.ensures)
 
 pub count_statement-returns-in-Pack : goal.count_statement-returns-in-Pack
-count_statement-returns-in-Pack t c = c.three-in-Pack.ensures _ _ _ (c.with_node-in-Pack.ensures _ c.count_place-in-Pack.ensures) (c.with_node-in-Pack-2.ensures _ c.count_expr-in-Pack.ensures) (c.with_node-in-Pack-3.ensures _ c.count_place-in-Pack-2.ensures) ∙ ap capped (pack_counted _ _ _ _ _ _ _ c.in-Pack.is)
+count_statement-returns-in-Pack t c = c.three-in-Pack.ensures _ _ _ (c.with_node-in-Pack.ensures _ c.count_place-in-Pack.ensures) (c.with_node-in-Pack-2.ensures _ c.count_expr-in-Pack.ensures) (c.with_node-in-Pack-3.ensures _ c.count_place-in-Pack-2.ensures) ∙ ap capped (pack_counted _ _ _ _ _ _ _ _ _ c.in-Pack.is c.deref-in-Pack.ensures c.deref-in-Pack-2.ensures)
 
 pub count_statement-returns-in-Unpack : goal.count_statement-returns-in-Unpack
-count_statement-returns-in-Unpack t c = c.three-in-Unpack.ensures _ _ _ (c.with_node-in-Unpack.ensures _ c.count_place-in-Unpack.ensures) (c.with_node-in-Unpack-2.ensures _ c.count_place-in-Unpack-2.ensures) (c.with_node-in-Unpack-3.ensures _ c.count_expr-in-Unpack.ensures) ∙ ap capped (unpack_counted _ _ _ _ _ _ _ c.in-Unpack.is)
+count_statement-returns-in-Unpack t c = c.three-in-Unpack.ensures _ _ _ (c.with_node-in-Unpack.ensures _ c.count_place-in-Unpack.ensures) (c.with_node-in-Unpack-2.ensures _ c.count_place-in-Unpack-2.ensures) (c.with_node-in-Unpack-3.ensures _ c.count_expr-in-Unpack.ensures) ∙ ap capped (unpack_counted _ _ _ _ _ _ _ _ _ c.in-Unpack.is c.deref-in-Unpack.ensures c.deref-in-Unpack-2.ensures)

@@ -15,7 +15,7 @@ use Rattle.ps_tree.specs.declared.tree.SetExpr.TheVariants.{outs-Combine', rolls
 use Rattle.ps_tree.specs.View.{selector_of, selectors_of, expr_of, arithmetic_of, operands_of, set_of, set_steps_of}
 use Rattle.ps_tree.specs.Tree as Tree
 use Rattle.ps_tree.proofs.TreeLemmas.{expr_of_Arithmetic, expr_of_Logic, set_of_Combine}
-use Rattle.ps_typing.specs.Chains.{selector_after, arithmetic_step_after, calculated, operand_after, begun, connected, set_step_after, combined}
+use Rattle.ps_tree.specs.Chains.{selector_after, arithmetic_step_after, calculated, operand_after, begun, connected, set_step_after, combined}
 
 -- ---- variables
 
