@@ -55,7 +55,7 @@ pub same_self : (a : Kind) → same a a ≡ true
 unfolding same
 same_self a = true_same the_type a a refl
 
-bool_cases : (b : Bool) → (b ≡ true) ⊎ (b ≡ false)
+pub bool_cases : (b : Bool) → (b ≡ true) ⊎ (b ≡ false)
 bool_cases true = inl refl
 bool_cases false = inr refl
 

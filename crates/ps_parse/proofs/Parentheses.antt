@@ -1,6 +1,6 @@
 -- Parentheses that come one after the other are taken at once, and closed one by one.
-use Rattle.std.proofs.Common.{◌≡◌, ℕ, zero, suc, ◌+◌, ◌-◌, ◌<◌, ◌≤◌, Bool, true, false, List, [], ◌∷◌, ◌++◌, length, drop, get_or, Option, Some, None, Ok, Err, ◌⊎◌, inl, inr, refl, sym, ap, ◌∙◌, subst, arith, if◌then◌else◌}
-use Rattle.std.specs.Option.{is_some}
+use Rattle.std.proofs.Common.{◌≡◌, ℕ, zero, suc, ◌+◌, ◌-◌, ◌<◌, ◌≤◌, Bool, true, false, List, [], ◌∷◌, ◌++◌, length, drop, get_or, Option, Some, None, Ok, Err, ◌⊎◌, inl, inr, refl, sym, ap, ◌∙◌, subst, arith}
+use Rattle.std.proofs.lemmas.List.{drop-drop}
 use Rattle.ps_text.specs.declared.Span.{Span}
 use Rattle.ps_scan.specs.declared.token.Kind.{Kind}
 use Rattle.ps_scan.specs.declared.token.Kind.TheVariants as k
@@ -12,16 +12,16 @@ use Rattle.ps_syntax.specs.declared.expression.Relation.{Relation}
 use Rattle.ps_syntax.specs.declared.expression.Expr.{Expr}
 use Rattle.ps_syntax.specs.declared.expression.Expr.TheVariants as e
 use Rattle.ps_syntax.specs.declared.expression.Simple.{Simple, roll-Simple}
-use Rattle.ps_syntax.specs.declared.expression.AddedTerm.{AddedTerm}
+use Rattle.ps_syntax.specs.declared.expression.AddedTerm.{AddedTerm, roll-AddedTerm}
 use Rattle.ps_syntax.specs.declared.expression.Term.{Term, roll-Term}
 use Rattle.ps_syntax.specs.declared.expression.MultipliedFactor.{MultipliedFactor}
 use Rattle.ps_syntax.specs.declared.expression.Factor.{Factor}
 use Rattle.ps_syntax.specs.declared.expression.Factor.TheVariants as f
 use Rattle.ps_grammar.specs.Groups.{inside, stripped, grouped}
 use Rattle.ps_grammar.specs.Symbols.{Tokens, token}
-use Rattle.ps_grammar.proofs.Groups.{only, inside_compare, inside_added, inside_multiplied, within_begins, stripped_none, stripped_group}
+use Rattle.ps_grammar.proofs.Groups.{inside_compare, inside_added, inside_multiplied, within_begins, stripped_none, stripped_group}
 use Rattle.ps_parse.specs.Steps.{Outcome, Parser, and_then, if_some, sees, after, expect, many, many_from, ◌>>=◌, ◌>>◌, ◌<$>◌, pure}
-use Rattle.ps_parse.specs.ReadExpressions.{multiplying_of, adding_of, relation_of, is_operator, sees_operator, eat_operator, group, factor, multiplied, term_from, term, added, simple_from, simple, compared_from, compared, simple_after, expr_after, parentheses, read_expr, read_negated, read_factor}
+use Rattle.ps_parse.specs.ReadExpressions.{multiplying_of, adding_of, relation_of, is_operator, sees_operator, eat_operator, group, factor, multiplied, term_from, term, added, simple_from, simple, compared_from, compared, simple_after, expr_after, parentheses, read_expr, read_factor}
 use Rattle.ps_parse.proofs.Exact.{same_is, bool_cases, both_steps, first_part, second_part}
 use Rattle.ps_parse.proofs.ExactExpressions.{expr_exact_within}
 use Rattle.ps_parse.proofs.Sides.{lone_factor}
@@ -57,19 +57,49 @@ open_turn n i at ts t (Ok p) = close_turn n i at ts t p.0 (expect k.RightParen p
 
 -- in the place of tokens that aren't there
 abbrev pub nowhere : Token
-nowhere = token k.LeftParen (record { from = 0; to = 0 })
+nowhere = token k.Name (record { from = 0; to = 0 })
 
-pub one_taken : (n : ℕ) (ts : Tokens) → sees k.LeftParen ts ≡ true → (parentheses (suc n) ts ≡ suc (parentheses n (after k.LeftParen ts))) × (after k.LeftParen ts ≡ drop 1 ts)
+one_taken : (n : ℕ) (ts : Tokens) → sees k.LeftParen ts ≡ true → (parentheses (suc n) ts ≡ suc (parentheses n (after k.LeftParen ts))) × (after k.LeftParen ts ≡ drop 1 ts)
 unfolding parentheses
 one_taken n [] h = cc
 one_taken n (t ∷ ts) h = (rw h refl, rw h refl)
 
-pub none_taken : (n : ℕ) (ts : Tokens) → sees k.LeftParen ts ≡ false → (parentheses n ts ≡ 0) × (after k.LeftParen ts ≡ ts)
+none_taken : (n : ℕ) (ts : Tokens) → sees k.LeftParen ts ≡ false → (parentheses n ts ≡ 0) × (after k.LeftParen ts ≡ ts)
 unfolding parentheses
 none_taken zero [] h = (refl, refl)
 none_taken zero (t ∷ ts) h = (refl, rw h refl)
 none_taken (suc n) [] h = (refl, refl)
 none_taken (suc n) (t ∷ ts) h = (rw h refl, rw h refl)
+
+-- so many were taken, and what comes after them
+pub record Taken (most : ℕ) (ts : Tokens) (count : ℕ) (r : Tokens) : Type 0 where
+  pub left : r ≡ drop count ts
+  pub number : parentheses most ts ≡ count + parentheses (most - count) r
+
+pub nothing_taken : (most : ℕ) (ts : Tokens) → Taken most ts 0 ts
+nothing_taken most ts = let whole : most ≡ most - 0 = omega arith in record { left = refl; number = ap (λ (m : ℕ). parentheses m ts) whole ∙ omega arith }
+
+pub next_taken : (most count : ℕ) (ts r : Tokens) → Taken most ts count r → count < most → sees k.LeftParen r ≡ true → Taken most ts (count + 1) (after k.LeftParen r)
+next_taken most count ts r taken below h =
+    let turn : most - count ≡ suc (most - (count + 1)) = omega arith in
+    let one = one_taken (most - (count + 1)) r h in
+    let left : parentheses (most - count) r ≡ parentheses (suc (most - (count + 1))) r = ap (λ (m : ℕ). parentheses m r) turn in
+    record {
+      left = one.1 ∙ ap (λ (q : Tokens). drop 1 q) taken.left ∙ drop-drop 1 count ts;
+      number = omega (arith, taken.number, left, one.0);
+    }
+
+pub last_taken : (most count : ℕ) (ts r : Tokens) → Taken most ts count r → sees k.LeftParen r ≡ false → (count ≡ parentheses most ts) × (after k.LeftParen r ≡ drop count ts)
+last_taken most count ts r taken h =
+    let none = none_taken (most - count) r h in
+    (omega (arith, taken.number, none.0), none.1 ∙ taken.left)
+
+pub all_taken : (most : ℕ) (ts r : Tokens) → Taken most ts most r → (most ≡ parentheses most ts) × (r ≡ drop most ts)
+unfolding parentheses
+all_taken most ts r taken =
+    let none : most - most ≡ 0 = omega arith in
+    let left : parentheses (most - most) r ≡ 0 = ap (λ (m : ℕ). parentheses m r) none in
+    (omega (arith, taken.number, left), taken.left)
 
 -- what is read where so many are open
 abbrev pub opened : ℕ → Span → Tokens → Token → ℕ → Outcome Factor
@@ -104,7 +134,7 @@ from_here (suc m) n i at ts (u ∷ us) t le h =
           one_opened n i at ts us t (omega (arith, le)) now here.1
           ∙ from_here m n (suc i) at ts us t (omega (arith, le)) here.1
           ∙ ap (opened n at ts t) count)
-      | inr no ↦ (let none : parentheses (suc m) (u ∷ us) ≡ 0 = rw no refl in
+      | inr other ↦ (let none : parentheses (suc m) (u ∷ us) ≡ 0 = rw other refl in
           let stay : i ≡ i + parentheses (suc m) (u ∷ us) = omega (arith, none) in
           ap (opened n at ts t) stay)
     ]
@@ -133,7 +163,7 @@ open_bounds (suc n) (t ∷ ts) =
     let inner = open_bounds n ts in
     elim (bool_cases (same t.kind k.LeftParen)) [
       | inl is ↦ (let more : parentheses (suc n) (t ∷ ts) ≡ suc (parentheses n ts) = rw is refl in (omega (arith, more, inner.0), omega (arith, more, inner.1)))
-      | inr no ↦ (let none : parentheses (suc n) (t ∷ ts) ≡ 0 = rw no refl in (omega (arith, none), omega (arith, none)))
+      | inr other ↦ (let none : parentheses (suc n) (t ∷ ts) ≡ 0 = rw other refl in (omega (arith, none), omega (arith, none)))
     ]
 
 stopped : (n : ℕ) (ts : Tokens) → parentheses n ts < n → sees k.LeftParen (drop (parentheses n ts) ts) ≡ false
@@ -144,7 +174,7 @@ stopped (suc n) (t ∷ ts) h =
     elim (bool_cases (same t.kind k.LeftParen)) [
       | inl is ↦ (let more : parentheses (suc n) (t ∷ ts) ≡ suc (parentheses n ts) = rw is refl in
           ap (λ (m : ℕ). sees k.LeftParen (drop m (t ∷ ts))) more ∙ stopped n ts (omega (arith, h, more)))
-      | inr no ↦ (let none : parentheses (suc n) (t ∷ ts) ≡ 0 = rw no refl in ap (λ (m : ℕ). sees k.LeftParen (drop m (t ∷ ts))) none ∙ no)
+      | inr other ↦ (let none : parentheses (suc n) (t ∷ ts) ≡ 0 = rw other refl in ap (λ (m : ℕ). sees k.LeftParen (drop m (t ∷ ts))) none ∙ other)
     ]
 
 sees_token : (at : Span) (m : Tokens) → sees k.LeftParen (token k.LeftParen at ∷ m) ≡ true
@@ -155,10 +185,10 @@ true_false : {X : Type 0} {b : Bool} → b ≡ true → b ≡ false → X
 true_false h h' = cc
 
 unopened : (n : ℕ) (ts : Tokens) (x : Expr) (m : Tokens) → read_expr n ts ≡ Ok (x, m) → sees k.LeftParen ts ≡ false → (p : Option (ℕ × Expr)) → inside x ≡ p → inside x ≡ None
-unopened n ts x m h no None is = is
-unopened n ts x m h no (Some p) is =
+unopened n ts x m h other None is = is
+unopened n ts x m h other (Some p) is =
     let begins = within_begins n x ts m ((expr_exact_within n).sound ts x m h) p is in
-    true_false (ap (sees k.LeftParen) begins.2 ∙ sees_token begins.0 begins.1) no
+    true_false (ap (sees k.LeftParen) begins.2 ∙ sees_token begins.0 begins.1) other
 
 innermost_by : (n l : ℕ) (ts : Tokens) (x : Expr) (m : Tokens) → n - parentheses n ts ≡ l → read_expr l (drop (parentheses n ts) ts) ≡ Ok (x, m) → stripped x ≡ (0, x)
 unfolding read_expr
@@ -175,15 +205,14 @@ option_cases None = inl refl
 option_cases (Some x) = inr (x, refl)
 
 -- a list that isn't empty stays so
-mutual
-  filled : {A : Type 0} (p : Parser (Option A)) (n : ℕ) (a : A) (found : List A) (ts : Tokens) (xs : List A) (r : Tokens) → many_from p n (a ∷ found) ts ≡ Ok (xs, r) → (y : A) × (ys : List A) × (xs ≡ y ∷ ys)
-  unfolding many_from
-  filled p zero a found ts xs r h = (a, found, sym (first_part (a ∷ found) xs ts r h))
-  filled p (suc n) a found ts xs r h = let b = both_steps (p ts) _ xs r h in filled_next p n a found b.0 b.1 xs r b.3
+filled_next : {A : Type 0} (p : Parser (Option A)) (n : ℕ) (a : A) (found : List A) (o : Option A) (m : Tokens) (xs : List A) (r : Tokens) → if_some o (λ x. many_from p n (a ∷ (found ++ x ∷ []))) (pure (a ∷ found)) m ≡ Ok (xs, r) → ((more : List A) → many_from p n (a ∷ more) m ≡ Ok (xs, r) → (y : A) × (ys : List A) × (xs ≡ y ∷ ys)) → (y : A) × (ys : List A) × (xs ≡ y ∷ ys)
+filled_next p n a found None m xs r h ih = (a, found, sym (first_part (a ∷ found) xs m r h))
+filled_next p n a found (Some x) m xs r h ih = ih (found ++ x ∷ []) h
 
-  filled_next : {A : Type 0} (p : Parser (Option A)) (n : ℕ) (a : A) (found : List A) (o : Option A) (m : Tokens) (xs : List A) (r : Tokens) → if_some o (λ x. many_from p n (a ∷ (found ++ x ∷ []))) (pure (a ∷ found)) m ≡ Ok (xs, r) → (y : A) × (ys : List A) × (xs ≡ y ∷ ys)
-  filled_next p n a found None m xs r h = (a, found, sym (first_part (a ∷ found) xs m r h))
-  filled_next p n a found (Some x) m xs r h = filled p n a (found ++ x ∷ []) m xs r h
+filled : {A : Type 0} (p : Parser (Option A)) (n : ℕ) (a : A) (found : List A) (ts : Tokens) (xs : List A) (r : Tokens) → many_from p n (a ∷ found) ts ≡ Ok (xs, r) → (y : A) × (ys : List A) × (xs ≡ y ∷ ys)
+unfolding many_from
+filled p zero a found ts xs r h = (a, found, sym (first_part (a ∷ found) xs ts r h))
+filled p (suc n) a found ts xs r h = let b = both_steps (p ts) _ xs r h in filled_next p n a found b.0 b.1 xs r b.3 (λ more e. filled p n a more b.1 xs r e)
 
 begun_next : {A : Type 0} (p : Parser (Option A)) (n : ℕ) (o : Option A) (m : Tokens) (xs : List A) (r : Tokens) → (o ≡ None → ⊥) → if_some o (λ x. many_from p n (x ∷ [])) (pure []) m ≡ Ok (xs, r) → (y : A) × (ys : List A) × (xs ≡ y ∷ ys)
 begun_next p n None m xs r some h = absurd (some refl)
@@ -277,18 +306,75 @@ behind_operator F x (t ∷ ts) y r is h = let b = both_steps (simple_after F Non
 
 -- ---- closing
 
-pub close_last : (n : ℕ) (at : Span) (ts : Tokens) (t : Token) (p : ℕ × Expr) → close n at ts t 0 p ≡ (expect k.RightParen >> pure (f.Group at p.0 p.1))
-unfolding close
-close_last n at ts t p = refl
+-- what a group is, of which so many parentheses were opened and so many of these closed
+module _ (n : ℕ) (at : Span) (ts : Tokens) (t : Token) (o c m : ℕ) (x : Expr) (g : Outcome Factor) (r : Tokens) (is : g ≡ close n at ts t (o - c) (m, x) r) where
+  last_level : o ≤ c → g ≡ and_then (expect k.RightParen r) (λ _. pure (f.Group at m x))
+  unfolding close
+  last_level done = let none : o - c ≡ 0 = omega arith in is ∙ ap (λ (i : ℕ). close n at ts t i (m, x) r) none
 
-pub close_more : (n : ℕ) (at : Span) (ts : Tokens) (t : Token) (i : ℕ) (p : ℕ × Expr) → close n at ts t (suc i) p ≡ (expect k.RightParen >> (expr_after (read_factor (n - suc i)) None (f.Group (get_or ts i t).span p.0 p.1) >>= (λ x. close n at ts t i (stripped x))))
-unfolding close
-close_more n at ts t i p = refl
+  pub last_refused : {P : Type 0} (l : ℕ) → o ≤ c → (P → expect k.RightParen r ≡ Err l) → P → g ≡ Err l
+  last_refused l done h some = last_level done ∙ ap (λ (p : Outcome Span). and_then p (λ _. pure (f.Group at m x))) (h some)
 
--- a parenthesis that no operator follows
-pub close_alone : (n : ℕ) (at left : Span) (ts : Tokens) (t : Token) (i m : ℕ) (x : Expr) (F : Parser Factor) (r : Tokens) → sees_operator r ≡ false → and_then (expr_after F None (f.Group left m x) r) (λ y. close n at ts t i (stripped y)) ≡ close n at ts t i (suc m, x) r
-close_alone n at left ts t i m x F r last = ap (λ (o : Outcome Expr). and_then o (λ y. close n at ts t i (stripped y))) (lone_factor F None (f.Group left m x) r last) ∙ ap (λ (p : ℕ × Expr). close n at ts t i p r) (stripped_group left m x)
+  pub last_closed : (s : Span) (r' : Tokens) → o ≤ c → expect k.RightParen r ≡ Ok (s, r') → g ≡ Ok (f.Group at m x, r')
+  last_closed s r' done h = last_level done ∙ ap (λ (p : Outcome Span). and_then p (λ _. pure (f.Group at m x))) h
 
--- one that an operator follows
-pub close_behind : (n : ℕ) (at left : Span) (ts : Tokens) (t : Token) (i m : ℕ) (x : Expr) (F : Parser Factor) (r : Tokens) (y : Expr) (l : Tokens) → sees_operator r ≡ true → expr_after F None (f.Group left m x) r ≡ Ok (y, l) → and_then (expr_after F None (f.Group left m x) r) (λ z. close n at ts t i (stripped z)) ≡ close n at ts t i (0, y) l
-close_behind n at left ts t i m x F r y l is h = ap (λ (o : Outcome Expr). and_then o (λ z. close n at ts t i (stripped z))) h ∙ ap (λ (p : ℕ × Expr). close n at ts t i p l) (behind_operator F (f.Group left m x) r y l is h)
+  -- the expression that begins with the parenthesis of this turn, after it
+  abbrev pub behind : Tokens → Outcome Expr
+  behind r' = expr_after (read_factor (n - (o - c - 1) - 1)) None (f.Group (get_or ts (o - c - 1) t).span m x) r'
+
+  level : c < o → g ≡ and_then (expect k.RightParen r) (λ _ q. and_then (behind q) (λ y. close n at ts t (o - (c + 1)) (stripped y)))
+  unfolding close
+  level below =
+      let turn : o - c ≡ suc (o - c - 1) = omega arith in
+      let depth : n - suc (o - c - 1) ≡ n - (o - c - 1) - 1 = omega arith in
+      let next : o - c - 1 ≡ o - (c + 1) = omega arith in
+      is ∙ ap (λ (i : ℕ). close n at ts t i (m, x) r) turn
+      ∙ ap (λ (d : ℕ). and_then (expect k.RightParen r) (λ _ q. and_then (expr_after (read_factor d) None (f.Group (get_or ts (o - c - 1) t).span m x) q) (λ y. close n at ts t (o - c - 1) (stripped y)))) depth
+      ∙ ap (λ (i : ℕ). and_then (expect k.RightParen r) (λ _ q. and_then (behind q) (λ y. close n at ts t i (stripped y)))) next
+
+  pub turn_refused : {P : Type 0} (l : ℕ) → c < o → (P → expect k.RightParen r ≡ Err l) → P → g ≡ Err l
+  turn_refused l below h some = level below ∙ ap (λ (p : Outcome Span). and_then p (λ _ q. and_then (behind q) (λ y. close n at ts t (o - (c + 1)) (stripped y)))) (h some)
+
+  module _ (s : Span) (r' : Tokens) (below : c < o) (h : expect k.RightParen r ≡ Ok (s, r')) where
+    closed : g ≡ and_then (behind r') (λ y. close n at ts t (o - (c + 1)) (stripped y))
+    closed = level below ∙ ap (λ (p : Outcome Span). and_then p (λ _ q. and_then (behind q) (λ y. close n at ts t (o - (c + 1)) (stripped y)))) h
+
+    -- no operator follows
+    pub turn_alone : sees_operator r' ≡ false → g ≡ close n at ts t (o - (c + 1)) (m + 1, x) r'
+    turn_alone last =
+        let left = (get_or ts (o - c - 1) t).span in
+        let count : suc m ≡ m + 1 = omega arith in
+        closed
+        ∙ ap (λ (p : Outcome Expr). and_then p (λ y. close n at ts t (o - (c + 1)) (stripped y))) (lone_factor (read_factor (n - (o - c - 1) - 1)) None (f.Group left m x) r' last)
+        ∙ ap (λ (p : ℕ × Expr). close n at ts t (o - (c + 1)) p r') (stripped_group left m x)
+        ∙ ap (λ (j : ℕ). close n at ts t (o - (c + 1)) (j, x) r') count
+
+    -- one follows
+    pub turn_behind : (y : Expr) (l : Tokens) → sees_operator r' ≡ true → behind r' ≡ Ok (y, l) → g ≡ close n at ts t (o - (c + 1)) (0, y) l
+    turn_behind y l some e =
+        closed
+        ∙ ap (λ (p : Outcome Expr). and_then p (λ z. close n at ts t (o - (c + 1)) (stripped z))) e
+        ∙ ap (λ (p : ℕ × Expr). close n at ts t (o - (c + 1)) p l) (behind_operator (read_factor (n - (o - c - 1) - 1)) (f.Group (get_or ts (o - c - 1) t).span m x) r' y l some e)
+
+    pub behind_refused : {P : Type 0} (l : ℕ) → (P → behind r' ≡ Err l) → P → g ≡ Err l
+    behind_refused l e some = closed ∙ ap (λ (p : Outcome Expr). and_then p (λ z. close n at ts t (o - (c + 1)) (stripped z))) (e some)
+
+-- what a group is, of which so many parentheses were opened
+module _ (n : ℕ) (at : Span) (ts : Tokens) (t : Token) (o : ℕ) (r : Tokens) (count : o ≡ parentheses n ts) (rest : r ≡ drop o ts) where
+  begun_at : group (read_expr n) at ts ≡ and_then (read_expr (n - o) r) (λ x. close n at ts t o (stripped x))
+  begun_at =
+      all_opened n at ts t
+      ∙ ap (opened n at ts t) (sym count)
+      ∙ ap (λ (q : Tokens). and_then (read_expr (n - o) q) (λ x. close n at ts t o (stripped x))) (sym rest)
+
+  pub group_refused : {P : Type 0} (l : ℕ) → (P → read_expr (n - o) r ≡ Err l) → P → group (read_expr n) at ts ≡ Err l
+  group_refused l h some = begun_at ∙ ap (λ (p : Outcome Expr). and_then p (λ x. close n at ts t o (stripped x))) (h some)
+
+  pub group_begun : (x : Expr) (m : Tokens) → read_expr (n - o) r ≡ Ok (x, m) → group (read_expr n) at ts ≡ close n at ts t (o - 0) (0, x) m
+  group_begun x m h =
+      let whole : o ≡ o - 0 = omega arith in
+      let here : read_expr (n - parentheses n ts) (drop (parentheses n ts) ts) ≡ Ok (x, m) = ap (λ (j : ℕ). read_expr (n - j) (drop j ts)) (sym count) ∙ ap (read_expr (n - o)) (sym rest) ∙ h in
+      begun_at
+      ∙ ap (λ (p : Outcome Expr). and_then p (λ y. close n at ts t o (stripped y))) h
+      ∙ ap (λ (p : ℕ × Expr). close n at ts t o p m) (innermost n ts x m here)
+      ∙ ap (λ (j : ℕ). close n at ts t j (0, x) m) whole

@@ -384,14 +384,12 @@ impl<'a> Parser<'a> {
         ensures after { self.new.rest.now ≡ drop result self.old.rest.now }
         ensures kept { self.new.left_out ≡ self.old.left_out }
     {
-        let mut count = 0;
-        for _turn in 0..most {
+        for count in 0..most {
             if !self.eat(Kind::LeftParen) {
                 return count;
             }
-            count += 1;
         }
-        count
+        most
     }
 
     /// A group after its parenthesis. Those that come next are taken at once and closed one by one, so that parentheses
@@ -406,14 +404,14 @@ impl<'a> Parser<'a> {
         let mut redundant = 0;
         for closed in 0..opened {
             self.expect(Kind::RightParen)?;
-            let open = opened - closed - 1;
-            if self.sees_operator() {
-                let first = Factor::Group(tokens[open as usize].span, redundant, inner);
-                inner = self.boxed_from(depth - open - 1, None, first)?;
-                redundant = 0;
-            } else {
+            if !self.sees_operator() {
                 redundant += 1;
+                continue;
             }
+            let open = opened - closed - 1;
+            let first = Factor::Group(tokens[open as usize].span, redundant, inner);
+            inner = self.boxed_from(depth - open - 1, None, first)?;
+            redundant = 0;
         }
         self.expect(Kind::RightParen)?;
         Ok(Factor::Group(at, redundant, inner))

@@ -15,7 +15,7 @@ use Rattle.ps_points.specs.Points.{Points, point}
 use Rattle.ps_points.specs.Absent.{AreAlike}
 use Rattle.ps_points.specs.Uses.{Uses, IsFound, either, statements_body}
 use Rattle.ps_points.specs.DeclaredUses.{Definition, constant_definition, type_definition}
-use Rattle.ps_points.specs.Levels.{Level, Nested, own_level, block_declared_uses, routine_heading, routine_heading_uses}
+use Rattle.ps_points.specs.Levels.{Level, Nested, own_level, block_declared_uses, block_definitions, routine_heading, routine_heading_uses}
 use Rattle.ps_points.specs.Control.{Lacks}
 use Rattle.ps_points.specs.Early.{is_looked_up, IsDefined, IsBehind, IsBehindIn, IsBeforePoint, is_hidden, IsBeforeHidden, IsBeforeField, IsUseOf, IsOwn, IsOwnIn, IsEarly}
 use Rattle.ps_points.proofs.Found.{found_both, get_any}
@@ -39,13 +39,13 @@ module _ (text : List ℕ) (points : Points) where
   pub before_hidden : (u : Use) (i : ℕ) (x : Point) → i < length points → x ≡ get_or points i x → is_hidden x.form ≡ true → x.region.owner.from < u.name.from → u.name.from < x.name.from → spelled text x.name ≡ spelled text u.name → IsBeforeHidden text points u
   before_hidden u i x lt at form inside order alike = record { later = x; stands = (i, lt, sym at); form = form; alike = alike; inside = inside; order = order }
 
-  pub before_field : (region : Region) (b : Block) (at : ℕ) (u : Use) → IsFound (block_declared_uses b) (Some u) → u.name.from ≡ at → is_looked_up u.way ≡ true → IsBeforeHidden text points u → IsBeforeField text points (own_level region b) at
-  before_field region b at u f told way before = record { occurrence = u; stands = f.stands; way = way; before = before; told = told }
+  pub before_field : (b : Block) (at : ℕ) (u : Use) → IsFound (block_declared_uses b) (Some u) → u.name.from ≡ at → is_looked_up u.way ≡ true → IsBeforeHidden text points u → IsBeforeField text points (block_declared_uses b) at
+  before_field b at u f told way before = record { occurrence = u; stands = f.stands; way = way; before = before; told = told }
 
   pub early_point : (own : Level) (outer : Nested) (at : ℕ) → IsBeforePoint text points own outer at → IsEarly text points own outer at
   early_point own outer at h = inl h
 
-  pub early_field : (own : Level) (outer : Nested) (at : ℕ) → IsBeforeField text points own at → IsEarly text points own outer at
+  pub early_field : (own : Level) (outer : Nested) (at : ℕ) → IsBeforeField text points own.declared at → IsEarly text points own outer at
   early_field own outer at h = inr (inl h)
 
   pub early_own : (own : Level) (outer : Nested) (at : ℕ) → IsOwnIn text own.definitions at → IsEarly text points own outer at
@@ -92,11 +92,11 @@ module _ (text : List ℕ) where
   own_right : (ks ls : List Definition) (at : ℕ) → IsOwnIn text ls at → IsOwnIn text (ks ++ ls) at
   own_right ks ls at h = record { definition = h.definition; stands = in_right ks ls h.definition h.stands; own = h.own }
 
-  pub own_block_constants : (region : Region) (b : Block) (at : ℕ) → IsOwnIn text (map constant_definition (out-Block b).constants) at → IsOwnIn text (own_level region b).definitions at
-  own_block_constants region b at h = own_left (map constant_definition (out-Block b).constants) (map type_definition (out-Block b).types ++ map routine_heading (out-Block b).routines) at h
+  pub own_block_constants : (b : Block) (at : ℕ) → IsOwnIn text (map constant_definition (out-Block b).constants) at → IsOwnIn text (block_definitions b) at
+  own_block_constants b at h = own_left (map constant_definition (out-Block b).constants) (map type_definition (out-Block b).types ++ map routine_heading (out-Block b).routines) at h
 
-  pub own_block_types : (region : Region) (b : Block) (at : ℕ) → IsOwnIn text (map type_definition (out-Block b).types) at → IsOwnIn text (own_level region b).definitions at
-  own_block_types region b at h = own_right (map constant_definition (out-Block b).constants) (map type_definition (out-Block b).types ++ map routine_heading (out-Block b).routines) at (own_left (map type_definition (out-Block b).types) (map routine_heading (out-Block b).routines) at h)
+  pub own_block_types : (b : Block) (at : ℕ) → IsOwnIn text (map type_definition (out-Block b).types) at → IsOwnIn text (block_definitions b) at
+  own_block_types b at h = own_right (map constant_definition (out-Block b).constants) (map type_definition (out-Block b).types ++ map routine_heading (out-Block b).routines) at (own_left (map type_definition (out-Block b).types) (map routine_heading (out-Block b).routines) at h)
 
-  pub own_block_routines : (region : Region) (b : Block) (at : ℕ) → IsOwnIn text (map routine_heading (out-Block b).routines) at → IsOwnIn text (own_level region b).definitions at
-  own_block_routines region b at h = own_right (map constant_definition (out-Block b).constants) (map type_definition (out-Block b).types ++ map routine_heading (out-Block b).routines) at (own_right (map type_definition (out-Block b).types) (map routine_heading (out-Block b).routines) at h)
+  pub own_block_routines : (b : Block) (at : ℕ) → IsOwnIn text (map routine_heading (out-Block b).routines) at → IsOwnIn text (block_definitions b) at
+  own_block_routines b at h = own_right (map constant_definition (out-Block b).constants) (map type_definition (out-Block b).types ++ map routine_heading (out-Block b).routines) at (own_right (map type_definition (out-Block b).types) (map routine_heading (out-Block b).routines) at h)

@@ -146,8 +146,8 @@ module _ (text : List ℕ) (points : Points) where
   pub behind_hidden : (u : Use) (i : ℕ) (x : Point) → i < length points → x ≡ get_or points i x → is_hidden x.form ≡ true → x.name.from < u.name.from → spelled text x.name ≡ spelled text u.name → IsBehindHidden text points u
   behind_hidden u i x lt at form order alike = record { earlier = x; stands = (i, lt, sym at); form = form; alike = alike; order = order }
 
-  pub beside_field : (region : Region) (b : Block) (at : ℕ) (u : Use) → IsFound (block_declared_uses b) (Some u) → u.name.from ≡ at → is_looked_up u.way ≡ true → IsBehindHidden text points u → IsBesideField text points (own_level region b) at
-  beside_field region b at u f told way hidden = record { occurrence = u; stands = f.stands; way = way; hidden = hidden; told = told }
+  pub beside_field : (b : Block) (at : ℕ) (u : Use) → IsFound (block_declared_uses b) (Some u) → u.name.from ≡ at → is_looked_up u.way ≡ true → IsBehindHidden text points u → IsBesideField text points (block_declared_uses b) at
+  beside_field b at u f told way hidden = record { occurrence = u; stands = f.stands; way = way; hidden = hidden; told = told }
 
   pub wrong_argument : (region : Region) (b : Block) (outer : Nested) (at index : ℕ) (variable : Bool) (u : Use) → IsFound (statements_body (out-Block b).statements false).uses (Some u) → u.way ≡ Given index at variable → IsRefused text points (own_level region b ∷ outer) u.name index variable → IsWrongArgument text points (own_level region b) outer at
   wrong_argument region b outer at index variable u f way refused = record { occurrence = u; index = index; variable = variable; stands = f.stands; way = way; refused = refused }
@@ -158,7 +158,7 @@ module _ (text : List ℕ) (points : Points) where
   pub miscast_field : (own : Level) (outer : Nested) (at : ℕ) → IsOddField text points own outer at → IsMiscast text points own outer at
   miscast_field own outer at h = inr (inl h)
 
-  pub miscast_beside : (own : Level) (outer : Nested) (at : ℕ) → IsBesideField text points own at → IsMiscast text points own outer at
+  pub miscast_beside : (own : Level) (outer : Nested) (at : ℕ) → IsBesideField text points own.declared at → IsMiscast text points own outer at
   miscast_beside own outer at h = inr (inr (inl h))
 
   pub miscast_argument : (own : Level) (outer : Nested) (at : ℕ) → IsWrongArgument text points own outer at → IsMiscast text points own outer at

@@ -77,9 +77,9 @@ pub record IsBeforeHidden (text : List ℕ) (points : Points) (u : Use) : Type 0
 
 -- The name is used in the declarations of a block, and a record or formal parameter list round the use has it behind the use. Records and lists within that one
 -- aren't asked for.
-pub record IsBeforeField (text : List ℕ) (points : Points) (own : Level) (at : ℕ) : Type 0 where
+pub record IsBeforeField (text : List ℕ) (points : Points) (declared : List Use) (at : ℕ) : Type 0 where
   pub occurrence : Use
-  pub stands : Contains own.declared occurrence
+  pub stands : Contains declared occurrence
   pub way : is_looked_up occurrence.way ≡ true
   pub before : IsBeforeHidden text points occurrence
   pub told : occurrence.name.from ≡ at
@@ -113,4 +113,4 @@ pub record IsOwnIn (text : List ℕ) (definitions : List Definition) (at : ℕ) 
 
 -- it is broken in the innermost of these blocks
 abbrev pub IsEarly : List ℕ → Points → Level → Nested → ℕ → Type 0
-IsEarly text points own outer at = IsBeforePoint text points own outer at ⊎ (IsBeforeField text points own at ⊎ IsOwnIn text own.definitions at)
+IsEarly text points own outer at = IsBeforePoint text points own outer at ⊎ (IsBeforeField text points own.declared at ⊎ IsOwnIn text own.definitions at)

@@ -150,9 +150,9 @@ pub record IsBehindHidden (text : List ℕ) (points : Points) (u : Use) : Type 0
 
 -- A name in the declarations, where a type or constant is needed, is that of a field or formal parameter before it. That the use stands in that record or list, which
 -- may have ended, isn't asked.
-pub record IsBesideField (text : List ℕ) (points : Points) (own : Level) (at : ℕ) : Type 0 where
+pub record IsBesideField (text : List ℕ) (points : Points) (declared : List Use) (at : ℕ) : Type 0 where
   pub occurrence : Use
-  pub stands : Contains own.declared occurrence
+  pub stands : Contains declared occurrence
   pub way : is_looked_up occurrence.way ≡ true
   pub hidden : IsBehindHidden text points occurrence
   pub told : occurrence.name.from ≡ at
@@ -178,4 +178,4 @@ pub record IsWrongArgument (text : List ℕ) (points : Points) (own : Level) (ou
 
 -- it is broken in the innermost of these blocks
 abbrev pub IsMiscast : List ℕ → Points → Level → Nested → ℕ → Type 0
-IsMiscast text points own outer at = IsOfWrongKind text points own outer at ⊎ (IsOddField text points own outer at ⊎ (IsBesideField text points own at ⊎ IsWrongArgument text points own outer at))
+IsMiscast text points own outer at = IsOfWrongKind text points own outer at ⊎ (IsOddField text points own outer at ⊎ (IsBesideField text points own.declared at ⊎ IsWrongArgument text points own outer at))

@@ -2,7 +2,7 @@
 
 ghost use Rattle.std.specs.Prelude.{◌≡◌, true, map};
 ghost use Rattle.ps_points.specs.DeclaredUses.{constant_definition, type_definition};
-ghost use Rattle.ps_points.specs.Levels.{own_level, levels_of, routine_heading};
+ghost use Rattle.ps_points.specs.Levels.{own_level, levels_of, block_declared_uses, block_definitions, routine_heading};
 ghost use Rattle.ps_points.specs.Early.{is_looked_up, reach, IsDefined, IsBehind, IsBehindIn, IsBeforePoint, IsBeforeHidden, IsBeforeField, is_named, IsUseOf, IsOwn, IsOwnIn, IsEarly};
 
 use crate::absent::{Kind, is_absent};
@@ -124,16 +124,9 @@ fn is_before_hidden(reading: &Reading, points: &[Point], found: Use) -> bool
 /// Whether a use stands at an offset in the declarations of a block, and a record or list of formal parameters round it
 /// has its name behind it.
 #[tactic(auto, using(crate::proofs::EarlyLemmas::before_field))]
-fn is_before_field(
-    reading: &Reading,
-    points: &[Point],
-    region: Region,
-    block: &Block,
-    at: u32,
-) -> bool
-    ensures { result ≡ true → IsBeforeField reading.now.source.now points.now (own_level region block.now) at }
+fn is_before_field(reading: &Reading, points: &[Point], block: &Block, at: u32) -> bool
+    ensures { result ≡ true → IsBeforeField reading.now.source.now points.now (block_declared_uses block.now) at }
 {
-    let _region = region;
     match in_declarations(block, Sought::At(at)) {
         None => false,
         Some(found) => {
@@ -231,10 +224,9 @@ fn is_own_in_routines(reading: &Reading, list: &[Routine], at: u32) -> bool
 }
 
 /// Whether a definition of a block, or the heading of a routine, uses its own name at an offset.
-fn is_own(reading: &Reading, region: Region, block: &Block, at: u32) -> bool
-    ensures { result ≡ true → IsOwnIn reading.now.source.now (own_level region block.now).definitions at }
+fn is_own(reading: &Reading, block: &Block, at: u32) -> bool
+    ensures { result ≡ true → IsOwnIn reading.now.source.now (block_definitions block.now) at }
 {
-    let _region = region;
     let constants = block.constants.as_slice();
     let types = block.types.as_slice();
     let routines = block.routines.as_slice();
@@ -261,6 +253,6 @@ pub fn is_early(
     ensures { result ≡ true → IsEarly reading.now.source.now points.now (own_level region block.now) (levels_of outer.now) at }
 {
     is_before_point(reading, points, region, block, outer, at)
-        || is_before_field(reading, points, region, block, at)
-        || is_own(reading, region, block, at)
+        || is_before_field(reading, points, block, at)
+        || is_own(reading, block, at)
 }

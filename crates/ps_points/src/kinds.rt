@@ -2,7 +2,7 @@
 
 ghost use Rattle.std.specs.Prelude.{◌≡◌, true, map, IfSome};
 ghost use Rattle.ps_points.specs.declared.needs.Need.TheVariants.{ATarget};
-ghost use Rattle.ps_points.specs.Levels.{own_level, levels_of};
+ghost use Rattle.ps_points.specs.Levels.{own_level, levels_of, block_declared_uses};
 ghost use Rattle.ps_points.specs.Kinds.{required, IsOneOf, IsOtherRequired, IsIndex, IsPlace, TakesVariable, TakesValue, TakesRequired, HasFormal, Needs, IsOther, IsOtherIn, HasFunction, IsNoBlockOf, IsOutside, IsOdd, IsMisused, IsOfWrongKind, IsMisusedField, IsOddField, IsBehindHidden, IsBesideField, IsRefused, IsWrongArgument, IsMiscast};
 
 use crate::absent::{Kind, is_absent};
@@ -326,16 +326,9 @@ fn is_behind_hidden(reading: &Reading, points: &[Point], found: Use) -> bool
 
 /// Whether a use at an offset in the declarations of a block is of the name of a field or formal parameter before it.
 #[tactic(auto, using(crate::proofs::KindLemmas::beside_field))]
-fn is_beside_field(
-    reading: &Reading,
-    points: &[Point],
-    region: Region,
-    block: &Block,
-    at: u32,
-) -> bool
-    ensures { result ≡ true → IsBesideField reading.now.source.now points.now (own_level region block.now) at }
+fn is_beside_field(reading: &Reading, points: &[Point], block: &Block, at: u32) -> bool
+    ensures { result ≡ true → IsBesideField reading.now.source.now points.now (block_declared_uses block.now) at }
 {
-    let _region = region;
     match in_declarations(block, Sought::At(at)) {
         None => false,
         Some(found) => {
@@ -409,6 +402,6 @@ pub fn is_miscast(
 {
     is_of_wrong_kind(reading, points, region, block, outer, at)
         || is_odd_field(reading, points, region, block, outer, at)
-        || is_beside_field(reading, points, region, block, at)
+        || is_beside_field(reading, points, block, at)
         || is_wrong_argument(reading, points, region, block, outer, at)
 }

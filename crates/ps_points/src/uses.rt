@@ -177,7 +177,7 @@ fn factor_whole(factor: &Factor) -> Whole
         Factor::Text(at) => no_variable(at.from),
         Factor::Nil(at) => no_variable(at.from),
         Factor::Set(at, _) => no_variable(at.from),
-        Factor::Group(at, _) => no_variable(at.from),
+        Factor::Group(at, _, _) => no_variable(at.from),
         Factor::Not(at, _) => no_variable(at.from),
     }
 }

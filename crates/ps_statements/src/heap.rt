@@ -9,7 +9,6 @@ ghost use Rattle.ps_statements.specs.Procedures as spec;
 
 use crate::argument::{first_token, parameter_value, parameter_variable, wrong_number};
 use ps_regions::answer::paired;
-use std::alloc::Global;
 use ps_regions::refusal::Fault;
 use ps_syntax::Parameter;
 use ps_text::Span;
@@ -20,6 +19,7 @@ use ps_typing::function::ordinal_of;
 use ps_typing::operators::wrong_type;
 use ps_typing::site::Site;
 use ps_typing::value::TypedPlace;
+use std::alloc::Global;
 
 /// A new variable for a pointer, which begins at `at`; `line` is that of the name new.
 #[tactic(auto, unfolding(crate::specs::Procedures::new_variable, ps_tree::specs::View::type_of, ps_tree::specs::View::statement_of))]
