@@ -19,6 +19,8 @@ HEADER = re.compile(r"^( *)(?:pub(?:\([^)]*\))? )?(?:const )?(?:unsafe )?fn (\w+
 OWNER = re.compile(r"^impl\b(?:<[^>]*>)? (?:.* for )?(?:&'?\w* ?)?(\w+)")
 # what the kit says of a proof that names what an edit took away, and of what rests on that
 TAKEN_AWAY = r"has no field|is not in scope|has no `|was not admitted"
+# and of what is refused only for what it rests on
+OF_OTHERS = r"which (?:is|are|was|were) not (?:proved|admitted)"
 PLACE = re.compile(r"(?:(?:note|warning): )?(?:\./)?(src/\S+?\.rt):(\d+):\d+: (.*)")
 
 
@@ -155,7 +157,7 @@ def refused_at(said, texts, crate):
     spans = {at: functions_of(text) for at, text in texts.items()}
     for line in said.split("\n"):
         place = PLACE.match(line)
-        if not place or rt.unread(line, texts) or not re.search(r"not proved|error: ", place[3]):
+        if not place or rt.unread(line, texts) or not re.search(r"not proved|error: ", place[3]) or re.search(OF_OTHERS, place[3]):
             continue
         for it in spans.get(place[1], []):
             if it.top <= int(place[2]) - 1 <= it.last:
@@ -168,7 +170,7 @@ def refused_at(said, texts, crate):
 def by_proof_files(said, spans):
     """The functions whose own answers or lemmas in proofs/ are refused: those of a function lie in a folder of its path, and those of a cycle in a folder
     of their own, each answer named by its function."""
-    refused = re.findall(r"(?m)^(?:\./)?proofs/(\S+)/[A-Z]\w+\.antt:\d+:\d+: error: (?!.*(?:is not in scope|has no))(?:`(\w+)-)?", said)
+    refused = re.findall(r"(?m)^(?:\./)?proofs/(\S+)/[A-Z]\w+\.antt:\d+:\d+: error: (?!.*(?:is not in scope|has no|was not admitted))(?:`(\w+)-)?", said)
     for path, member in dict.fromkeys(refused):
         *above, last = path.split("/")
         of = [(at, it) for at, functions in spans.items() for it in functions if names_match(at, it, above, last, member)]
@@ -193,17 +195,35 @@ class Work:
 
     def __init__(self, crate):
         self.crate, self.at = crate, f"{crate.folder}/out/tried"
+        self.empty()
+
+    def empty(self):
         self.remove()
         os.makedirs(self.at)
+        self.is_sound = None
 
     def remove(self):
         shutil.rmtree(self.at, ignore_errors=True)
 
     def checked(self, texts, names, flags):
-        """The check of functions of the crate with these texts in place of its own. One that is killed, most likely for memory, is made once more."""
+        """The check of functions of the crate with these texts in place of its own. One that is killed, most likely for memory, is made once more, and from nothing,
+        since it may have left something half written."""
         words = [*flags, *(word for it in names for word in ("--only", it))]
         ran = kit.rt().checked(self.crate, texts, words, self.at)
-        return kit.rt().checked(self.crate, texts, words, self.at) if ran.returncode == -signal.SIGKILL else ran
+        if ran.returncode != -signal.SIGKILL:
+            return ran
+        self.empty()
+        return kit.rt().checked(self.crate, texts, words, self.at)
+
+    def holds(self, edits, flags):
+        """Whether the functions at which edits are to be tried are proved over it without the edits, so that what is then refused is the edits' doing."""
+        names = sorted({name for it in edits for name in [*(it.names or []), it.at] if name})
+        if self.is_sound is None and names:
+            ran = self.checked({}, names, flags)
+            self.is_sound = not ran.returncode
+            if ran.returncode:
+                print(f"without the edits it is not proved: {ran.stdout[-400:]}", flush=True)
+        return bool(names and self.is_sound)
 
 
 def round_of(work, edits, flags):
@@ -260,26 +280,20 @@ def tried(crate, edit, flags):
 
 
 def named(work, edit, flags):
-    """Tries an edit at its function, and returns why that is not proved: then the crate is not, either. None where that is not told, or only because a proof
-    names what the edit took away."""
+    """Tries an edit at its function, and returns why that, or what it calls, is not proved: then the crate is not, either. None where that is not told, or only
+    because a proof names what the edit took away."""
     texts, names = edit.apply({}, work.crate), [edit.at] if edit.at else edit.names
     if not (texts and names):
         return None
     ran = work.checked(texts, names, flags)
     lines = ran.stdout.split("\n")
-    told = re.match(rf"only={len(names)} proved=(\d+)", last_line(ran))
-    if ran.returncode != 1 or not told or int(told[1]) == len(names) or any(kit.rt().unread(it, texts) for it in lines):
+    # (which counts what the function calls, too)
+    told = re.match(r"only=(\d+) proved=(\d+)", last_line(ran))
+    if ran.returncode != 1 or not told or told[1] == told[2] or any(kit.rt().unread(it, texts) for it in lines):
         return None
     errors = [it for it in lines if re.match(r"(note: )?(\./)?(src|specs|proofs)/\S+:\d+:\d+: (error|it is not proved)", it)]
     of = [it for it in lines if any(it.startswith(f"fn {work.crate.name}::{name}: no proof: expected ") for name in names)]
     return next((it for it in errors or of if not re.search(TAKEN_AWAY, it)), None)
-
-
-def are_proved(work, edits, flags):
-    """Whether the functions at which edits are to be tried over what is kept are proved over it without the edits, so that what is then refused is the edits'
-    doing."""
-    names = sorted({name for it in edits for name in it.names or []})
-    return bool(names) and not work.checked({}, names, flags).returncode
 
 
 def key_of(crate, edit):
@@ -332,40 +346,42 @@ def try_all(crate, paths, flags):
     return [told[it] for it in paths]
 
 
+def keep(crate, edit, told):
+    """Keeps an edit that is refused in the store, with what is to be said of it, as soon as that is known."""
+    if told[0]:
+        verdicts.store.put(key_of(crate, edit), {"crate": crate.name, "said": told[1]}, None, [])
+    return told
+
+
 def try_anew(crate, edits, flags):
     """Tries edits of which the store knows nothing, and keeps there those that are refused."""
-    spent = Spent()
-    why = refused_by_name(crate, edits, flags, spent)
-    told = {it.path: (True, f"must-fail {crate.name}/{it.name}: refused, as it must be: {said[:160]}") for it, said in why.items()}
+    told, spent = {}, Spent()
+    for it, why in refused_by_name(crate, edits, flags, spent):
+        told[it.path] = keep(crate, it, (True, f"must-fail {crate.name}/{it.name}: refused, as it must be: {why[:160]}"))
     for it in edits:
-        if it not in why:
-            told[it.path] = tried(crate, it, flags)
+        if it.path not in told:
+            told[it.path] = keep(crate, it, tried(crate, it, flags))
             spent.part(f"{it.name} alone, from nothing")
     spent.tell()
-    for it in edits:
-        if told[it.path][0]:
-            verdicts.store.put(key_of(crate, it), {"crate": crate.name, "said": told[it.path][1]}, None, [])
     return told
 
 
 def refused_by_name(crate, edits, flags, spent):
-    """The edits that are refused at functions, each with what was said. The first round begins with nothing. Before any trial over what that left, the functions of
-    the edits that are not settled are proved over it."""
-    work, refused, left, is_proved = Work(crate), {}, edits, None
+    """Yields the edits that are refused at functions, each with what was said. The first round begins with nothing. Before any trial over what that left, the
+    functions of the edits that are not settled are proved over it."""
+    work, left = Work(crate), edits
     while True:
         done = round_of(work, left, flags)
         spent.part(f"a round that refused {len(done)} of {len(left)}")
-        refused.update(done)
+        yield from done.items()
         left = [it for it in left if it not in done]
-        if is_proved is None and any(it.names for it in left):
-            is_proved = are_proved(work, left, flags)
-            spent.part("the functions of those left, without the edits")
-        if not (done and is_proved and len(left) > 1):
+        is_sound = work.holds(left, flags)
+        spent.part("the functions of those left, without the edits")
+        if not (done and is_sound and len(left) > 1):
             break
-    for it in left if is_proved else []:
-        why = named(work, it, flags)
+    for it in left:
+        why = work.holds(left, flags) and named(work, it, flags)
         spent.part(f"{it.name} at its function")
         if why:
-            refused[it] = why
+            yield it, why
     work.remove()
-    return refused

@@ -4,6 +4,7 @@ Proofs come first, those with the longest chain of others behind them before the
 Edits take a place only where no proof waits for one, and leave one free as long as there are proofs to come.
 """
 
+import contextlib
 import ctypes
 import os
 import pickle
@@ -16,9 +17,11 @@ import edits
 import kit
 
 PR_SET_PDEATHSIG = 1
-# (what a kit reckons for a check was measured at two to six times what it takes, and for a library's that writes statements at 1.7 times and more)
+# (what a kit reckons for a check of a library was measured at 1.1 to 5 times what it takes: what small ones take beyond this share is in what is kept free)
 SHARE_OF_MEMORY = 0.85
 SHARE_OF_RECKONING = 0.6
+# seconds: how often memory that other programs may free is looked for, and how long a task that is alone waits for it
+AGAIN, PATIENCE = 1, 300
 
 
 class Task:
@@ -40,13 +43,31 @@ def chained(tasks):
             tasks[it].behind = max(tasks[it].behind, task.behind)
 
 
+def held_below(processes):
+    """The bytes that the largest of all that each of these processes started holds now. (A check copies itself for a while, and the copies share what they hold.)"""
+    above, held, most = {}, {}, dict.fromkeys(processes, 0)
+    for it in filter(str.isdigit, os.listdir("/proc")):
+        # (one may end meanwhile)
+        with contextlib.suppress(OSError):
+            with open(f"/proc/{it}/stat", encoding="utf-8", errors="replace") as file:
+                words = file.read().rpartition(")")[2].split()
+            above[int(it)], held[int(it)] = int(words[1]), int(words[21]) * os.sysconf("SC_PAGE_SIZE")
+    for it, size in held.items():
+        while it and it not in most:
+            it = above.get(it, 0)
+        if it:
+            most[it] = max(most[it], size)
+    return most
+
+
 class Places:
     def __init__(self, room, report):
         self.logs, self.report = f"{room}/logs", report
         os.makedirs(self.logs, exist_ok=True)
         self.count = int(os.environ.get("RT_JOBS") or 0) or kit.rt().processors()
         self.memory = SHARE_OF_MEMORY * kit.rt().free()
-        self.given, self.running = {}, {}
+        self.kept_free = self.memory / SHARE_OF_MEMORY - self.memory
+        self.given, self.running, self.short_since = {}, {}, None
 
     def run(self, table):
         """Runs the tasks of a table by `rt ci` and returns what each gave."""
@@ -55,6 +76,7 @@ class Places:
         self.left = sorted(tasks.values(), key=lambda it: -it.behind)
         self.report.begin([it for it in self.left if it.lines], self.count)
         while self.left or self.running:
+            time.sleep(AGAIN if self.short_since else 0)
             self.start_what_can()
             if self.running:
                 self.wait_for_one()
@@ -84,11 +106,26 @@ class Places:
         tried = sum(it.is_edits for it in self.running.values())
         if self.idle() < 1 or task.is_edits and tried >= self.count - kept_free:
             return False
-        return not self.running or task.memory <= self.memory - sum(it.taken for it in self.running.values())
+        return self.has_memory(task)
+
+    def free(self):
+        """The memory that a further task may take: what is free now, without what is kept free and what those at work are still to take."""
+        held = held_below(self.running)
+        to_come = sum(max(0, it.taken - held[process]) for process, it in self.running.items())
+        return kit.rt().free() - self.kept_free - to_come
+
+    def has_memory(self, task):
+        """Whether there is memory for a task. One that is alone waits only for what other programs hold, and not for ever."""
+        if task.memory <= self.free():
+            self.short_since = None
+            return True
+        self.short_since = self.short_since or time.time()
+        return not self.running and (task.memory > self.memory or time.time() - self.short_since > PATIENCE)
 
     def start(self, task, jobs):
         self.left.remove(task)
-        free = self.memory - sum(it.taken for it in self.running.values())
+        self.short_since = None
+        free = self.free()
         task.jobs = min(4, jobs, max(1, 1 + int((free / task.memory - 1) / 0.6)))
         task.taken = task.memory * (1 + 0.6 * (task.jobs - 1))
         task.began = time.time()
@@ -121,7 +158,8 @@ class Places:
             os._exit(status)
 
     def wait_for_one(self):
-        process, status, usage = os.wait4(-1, 0)
+        """Waits until a task has ended. Where another waits for memory, looks whether one has."""
+        process, status, usage = os.wait4(-1, os.WNOHANG if self.short_since else 0)
         task = self.running.pop(process, None)
         if task is None:
             return

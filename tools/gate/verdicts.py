@@ -1,7 +1,7 @@
 """A crate's verdict: taken from the store, or made from nothing and kept there.
 
-What decides a verdict is in its key: the kit, the crate's own files and its row of crates.txt, and the key of each library below it with the sum of what
-was built of it.
+What decides a verdict is in its key: the kit, the crate's own files and its row of crates.txt, the key of each library below it with the sum of what was built of
+it, and the handles that the repository allows.
 """
 
 import json
@@ -33,7 +33,8 @@ def key_of(crate, tests):
     rtlib = kit.rt().rtlib
     own = [(os.path.relpath(it, crate.folder), kit.file_sum(it)) for it in sorted(rtlib.files_of(crate.folder))]
     below = [(it.name, facts_of(it)["key"], facts_of(it)["sum"]) for it in crate.below()]
-    return kit.sum_of(FORM, kit.kit_sum(), crate.name, sorted(crate.said.items(), key=repr), own, below, tests)
+    # (the handles that HANDLES allows come last, since most repositories allow none)
+    return kit.sum_of(FORM, kit.kit_sum(), crate.name, sorted(crate.said.items(), key=repr), own, below, tests, *kit.rt().Crate.allowed)
 
 
 def files_made(crate, tests):
@@ -58,8 +59,11 @@ def functions_in(crate):
 
 
 def note(crate, tests, facts):
-    with open(f"{facts_file(crate)}{'.tests' if tests else ''}", "w", encoding="utf-8") as file:
+    """Notes what the run knows of a crate, by a rename, since the proof of one above may read it at any time."""
+    path = f"{facts_file(crate)}{'.tests' if tests else ''}"
+    with open(f"{path}.new", "w", encoding="utf-8") as file:
         json.dump(facts, file)
+    os.replace(f"{path}.new", path)
 
 
 def replace_ci():
