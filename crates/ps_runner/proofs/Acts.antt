@@ -5,6 +5,8 @@ use Rattle.std.proofs.lemmas.List.{drop_all}
 use Rattle.behavior.specs.Endings.{failed}
 use Rattle.ps_tree.specs.Tree as t
 use Rattle.ps_tree.specs.declared.tree.Direction.{Direction}
+use Rattle.ps_tree.specs.declared.tree.Range.{Range}
+use Rattle.ps_tree.specs.declared.tree.Range.TheVariants.{Within as WithinBounds}
 use Rattle.ps_tree.specs.declared.line.Line.{Line}
 use Rattle.ps_tree.specs.declared.tree.Expr.{Expr}
 use Rattle.ps_tree.specs.declared.tree.Statement.{Statement, Case, Repeat}
@@ -19,16 +21,18 @@ use Rattle.ps_meaning.specs.Worlds as m
 use Rattle.ps_meaning.specs.Worlds.{◌>>◌}
 use Rattle.ps_meaning.specs.Expressions as e
 use Rattle.ps_meaning.specs.Statements as s
-use Rattle.ps_runner.specs.declared.stop.Stop.{Stop}
+use Rattle.ps_runner.specs.declared.operands.Callee.{Callee}
+use Rattle.ps_runner.specs.declared.value.Value.{Value}
+use Rattle.ps_runner.specs.View.{value_of}
 use Rattle.ps_runner.specs.declared.world.Job.{Job}
 use Rattle.ps_runner.specs.declared.world.World.{World}
 use Rattle.ps_runner.specs.Worlds as r
-use Rattle.ps_runner.specs.Worlds.{Stopped, caller, next, acting, acting_all, selecting, turning, reading, reading_all, writing, writing_all, opening_all}
+use Rattle.ps_runner.specs.Worlds.{Stopped, caller, world_of, next, acting, acting_all, selecting, turning, reading, reading_all, writing, writing_all, opening_all}
 use Rattle.ps_runner.specs.declared.stop.Halt.{Halt}
-use Rattle.ps_runner.specs.Heights.{place_height, expr_height, statement_height, statements_height, elements_height, places_height, read_height, reads_height, write_height, writes_height}
+use Rattle.ps_runner.specs.Heights.{place_height, expr_height, statement_height, statements_height, elements_height, places_height, read_height, reads_height, write_height, writes_height, arguments_height}
 use Rattle.ps_runner.specs.Runs.{Halted, Runs, call_levels, levels, truth_in, advancing}
 use Rattle.ps_runner.proofs.Heights.{statement_within, read_within, write_within, place_within, fewer_calls}
-use Rattle.ps_runner.proofs.Answers.{stopped_then, halted_by, runs_deeper}
+use Rattle.ps_runner.proofs.Answers.{stopped_then, stopped_halts, halted_by, halted_then, answers_run, runs_deeper}
 use Rattle.ps_runner.proofs.Trees as tree
 use Rattle.ps_runner.proofs.Trees.{case_is, drop_next, statements_at, statements_past, elements_at, elements_past}
 
@@ -36,15 +40,21 @@ use Rattle.ps_runner.proofs.Trees.{case_is, drop_next, statements_at, statements
 pub then_gives : {A B : Type 0} (a : m.Answer A) (f : A → m.Act B) (x : A) (w : m.World) → a ≡ m.Gives x w → m.and_then a f ≡ f x w
 then_gives a f x w gives = ap (λ y. m.and_then y f) gives
 
-pub stopped_same : {A : Type 0} (a b : m.Answer A) (stop : Stop) (u : World) → a ≡ b → Stopped a stop u → Stopped b stop u
+pub stopped_same : {A : Type 0} (a b : m.Answer A) (stop : Halt) (u : World) → a ≡ b → Stopped a stop u → Stopped b stop u
 stopped_same a b stop u is h = subst (λ x. Stopped x stop u) is h
+
+pub halts_same : {A : Type 0} (a b : m.Answer A) (halt : Halt) (u : World) (d n : ℕ) → a ≡ b → Stopped a halt u → Halted b d n halt u
+halts_same a b halt u d n is h = stopped_halts b halt u d n (stopped_same a b halt u is h)
+
+pub runs_same : {A R : Type 0} (view : R → A) (a b : m.Answer A) (result : Result R Halt) (u : World) (d k n : ℕ) → a ≡ b → k ≤ n → Runs view a d k result u → Runs view b d n result u
+runs_same view a b result u d k n is le h = runs_deeper view b result u d k d n (subst (λ x. Runs view x d k result u) is h) (omega arith)
 
 -- statements from a place on
 pub acts_next : (job : Job) (n : ℕ) (c : m.Context) (statements : List Statement) (i : ℕ) (x : Statement) (w u : m.World) → acting job n (statement_of x) c w ≡ m.Gives m.done u → x ≡ get_or statements i x → i < length statements → acting_all job n (statements_of (drop (i + 1) statements)) c u ≡ acting_all job n (statements_of (drop i statements)) c w
 acts_next job n c statements i x w u gives at lt =
     sym (ap (λ l. acting_all job n l c w) (statements_at statements i x lt at) ∙ ap (λ a. m.and_then a (λ _. acting_all job n (statements_of (drop (i + 1) statements)) c)) gives)
 
-acts_stop : (job : Job) (n : ℕ) (c : m.Context) (statements : List Statement) (i : ℕ) (x : Statement) (stop : Stop) (w : m.World) (u : World) (all : m.Answer m.Done) → acting_all job n (statements_of (drop i statements)) c w ≡ all → Stopped (acting job n (statement_of x) c w) stop u → x ≡ get_or statements i x → i < length statements → Stopped all stop u
+acts_stop : (job : Job) (n : ℕ) (c : m.Context) (statements : List Statement) (i : ℕ) (x : Statement) (stop : Halt) (w : m.World) (u : World) (all : m.Answer m.Done) → acting_all job n (statements_of (drop i statements)) c w ≡ all → Stopped (acting job n (statement_of x) c w) stop u → x ≡ get_or statements i x → i < length statements → Stopped all stop u
 acts_stop job n c statements i x stop w u all is h at lt =
     stopped_same _ all stop u (sym (ap (λ l. acting_all job n l c w) (statements_at statements i x lt at)) ∙ is) (stopped_then (acting job n (statement_of x) c w) (λ _. acting_all job n (statements_of (drop (i + 1) statements)) c) stop u h)
 
@@ -61,7 +71,7 @@ pub reads_next : (job : Job) (n : ℕ) (c : m.Context) (xs : List ReadVariable) 
 reads_next job n c xs i x w u all is gives at lt =
     sym (ap (λ l. reading_all job n (map read_of l) c w) (drop_next xs i x lt at) ∙ ap (λ a. m.and_then a (λ _. reading_all job n (map read_of (drop (i + 1) xs)) c)) gives) ∙ is
 
-reads_stop : (job : Job) (n : ℕ) (c : m.Context) (xs : List ReadVariable) (i : ℕ) (x : ReadVariable) (stop : Stop) (w : m.World) (u : World) (all : m.Answer m.Done) → reading_all job n (map read_of (drop i xs)) c w ≡ all → Stopped (reading job n (read_of x) c w) stop u → x ≡ get_or xs i x → i < length xs → Stopped all stop u
+reads_stop : (job : Job) (n : ℕ) (c : m.Context) (xs : List ReadVariable) (i : ℕ) (x : ReadVariable) (stop : Halt) (w : m.World) (u : World) (all : m.Answer m.Done) → reading_all job n (map read_of (drop i xs)) c w ≡ all → Stopped (reading job n (read_of x) c w) stop u → x ≡ get_or xs i x → i < length xs → Stopped all stop u
 reads_stop job n c xs i x stop w u all is h at lt =
     stopped_same _ all stop u (sym (ap (λ l. reading_all job n (map read_of l) c w) (drop_next xs i x lt at)) ∙ is) (stopped_then (reading job n (read_of x) c w) (λ _. reading_all job n (map read_of (drop (i + 1) xs)) c) stop u h)
 
@@ -78,7 +88,7 @@ pub writes_next : (job : Job) (n : ℕ) (c : m.Context) (xs : List WriteParamete
 writes_next job n c xs i x w u all is gives at lt =
     sym (ap (λ l. writing_all job n (map write_of l) c w) (drop_next xs i x lt at) ∙ ap (λ a. m.and_then a (λ _. writing_all job n (map write_of (drop (i + 1) xs)) c)) gives) ∙ is
 
-writes_stop : (job : Job) (n : ℕ) (c : m.Context) (xs : List WriteParameter) (i : ℕ) (x : WriteParameter) (stop : Stop) (w : m.World) (u : World) (all : m.Answer m.Done) → writing_all job n (map write_of (drop i xs)) c w ≡ all → Stopped (writing job n (write_of x) c w) stop u → x ≡ get_or xs i x → i < length xs → Stopped all stop u
+writes_stop : (job : Job) (n : ℕ) (c : m.Context) (xs : List WriteParameter) (i : ℕ) (x : WriteParameter) (stop : Halt) (w : m.World) (u : World) (all : m.Answer m.Done) → writing_all job n (map write_of (drop i xs)) c w ≡ all → Stopped (writing job n (write_of x) c w) stop u → x ≡ get_or xs i x → i < length xs → Stopped all stop u
 writes_stop job n c xs i x stop w u all is h at lt =
     stopped_same _ all stop u (sym (ap (λ l. writing_all job n (map write_of l) c w) (drop_next xs i x lt at)) ∙ is) (stopped_then (writing job n (write_of x) c w) (λ _. writing_all job n (map write_of (drop (i + 1) xs)) c) stop u h)
 
@@ -95,7 +105,7 @@ pub opening_next : (job : Job) (n : ℕ) (c d : m.Context) (xs : List Place) (i 
 opening_next job n c d xs i x spot w u all is gives within at lt =
     ap (λ k. opening_all job n (map place_of (drop (i + 1) xs)) k u) within ∙ sym (ap (λ l. opening_all job n (map place_of l) c w) (drop_next xs i x lt at) ∙ ap (λ a. m.and_then a (λ y. opening_all job n (map place_of (drop (i + 1) xs)) (s.with_opened (y ∷ c.opened) c))) gives) ∙ is
 
-opening_stop : (job : Job) (n : ℕ) (c : m.Context) (xs : List Place) (i : ℕ) (x : Place) (stop : Stop) (w : m.World) (u : World) (all : m.Answer (List v.Spot)) → opening_all job n (map place_of (drop i xs)) c w ≡ all → Stopped (e.access (caller job n) (place_of x) c w) stop u → x ≡ get_or xs i x → i < length xs → Stopped all stop u
+opening_stop : (job : Job) (n : ℕ) (c : m.Context) (xs : List Place) (i : ℕ) (x : Place) (stop : Halt) (w : m.World) (u : World) (all : m.Answer (List v.Spot)) → opening_all job n (map place_of (drop i xs)) c w ≡ all → Stopped (e.access (caller job n) (place_of x) c w) stop u → x ≡ get_or xs i x → i < length xs → Stopped all stop u
 opening_stop job n c xs i x stop w u all is h at lt =
     stopped_same _ all stop u (sym (ap (λ l. opening_all job n (map place_of l) c w) (drop_next xs i x lt at)) ∙ is) (stopped_then (e.access (caller job n) (place_of x) c w) (λ y. opening_all job n (map place_of (drop (i + 1) xs)) (s.with_opened (y ∷ c.opened) c)) stop u h)
 
@@ -106,6 +116,55 @@ opening_halt job n c xs i x halt w u all d is h at lt =
 
 pub opening_end : (job : Job) (n : ℕ) (c : m.Context) (xs : List Place) (i : ℕ) (w : m.World) (all : m.Answer (List v.Spot)) → opening_all job n (map place_of (drop i xs)) c w ≡ all → length xs ≤ i → all ≡ m.Gives c.opened w
 opening_end job n c xs i w all is le = sym is ∙ ap (λ l. opening_all job n (map place_of l) c w) (drop_all i xs le)
+
+-- a with statement whose next record is not accessed
+pub with_halt : (job : Job) (n : ℕ) (body : t.Statement) (whole c : m.Context) (xs : List Place) (i : ℕ) (x : Place) (halt : Halt) (v w : m.World) (u : World) (d : ℕ) → opening_all job n (map place_of (drop i xs)) c w ≡ opening_all job n (map place_of xs) whole v → Halted (e.access (caller job n) (place_of x) c w) d (levels job n (place_height (place_of x))) halt u → x ≡ get_or xs i x → i < length xs → Halted (acting job n (t.With (map place_of xs) body) whole v) d (levels job n (max (places_height (map place_of xs)) (statement_height body))) halt u
+with_halt job n body whole c xs i x halt v w u d is h at lt =
+    halted_then (opening_all job n (map place_of xs) whole v) (λ opened. acting job n body (s.with_opened opened whole)) halt u d (levels job n (places_height (map place_of xs))) d (levels job n (max (places_height (map place_of xs)) (statement_height body))) (opening_halt job n c xs i x halt w u (opening_all job n (map place_of xs) whole v) d is h at lt) (omega arith)
+
+-- acts one after another are one act after another
+then_then : {A B C : Type 0} (a : m.Answer A) (f : A → m.Act B) (g : B → m.Act C) → m.and_then (m.and_then a f) g ≡ m.and_then a (λ x u. m.and_then (f x u) g)
+then_then (m.Gives x u) f g = refl
+then_then (m.Ends out ending) f g = refl
+
+then_thrice : {A B C D : Type 0} (a : m.Answer A) (f : A → m.Act B) (g : B → m.Act C) (h : C → m.Act D) → m.and_then (m.and_then a (λ x u. m.and_then (f x u) g)) h ≡ m.and_then a (λ x u. m.and_then (f x u) (λ y z. m.and_then (g y z) h))
+then_thrice (m.Gives x u) f g h = then_then (f x u) g h
+then_thrice (m.Ends out ending) f g h = refl
+
+-- an integer is read, and goes into a variable that was accessed
+integer_after : (a : m.Answer v.Spot) (low high : ℤ) (line : ℕ) (c : m.Context) → m.and_then a (λ k. r.integer_into k low high line c) ≡ m.and_then a (λ k u. m.and_then (s.scan u) (λ found y. m.and_then (s.integer_found found line c y) (λ x z. m.and_then (e.fitting (WithinBounds low high) x line c z) (m.put k))))
+integer_after (m.Gives k u) low high line c = then_thrice (s.scan u) (λ found. s.integer_found found line c) (λ x. e.fitting (WithinBounds low high) x line c) (m.put k)
+integer_after (m.Ends out ending) low high line c = refl
+
+-- a variable that is read: its place is accessed, then it is read into
+read_is : (job : Job) (n : ℕ) (c : m.Context) (x : t.ReadVariable) (w : m.World) → m.and_then (e.access (caller job n) (r.place_read x) c w) (λ k. r.reading_into x k c) ≡ reading job n x c w
+read_is job n c (t.ReadChar p low high line) w = refl
+read_is job n c (t.ReadInteger p low high line) w = integer_after (e.access (caller job n) p c w) low high line c
+
+read_is_high : (x : t.ReadVariable) → place_height (r.place_read x) ≡ read_height x
+read_is_high (t.ReadChar p low high line) = refl
+read_is_high (t.ReadInteger p low high line) = refl
+
+-- once it is accessed
+read_at : (job : Job) (n : ℕ) (c : m.Context) (x : t.ReadVariable) (p : t.Place) (spot : v.Spot) (w u : m.World) → p ≡ r.place_read x → e.access (caller job n) p c w ≡ m.Gives spot u → r.reading_into x spot c u ≡ reading job n x c w
+read_at job n c x p spot w u is gives = sym (ap (λ a. m.and_then a (λ k. r.reading_into x k c)) (ap (λ q. e.access (caller job n) q c w) (sym is) ∙ gives)) ∙ read_is job n c x w
+
+pub read_done : (job : Job) (n : ℕ) (c : m.Context) (x : t.ReadVariable) (p : t.Place) (spot : v.Spot) (w u z : m.World) → p ≡ r.place_read x → e.access (caller job n) p c w ≡ m.Gives spot u → r.reading_into x spot c u ≡ m.Gives m.done z → reading job n x c w ≡ m.Gives m.done z
+read_done job n c x p spot w u z is gives did = sym (read_at job n c x p spot w u is gives) ∙ did
+
+pub reads_halt_at : (job : Job) (n : ℕ) (c : m.Context) (xs : List ReadVariable) (i : ℕ) (x : ReadVariable) (p : t.Place) (halt : Halt) (w : m.World) (u : World) (all : m.Answer m.Done) (d : ℕ) → reading_all job n (map read_of (drop i xs)) c w ≡ all → p ≡ r.place_read (read_of x) → Halted (e.access (caller job n) p c w) d (levels job n (place_height p)) halt u → x ≡ get_or xs i x → i < length xs → Halted all d (levels job n (reads_height (map read_of xs))) halt u
+reads_halt_at job n c xs i x p halt w u all d is place h at lt =
+    let high : place_height p ≡ read_height (read_of x) = ap place_height place ∙ read_is_high (read_of x) in
+    let one : Halted (m.and_then (e.access (caller job n) p c w) (λ k. r.reading_into (read_of x) k c)) d (levels job n (read_height (read_of x))) halt u = halted_then (e.access (caller job n) p c w) (λ k. r.reading_into (read_of x) k c) halt u d (levels job n (place_height p)) d (levels job n (read_height (read_of x))) h (omega arith) in
+    reads_halt job n c xs i x halt w u all d is (subst (λ a. Halted a d (levels job n (read_height (read_of x))) halt u) (ap (λ q. m.and_then (e.access (caller job n) q c w) (λ k. r.reading_into (read_of x) k c)) place ∙ read_is job n c (read_of x) w) one) at lt
+
+pub reads_halt_into : (job : Job) (n : ℕ) (c : m.Context) (xs : List ReadVariable) (i : ℕ) (x : ReadVariable) (p : t.Place) (spot : v.Spot) (halt : Halt) (w z : m.World) (u : World) (all : m.Answer m.Done) (d : ℕ) → reading_all job n (map read_of (drop i xs)) c w ≡ all → p ≡ r.place_read (read_of x) → e.access (caller job n) p c w ≡ m.Gives spot z → Stopped (r.reading_into (read_of x) spot c z) halt u → x ≡ get_or xs i x → i < length xs → Halted all d (levels job n (reads_height (map read_of xs))) halt u
+reads_halt_into job n c xs i x p spot halt w z u all d is place gives h at lt =
+    reads_halt job n c xs i x halt w u all d is (halts_same (r.reading_into (read_of x) spot c z) (reading job n (read_of x) c w) halt u d (levels job n (read_height (read_of x))) (read_at job n c (read_of x) p spot w z place gives) h) at lt
+
+-- what is selected of elements of a case statement is what is selected of others
+abbrev pub SelectsAs : (elements others : t.Elements) → ℤ → Type 0
+SelectsAs elements others k = (job : Job) (n line : ℕ) (c : m.Context) (w : m.World) → selecting job n elements k line c w ≡ selecting job n others k line c w
 
 -- the elements of a case statement, from a place on
 pub selects : (job : Job) (n : ℕ) (c : m.Context) (xs : List CaseElement) (i : ℕ) (x : CaseElement) (k : ℤ) (line : ℕ) (w : m.World) (all : m.Answer m.Done) → selecting job n (elements_of (drop i xs)) k line c w ≡ all → is_among k (out-CaseElement x).constants.items ≡ true → x ≡ get_or xs i x → i < length xs → acting job n (statement_of (out-CaseElement x).body) c w ≡ all
@@ -118,6 +177,15 @@ selects_next job n c xs i x k line w all is among at lt =
 
 pub selects_none : (job : Job) (n : ℕ) (c : m.Context) (xs : List CaseElement) (i : ℕ) (k : ℤ) (line : ℕ) (w : m.World) (all : m.Answer m.Done) → selecting job n (elements_of (drop i xs)) k line c w ≡ all → length xs ≤ i → all ≡ m.Ends w.transcript (failed 7 line c.calls)
 selects_none job n c xs i k line w all is le = sym is ∙ ap (λ l. selecting job n l k line c w) (elements_past xs i le)
+
+-- a case statement whose element is known, and one that has none
+pub case_chosen : (job : Job) (n : ℕ) (index : t.Expr) (elements : t.Elements) (line : ℕ) (c : m.Context) (x : v.Value) (body : t.Statement) (w u : m.World) (result : Result (Unit {0}) Halt) (z : World) (d : ℕ) → e.value (caller job n) index c w ≡ m.Gives x u → selecting job n elements (v.number_of x) line c u ≡ acting job n body c u → statement_height body ≤ elements_height elements → Runs r.done_of (acting job n body c u) d (levels job n (statement_height body)) result z → Runs r.done_of (acting job n (t.Case index elements line) c w) d (levels job n (max (expr_height index) (elements_height elements))) result z
+case_chosen job n index elements line c x body w u result z d gives chosen low h =
+    runs_same r.done_of _ _ result z d (levels job n (statement_height body)) (levels job n (max (expr_height index) (elements_height elements))) (sym (then_gives (e.value (caller job n) index c w) (λ y. selecting job n elements (v.number_of y) line c) x u gives ∙ chosen)) (omega arith) h
+
+pub case_none : (job : Job) (n : ℕ) (index : t.Expr) (elements : t.Elements) (line : ℕ) (c : m.Context) (x : v.Value) (w : m.World) (u : World) (halt : Halt) (d needed : ℕ) → e.value (caller job n) index c w ≡ m.Gives x (world_of u) → selecting job n elements (v.number_of x) line c (world_of u) ≡ m.fault 7 line c (world_of u) → Stopped (r.faults 7 line c (world_of u)) halt u → Halted (acting job n (t.Case index elements line) c w) d needed halt u
+case_none job n index elements line c x w u halt d needed gives none h =
+    halts_same _ _ halt u d needed (sym (then_gives (e.value (caller job n) index c w) (λ y. selecting job n elements (v.number_of y) line c) x (world_of u) gives ∙ none)) h
 
 -- with no fuel left, and with one more
 next_none : (job : Job) (n : ℕ) (task : s.Task) (c : m.Context) (w : m.World) → n ≡ 0 → next job n task c w ≡ r.used_up w
@@ -160,7 +228,7 @@ while_is : (job : Job) (n : ℕ) (a : t.Expr) (b : t.Statement) (c : m.Context) 
 unfolding while_again
 while_is job n a b c w = truth_split (e.value (caller job n) a c w) (acting job n b c >> next job n (s.Again (t.While a b)) c) (m.give m.done)
 
-while_stop : (job : Job) (n : ℕ) (a : t.Expr) (b : t.Statement) (c : m.Context) (stop : Stop) (w : m.World) (u : World) (all : m.Answer m.Done) → acting job n (t.While a b) c w ≡ all → Stopped (truth_in job n a c w) stop u → Stopped all stop u
+while_stop : (job : Job) (n : ℕ) (a : t.Expr) (b : t.Statement) (c : m.Context) (stop : Halt) (w : m.World) (u : World) (all : m.Answer m.Done) → acting job n (t.While a b) c w ≡ all → Stopped (truth_in job n a c w) stop u → Stopped all stop u
 while_stop job n a b c stop w u all is h =
     stopped_same _ all stop u (sym (while_is job n a b c w) ∙ is) (stopped_then (truth_in job n a c w) (while_again job n a b c) stop u h)
 
@@ -180,7 +248,7 @@ while_turn : (job : Job) (n : ℕ) (a : t.Expr) (b : t.Statement) (c : m.Context
 unfolding while_again
 while_turn job n a b c k w u all is gives holds = sym (ap (λ x. while_again job n a b c x u) holds) ∙ while_begun job n a b c k w u all is gives
 
-while_body : (job : Job) (n : ℕ) (a : t.Expr) (b : t.Statement) (c : m.Context) (k : Bool) (stop : Stop) (w u : m.World) (z : World) (all : m.Answer m.Done) → acting job n (t.While a b) c w ≡ all → truth_in job n a c w ≡ m.Gives k u → k ≡ true → Stopped (acting job n b c u) stop z → Stopped all stop z
+while_body : (job : Job) (n : ℕ) (a : t.Expr) (b : t.Statement) (c : m.Context) (k : Bool) (stop : Halt) (w u : m.World) (z : World) (all : m.Answer m.Done) → acting job n (t.While a b) c w ≡ all → truth_in job n a c w ≡ m.Gives k u → k ≡ true → Stopped (acting job n b c u) stop z → Stopped all stop z
 while_body job n a b c k stop w u z all is gives holds h =
     stopped_same _ all stop z (while_turn job n a b c k w u all is gives holds) (stopped_then (acting job n b c u) (λ _. next job n (s.Again (t.While a b)) c) stop z h)
 
@@ -210,7 +278,7 @@ repeat_is job n b a c w =
     let G : m.Done → m.Act m.Done = λ _ u. m.and_then (truth_in job n a c u) (λ k. if k then m.give m.done else next job n (s.Again (t.Repeat b a)) c) in
     ap (m.and_then (acting_all job n b c w)) (fun_ext {f = F} {g = G} (λ _. fun_ext (λ u. truth_split (e.value (caller job n) a c u) (m.give m.done) (next job n (s.Again (t.Repeat b a)) c))))
 
-repeat_stop : (job : Job) (n : ℕ) (b : t.Statements) (a : t.Expr) (c : m.Context) (stop : Stop) (w : m.World) (u : World) (all : m.Answer m.Done) → acting job n (t.Repeat b a) c w ≡ all → Stopped (acting_all job n b c w) stop u → Stopped all stop u
+repeat_stop : (job : Job) (n : ℕ) (b : t.Statements) (a : t.Expr) (c : m.Context) (stop : Halt) (w : m.World) (u : World) (all : m.Answer m.Done) → acting job n (t.Repeat b a) c w ≡ all → Stopped (acting_all job n b c w) stop u → Stopped all stop u
 repeat_stop job n b a c stop w u all is h =
     stopped_same _ all stop u (sym (repeat_is job n b a c w) ∙ is) (stopped_then (acting_all job n b c w) (λ _ z. m.and_then (truth_in job n a c z) (repeat_again job n b a c)) stop u h)
 
@@ -222,7 +290,7 @@ repeat_halt job j n b a c halt w u all d le is h =
 repeat_begun : (job : Job) (n : ℕ) (b : t.Statements) (a : t.Expr) (c : m.Context) (w u : m.World) (all : m.Answer m.Done) → acting job n (t.Repeat b a) c w ≡ all → acting_all job n b c w ≡ m.Gives m.done u → m.and_then (truth_in job n a c u) (repeat_again job n b a c) ≡ all
 repeat_begun job n b a c w u all is did = sym (repeat_is job n b a c w ∙ then_gives (acting_all job n b c w) (λ _ z. m.and_then (truth_in job n a c z) (repeat_again job n b a c)) m.done u did) ∙ is
 
-repeat_until_stop : (job : Job) (n : ℕ) (b : t.Statements) (a : t.Expr) (c : m.Context) (stop : Stop) (w u : m.World) (z : World) (all : m.Answer m.Done) → acting job n (t.Repeat b a) c w ≡ all → acting_all job n b c w ≡ m.Gives m.done u → Stopped (truth_in job n a c u) stop z → Stopped all stop z
+repeat_until_stop : (job : Job) (n : ℕ) (b : t.Statements) (a : t.Expr) (c : m.Context) (stop : Halt) (w u : m.World) (z : World) (all : m.Answer m.Done) → acting job n (t.Repeat b a) c w ≡ all → acting_all job n b c w ≡ m.Gives m.done u → Stopped (truth_in job n a c u) stop z → Stopped all stop z
 repeat_until_stop job n b a c stop w u z all is did h =
     stopped_same _ all stop z (repeat_begun job n b a c w u all is did) (stopped_then (truth_in job n a c u) (repeat_again job n b a c) stop z h)
 
@@ -258,7 +326,7 @@ unfolding turn_again turning
 turn_is job n variable direction last b c w =
     elim (is_equal (v.number_of (m.contents_in w (s.own_spot variable c))) last) as (λ k. (if k then m.give m.done else (λ u. m.and_then (m.put (s.own_spot variable c) (v.OrdinalValue (s.succeeding direction (v.number_of (m.contents_in w (s.own_spot variable c))))) u) (λ _ z. m.and_then (acting job n b c z) (λ _. next job n (s.Further variable direction last b) c)))) w ≡ m.and_then (if k then m.Gives false w else m.Gives true (m.with_contents w (s.own_spot variable c) (v.OrdinalValue (s.succeeding direction (v.number_of (m.contents_in w (s.own_spot variable c))))))) (λ x. if x then (λ u. m.and_then (acting job n b c u) (λ _. next job n (s.Further variable direction last b) c)) else m.give m.done)) [ true ↦ refl | false ↦ refl ]
 
-turns_stop : (job : Job) (n variable : ℕ) (direction : Direction) (last : ℤ) (b : t.Statement) (c : m.Context) (stop : Stop) (w : m.World) (u : World) (all : m.Answer m.Done) → turning job n variable direction last b c w ≡ all → Stopped (acting job n b c w) stop u → Stopped all stop u
+turns_stop : (job : Job) (n variable : ℕ) (direction : Direction) (last : ℤ) (b : t.Statement) (c : m.Context) (stop : Halt) (w : m.World) (u : World) (all : m.Answer m.Done) → turning job n variable direction last b c w ≡ all → Stopped (acting job n b c w) stop u → Stopped all stop u
 unfolding turning
 turns_stop job n variable direction last b c stop w u all is h =
     stopped_same _ all stop u is (stopped_then (acting job n b c w) (λ _. next job n (s.Further variable direction last b) c) stop u h)
@@ -300,7 +368,39 @@ pub for_counts : (job : Job) (n variable : ℕ) (low high : ℤ) (a : t.Expr) (f
 for_counts job n variable low high a from_line direction b to_line body c x y w u z first second =
     sym (for_is job n variable low high a from_line direction b to_line body c w ∙ then_gives (e.value (caller job n) a c w) (λ i j. m.and_then (e.value (caller job n) b c j) (λ k. r.counting job n variable low high i from_line direction k to_line body c)) x u first ∙ then_gives (e.value (caller job n) b c u) (λ k. r.counting job n variable low high x from_line direction k to_line body c) y z second)
 
-for_stop : (job : Job) (n variable : ℕ) (low high : ℤ) (a : t.Expr) (from_line : ℕ) (direction : Direction) (b : t.Expr) (to_line : ℕ) (body : t.Statement) (c : m.Context) (stop : Stop) (w : m.World) (u : World) → Stopped (e.value (caller job n) a c w) stop u → Stopped (acting job n (t.For variable low high a from_line direction b to_line body) c w) stop u
+-- one act after another, and a third
+then_third : (b : m.Answer v.Value) (g h : m.Act m.Done) → m.and_then b (λ _ z. m.and_then (g z) (λ _. h)) ≡ m.and_then (m.and_then b (λ _. g)) (λ _. h)
+then_third (m.Gives y z) g h = refl
+then_third (m.Ends out ending) g h = refl
+
+then_fourth : (a : m.Answer v.Value) (f : m.Act v.Value) (g h : m.Act m.Done) → m.and_then a (λ _ u. m.and_then (f u) (λ _ z. m.and_then (g z) (λ _. h))) ≡ m.and_then (m.and_then a (λ _ u. m.and_then (f u) (λ _. g))) (λ _. h)
+then_fourth (m.Gives x u) f g h = then_third (f u) g h
+then_fourth (m.Ends out ending) f g h = refl
+
+-- the range of a control variable
+pub within_is : (low high from to : ℤ) → from ≡ low → to ≡ high → WithinBounds from to ≡ WithinBounds low high
+within_is low high from to is so = ap (λ k. WithinBounds k to) is ∙ ap (WithinBounds low) so
+
+module _ (job : Job) (n variable : ℕ) (low high : ℤ) (a : t.Expr) (from_line : ℕ) (direction : Direction) (b : t.Expr) (to_line : ℕ) (body : t.Statement) (c : m.Context) (x y : v.Value) (w u z : m.World) where
+  pub for_past : e.value (caller job n) a c w ≡ m.Gives x u → e.value (caller job n) b c u ≡ m.Gives y z → s.is_past direction (v.number_of x) (v.number_of y) ≡ true → acting job n (t.For variable low high a from_line direction b to_line body) c w ≡ m.Gives m.done z
+  for_past first second past = sym (for_counts job n variable low high a from_line direction b to_line body c x y w u z first second) ∙ ap (λ k. (if k then m.give m.done else for_turns) z) past
+    where
+      for_turns : m.Act m.Done
+      for_turns = λ i. m.and_then (e.fitting (WithinBounds low high) x from_line c i) (λ _ j. m.and_then (e.fitting (WithinBounds low high) y to_line c j) (λ _ k. m.and_then (m.put (s.own_spot variable c) x k) (λ _. turning job n variable direction (v.number_of y) body c)))
+
+  for_begins : e.value (caller job n) a c w ≡ m.Gives x u → e.value (caller job n) b c u ≡ m.Gives y z → s.is_past direction (v.number_of x) (v.number_of y) ≡ false → acting job n (t.For variable low high a from_line direction b to_line body) c w ≡ m.and_then (r.beginning variable (WithinBounds low high) x from_line y to_line c z) (λ _. turning job n variable direction (v.number_of y) body c)
+  for_begins first second more = sym (for_counts job n variable low high a from_line direction b to_line body c x y w u z first second) ∙ ap (λ k. (if k then m.give m.done else for_turns) z) more ∙ then_fourth (e.fitting (WithinBounds low high) x from_line c z) (e.fitting (WithinBounds low high) y to_line c) (m.put (s.own_spot variable c) x) (turning job n variable direction (v.number_of y) body c)
+    where
+      for_turns : m.Act m.Done
+      for_turns = λ i. m.and_then (e.fitting (WithinBounds low high) x from_line c i) (λ _ j. m.and_then (e.fitting (WithinBounds low high) y to_line c j) (λ _ k. m.and_then (m.put (s.own_spot variable c) x k) (λ _. turning job n variable direction (v.number_of y) body c)))
+
+  pub for_stops : (halt : Halt) (k : World) (d needed : ℕ) → e.value (caller job n) a c w ≡ m.Gives x u → e.value (caller job n) b c u ≡ m.Gives y z → s.is_past direction (v.number_of x) (v.number_of y) ≡ false → (range : Range) → range ≡ WithinBounds low high → Stopped (r.beginning variable range x from_line y to_line c z) halt k → Halted (acting job n (t.For variable low high a from_line direction b to_line body) c w) d needed halt k
+  for_stops halt k d needed first second more range is h = halts_same _ _ halt k d needed (sym (for_begins first second more)) (stopped_then (r.beginning variable (WithinBounds low high) x from_line y to_line c z) (λ _. turning job n variable direction (v.number_of y) body c) halt k (subst (λ l. Stopped (r.beginning variable l x from_line y to_line c z) halt k) is h))
+
+  pub for_runs : (begun : m.World) (result : Result (Unit {0}) Halt) (k : World) (d : ℕ) → e.value (caller job n) a c w ≡ m.Gives x u → e.value (caller job n) b c u ≡ m.Gives y z → s.is_past direction (v.number_of x) (v.number_of y) ≡ false → (range : Range) → range ≡ WithinBounds low high → r.beginning variable range x from_line y to_line c z ≡ m.Gives m.done begun → Runs r.done_of (turning job n variable direction (v.number_of y) body c begun) d (levels job n (statement_height body)) result k → Runs r.done_of (acting job n (t.For variable low high a from_line direction b to_line body) c w) d (levels job n (max (expr_height a) (max (expr_height b) (statement_height body)))) result k
+  for_runs begun result k d first second more range is did h = runs_same r.done_of _ _ result k d (levels job n (statement_height body)) (levels job n (max (expr_height a) (max (expr_height b) (statement_height body)))) (sym (for_begins first second more ∙ then_gives (r.beginning variable (WithinBounds low high) x from_line y to_line c z) (λ _. turning job n variable direction (v.number_of y) body c) m.done begun (ap (λ l. r.beginning variable l x from_line y to_line c z) (sym is) ∙ did))) (omega arith) h
+
+for_stop : (job : Job) (n variable : ℕ) (low high : ℤ) (a : t.Expr) (from_line : ℕ) (direction : Direction) (b : t.Expr) (to_line : ℕ) (body : t.Statement) (c : m.Context) (stop : Halt) (w : m.World) (u : World) → Stopped (e.value (caller job n) a c w) stop u → Stopped (acting job n (t.For variable low high a from_line direction b to_line body) c w) stop u
 for_stop job n variable low high a from_line direction b to_line body c stop w u h =
     stopped_same _ _ stop u (sym (for_is job n variable low high a from_line direction b to_line body c w)) (stopped_then (e.value (caller job n) a c w) (λ i j. m.and_then (e.value (caller job n) b c j) (λ k. r.counting job n variable low high i from_line direction k to_line body c)) stop u h)
 
@@ -308,7 +408,7 @@ pub for_halt : (job : Job) (n variable : ℕ) (low high : ℤ) (a : t.Expr) (fro
 for_halt job n variable low high a from_line direction b to_line body c halt w u d h =
     halted_by (e.value (caller job n) a c w) (acting job n (t.For variable low high a from_line direction b to_line body) c w) halt u d (levels job n (expr_height a)) d (levels job n (max (expr_height a) (max (expr_height b) (statement_height body)))) (λ stop s. for_stop job n variable low high a from_line direction b to_line body c stop w u s) h (omega arith)
 
-for_stop_second : (job : Job) (n variable : ℕ) (low high : ℤ) (a : t.Expr) (from_line : ℕ) (direction : Direction) (b : t.Expr) (to_line : ℕ) (body : t.Statement) (c : m.Context) (x : v.Value) (stop : Stop) (w u : m.World) (z : World) → e.value (caller job n) a c w ≡ m.Gives x u → Stopped (e.value (caller job n) b c u) stop z → Stopped (acting job n (t.For variable low high a from_line direction b to_line body) c w) stop z
+for_stop_second : (job : Job) (n variable : ℕ) (low high : ℤ) (a : t.Expr) (from_line : ℕ) (direction : Direction) (b : t.Expr) (to_line : ℕ) (body : t.Statement) (c : m.Context) (x : v.Value) (stop : Halt) (w u : m.World) (z : World) → e.value (caller job n) a c w ≡ m.Gives x u → Stopped (e.value (caller job n) b c u) stop z → Stopped (acting job n (t.For variable low high a from_line direction b to_line body) c w) stop z
 for_stop_second job n variable low high a from_line direction b to_line body c x stop w u z first h =
     stopped_same _ _ stop z (sym (for_is job n variable low high a from_line direction b to_line body c w ∙ then_gives (e.value (caller job n) a c w) (λ i j. m.and_then (e.value (caller job n) b c j) (λ k. r.counting job n variable low high i from_line direction k to_line body c)) x u first)) (stopped_then (e.value (caller job n) b c u) (λ k. r.counting job n variable low high x from_line direction k to_line body c) stop z h)
 
@@ -316,17 +416,10 @@ pub for_halt_second : (job : Job) (n variable : ℕ) (low high : ℤ) (a : t.Exp
 for_halt_second job n variable low high a from_line direction b to_line body c x halt w u z d first h =
     halted_by (e.value (caller job n) b c u) (acting job n (t.For variable low high a from_line direction b to_line body) c w) halt z d (levels job n (expr_height b)) d (levels job n (max (expr_height a) (max (expr_height b) (statement_height body)))) (λ stop s. for_stop_second job n variable low high a from_line direction b to_line body c x stop w u z first s) h (omega arith)
 
-pub runs_same : {A R : Type 0} (view : R → A) (a b : m.Answer A) (result : Result R Halt) (u : World) (d k n : ℕ) → a ≡ b → k ≤ n → Runs view a d k result u → Runs view b d n result u
-runs_same view a b result u d k n is le h = runs_deeper view b result u d k d n (subst (λ x. Runs view x d k result u) is h) (omega arith)
-
 -- new
-pub new_stop : (job : Job) (n : ℕ) (p : t.Place) (pointer line : ℕ) (c : m.Context) (spot : v.Spot) (stop : Stop) (w u : m.World) (z : World) → e.access (caller job n) p c w ≡ m.Gives spot u → Stopped (r.making job n pointer line u) stop z → Stopped (acting job n (t.New p pointer line) c w) stop z
-new_stop job n p pointer line c spot stop w u z gives h =
-    stopped_same _ _ stop z (sym (then_gives (e.access (caller job n) p c w) (λ i j. m.and_then (r.making job n pointer line j) (m.put i)) spot u gives)) (stopped_then (r.making job n pointer line u) (m.put spot) stop z h)
-
-pub new_done : (job : Job) (n : ℕ) (p : t.Place) (pointer line : ℕ) (c : m.Context) (spot : v.Spot) (x : v.Value) (w u z k : m.World) → e.access (caller job n) p c w ≡ m.Gives spot u → r.making job n pointer line u ≡ m.Gives x z → k ≡ m.with_contents z spot x → acting job n (t.New p pointer line) c w ≡ m.Gives m.done k
-new_done job n p pointer line c spot x w u z k gives made is =
-    then_gives (e.access (caller job n) p c w) (λ i j. m.and_then (r.making job n pointer line j) (m.put i)) spot u gives ∙ then_gives (r.making job n pointer line u) (m.put spot) x z made ∙ ap (m.Gives m.done) (sym is)
+pub new_runs : (job : Job) (n : ℕ) (p : t.Place) (pointer line : ℕ) (c : m.Context) (spot : v.Spot) (w u : m.World) (result : Result (Unit {0}) Halt) (z : World) (depth needed : ℕ) → e.access (caller job n) p c w ≡ m.Gives spot u → r.Answers r.done_of (r.putting_object job n spot pointer line u) result z → Runs r.done_of (acting job n (t.New p pointer line) c w) depth needed result z
+new_runs job n p pointer line c spot w u result z depth needed gives h =
+    subst (λ a. Runs r.done_of a depth needed result z) (sym (then_gives (e.access (caller job n) p c w) (λ i j. m.and_then (r.making job n pointer line j) (m.put i)) spot u gives)) (answers_run r.done_of (r.putting_object job n spot pointer line u) result z depth needed h)
 
 -- case and repeat statements, read again
 pub case_runs : (job : Job) (n : ℕ) (c : m.Context) (w : m.World) (x : Statement) (index : Expr) (v : Vec CaseElement Global) (line : Line) (items : List CaseElement) (result : Result (Unit {0}) Halt) (u : World) (d : ℕ) → x ≡ Case index v line → items ≡ v.items → Runs r.done_of (acting job n (t.Case (expr_of index) (elements_of items) line.number) c w) (d - 1) (levels job n (max (expr_height (expr_of index)) (elements_height (elements_of items)))) result u → Runs r.done_of (acting job n (statement_of x) c w) d (levels job n (statement_height (statement_of x))) result u
@@ -338,8 +431,33 @@ repeat_runs job n c w x condition v items result u d is at h =
     subst (λ (y : t.Statement). Runs r.done_of (acting job n y c w) d (levels job n (statement_height y)) result u) (tree.repeat_is x condition v items is at) (runs_deeper r.done_of (acting job n (t.Repeat (statements_of items) (expr_of condition)) c w) result u (d - 1) (levels job n (max (statements_height (statements_of items)) (expr_height (expr_of condition)))) d (levels job n (suc (max (statements_height (statements_of items)) (expr_height (expr_of condition))))) h (omega arith))
 
 -- a with statement, when its records were opened
-pub with_runs : (job inner : Job) (n : ℕ) (places : List t.Place) (body : t.Statement) (c d : m.Context) (spots : List v.Spot) (w u : m.World) (result : Result (Unit {0}) Halt) (z : World) (depth : ℕ) → opening_all job n places c w ≡ m.Gives spots u → d ≡ s.with_opened spots c → inner ≡ job → Runs r.done_of (acting inner n body d u) depth (levels inner n (statement_height body)) result z → Runs r.done_of (acting job n (t.With places body) c w) depth (levels job n (max (places_height places) (statement_height body))) result z
-with_runs job inner n places body c d spots w u result z depth gives within same h =
-    let is : acting inner n body d u ≡ acting job n (t.With places body) c w = ap (λ j. acting j n body d u) same ∙ ap (λ k. acting job n body k u) within ∙ sym (then_gives (opening_all job n places c w) (λ i. acting job n body (s.with_opened i c)) spots u gives) in
-    let few : levels inner n (statement_height body) ≡ levels job n (statement_height body) = ap (λ j. levels j n (statement_height body)) same in
-    runs_same r.done_of _ _ result z depth (levels inner n (statement_height body)) (levels job n (max (places_height places) (statement_height body))) is (omega arith) h
+pub with_runs : (job : Job) (n : ℕ) (places : List t.Place) (body : t.Statement) (c d : m.Context) (spots : List v.Spot) (w u : m.World) (result : Result (Unit {0}) Halt) (z : World) (depth : ℕ) → opening_all job n places c w ≡ m.Gives spots u → d ≡ s.with_opened spots c → Runs r.done_of (acting job n body d u) depth (levels job n (statement_height body)) result z → Runs r.done_of (acting job n (t.With places body) c w) depth (levels job n (max (places_height places) (statement_height body))) result z
+with_runs job n places body c d spots w u result z depth gives within h =
+    let is : acting job n body d u ≡ acting job n (t.With places body) c w = ap (λ k. acting job n body k u) within ∙ sym (then_gives (opening_all job n places c w) (λ i. acting job n body (s.with_opened i c)) spots u gives) in
+    runs_same r.done_of _ _ result z depth (levels job n (statement_height body)) (levels job n (max (places_height places) (statement_height body))) is (omega arith) h
+
+-- calls, when their actual parameters were taken
+called_is : (job : Job) (n : ℕ) (callee : Callee) (arguments : t.Arguments) (line : ℕ) (c : m.Context) (actuals : List e.Actual) (w u : m.World) → e.actuals_of (caller job n) arguments c w ≡ m.Gives actuals u → r.called job n callee arguments line c w ≡ caller job n (r.callee_routine callee c) (r.callee_env callee c) actuals (e.calling line c) u
+called_is job n callee arguments line c actuals w u gives = then_gives (e.actuals_of (caller job n) arguments c w) (λ xs. caller job n (r.callee_routine callee c) (r.callee_env callee c) xs (e.calling line c)) actuals u gives
+
+pub called_stops : (job : Job) (n : ℕ) (callee : Callee) (arguments : t.Arguments) (line : ℕ) (c : m.Context) (actuals : List e.Actual) (w u : m.World) (halt : Halt) (z : World) (d needed : ℕ) → e.actuals_of (caller job n) arguments c w ≡ m.Gives actuals u → Stopped (caller job n (r.callee_routine callee c) (r.callee_env callee c) actuals (e.calling line c) u) halt z → Halted (r.called job n callee arguments line c w) d needed halt z
+called_stops job n callee arguments line c actuals w u halt z d needed gives h = halts_same _ _ halt z d needed (sym (called_is job n callee arguments line c actuals w u gives)) h
+
+pub called_runs : (job : Job) (n : ℕ) (callee : Callee) (arguments : t.Arguments) (line : ℕ) (c : m.Context) (actuals : List e.Actual) (w u : m.World) (block : m.Answer m.Done) (result : Result (Unit {0}) Halt) (z : World) (d : ℕ) → e.actuals_of (caller job n) arguments c w ≡ m.Gives actuals u → caller job n (r.callee_routine callee c) (r.callee_env callee c) actuals (e.calling line c) u ≡ block → Runs r.done_of block d (levels job n 0) result z → Runs r.done_of (r.called job n callee arguments line c w) d (levels job n (arguments_height arguments)) result z
+called_runs job n callee arguments line c actuals w u block result z d gives same h =
+    runs_same r.done_of block _ result z d (levels job n 0) (levels job n (arguments_height arguments)) (sym (called_is job n callee arguments line c actuals w u gives ∙ same)) (omega arith) h
+
+-- functions, whose result is the first variable that the call declares
+valued_is : (job : Job) (n : ℕ) (callee : Callee) (arguments : t.Arguments) (line : ℕ) (c : m.Context) (actuals : List e.Actual) (w u : m.World) → e.actuals_of (caller job n) arguments c w ≡ m.Gives actuals u → r.called_value job n callee arguments line c w ≡ m.and_then (caller job n (r.callee_routine callee c) (r.callee_env callee c) actuals (e.calling line c) u) (λ _. m.contents (v.entire (v.Declared u.next)))
+valued_is job n callee arguments line c actuals w u gives = then_gives (e.actuals_of (caller job n) arguments c w) (λ xs. e.function_value (caller job n) (r.callee_routine callee c) (r.callee_env callee c) xs (e.calling line c)) actuals u gives
+
+pub valued_stops : (job : Job) (n : ℕ) (callee : Callee) (arguments : t.Arguments) (line : ℕ) (c : m.Context) (actuals : List e.Actual) (w u : m.World) (halt : Halt) (z : World) (d needed : ℕ) → e.actuals_of (caller job n) arguments c w ≡ m.Gives actuals u → Stopped (caller job n (r.callee_routine callee c) (r.callee_env callee c) actuals (e.calling line c) u) halt z → Halted (r.called_value job n callee arguments line c w) d needed halt z
+valued_stops job n callee arguments line c actuals w u halt z d needed gives h = halts_same _ _ halt z d needed (sym (valued_is job n callee arguments line c actuals w u gives)) (stopped_then (caller job n (r.callee_routine callee c) (r.callee_env callee c) actuals (e.calling line c) u) (λ _. m.contents (v.entire (v.Declared u.next))) halt z h)
+
+pub valued_halts : (job : Job) (n : ℕ) (callee : Callee) (arguments : t.Arguments) (line : ℕ) (c : m.Context) (actuals : List e.Actual) (w u : m.World) (block : m.Answer m.Done) (halt : Halt) (z : World) (d : ℕ) → e.actuals_of (caller job n) arguments c w ≡ m.Gives actuals u → caller job n (r.callee_routine callee c) (r.callee_env callee c) actuals (e.calling line c) u ≡ block → Halted block d (levels job n 0) halt z → Halted (r.called_value job n callee arguments line c w) d (levels job n (arguments_height arguments)) halt z
+valued_halts job n callee arguments line c actuals w u block halt z d gives same h =
+    subst (λ a. Halted a d (levels job n (arguments_height arguments)) halt z) (sym (valued_is job n callee arguments line c actuals w u gives ∙ ap (λ a. m.and_then a (λ _. m.contents (v.entire (v.Declared u.next)))) same)) (halted_then block (λ _. m.contents (v.entire (v.Declared u.next))) halt z d (levels job n 0) d (levels job n (arguments_height arguments)) h (omega arith))
+
+pub valued_runs : (job : Job) (n : ℕ) (callee : Callee) (arguments : t.Arguments) (line : ℕ) (c : m.Context) (actuals : List e.Actual) (w u after : m.World) (result : Result Value Halt) (z : World) (d needed : ℕ) → e.actuals_of (caller job n) arguments c w ≡ m.Gives actuals u → caller job n (r.callee_routine callee c) (r.callee_env callee c) actuals (e.calling line c) u ≡ m.Gives m.done after → r.Answers value_of (m.contents (v.entire (v.Declared u.next)) after) result z → Runs value_of (r.called_value job n callee arguments line c w) d needed result z
+valued_runs job n callee arguments line c actuals w u after result z d needed gives same h =
+    subst (λ a. Runs value_of a d needed result z) (sym (valued_is job n callee arguments line c actuals w u gives ∙ then_gives (caller job n (r.callee_routine callee c) (r.callee_env callee c) actuals (e.calling line c) u) (λ _. m.contents (v.entire (v.Declared u.next))) m.done after same)) (answers_run value_of (m.contents (v.entire (v.Declared u.next)) after) result z d needed h)

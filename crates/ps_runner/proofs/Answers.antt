@@ -12,41 +12,57 @@ use Rattle.behavior.specs.Endings.{Ending, More}
 use Rattle.ps_meaning.specs.Operators.{combine_sets}
 use Rattle.ps_meaning.specs.Worlds as m
 use Rattle.ps_meaning.specs.Expressions as e
-use Rattle.ps_runner.specs.declared.stop.Stop.{Stop}
-use Rattle.ps_runner.specs.declared.stop.Stop.TheVariants.{Ended, OutOfMemory}
 use Rattle.ps_runner.specs.declared.world.Job.{Job}
 use Rattle.ps_runner.specs.declared.world.World.{World}
 use Rattle.ps_runner.specs.declared.value.Value.{Value}
 use Rattle.ps_runner.specs.View.{listed, value_of}
-use Rattle.ps_runner.specs.Worlds.{Stopped, caller, ends, world_of}
+use Rattle.ps_runner.specs.Worlds.{Answers, Stopped, caller, ends, world_of}
 use Rattle.ps_runner.specs.declared.stop.Halt.{Halt}
-use Rattle.ps_runner.specs.declared.stop.Halt.TheVariants.{Stopped as StoppedBy, TooDeep}
+use Rattle.ps_runner.specs.declared.stop.Halt.TheVariants.{Ended, OutOfMemory, TooDeep}
 use Rattle.ps_runner.specs.Heights.{expr_height, member_height, members_height, argument_height, arguments_height}
 use Rattle.ps_runner.specs.Runs.{Halted, Runs, levels}
 use Rattle.ps_runner.proofs.Heights.{member_within, argument_within}
 use Rattle.ps_runner.proofs.Trees.{call_is, call_formal_is, members_at, members_past, arguments_at, arguments_past}
 
-pub stopped_then : {A B : Type 0} (a : m.Answer A) (f : A → m.Act B) (stop : Stop) (w : World) → Stopped a stop w → Stopped (m.and_then a f) stop w
+pub stopped_then : {A B : Type 0} (a : m.Answer A) (f : A → m.Act B) (stop : Halt) (w : World) → Stopped a stop w → Stopped (m.and_then a f) stop w
 stopped_then a f (Ended ending calls) w h = ap (λ x. m.and_then x f) h
 stopped_then a f OutOfMemory w h = tt
+stopped_then a f TooDeep w h = h
 
 as_end : {A : Type 0} → m.Answer m.Done → m.Answer A
 as_end (m.Gives d w) = m.Ends [] More
 as_end (m.Ends out ending) = m.Ends out ending
 
 -- an answer that ends the run as a stop tells
-pub stops : {A : Type 0} (answer : m.Answer A) (ending : Ending) (stop : Stop) (w : World) → Stopped (ends ending (world_of w)) stop w → answer ≡ m.Ends w.transcript.items ending → Stopped answer stop w
+pub stops : {A : Type 0} (answer : m.Answer A) (ending : Ending) (stop : Halt) (w : World) → Stopped (ends ending (world_of w)) stop w → answer ≡ m.Ends w.transcript.items ending → Stopped answer stop w
 unfolding as_end
 stops answer ending (Ended e calls) w h is = is ∙ ap as_end h
 stops answer ending OutOfMemory w h is = tt
+stops answer ending TooDeep w h is = h
 
 -- what goes no further in a part goes no further in the whole, which needs no fewer levels than the part's way down to it
-pub halted_by : {A B : Type 0} (a : m.Answer A) (b : m.Answer B) (halt : Halt) (w : World) (d k e n : ℕ) → ((stop : Stop) → Stopped a stop w → Stopped b stop w) → Halted a d k halt w → e + k ≤ d + n → Halted b e n halt w
-halted_by a b (StoppedBy stop) w d k e n f h le = f stop h
+pub halted_by : {A B : Type 0} (a : m.Answer A) (b : m.Answer B) (halt : Halt) (w : World) (d k e n : ℕ) → ((stop : Halt) → Stopped a stop w → Stopped b stop w) → Halted a d k halt w → e + k ≤ d + n → Halted b e n halt w
+halted_by a b (Ended ending calls) w d k e n f h le = f (Ended ending calls) h
+halted_by a b OutOfMemory w d k e n f h le = tt
 halted_by a b TooDeep w d k e n f h le = let lt : d < k = h in omega arith
 
 pub halted_then : {A B : Type 0} (a : m.Answer A) (f : A → m.Act B) (halt : Halt) (w : World) (d k e n : ℕ) → Halted a d k halt w → e + k ≤ d + n → Halted (m.and_then a f) e n halt w
 halted_then a f halt w d k e n h le = halted_by a (m.and_then a f) halt w d k e n (λ stop. stopped_then a f stop w) h le
+
+-- what ends a part that takes no levels ends it
+pub stopped_halts : {A : Type 0} (a : m.Answer A) (halt : Halt) (w : World) (d n : ℕ) → Stopped a halt w → Halted a d n halt w
+stopped_halts a (Ended ending calls) w d n h = h
+stopped_halts a OutOfMemory w d n h = tt
+stopped_halts a TooDeep w d n h = absurd h
+
+-- and ends the whole
+pub stopped_halts_then : {A B : Type 0} (a : m.Answer A) (f : A → m.Act B) (halt : Halt) (w : World) (d n : ℕ) → Stopped a halt w → Halted (m.and_then a f) d n halt w
+stopped_halts_then a f halt w d n h = stopped_halts (m.and_then a f) halt w d n (stopped_then a f halt w h)
+
+-- what a part that takes no levels answers
+pub answers_run : {A R : Type 0} (view : R → A) (a : m.Answer A) (result : Result R Halt) (w : World) (d n : ℕ) → Answers view a result w → Runs view a d n result w
+answers_run view a (Ok r) w d n h = h
+answers_run view a (Err halt) w d n h = stopped_halts a halt w d n h
 
 pub runs_deeper : {A R : Type 0} (view : R → A) (a : m.Answer A) (result : Result R Halt) (w : World) (d k e n : ℕ) → Runs view a d k result w → e + k ≤ d + n → Runs view a e n result w
 runs_deeper view a (Ok r) w d k e n h le = h
@@ -78,7 +94,7 @@ members_next call c members i tests more both x w v lt at gives is =
     let rest = members_of (drop (i + 1) members) in
     sym (ap (λ t. m.and_then (e.members_value call t c w) (λ s. m.give (combine_sets Union (listed tests) s))) (members_at members i x lt at) ∙ ap (λ a. m.and_then (m.and_then a (λ y u. m.and_then (e.members_value call rest c u) (λ z. m.give (combine_sets Union y z)))) (λ s. m.give (combine_sets Union (listed tests) s))) gives ∙ members_more (listed tests) (listed more) (e.members_value call rest c v) ∙ ap (λ s. m.and_then (e.members_value call rest c v) (λ y. m.give (combine_sets Union s y))) (sym is))
 
-members_stop : (call : e.Caller) (c : m.Context) (members : List Member) (i : ℕ) (tests : List Bool) (x : Member) (stop : Stop) (w : m.World) (v : World) (all : m.Answer (ℕ → Bool)) → members_left call c members i tests w ≡ all → Stopped (e.member_value call (member_of x) c w) stop v → x ≡ get_or members i x → i < length members → Stopped all stop v
+members_stop : (call : e.Caller) (c : m.Context) (members : List Member) (i : ℕ) (tests : List Bool) (x : Member) (stop : Halt) (w : m.World) (v : World) (all : m.Answer (ℕ → Bool)) → members_left call c members i tests w ≡ all → Stopped (e.member_value call (member_of x) c w) stop v → x ≡ get_or members i x → i < length members → Stopped all stop v
 unfolding members_left
 members_stop call c members i tests x stop w v all is h at lt =
     subst (λ a. Stopped a stop v) (sym (ap (λ t. m.and_then (e.members_value call t c w) (λ s. m.give (combine_sets Union (listed tests) s))) (members_at members i x lt at)) ∙ is) (stopped_then (e.members_value call (t.member_before (member_of x) (members_of (drop (i + 1) members))) c w) (λ s. m.give (combine_sets Union (listed tests) s)) stop v (stopped_then (e.member_value call (member_of x) c w) (λ y u. m.and_then (e.members_value call (members_of (drop (i + 1) members)) c u) (λ z. m.give (combine_sets Union y z))) stop v h))
@@ -119,7 +135,7 @@ actuals_next call c arguments i taken both x actual w v lt at gives is =
     let rest = arguments_of (drop (i + 1) arguments) in
     sym (ap (λ t. m.and_then (e.actuals_of call t c w) (λ xs. m.give (taken ++ xs))) (arguments_at arguments i x lt at) ∙ ap (λ a. m.and_then (m.and_then a (λ y u. m.and_then (e.actuals_of call rest c u) (λ ys. m.give (y ∷ ys)))) (λ xs. m.give (taken ++ xs))) gives ∙ actuals_more taken actual (e.actuals_of call rest c v) ∙ ap (λ l. m.and_then (e.actuals_of call rest c v) (λ xs. m.give (l ++ xs))) (sym is))
 
-actuals_stop : (call : e.Caller) (c : m.Context) (arguments : List Argument) (i : ℕ) (taken : List e.Actual) (x : Argument) (stop : Stop) (w : m.World) (v : World) (all : m.Answer (List e.Actual)) → actuals_left call c arguments i taken w ≡ all → Stopped (e.actual_of call (argument_of x) c w) stop v → x ≡ get_or arguments i x → i < length arguments → Stopped all stop v
+actuals_stop : (call : e.Caller) (c : m.Context) (arguments : List Argument) (i : ℕ) (taken : List e.Actual) (x : Argument) (stop : Halt) (w : m.World) (v : World) (all : m.Answer (List e.Actual)) → actuals_left call c arguments i taken w ≡ all → Stopped (e.actual_of call (argument_of x) c w) stop v → x ≡ get_or arguments i x → i < length arguments → Stopped all stop v
 unfolding actuals_left
 actuals_stop call c arguments i taken x stop w v all is h at lt =
     subst (λ a. Stopped a stop v) (sym (ap (λ t. m.and_then (e.actuals_of call t c w) (λ xs. m.give (taken ++ xs))) (arguments_at arguments i x lt at)) ∙ is) (stopped_then (e.actuals_of call (t.argument_before (argument_of x) (arguments_of (drop (i + 1) arguments))) c w) (λ xs. m.give (taken ++ xs)) stop v (stopped_then (e.actual_of call (argument_of x) c w) (λ y u. m.and_then (e.actuals_of call (arguments_of (drop (i + 1) arguments)) c u) (λ ys. m.give (y ∷ ys))) stop v h))

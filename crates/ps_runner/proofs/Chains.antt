@@ -18,7 +18,6 @@ use Rattle.ps_meaning.specs.Operators.{compute, combine_truths, combine_sets, is
 use Rattle.ps_meaning.specs.Worlds as m
 use Rattle.ps_meaning.specs.Expressions as e
 use Rattle.ps_runner.specs.declared.stop.Halt.{Halt}
-use Rattle.ps_runner.specs.declared.stop.Stop.{Stop}
 use Rattle.ps_runner.specs.declared.value.Value.{Value}
 use Rattle.ps_runner.specs.declared.value.Spot.{Spot}
 use Rattle.ps_runner.specs.declared.operands.Held.TheVariants.{Place}
@@ -94,7 +93,7 @@ steps_halt job n c xs i x k halt w u all d height is h at lt =
     let le : expr_height (expr_of (out-ArithmeticStep x).operand) ≤ steps_height (arithmetic_of xs) = step_within xs i x at lt in
     halted_by (e.value (caller job n) (expr_of (out-ArithmeticStep x).operand) c w) all halt u d (levels job n (expr_height (expr_of (out-ArithmeticStep x).operand))) d (levels job n (max height (steps_height (arithmetic_of xs)))) (λ stop s. stopped_same _ all stop u (step_is (caller job n) c xs i x k w all is at lt) (stopped_then (e.value (caller job n) (expr_of (out-ArithmeticStep x).operand) c w) (step_done (caller job n) c xs i x k) stop u s)) h (omega arith)
 
-pub steps_stop : (call : e.Caller) (c : m.Context) (xs : List ArithmeticStep) (i : ℕ) (x : ArithmeticStep) (k : ℤ) (y : v.Value) (stop : Stop) (w u : m.World) (t : World) (all : m.Answer v.Value) → e.computed call (arithmetic_of (drop i xs)) k c w ≡ all → e.value call (expr_of (out-ArithmeticStep x).operand) c w ≡ m.Gives y u → Stopped (m.settled (compute (out-ArithmeticStep x).operator k (v.number_of y)) (out-ArithmeticStep x).line.number c u) stop t → x ≡ get_or xs i x → i < length xs → Stopped all stop t
+pub steps_stop : (call : e.Caller) (c : m.Context) (xs : List ArithmeticStep) (i : ℕ) (x : ArithmeticStep) (k : ℤ) (y : v.Value) (stop : Halt) (w u : m.World) (t : World) (all : m.Answer v.Value) → e.computed call (arithmetic_of (drop i xs)) k c w ≡ all → e.value call (expr_of (out-ArithmeticStep x).operand) c w ≡ m.Gives y u → Stopped (m.settled (compute (out-ArithmeticStep x).operator k (v.number_of y)) (out-ArithmeticStep x).line.number c u) stop t → x ≡ get_or xs i x → i < length xs → Stopped all stop t
 steps_stop call c xs i x k y stop w u t all is gives h at lt =
     stopped_same _ all stop t (step_settles call c xs i x k y w u all is gives at lt) (stopped_then (m.settled (compute (out-ArithmeticStep x).operator k (v.number_of y)) (out-ArithmeticStep x).line.number c u) (λ a. e.computed call (arithmetic_of (drop (i + 1) xs)) (v.number_of a) c) stop t h)
 

@@ -140,8 +140,8 @@ body_of [] r = omega arith
 body_of (x ∷ rest) zero = omega arith
 body_of (x ∷ rest) (suc r) = let le : statements_height (get_or rest r t.no_routine).body ≤ highest_of rest = body_of rest r in omega arith
 
-pub body_within : (job inner : Job) (r : ℕ) (body : t.Statements) → body ≡ (t.routine_at (program_of job) r).body → inner ≡ job → statements_height body ≤ highest (program_of inner)
-body_within job inner r body is same = subst (λ b. statements_height b ≤ highest (program_of inner)) (sym is) (subst (λ j. statements_height (t.routine_at (program_of job) r).body ≤ highest (program_of j)) (sym same) (body_of (program_of job).routines r))
+pub body_within : (job : Job) (r : ℕ) (body : t.Statements) → body ≡ (t.routine_at (program_of job) r).body → statements_height body ≤ highest (program_of job)
+body_within job r body is = subst (λ b. statements_height b ≤ highest (program_of job)) (sym is) (body_of (program_of job).routines r)
 
 -- the levels of calls: with more fuel, and of a block with what is left for its calls
 levels_more : (n h : ℕ) → n ≢ 0 → (n - 1) * h + h ≡ n * h

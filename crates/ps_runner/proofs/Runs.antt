@@ -11,14 +11,13 @@ use Rattle.ps_meaning.specs.Text as t
 use Rattle.ps_meaning.specs.Run as d
 use Rattle.ps_runner.specs.declared.ending.Ending.{Ending}
 use Rattle.ps_runner.specs.declared.ending.Ending.TheVariants.{Normal}
-use Rattle.ps_runner.specs.declared.stop.Stop.TheVariants.{Ended}
 use Rattle.ps_runner.specs.declared.value.Value.{Value}
 use Rattle.ps_runner.specs.declared.world.Job.{Job}
 use Rattle.ps_runner.specs.declared.world.World.{World}
 use Rattle.ps_runner.specs.View.{value_of}
 use Rattle.ps_runner.specs.Worlds.{stored, caller, world_of, ending_of, program_of, costs_in}
 use Rattle.ps_runner.specs.declared.stop.Halt.{Halt}
-use Rattle.ps_runner.specs.declared.stop.Halt.TheVariants.{Stopped as StoppedBy}
+use Rattle.ps_runner.specs.declared.stop.Halt.TheVariants.{Ended}
 use Rattle.ps_runner.specs.Runs.{Halted, shown}
 
 no_store : stored [] ≡ (λ (name : ℕ). m.unset)
@@ -40,7 +39,7 @@ answer_is job n input = refl
 pub shown_done : (w : World) (calls : Vec ℕ Global) (a : m.Answer m.Done) → a ≡ m.Gives m.done (world_of w) → shown (record { transcript = w.transcript; ending = Normal; calls = calls }) ≡ d.shown a
 shown_done w calls a is = sym (ap d.shown is)
 
-pub shown_stopped : (w : World) (ending : Ending) (calls : Vec ℕ Global) (halt : Halt) (a : m.Answer m.Done) (k n : ℕ) → Halted a k n halt w → halt ≡ StoppedBy (Ended ending calls) → shown (record { transcript = w.transcript; ending = ending; calls = calls }) ≡ d.shown a
+pub shown_stopped : (w : World) (ending : Ending) (calls : Vec ℕ Global) (halt : Halt) (a : m.Answer m.Done) (k n : ℕ) → Halted a k n halt w → halt ≡ Ended ending calls → shown (record { transcript = w.transcript; ending = ending; calls = calls }) ≡ d.shown a
 shown_stopped w ending calls halt a k n h is =
     let ends : a ≡ m.Ends w.transcript.items (ending_of ending calls.items) = subst (λ s. Halted a k n s w) is h in
     sym (ap d.shown ends)

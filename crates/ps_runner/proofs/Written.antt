@@ -1,5 +1,5 @@
 -- Texts that grow byte by byte.
-use Rattle.std.proofs.Common.{◌≡◌, ℕ, zero, suc, ◌+◌, ◌-◌, ◌*◌, ◌^◌, ◌<◌, ◌≤◌, min, List, [], ◌∷◌, ◌++◌, length, get_or, take, take_while, drop, true, false, replicate, refl, sym, ap, ◌∙◌, add-one, arith}
+use Rattle.std.proofs.Common.{◌≡◌, ℕ, zero, suc, ◌+◌, ◌-◌, ◌*◌, ◌^◌, ◌<◌, ◌≤◌, min, List, [], ◌∷◌, ◌++◌, length, get_or, take, take_while, drop, true, false, replicate, refl, sym, ap, ◌∙◌, append_assoc, add-one, arith}
 use Rattle.std.proofs.lemmas.List.{take_more, take_all, length-drop, length-take}
 use Rattle.std.specs.List.{prefix_len}
 use Rattle.std.proofs.lemmas.List.Sums.{prefix_len-drop_yes, prefix_len-drop_no, prefix_len-drop_all, prefix_len-le-length}
@@ -20,8 +20,15 @@ replicate_more : (n x : ℕ) → replicate (suc n) x ≡ replicate n x ++ x ∷ 
 replicate_more zero x = refl
 replicate_more (suc n) x = ap (λ l. x ∷ l) (replicate_more n x)
 
-pub replicate_next : (n x : ℕ) → replicate (n + 1) x ≡ replicate n x ++ x ∷ []
+replicate_next : (n x : ℕ) → replicate (n + 1) x ≡ replicate n x ++ x ∷ []
 replicate_next n x = ap (λ k. replicate k x) (add-one n) ∙ replicate_more n x
+
+-- items that a loop adds, one after another
+pub marks_next : (old now next : List ℕ) (n x : ℕ) → now ≡ old ++ replicate n x → next ≡ now ++ x ∷ [] → next ≡ old ++ replicate (n + 1) x
+marks_next old now next n x is more = more ∙ ap (λ l. l ++ x ∷ []) is ∙ append_assoc old (replicate n x) (x ∷ []) ∙ ap (λ l. old ++ l) (sym (replicate_next n x))
+
+pub spaces_next : (now next : List ℕ) (n x : ℕ) → now ≡ replicate n x → next ≡ now ++ x ∷ [] → next ≡ replicate (n + 1) x
+spaces_next now next n x is more = more ∙ ap (λ l. l ++ x ∷ []) is ∙ sym (replicate_next n x)
 
 prefix_within : (n : ℕ) (xs : List ℕ) → length (take n xs) ≤ length xs
 prefix_within n xs = omega (arith, length-take n xs)

@@ -10,9 +10,9 @@ use Rattle.ps_meaning.specs.Expressions as e
 use Rattle.ps_meaning.specs.Statements as s
 use Rattle.ps_runner.specs.declared.world.Job.{Job}
 use Rattle.ps_runner.specs.declared.world.World.{World}
-use Rattle.ps_runner.specs.Worlds.{Stopped, caller, ending_of, program_of, world_of}
+use Rattle.ps_runner.specs.Worlds.{caller, ending_of, program_of, world_of}
 use Rattle.ps_runner.specs.declared.stop.Halt.{Halt}
-use Rattle.ps_runner.specs.declared.stop.Halt.TheVariants.{Stopped as StoppedBy, TooDeep}
+use Rattle.ps_runner.specs.declared.stop.Halt.TheVariants.{Ended, OutOfMemory, TooDeep}
 use Rattle.ps_runner.specs.declared.run.Ran.{Ran}
 use Rattle.ps_runner.specs.declared.operators.Comparison.{Comparison}
 use Rattle.ps_runner.specs.View.{compared}
@@ -29,7 +29,8 @@ levels job n height = height + call_levels job n
 -- where the definition's answer is known to end the run, or fewer levels were allowed than are needed; nothing is said
 -- where memory was refused
 abbrev pub Halted : {A : Type 0} → m.Answer A → (depth needed : ℕ) → Halt → World → Type 0
-Halted answer depth needed (StoppedBy stop) w = Stopped answer stop w
+Halted answer depth needed (Ended ending calls) w = answer ≡ m.Ends w.transcript.items (ending_of ending calls.items)
+Halted answer depth needed OutOfMemory w = Unit {0}
 Halted answer depth needed TooDeep w = depth < needed
 
 -- a part of the runner answers what the definition's answer is

@@ -1,5 +1,5 @@
 -- What the runner's environments, contexts and worlds stand for in the definitions.
-use Rattle.std.specs.Prelude.{◌≡◌, ◌+◌, nat_le, ℕ, ℤ, pos, int_lt, is_none, Bool, unsigned_abs, if◌then◌else◌, Option, Some, zero, suc, List, [], ◌∷◌, map, Vec, Result, Ok, Err}
+use Rattle.std.specs.Prelude.{◌≡◌, ◌+◌, nat_le, ℕ, ℤ, pos, int_lt, is_none, Bool, unsigned_abs, unwrap_or, if◌then◌else◌, Option, Some, zero, suc, List, [], ◌∷◌, map, Vec, Result, Ok, Err}
 use Rattle.std.specs.Global.{Global}
 use Rattle.behavior.specs.Endings as endings
 use Rattle.ps_tree.specs.Checked.{program_in}
@@ -24,8 +24,8 @@ use Rattle.ps_meaning.specs.Run.{costs_of}
 use Rattle.ps_runner.specs.declared.value.Value.{Value}
 use Rattle.ps_runner.specs.declared.ending.Ending.{Ending}
 use Rattle.ps_runner.specs.declared.ending.Ending.TheVariants.{Normal, Error, Stack, Heap, More}
-use Rattle.ps_runner.specs.declared.stop.Stop.{Stop}
-use Rattle.ps_runner.specs.declared.stop.Stop.TheVariants.{Ended, OutOfMemory}
+use Rattle.ps_runner.specs.declared.stop.Halt.{Halt}
+use Rattle.ps_runner.specs.declared.stop.Halt.TheVariants.{Ended, OutOfMemory, TooDeep}
 use Rattle.ps_runner.specs.declared.world.Job.{Job}
 use Rattle.ps_runner.specs.declared.world.Env.{Env, Outside, Within', Row_of-Entry, end_of-Entry, more_of-Entry}
 use Rattle.ps_runner.specs.declared.world.Entry.{Entry, Variable, Routine'}
@@ -39,6 +39,8 @@ use Rattle.ps_runner.specs.declared.operands.Callee.{Callee}
 use Rattle.ps_runner.specs.declared.operands.Callee.TheVariants.{Declared, Formal}
 use Rattle.ps_runner.specs.declared.operands.Held.{Held}
 use Rattle.ps_runner.specs.declared.operands.Held.TheVariants.{Text, Place}
+use Rattle.ps_runner.specs.declared.transfers.Form.{Form}
+use Rattle.ps_runner.specs.declared.transfers.Form.TheVariants.{Integer, Char, Boolean}
 use Rattle.ps_runner.specs.View.{value_of, spot_of}
 
 unfoldable mutual
@@ -113,14 +115,15 @@ ending_of (Heap line) calls = endings.Heap line
 ending_of More calls = endings.More
 
 -- where the definition's answer is known to end the run; nothing is said where memory was refused
-abbrev pub Stopped : {A : Type 0} → m.Answer A → Stop → World → Type 0
+abbrev pub Stopped : {A : Type 0} → m.Answer A → Halt → World → Type 0
 Stopped answer (Ended ending calls) w = answer ≡ m.Ends w.transcript.items (ending_of ending calls.items)
 Stopped answer OutOfMemory w = Unit {0}
+Stopped answer TooDeep w = ⊥
 
 -- a part of the runner answers what the definition's answer is
-abbrev pub Answers : {A R : Type 0} → (R → A) → m.Answer A → Result R Stop → World → Type 0
+abbrev pub Answers : {A R : Type 0} → (R → A) → m.Answer A → Result R Halt → World → Type 0
 Answers view answer (Ok r) w = answer ≡ m.Gives (view r) (world_of w)
-Answers view answer (Err stop) w = Stopped answer stop w
+Answers view answer (Err halt) w = Stopped answer halt w
 
 -- actual parameters and operands as they were taken
 unfoldable pub actual_of : Actual → e.Actual
@@ -137,6 +140,12 @@ actuals_in actuals = map actual_of actuals.items
 
 abbrev pub done_of : Unit {0} → m.Done
 done_of _ = m.done
+
+-- a value is written in a form
+abbrev pub written : Form → v.Value → Option ℕ → m.Act m.Done
+written Integer x n = m.write_text (t.right_aligned (unwrap_or n 11) (t.integer_text (v.number_of x)))
+written Char x n = m.write_text (t.right_aligned (unwrap_or n 1) (st.character x ∷ []))
+written Boolean x n = m.write_text (t.fitted (unwrap_or n 5) (t.boolean_text (o.is_true (v.number_of x))))
 
 -- statements with so much fuel
 module _ (job : Job) (n : ℕ) where
@@ -161,6 +170,10 @@ module _ (job : Job) (n : ℕ) where
   abbrev pub writing : Tree.WriteParameter → m.Context → m.Act m.Done
   writing = st.write (program_of job) (costs_in job) (caller job n) (next job n)
 
+  -- a value is evaluated, then the width, and it is written in a form
+  abbrev pub writing_form : Form → Tree.Expr → Tree.Width → m.Context → m.Act m.Done
+  writing_form form x width c = λ w. m.and_then (e.value (caller job n) x c w) (λ y u. m.and_then (width_in width c u) (written form y))
+
   abbrev pub writing_all : List Tree.WriteParameter → m.Context → m.Act m.Done
   writing_all = st.writes (program_of job) (costs_in job) (caller job n) (next job n)
 
@@ -170,9 +183,19 @@ module _ (job : Job) (n : ℕ) where
   abbrev pub making : (pointer line : ℕ) → m.Act v.Value
   making = st.new_object (program_of job) (costs_in job) (caller job n) (next job n)
 
+  abbrev pub putting_object : v.Spot → (pointer line : ℕ) → m.Act m.Done
+  putting_object s pointer line = λ w. m.and_then (making pointer line w) (m.put s)
+
   -- a body, and then the further turns
   unfoldable pub turning : (variable : ℕ) → Direction → (last : ℤ) → Tree.Statement → m.Context → m.Act m.Done
   turning variable direction last s c = λ w. m.and_then (acting s c w) (λ _. next job n (st.Further variable direction last s) c)
+
+-- what the elements of a case statement select
+abbrev pub Selects : Tree.Elements → ℤ → Tree.Statement → Type 0
+Selects elements x s = (job : Job) (n line : ℕ) (c : m.Context) (w : m.World) → selecting job n elements x line c w ≡ acting job n s c w
+
+abbrev pub SelectsNone : Tree.Elements → ℤ → Type 0
+SelectsNone elements x = (job : Job) (n line : ℕ) (c : m.Context) (w : m.World) → selecting job n elements x line c w ≡ m.fault 7 line c w
 
 -- the routine that a call names, and the environment that this was declared in
 abbrev pub callee_routine : Callee → m.Context → ℕ
@@ -193,6 +216,10 @@ called_value job n callee arguments line c = λ w. m.and_then (e.actuals_of (cal
 -- a for statement whose bounds were evaluated
 abbrev pub counting : Job → ℕ → (variable : ℕ) (low high : ℤ) → v.Value → (from_line : ℕ) → Direction → v.Value → (to_line : ℕ) → Tree.Statement → m.Context → m.Act m.Done
 counting job n variable low high x from_line direction y to_line s c = if st.is_past direction (v.number_of x) (v.number_of y) then m.give m.done else (λ w. m.and_then (e.fitting (WithinBounds low high) x from_line c w) (λ _ u. m.and_then (e.fitting (WithinBounds low high) y to_line c u) (λ _ z. m.and_then (m.put (st.own_spot variable c) x z) (λ _. turning job n variable direction (v.number_of y) s c))))
+
+-- what comes before the first turn of a for statement
+abbrev pub beginning : (variable : ℕ) → Range → v.Value → (from_line : ℕ) → v.Value → (to_line : ℕ) → m.Context → m.Act m.Done
+beginning variable range x from_line y to_line c = λ w. m.and_then (e.fitting range x from_line c w) (λ _ u. m.and_then (e.fitting range y to_line c u) (λ _. m.put (st.own_spot variable c) x))
 
 -- eof and eoln look at the next character
 abbrev pub at_end : m.Act v.Value
@@ -225,6 +252,15 @@ character_into s low high line c = λ w. m.and_then (m.look w) (λ next u. m.and
 
 abbrev pub integer_into : v.Spot → (low high : ℤ) (line : ℕ) → m.Context → m.Act m.Done
 integer_into s low high line c = λ w. m.and_then (integer_in low high line c w) (m.put s)
+
+-- the place of a variable that is read, and what is done with it
+abbrev pub place_read : Tree.ReadVariable → Tree.Place
+place_read (Tree.ReadChar p low high line) = p
+place_read (Tree.ReadInteger p low high line) = p
+
+abbrev pub reading_into : Tree.ReadVariable → v.Spot → m.Context → m.Act m.Done
+reading_into (Tree.ReadChar p low high line) s c = character_into s low high line c
+reading_into (Tree.ReadInteger p low high line) s c = integer_into s low high line c
 
 -- two strings that were accessed
 abbrev pub strings_compared : Relation → e.Held → e.Held → m.Act v.Value

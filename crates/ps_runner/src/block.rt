@@ -9,13 +9,13 @@ ghost use Rattle.ps_meaning.specs.Expressions as m;
 ghost use Rattle.ps_meaning.specs.Statements.{Block};
 ghost use Rattle.ps_meaning.specs.Calls as d;
 ghost use Rattle.ps_runner.specs.View.{value_of};
-ghost use Rattle.ps_runner.specs.Worlds.{Stopped, actual_of, caller, context_of, entries_of, env_of, next, numbers_of, program_of, with_calls, world_of};
+ghost use Rattle.ps_runner.specs.Worlds.{Stopped, actual_of, callee_env, callee_routine, caller, context_of, entries_of, env_of, next, numbers_of, program_of, with_calls, world_of};
 ghost use Rattle.ps_runner.specs.Blocks.{with_entry, with_entries, bound_in};
 
 use crate::cost::passes_stack;
 use crate::ending::Ending;
-use crate::operands::Actual;
-use crate::stop::Stop;
+use crate::operands::{Actual, Callee};
+use crate::stop::Halt;
 use crate::value::{Root, Spot, Value, first};
 use crate::world::{Context, Entry, Env, Job, Numbers, World};
 use ps_tree::tree::Statement;
@@ -168,14 +168,13 @@ impl<'a> World<'a> {
         parent: Rc<Env>,
         actuals: &[Actual],
         calls: Rc<Numbers>,
-        c: &Context<'b>,
-    ) -> Result<(&'b [Statement], Context<'b>), Stop>
-        ensures entered { IfOk result (λ b. (n : ℕ) → caller c.now.job.now n routine (env_of parent.value) (map actual_of actuals.now) (with_calls (numbers_of calls.value) (context_of c.now)) (world_of self.old) ≡ next c.now.job.now n (Block (statements_of b.0.now)) (context_of b.1) (world_of self.new)) }
-        ensures job { IfOk result (λ b. b.1.job.now ≡ c.now.job.now) }
-        ensures body { IfOk result (λ b. statements_of b.0.now ≡ (routine_at (program_of c.now.job.now) routine).body) }
-        ensures stopped { IfErr result (λ stop. (n : ℕ) → Stopped (caller c.now.job.now n routine (env_of parent.value) (map actual_of actuals.now) (with_calls (numbers_of calls.value) (context_of c.now)) (world_of self.old)) stop self.new) }
+        c: &Context,
+        job: &'b Job<'b>,
+    ) -> Result<(&'b [Statement], Context), Halt>
+        ensures entered { IfOk result (λ b. (n : ℕ) → caller job.now n routine (env_of parent.value) (map actual_of actuals.now) (with_calls (numbers_of calls.value) (context_of c.now)) (world_of self.old) ≡ next job.now n (Block (statements_of b.0.now)) (context_of b.1) (world_of self.new)) }
+        ensures body { IfOk result (λ b. statements_of b.0.now ≡ (routine_at (program_of job.now) routine).body) }
+        ensures stopped { IfErr result (λ stop. (n : ℕ) → Stopped (caller job.now n routine (env_of parent.value) (map actual_of actuals.now) (with_calls (numbers_of calls.value) (context_of c.now)) (world_of self.old)) stop self.new) }
     {
-        let job = c.job;
         let called = routine_numbered(job, routine);
         let active = Numbers::before(job.alloc, routine, &c.active)?;
         if passes_stack(job, &active) {
@@ -186,7 +185,7 @@ impl<'a> World<'a> {
         let env = env_within(job.alloc, frame, parent)?;
         let opened = Vec::new(job.alloc);
         let context = Context {
-            job,
+            alloc: job.alloc,
             env,
             opened,
             active,
@@ -195,22 +194,21 @@ impl<'a> World<'a> {
         Ok((called.body, context))
     }
 
-    /// Enters the block of a routine that was declared in an environment, at a call at a line with these actual
-    /// parameters.
+    /// Enters the block of what is called, at a line and with these actual parameters.
     pub fn enter<'b>(
         &mut self,
-        routine: u32,
-        parent: Rc<Env>,
+        callee: Callee,
         actuals: &[Actual],
         line: u16,
-        c: &Context<'b>,
-    ) -> Result<(&'b [Statement], Context<'b>), Stop>
-        ensures entered { IfOk result (λ b. (n : ℕ) → caller c.now.job.now n routine (env_of parent.value) (map actual_of actuals.now) (m.calling line (context_of c.now)) (world_of self.old) ≡ next c.now.job.now n (Block (statements_of b.0.now)) (context_of b.1) (world_of self.new)) }
-        ensures job { IfOk result (λ b. b.1.job.now ≡ c.now.job.now) }
-        ensures body { IfOk result (λ b. statements_of b.0.now ≡ (routine_at (program_of c.now.job.now) routine).body) }
-        ensures stopped { IfErr result (λ stop. (n : ℕ) → Stopped (caller c.now.job.now n routine (env_of parent.value) (map actual_of actuals.now) (m.calling line (context_of c.now)) (world_of self.old)) stop self.new) }
+        c: &Context,
+        job: &'b Job<'b>,
+    ) -> Result<(&'b [Statement], Context), Halt>
+        ensures entered { IfOk result (λ b. (n : ℕ) → caller job.now n (callee_routine callee (context_of c.now)) (callee_env callee (context_of c.now)) (map actual_of actuals.now) (m.calling line (context_of c.now)) (world_of self.old) ≡ next job.now n (Block (statements_of b.0.now)) (context_of b.1) (world_of self.new)) }
+        ensures body { IfOk result (λ b. statements_of b.0.now ≡ (routine_at (program_of job.now) (callee_routine callee (context_of c.now))).body) }
+        ensures stopped { IfErr result (λ stop. (n : ℕ) → Stopped (caller job.now n (callee_routine callee (context_of c.now)) (callee_env callee (context_of c.now)) (map actual_of actuals.now) (m.calling line (context_of c.now)) (world_of self.old)) stop self.new) }
     {
-        let calls = Numbers::before(c.job.alloc, u32::from(line), &c.calls)?;
-        self.enter_with(routine, parent, actuals, calls, c)
+        let (routine, parent) = callee.found(c)?;
+        let calls = Numbers::before(c.alloc, u32::from(line), &c.calls)?;
+        self.enter_with(routine, parent, actuals, calls, c, job)
     }
 }

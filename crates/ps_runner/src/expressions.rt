@@ -12,12 +12,12 @@ ghost use Rattle.ps_runner.specs.Heights.{place_height, selector_height, selecto
 ghost use Rattle.ps_runner.specs.Runs.{Runs, levels, truth_in, truth_of};
 
 use crate::calls::call_value;
-use crate::operands::{Actual, Callee, Held, index_of, keep, passed_on};
+use crate::operands::{Actual, Callee, Held, index_of, keep};
 use crate::operations::{calculate, combine, compare, compare_sets, compare_strings, test_member};
 use crate::operators::{Comparison, apply, combine_sets, is_true, negated};
 use crate::stop::Halt;
 use crate::value::{Spot, Value};
-use crate::world::{Context, World, above};
+use crate::world::{Context, Here, World};
 use ps_tree::tree::{
     Argument, Expr, Member, Place, Selector, SetExpr, SetOperator, SetStep, Structure,
 };
@@ -25,21 +25,19 @@ use std::alloc::AllocError;
 
 /// Accesses a variable: what its name denotes, then its selectors.
 #[cycle(run)]
-#[tactic(auto, using(crate::proofs::Answers::stopped_then, crate::proofs::Answers::halted_then, crate::proofs::Answers::runs_deeper))]
-pub fn access(
-    world: &mut World,
-    place: &Place,
-    c: &Context,
-    fuel: u64,
-    depth: u32,
-) -> Result<Spot, Halt>
-    ensures { Runs spot_of (m.access (caller c.now.job.now fuel) (place_of place.now) (context_of c.now) (world_of world.old)) depth (levels c.now.job.now fuel (place_height (place_of place.now))) result world.new }
+#[tactic(auto, using(crate::proofs::Answers::runs_deeper))]
+pub fn access(world: &mut World, place: &Place, here: &Here) -> Result<Spot, Halt>
+    ensures { Runs spot_of (m.access (caller here.now.job.now here.now.fuel) (place_of place.now) (context_of here.now.context.now) (world_of world.old)) here.now.depth (levels here.now.job.now here.now.fuel (place_height (place_of place.now))) result world.new }
 {
-    if depth == 0 {
+    if here.depth == 0 {
         return Err(Halt::TooDeep);
     }
-    let spot = world.denoted(&place.base, c)?;
-    select_all(world, &place.selectors, spot, c, fuel, depth - 1)
+    let spot = world.denoted(&place.base, here.context)?;
+    let below = Here {
+        depth: here.depth - 1,
+        ..*here
+    };
+    select_all(world, &place.selectors, spot, &below)
 }
 
 /// Goes on from a variable by its selectors, one after another.
@@ -49,87 +47,75 @@ fn select_all(
     world: &mut World,
     selectors: &[Selector],
     base: Spot,
-    c: &Context,
-    fuel: u64,
-    depth: u32,
+    here: &Here,
 ) -> Result<Spot, Halt>
-    ensures { Runs spot_of (m.accesses (caller c.now.job.now fuel) (selectors_of selectors.now) (spot_of base) (context_of c.now) (world_of world.old)) depth (levels c.now.job.now fuel (selectors_height (selectors_of selectors.now))) result world.new }
+    ensures { Runs spot_of (m.accesses (caller here.now.job.now here.now.fuel) (selectors_of selectors.now) (spot_of base) (context_of here.now.context.now) (world_of world.old)) here.now.depth (levels here.now.job.now here.now.fuel (selectors_height (selectors_of selectors.now))) result world.new }
 {
     let mut spot = base;
     for selector in selectors {
-        spot = select(world, selector, spot, c, fuel, depth)?;
+        spot = select(world, selector, spot, here)?;
     }
     Ok(spot)
 }
 
 /// Goes on from a variable by a selector.
 #[cycle(run)]
-#[tactic(auto, using(crate::proofs::Answers::stopped_then, crate::proofs::Answers::halted_then, crate::proofs::Answers::runs_deeper), unfolding(ps_tree::specs::View::selector_of))]
-fn select(
-    world: &mut World,
-    selector: &Selector,
-    spot: Spot,
-    c: &Context,
-    fuel: u64,
-    depth: u32,
-) -> Result<Spot, Halt>
-    ensures { Runs spot_of (m.at_selector (caller c.now.job.now fuel) (selector_of selector.now) (spot_of spot) (context_of c.now) (world_of world.old)) depth (levels c.now.job.now fuel (selector_height (selector_of selector.now))) result world.new }
+#[tactic(auto, using(crate::proofs::Answers::halted_then, crate::proofs::Answers::answers_run), unfolding(ps_tree::specs::View::selector_of))]
+fn select(world: &mut World, selector: &Selector, spot: Spot, here: &Here) -> Result<Spot, Halt>
+    ensures { Runs spot_of (m.at_selector (caller here.now.job.now here.now.fuel) (selector_of selector.now) (spot_of spot) (context_of here.now.context.now) (world_of world.old)) here.now.depth (levels here.now.job.now here.now.fuel (selector_height (selector_of selector.now))) result world.new }
 {
     match selector {
         Selector::Element { ty, index, line } => {
-            let x = evaluate(world, index, c, fuel, depth)?.number();
-            Ok(world.component_of(spot, index_of(ty), x, line.number, c)?)
+            let x = evaluate(world, index, here)?.number();
+            world.component_of(spot, index_of(ty), x, line.number, here.context)
         }
         Selector::Field { number, .. } => Ok(spot.step(*number)?),
-        Selector::Target { line, .. } => Ok(world.target_of(&spot, line.number, c)?),
+        Selector::Target { line, .. } => world.target_of(&spot, line.number, here.context),
     }
 }
 
 /// Evaluates an expression of an ordinal or pointer type.
 #[cycle(run)]
-#[tactic(auto, using(crate::proofs::Answers::stopped_then, crate::proofs::Answers::halted_then, crate::proofs::Answers::runs_deeper, ps_tree::proofs::TreeLemmas::expr_of_Load), unfolding(ps_tree::specs::View::expr_of, crate::specs::View::value_of, crate::specs::View::integer_of))]
-pub fn evaluate(
-    world: &mut World,
-    e: &Expr,
-    c: &Context,
-    fuel: u64,
-    depth: u32,
-) -> Result<Value, Halt>
-    ensures { Runs value_of (m.value (caller c.now.job.now fuel) (expr_of e.now) (context_of c.now) (world_of world.old)) depth (levels c.now.job.now fuel (expr_height (expr_of e.now))) result world.new }
+#[tactic(auto, using(crate::proofs::Answers::halted_then, crate::proofs::Answers::answers_run, ps_tree::proofs::TreeLemmas::expr_of_Load), unfolding(ps_tree::specs::View::expr_of, crate::specs::View::value_of, crate::specs::View::integer_of))]
+pub fn evaluate(world: &mut World, e: &Expr, here: &Here) -> Result<Value, Halt>
+    ensures { Runs value_of (m.value (caller here.now.job.now here.now.fuel) (expr_of e.now) (context_of here.now.context.now) (world_of world.old)) here.now.depth (levels here.now.job.now here.now.fuel (expr_height (expr_of e.now))) result world.new }
 {
-    if depth == 0 {
+    if here.depth == 0 {
         return Err(Halt::TooDeep);
     }
-    let below = depth - 1;
+    let below = Here {
+        depth: here.depth - 1,
+        ..*here
+    };
     match e {
         Expr::Number(number) => Ok(Value::Ordinal(*number)),
         Expr::Nil => Ok(Value::Nil),
         Expr::Load(place) => {
-            let spot = access(world, place, c, fuel, below)?;
-            Ok(world.contents(c.job.alloc, &spot)?)
+            let spot = access(world, place, &below)?;
+            Ok(world.contents(here.context.alloc, &spot)?)
         }
-        Expr::Plus(operand) => evaluate(world, operand, c, fuel, below),
+        Expr::Plus(operand) => evaluate(world, operand, &below),
         Expr::Minus { operand, line } => {
-            let x = evaluate(world, operand, c, fuel, below)?.number();
-            Ok(world.settled(negated(x), line.number, c)?)
+            let x = evaluate(world, operand, &below)?.number();
+            world.settled(negated(x), line.number, here.context)
         }
         Expr::Not(operand) => {
-            let x = evaluate(world, operand, c, fuel, below)?.number();
+            let x = evaluate(world, operand, &below)?.number();
             Ok(Value::truth(!is_true(x)))
         }
-        Expr::Arithmetic { first, steps } => calculate(world, first, steps, c, fuel, below),
+        Expr::Arithmetic { first, steps } => calculate(world, first, steps, &below),
         Expr::Logic {
             operator,
             first,
             rest,
-        } => combine(world, *operator, first, rest, c, fuel, below),
+        } => combine(world, *operator, first, rest, &below),
         Expr::Compare {
             relation,
             left,
             right,
         } => {
             let comparison = Comparison::Ordinals(*relation);
-            compare(world, comparison, left, right, c, fuel, below)
+            compare(world, comparison, left, right, &below)
         }
         Expr::ComparePointers {
             relation,
@@ -137,29 +123,29 @@ pub fn evaluate(
             right,
         } => {
             let comparison = Comparison::Pointers(*relation);
-            compare(world, comparison, left, right, c, fuel, below)
+            compare(world, comparison, left, right, &below)
         }
         Expr::CompareSets {
             relation,
             left,
             right,
-        } => compare_sets(world, *relation, left, right, c, fuel, below),
+        } => compare_sets(world, *relation, left, right, &below),
         Expr::CompareStrings {
             relation,
             left,
             right,
-        } => compare_strings(world, *relation, left, right, c, fuel, below),
-        Expr::In { left, right } => test_member(world, left, right, c, fuel, below),
+        } => compare_strings(world, *relation, left, right, &below),
+        Expr::In { left, right } => test_member(world, left, right, &below),
         Expr::Apply {
             function,
             operand,
             line,
         } => {
-            let x = evaluate(world, operand, c, fuel, below)?.number();
-            Ok(world.settled(apply(*function, x), line.number, c)?)
+            let x = evaluate(world, operand, &below)?.number();
+            world.settled(apply(*function, x), line.number, here.context)
         }
-        Expr::Eof => Ok(world.eof()?),
-        Expr::Eoln { line } => Ok(world.eoln(line.number, c)?),
+        Expr::Eof => world.eof(),
+        Expr::Eoln { line } => world.eoln(line.number, here.context),
         Expr::Call {
             routine,
             up,
@@ -170,7 +156,7 @@ pub fn evaluate(
                 routine: *routine,
                 up: *up,
             };
-            call_value(world, callee, arguments, line.number, c, fuel, below)
+            call_value(world, callee, arguments, line.number, &below)
         }
         Expr::CallFormal {
             up,
@@ -182,24 +168,18 @@ pub fn evaluate(
                 up: *up,
                 index: *index,
             };
-            call_value(world, callee, arguments, line.number, c, fuel, below)
+            call_value(world, callee, arguments, line.number, &below)
         }
     }
 }
 
 /// The truth of a condition.
 #[cycle(run)]
-#[tactic(auto, using(crate::proofs::Answers::stopped_then, crate::proofs::Answers::halted_then, crate::proofs::Answers::runs_deeper))]
-pub fn evaluate_truth(
-    world: &mut World,
-    e: &Expr,
-    c: &Context,
-    fuel: u64,
-    depth: u32,
-) -> Result<bool, Halt>
-    ensures { Runs truth_of (truth_in c.now.job.now fuel (expr_of e.now) (context_of c.now) (world_of world.old)) depth (levels c.now.job.now fuel (expr_height (expr_of e.now))) result world.new }
+#[tactic(auto, using(crate::proofs::Answers::halted_then))]
+pub fn evaluate_truth(world: &mut World, e: &Expr, here: &Here) -> Result<bool, Halt>
+    ensures { Runs truth_of (truth_in here.now.job.now here.now.fuel (expr_of e.now) (context_of here.now.context.now) (world_of world.old)) here.now.depth (levels here.now.job.now here.now.fuel (expr_height (expr_of e.now))) result world.new }
 {
-    let x = evaluate(world, e, c, fuel, depth)?;
+    let x = evaluate(world, e, here)?;
     Ok(is_true(x.number()))
 }
 
@@ -208,34 +188,31 @@ impl<'a> World<'a> {
     fn set_at(&self, spot: &Spot, c: &Context) -> Result<Vec<bool>, AllocError>
         ensures { IfOk result (λ s. members_of_set s ≡ v.set_of (contents_in (world_of self.now) (spot_of spot.now))) }
     {
-        let value = self.contents(c.job.alloc, spot)?;
-        Vec::from_slice(c.job.alloc, value.members())
+        let value = self.contents(c.alloc, spot)?;
+        Vec::from_slice(c.alloc, value.members())
     }
 }
 
 /// Evaluates an expression of a set type.
 #[cycle(run)]
-#[tactic(auto, using(crate::proofs::Answers::stopped_then, crate::proofs::Answers::halted_then, crate::proofs::Answers::runs_deeper, crate::proofs::Trees::set_of_Constructor, ps_tree::proofs::TreeLemmas::set_of_Load), unfolding(ps_tree::specs::View::set_of))]
-pub fn evaluate_set(
-    world: &mut World,
-    e: &SetExpr,
-    c: &Context,
-    fuel: u64,
-    depth: u32,
-) -> Result<Vec<bool>, Halt>
-    ensures { Runs members_of_set (m.set_value (caller c.now.job.now fuel) (set_of e.now) (context_of c.now) (world_of world.old)) depth (levels c.now.job.now fuel (set_height (set_of e.now))) result world.new }
+#[tactic(auto, using(crate::proofs::Answers::halted_then, crate::proofs::Answers::runs_deeper, crate::proofs::Trees::set_of_Constructor, ps_tree::proofs::TreeLemmas::set_of_Load), unfolding(ps_tree::specs::View::set_of))]
+pub fn evaluate_set(world: &mut World, e: &SetExpr, here: &Here) -> Result<Vec<bool>, Halt>
+    ensures { Runs members_of_set (m.set_value (caller here.now.job.now here.now.fuel) (set_of e.now) (context_of here.now.context.now) (world_of world.old)) here.now.depth (levels here.now.job.now here.now.fuel (set_height (set_of e.now))) result world.new }
 {
-    if depth == 0 {
+    if here.depth == 0 {
         return Err(Halt::TooDeep);
     }
-    let below = depth - 1;
+    let below = Here {
+        depth: here.depth - 1,
+        ..*here
+    };
     match e {
         SetExpr::Load(place) => {
-            let spot = access(world, place, c, fuel, below)?;
-            Ok(world.set_at(&spot, c)?)
+            let spot = access(world, place, &below)?;
+            Ok(world.set_at(&spot, here.context)?)
         }
-        SetExpr::Constructor(members) => evaluate_members(world, members, c, fuel, below),
-        SetExpr::Combine { first, steps } => { combine_all(world, first, steps, c, fuel, below) }
+        SetExpr::Constructor(members) => evaluate_members(world, members, &below),
+        SetExpr::Combine { first, steps } => { combine_all(world, first, steps, &below) }
     }
 }
 
@@ -246,17 +223,15 @@ fn combine_all(
     world: &mut World,
     first: &SetExpr,
     steps: &[SetStep],
-    c: &Context,
-    fuel: u64,
-    depth: u32,
+    here: &Here,
 ) -> Result<Vec<bool>, Halt>
-    ensures { Runs members_of_set (m.set_value (caller c.now.job.now fuel) (Tree.Combine (set_of first.now) (set_steps_of steps.now)) (context_of c.now) (world_of world.old)) depth (levels c.now.job.now fuel (max (set_height (set_of first.now)) (set_steps_height (set_steps_of steps.now)))) result world.new }
+    ensures { Runs members_of_set (m.set_value (caller here.now.job.now here.now.fuel) (Tree.Combine (set_of first.now) (set_steps_of steps.now)) (context_of here.now.context.now) (world_of world.old)) here.now.depth (levels here.now.job.now here.now.fuel (max (set_height (set_of first.now)) (set_steps_height (set_steps_of steps.now)))) result world.new }
 {
-    let mut tests = evaluate_set(world, first, c, fuel, depth)?;
+    let mut tests = evaluate_set(world, first, here)?;
     for step in steps {
-        let more = evaluate_set(world, &step.operand, c, fuel, depth)?;
+        let more = evaluate_set(world, &step.operand, here)?;
         tests = combine_sets(
-            c.job.alloc,
+            here.context.alloc,
             step.operator,
             tests.as_slice(),
             more.as_slice(),
@@ -267,25 +242,19 @@ fn combine_all(
 
 /// Evaluates a member of a set constructor, and checks it.
 #[cycle(run)]
-#[tactic(auto, using(crate::proofs::Answers::stopped_then, crate::proofs::Answers::halted_then, crate::proofs::Answers::runs_deeper), unfolding(ps_tree::specs::View::member_of))]
-fn evaluate_member(
-    world: &mut World,
-    member: &Member,
-    c: &Context,
-    fuel: u64,
-    depth: u32,
-) -> Result<Vec<bool>, Halt>
-    ensures { Runs members_of_set (m.member_value (caller c.now.job.now fuel) (member_of member.now) (context_of c.now) (world_of world.old)) depth (levels c.now.job.now fuel (member_height (member_of member.now))) result world.new }
+#[tactic(auto, using(crate::proofs::Answers::halted_then, crate::proofs::Answers::answers_run), unfolding(ps_tree::specs::View::member_of))]
+fn evaluate_member(world: &mut World, member: &Member, here: &Here) -> Result<Vec<bool>, Halt>
+    ensures { Runs members_of_set (m.member_value (caller here.now.job.now here.now.fuel) (member_of member.now) (context_of here.now.context.now) (world_of world.old)) here.now.depth (levels here.now.job.now here.now.fuel (member_height (member_of member.now))) result world.new }
 {
     match member {
         Member::One { value, line } => {
-            let x = evaluate(world, value, c, fuel, depth)?.number();
-            Ok(world.set_between(x, x, line.number, c)?)
+            let x = evaluate(world, value, here)?.number();
+            world.set_between(x, x, line.number, here.context)
         }
         Member::Range { from, to, line } => {
-            let x = evaluate(world, from, c, fuel, depth)?.number();
-            let y = evaluate(world, to, c, fuel, depth)?.number();
-            Ok(world.set_between(x, y, line.number, c)?)
+            let x = evaluate(world, from, here)?.number();
+            let y = evaluate(world, to, here)?.number();
+            world.set_between(x, y, line.number, here.context)
         }
     }
 }
@@ -293,20 +262,14 @@ fn evaluate_member(
 /// Evaluates the members of a set constructor.
 #[cycle(run)]
 #[tactic(auto, using(crate::proofs::Answers::members_start, crate::proofs::Answers::members_next, crate::proofs::Answers::members_end))]
-fn evaluate_members(
-    world: &mut World,
-    members: &[Member],
-    c: &Context,
-    fuel: u64,
-    depth: u32,
-) -> Result<Vec<bool>, Halt>
-    ensures { Runs members_of_set (m.members_value (caller c.now.job.now fuel) (members_of members.now) (context_of c.now) (world_of world.old)) depth (levels c.now.job.now fuel (members_height (members_of members.now))) result world.new }
+fn evaluate_members(world: &mut World, members: &[Member], here: &Here) -> Result<Vec<bool>, Halt>
+    ensures { Runs members_of_set (m.members_value (caller here.now.job.now here.now.fuel) (members_of members.now) (context_of here.now.context.now) (world_of world.old)) here.now.depth (levels here.now.job.now here.now.fuel (members_height (members_of members.now))) result world.new }
 {
-    let mut tests = Vec::new(c.job.alloc);
+    let mut tests = Vec::new(here.context.alloc);
     for member in members {
-        let more = evaluate_member(world, member, c, fuel, depth)?;
+        let more = evaluate_member(world, member, here)?;
         tests = combine_sets(
-            c.job.alloc,
+            here.context.alloc,
             SetOperator::Union,
             tests.as_slice(),
             more.as_slice(),
@@ -317,40 +280,26 @@ fn evaluate_members(
 
 /// Accesses an operand of an array or record type.
 #[cycle(run)]
-#[tactic(auto, using(crate::proofs::Answers::stopped_then, crate::proofs::Answers::halted_then, crate::proofs::Answers::runs_deeper), unfolding(ps_tree::specs::View::structure_of, crate::specs::Worlds::held_of))]
-pub fn take_operand<'t>(
-    world: &mut World,
-    e: &'t Structure,
-    c: &Context,
-    fuel: u64,
-    depth: u32,
-) -> Result<Held<'t>, Halt>
-    ensures { Runs held_of (m.operand (caller c.now.job.now fuel) (structure_of e.now) (context_of c.now) (world_of world.old)) depth (levels c.now.job.now fuel (structure_height (structure_of e.now))) result world.new }
+#[tactic(auto, unfolding(ps_tree::specs::View::structure_of, crate::specs::Worlds::held_of))]
+pub fn take_operand<'t>(world: &mut World, e: &'t Structure, here: &Here) -> Result<Held<'t>, Halt>
+    ensures { Runs held_of (m.operand (caller here.now.job.now here.now.fuel) (structure_of e.now) (context_of here.now.context.now) (world_of world.old)) here.now.depth (levels here.now.job.now here.now.fuel (structure_height (structure_of e.now))) result world.new }
 {
     match e {
         Structure::Literal(characters) => Ok(Held::Text(characters.as_slice())),
-        Structure::Contents { place, .. } => {
-            Ok(Held::Place(access(world, place, c, fuel, depth)?))
-        }
+        Structure::Contents { place, .. } => { Ok(Held::Place(access(world, place, here)?)) }
     }
 }
 
 /// Takes an actual parameter.
 #[cycle(run)]
-#[tactic(auto, using(crate::proofs::Answers::stopped_then, crate::proofs::Answers::halted_then, crate::proofs::Answers::runs_deeper, ps_tree::proofs::TreeLemmas::argument_of_Variable), unfolding(ps_tree::specs::View::argument_of, crate::specs::Worlds::actual_of))]
-fn take_actual(
-    world: &mut World,
-    argument: &Argument,
-    c: &Context,
-    fuel: u64,
-    depth: u32,
-) -> Result<Actual, Halt>
-    ensures { Runs actual_of (m.actual_of (caller c.now.job.now fuel) (argument_of argument.now) (context_of c.now) (world_of world.old)) depth (levels c.now.job.now fuel (argument_height (argument_of argument.now))) result world.new }
+#[tactic(auto, using(crate::proofs::Answers::halted_then, crate::proofs::Answers::stopped_halts_then, crate::proofs::Answers::answers_run, ps_tree::proofs::TreeLemmas::argument_of_Variable), unfolding(ps_tree::specs::View::argument_of, crate::specs::Worlds::actual_of))]
+fn take_actual(world: &mut World, argument: &Argument, here: &Here) -> Result<Actual, Halt>
+    ensures { Runs actual_of (m.actual_of (caller here.now.job.now here.now.fuel) (argument_of argument.now) (context_of here.now.context.now) (world_of world.old)) here.now.depth (levels here.now.job.now here.now.fuel (argument_height (argument_of argument.now))) result world.new }
 {
     match argument {
         Argument::Value { value, range, line } => {
-            let x = evaluate(world, value, c, fuel, depth)?;
-            Ok(Actual::Value(world.fitting(*range, x, line.number, c)?))
+            let x = evaluate(world, value, here)?;
+            Ok(Actual::Value(world.fitting(*range, x, line.number, here.context)?))
         }
         Argument::Set {
             value,
@@ -358,16 +307,28 @@ fn take_actual(
             high,
             line,
         } => {
-            let s = evaluate_set(world, value, c, fuel, depth)?;
-            Ok(Actual::Value(world.fitting_set(*low, *high, s, line.number, c)?))
+            let s = evaluate_set(world, value, here)?;
+            Ok(Actual::Value(world.fitting_set(*low, *high, s, line.number, here.context)?))
         }
         Argument::Copy { value, .. } => {
-            let held = take_operand(world, value, c, fuel, depth)?;
-            Ok(Actual::Value(world.contents_of(&held, c)?))
+            let held = take_operand(world, value, here)?;
+            Ok(Actual::Value(world.contents_of(&held, here.context)?))
         }
-        Argument::Variable(place) => { Ok(Actual::Variable(access(world, place, c, fuel, depth)?)) }
-        Argument::Routine { routine, up } => { Ok(Actual::Routine(*routine, above(&c.env, *up)?)) }
-        Argument::Formal { up, index } => { Ok(passed_on(c, *up, *index)?) }
+        Argument::Variable(place) => { Ok(Actual::Variable(access(world, place, here)?)) }
+        Argument::Routine { routine, up } => {
+            let callee = Callee::Declared {
+                routine: *routine,
+                up: *up,
+            };
+            world.passed(callee, here.context)
+        }
+        Argument::Formal { up, index } => {
+            let callee = Callee::Formal {
+                up: *up,
+                index: *index,
+            };
+            world.passed(callee, here.context)
+        }
     }
 }
 
@@ -377,15 +338,13 @@ fn take_actual(
 pub fn take_actuals(
     world: &mut World,
     arguments: &[Argument],
-    c: &Context,
-    fuel: u64,
-    depth: u32,
+    here: &Here,
 ) -> Result<Vec<Actual>, Halt>
-    ensures { Runs actuals_in (m.actuals_of (caller c.now.job.now fuel) (arguments_of arguments.now) (context_of c.now) (world_of world.old)) depth (levels c.now.job.now fuel (arguments_height (arguments_of arguments.now))) result world.new }
+    ensures { Runs actuals_in (m.actuals_of (caller here.now.job.now here.now.fuel) (arguments_of arguments.now) (context_of here.now.context.now) (world_of world.old)) here.now.depth (levels here.now.job.now here.now.fuel (arguments_height (arguments_of arguments.now))) result world.new }
 {
-    let mut actuals = Vec::new(c.job.alloc);
+    let mut actuals = Vec::new(here.context.alloc);
     for argument in arguments {
-        let actual = take_actual(world, argument, c, fuel, depth)?;
+        let actual = take_actual(world, argument, here)?;
         keep(&mut actuals, actual)?;
     }
     Ok(actuals)

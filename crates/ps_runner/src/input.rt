@@ -13,7 +13,7 @@ ghost use Rattle.ps_runner.specs.Worlds as r;
 ghost use Rattle.ps_runner.specs.Worlds.{Answers, context_of, world_of, done_of};
 
 use crate::operators::truth;
-use crate::stop::Stop;
+use crate::stop::Halt;
 use crate::text::{Reading, as_character, scan_integer};
 use crate::value::{Spot, Value};
 use crate::world::{Context, Input, World};
@@ -35,15 +35,15 @@ impl<'a> World<'a> {
 
     /// eof.
     #[tactic(auto, unfolding(crate::specs::View::value_of))]
-    pub fn eof(&mut self) -> Result<Value, AllocError>
-        ensures { IfOk result (λ v. r.at_end (world_of self.old) ≡ Gives (value_of v) (world_of self.new)) }
+    pub fn eof(&mut self) -> Result<Value, Halt>
+        ensures { Answers value_of (r.at_end (world_of self.old)) result self.new }
     {
         let next = self.look()?;
         Ok(Value::Ordinal(truth(next.is_none())))
     }
 
     /// eoln; error 9 at the end of input.
-    pub fn eoln(&mut self, line: u16, c: &Context) -> Result<Value, Stop>
+    pub fn eoln(&mut self, line: u16, c: &Context) -> Result<Value, Halt>
         ensures { Answers value_of (r.at_line_end line (context_of c.now) (world_of self.old)) result self.new }
     {
         let next = self.look()?;
@@ -52,7 +52,7 @@ impl<'a> World<'a> {
 
     /// Whether the next character ends a line; error 9 at the end of input.
     #[tactic(auto, using(crate::proofs::Answers::stops), unfolding(crate::specs::View::value_of))]
-    fn line_end(&self, next: Option<u8>, line: u16, c: &Context) -> Result<Value, Stop>
+    fn line_end(&self, next: Option<u8>, line: u16, c: &Context) -> Result<Value, Halt>
         ensures { Answers value_of (e.line_end next line (context_of c.now) (world_of self.now)) result self.now }
     {
         match next {
@@ -63,7 +63,7 @@ impl<'a> World<'a> {
 
     /// The next character for a read; error 9 at the end of input.
     #[tactic(auto, using(crate::proofs::Answers::stops), unfolding(crate::specs::View::value_of))]
-    fn character_read(&mut self, next: Option<u8>, line: u16, c: &Context) -> Result<Value, Stop>
+    fn character_read(&mut self, next: Option<u8>, line: u16, c: &Context) -> Result<Value, Halt>
         ensures { Answers value_of (m.character_read next line (context_of c.now) (world_of self.old)) result self.new }
     {
         match next {
@@ -77,7 +77,6 @@ impl<'a> World<'a> {
 }
 
 /// So many first looks, marked.
-#[tactic(auto, using(crate::proofs::Written::replicate_next))]
 fn add_marks(transcript: &mut Vec<u16>, count: usize) -> Result<(), AllocError>
     ensures { OnOk result (transcript.new.items ≡ transcript.old.items ++ replicate count mark) }
 {
@@ -90,7 +89,7 @@ fn add_marks(transcript: &mut Vec<u16>, count: usize) -> Result<(), AllocError>
 impl<'a> World<'a> {
     /// The rest of the line is looked at and taken; error 9 at the end of input.
     #[tactic(auto, using(crate::proofs::Answers::stops))]
-    fn line_read(&mut self, next: Option<u8>, line: u16, c: &Context) -> Result<(), Stop>
+    fn line_read(&mut self, next: Option<u8>, line: u16, c: &Context) -> Result<(), Halt>
         ensures { Answers done_of (m.line_read next line (context_of c.now) (world_of self.old)) result self.new }
     {
         if next.is_none() {
@@ -128,7 +127,7 @@ impl<'a> World<'a> {
 
     /// Reads an integer for a variable of this range: error 9 at the end of input, 10 where no integer stands there,
     /// 4 for one outside the range.
-    fn integer_read(&mut self, low: i32, high: i32, line: u16, c: &Context) -> Result<Value, Stop>
+    fn integer_read(&mut self, low: i32, high: i32, line: u16, c: &Context) -> Result<Value, Halt>
         ensures { Answers value_of (r.integer_in low high line (context_of c.now) (world_of self.old)) result self.new }
     {
         let found = self.scan()?;
@@ -144,7 +143,7 @@ impl<'a> World<'a> {
         high: i32,
         line: u16,
         c: &Context,
-    ) -> Result<Value, Stop>
+    ) -> Result<Value, Halt>
         ensures { (r : t.Reading) → IsReading r found → Answers value_of (integer_fitting r low high line (context_of c.now) (world_of self.now)) result self.now }
     {
         let number = match found {
@@ -167,7 +166,7 @@ impl<'a> World<'a> {
         high: i32,
         line: u16,
         c: &Context,
-    ) -> Result<(), Stop>
+    ) -> Result<(), Halt>
         ensures { Answers done_of (r.character_into (spot_of spot.now) low high line (context_of c.now) (world_of self.old)) result self.new }
     {
         let next = self.look()?;
@@ -184,16 +183,16 @@ impl<'a> World<'a> {
         high: i32,
         line: u16,
         c: &Context,
-    ) -> Result<(), Stop>
+    ) -> Result<(), Halt>
         ensures { Answers done_of (r.integer_into (spot_of spot.now) low high line (context_of c.now) (world_of self.old)) result self.new }
     {
         let v = self.integer_read(low, high, line, c)?;
-        Ok(self.put(spot, v)?)
+        self.put(spot, v)
     }
 
     /// Looks at the rest of the line and takes it; error 9 at the end of input.
     #[tactic(auto, using(crate::proofs::Answers::stopped_then))]
-    pub fn line_taken(&mut self, line: u16, c: &Context) -> Result<(), Stop>
+    pub fn line_taken(&mut self, line: u16, c: &Context) -> Result<(), Halt>
         ensures { Answers done_of (r.rest_of_line line (context_of c.now) (world_of self.old)) result self.new }
     {
         let next = self.look()?;

@@ -7,30 +7,30 @@ ghost use Rattle.ps_meaning.specs.Values.{number_of};
 ghost use Rattle.ps_meaning.specs.Expressions.{fitting};
 ghost use Rattle.ps_meaning.specs.Statements as m;
 ghost use Rattle.ps_meaning.specs.Statements.{own_spot};
-ghost use Rattle.ps_meaning.specs.Worlds.{Gives, with_contents};
+ghost use Rattle.ps_meaning.specs.Worlds.{Gives, put};
 ghost use Rattle.ps_runner.specs.View.{value_of, spot_of};
 ghost use Rattle.ps_runner.specs.Worlds as r;
-ghost use Rattle.ps_runner.specs.Worlds.{Stopped, context_of, world_of, done_of, acting, turning};
+ghost use Rattle.ps_runner.specs.Worlds.{Answers, Stopped, context_of, world_of, done_of, acting, turning};
 ghost use Rattle.ps_runner.specs.Heights.{expr_height, statement_height, statements_height};
-ghost use Rattle.ps_runner.specs.Runs.{Runs, levels, advancing};
+ghost use Rattle.ps_runner.specs.Runs.{Runs, levels, advancing, truth_of};
 
 use crate::calls::used_up;
 use crate::expressions::{evaluate, evaluate_truth};
 use crate::operators::{fits, is_equal};
 use crate::statements::{act, act_all};
-use crate::stop::{Halt, Stop};
+use crate::stop::Halt;
 use crate::value::{Spot, Value};
-use crate::world::{Context, World, spot_in};
+use crate::world::{Context, Here, World, spot_in};
 use ps_tree::tree::{Direction, Expr, Range, Statement};
 use std::alloc::AllocError;
 
 /// A for statement has no turn.
-fn is_past(direction: Direction, x: i32, y: i32) -> bool
-    ensures { result ≡ m.is_past direction x y }
+fn is_past(direction: Direction, x: &Value, y: &Value) -> bool
+    ensures { result ≡ m.is_past direction (number_of (value_of x.now)) (number_of (value_of y.now)) }
 {
     match direction {
-        Direction::To => y < x,
-        Direction::Downto => x < y,
+        Direction::To => y.number() < x.number(),
+        Direction::Downto => x.number() < y.number(),
     }
 }
 
@@ -50,20 +50,22 @@ pub fn repeat_while(
     world: &mut World,
     condition: &Expr,
     body: &Statement,
-    c: &Context,
-    fuel: u64,
-    depth: u32,
+    here: &Here,
 ) -> Result<(), Halt>
-    ensures { Runs done_of (acting c.now.job.now fuel (Tree.While (expr_of condition.now) (statement_of body.now)) (context_of c.now) (world_of world.old)) depth (levels c.now.job.now fuel (max (expr_height (expr_of condition.now)) (statement_height (statement_of body.now)))) result world.new }
+    ensures { Runs done_of (acting here.now.job.now here.now.fuel (Tree.While (expr_of condition.now) (statement_of body.now)) (context_of here.now.context.now) (world_of world.old)) here.now.depth (levels here.now.job.now here.now.fuel (max (expr_height (expr_of condition.now)) (statement_height (statement_of body.now)))) result world.new }
 {
-    let mut left = fuel;
+    let mut left = here.fuel;
     loop {
-        if !evaluate_truth(world, condition, c, left, depth)? {
+        let turn = Here {
+            fuel: left,
+            ..*here
+        };
+        if !evaluate_truth(world, condition, &turn)? {
             return Ok(());
         }
-        act(world, body, c, left, depth)?;
+        act(world, body, &turn)?;
         if left == 0 {
-            return Err(Halt::Stopped(used_up(world, c)));
+            return Err(used_up(world, here.context));
         }
         left -= 1;
     }
@@ -75,20 +77,22 @@ pub fn repeat_until(
     world: &mut World,
     body: &[Statement],
     condition: &Expr,
-    c: &Context,
-    fuel: u64,
-    depth: u32,
+    here: &Here,
 ) -> Result<(), Halt>
-    ensures { Runs done_of (acting c.now.job.now fuel (Tree.Repeat (statements_of body.now) (expr_of condition.now)) (context_of c.now) (world_of world.old)) depth (levels c.now.job.now fuel (max (statements_height (statements_of body.now)) (expr_height (expr_of condition.now)))) result world.new }
+    ensures { Runs done_of (acting here.now.job.now here.now.fuel (Tree.Repeat (statements_of body.now) (expr_of condition.now)) (context_of here.now.context.now) (world_of world.old)) here.now.depth (levels here.now.job.now here.now.fuel (max (statements_height (statements_of body.now)) (expr_height (expr_of condition.now)))) result world.new }
 {
-    let mut left = fuel;
+    let mut left = here.fuel;
     loop {
-        act_all(world, body, c, left, depth)?;
-        if evaluate_truth(world, condition, c, left, depth)? {
+        let turn = Here {
+            fuel: left,
+            ..*here
+        };
+        act_all(world, body, &turn)?;
+        if evaluate_truth(world, condition, &turn)? {
             return Ok(());
         }
         if left == 0 {
-            return Err(Halt::Stopped(used_up(world, c)));
+            return Err(used_up(world, here.context));
         }
         left -= 1;
     }
@@ -107,47 +111,46 @@ pub fn count(
     to: &Expr,
     to_line: u16,
     body: &Statement,
-    c: &Context,
-    fuel: u64,
-    depth: u32,
+    here: &Here,
 ) -> Result<(), Halt>
-    ensures { Runs done_of (acting c.now.job.now fuel (Tree.For variable low high (expr_of from.now) from_line direction (expr_of to.now) to_line (statement_of body.now)) (context_of c.now) (world_of world.old)) depth (levels c.now.job.now fuel (max (expr_height (expr_of from.now)) (max (expr_height (expr_of to.now)) (statement_height (statement_of body.now))))) result world.new }
+    ensures { Runs done_of (acting here.now.job.now here.now.fuel (Tree.For variable low high (expr_of from.now) from_line direction (expr_of to.now) to_line (statement_of body.now)) (context_of here.now.context.now) (world_of world.old)) here.now.depth (levels here.now.job.now here.now.fuel (max (expr_height (expr_of from.now)) (max (expr_height (expr_of to.now)) (statement_height (statement_of body.now))))) result world.new }
 {
-    let x = evaluate(world, from, c, fuel, depth)?;
-    let y = evaluate(world, to, c, fuel, depth)?;
-    count_between(
-        world, variable, low, high, &x, from_line, direction, &y, to_line, body, c, fuel, depth,
-    )
-}
-
-/// A for statement whose bounds were evaluated.
-#[cycle(run)]
-#[tactic(auto, using(crate::proofs::Answers::stopped_then, crate::proofs::Answers::halted_then, crate::proofs::Answers::runs_deeper))]
-fn count_between(
-    world: &mut World,
-    variable: u32,
-    low: i32,
-    high: i32,
-    x: &Value,
-    from_line: u16,
-    direction: Direction,
-    y: &Value,
-    to_line: u16,
-    body: &Statement,
-    c: &Context,
-    fuel: u64,
-    depth: u32,
-) -> Result<(), Halt>
-    ensures { Runs done_of (r.counting c.now.job.now fuel variable low high (value_of x.now) from_line direction (value_of y.now) to_line (statement_of body.now) (context_of c.now) (world_of world.old)) depth (levels c.now.job.now fuel (statement_height (statement_of body.now))) result world.new }
-{
-    if is_past(direction, x.number(), y.number()) {
+    let x = evaluate(world, from, here)?;
+    let y = evaluate(world, to, here)?;
+    if is_past(direction, &x, &y) {
         return Ok(());
     }
     let range = Range::Within { low, high };
+    begin_turns(
+        world,
+        variable,
+        range,
+        &x,
+        from_line,
+        &y,
+        to_line,
+        here.context,
+    )?;
+    turns(world, variable, direction, &y, body, here)
+}
+
+/// Checks the bounds of a for statement, and assigns the first to its variable.
+#[tactic(auto, using(crate::proofs::Answers::stopped_then))]
+fn begin_turns(
+    world: &mut World,
+    variable: u32,
+    range: Range,
+    x: &Value,
+    from_line: u16,
+    y: &Value,
+    to_line: u16,
+    c: &Context,
+) -> Result<(), Halt>
+    ensures { Answers done_of (r.beginning variable range (value_of x.now) from_line (value_of y.now) to_line (context_of c.now) (world_of world.old)) result world.new }
+{
     check_bound(world, range, x, from_line, c)?;
     check_bound(world, range, y, to_line, c)?;
-    set_own(world, variable, x, c)?;
-    turns(world, variable, direction, y, body, c, fuel, depth)
+    set_own(world, variable, x, c)
 }
 
 /// A bound of a for statement fits its control variable; error 4 where it does not.
@@ -158,7 +161,7 @@ fn check_bound(
     bound: &Value,
     line: u16,
     c: &Context,
-) -> Result<(), Stop>
+) -> Result<(), Halt>
     ensures fits { OnOk result (fitting range (value_of bound.now) line (context_of c.now) (world_of world.now) ≡ Gives (value_of bound.now) (world_of world.now)) }
     ensures stopped { IfErr result (λ stop. Stopped (fitting range (value_of bound.now) line (context_of c.now) (world_of world.now)) stop world.now) }
 {
@@ -170,11 +173,11 @@ fn check_bound(
 }
 
 /// Assigns to a variable of the block itself.
-fn set_own(world: &mut World, variable: u32, value: &Value, c: &Context) -> Result<(), AllocError>
-    ensures { OnOk result (world_of world.new ≡ with_contents (world_of world.old) (own_spot variable (context_of c.now)) (value_of value.now)) }
+fn set_own(world: &mut World, variable: u32, value: &Value, c: &Context) -> Result<(), Halt>
+    ensures { Answers done_of (put (own_spot variable (context_of c.now)) (value_of value.now) (world_of world.old)) result world.new }
 {
-    let spot = spot_in(c.job.alloc, &c.env, variable)?;
-    world.put(&spot, value.copy(c.job.alloc)?)
+    let spot = spot_in(c.alloc, &c.env, variable)?;
+    world.put(&spot, value.copy(c.alloc)?)
 }
 
 /// The turns of a for statement, from the one that begins.
@@ -185,21 +188,23 @@ fn turns(
     direction: Direction,
     last: &Value,
     body: &Statement,
-    c: &Context,
-    fuel: u64,
-    depth: u32,
+    here: &Here,
 ) -> Result<(), Halt>
-    ensures { Runs done_of (turning c.now.job.now fuel variable direction (number_of (value_of last.now)) (statement_of body.now) (context_of c.now) (world_of world.old)) depth (levels c.now.job.now fuel (statement_height (statement_of body.now))) result world.new }
+    ensures { Runs done_of (turning here.now.job.now here.now.fuel variable direction (number_of (value_of last.now)) (statement_of body.now) (context_of here.now.context.now) (world_of world.old)) here.now.depth (levels here.now.job.now here.now.fuel (statement_height (statement_of body.now))) result world.new }
 {
-    let spot = spot_in(c.job.alloc, &c.env, variable)?;
-    let mut left = fuel;
+    let spot = spot_in(here.context.alloc, &here.context.env, variable)?;
+    let mut left = here.fuel;
     loop {
-        act(world, body, c, left, depth)?;
+        let turn = Here {
+            fuel: left,
+            ..*here
+        };
+        act(world, body, &turn)?;
         if left == 0 {
-            return Err(Halt::Stopped(used_up(world, c)));
+            return Err(used_up(world, here.context));
         }
         left -= 1;
-        if !advance(world, &spot, direction, last, c)? {
+        if !advance(world, &spot, direction, last, here.context)? {
             return Ok(());
         }
     }
@@ -213,10 +218,10 @@ fn advance(
     direction: Direction,
     last: &Value,
     c: &Context,
-) -> Result<bool, AllocError>
-    ensures { IfOk result (λ k. advancing (spot_of spot.now) direction (number_of (value_of last.now)) (world_of world.old) ≡ Gives k (world_of world.new)) }
+) -> Result<bool, Halt>
+    ensures { Answers truth_of (advancing (spot_of spot.now) direction (number_of (value_of last.now)) (world_of world.old)) result world.new }
 {
-    let x = world.contents(c.job.alloc, spot)?.number();
+    let x = world.contents(c.alloc, spot)?.number();
     if is_equal(x, last.number()) {
         return Ok(false);
     }

@@ -2,14 +2,14 @@
 
 ghost use Rattle.std.specs.Prelude.{◌≡◌, ◌++◌, ◌∷◌, [], map, get_or, IfOk, OnOk};
 ghost use Rattle.ps_tree.specs.View.{type_of, base_of};
-ghost use Rattle.ps_meaning.specs.Worlds.{above, frame_of, routine_in, env_in, contents_in, settled, no_spot, Gives, done};
+ghost use Rattle.ps_meaning.specs.Worlds.{contents_in, settled, no_spot, Gives, done};
 ghost use Rattle.ps_meaning.specs.Expressions as m;
 ghost use Rattle.ps_meaning.specs.Statements.{index_place};
 ghost use Rattle.ps_runner.specs.View.{listed, members_of_set, number_of_place, value_of, spot_of, computed_of};
 ghost use Rattle.ps_runner.specs.Worlds.{Answers, callee_env, callee_routine, context_of, env_of, world_of, actual_of, held_of, done_of, putting_fitting, putting_fitting_set, putting_contents, strings_compared};
 
 use crate::operators::{Computed, fits, interval, set_fits, strings_hold, truth};
-use crate::stop::Stop;
+use crate::stop::Halt;
 use crate::value::{Root, Spot, Value, text_values};
 use crate::world::{Context, Env, World, above, routine_above, spot_above};
 use ps_tree::tree::{PlaceBase, Range, Relation};
@@ -78,19 +78,19 @@ pub fn index_of(ty: &Ty) -> Ordinal
     }
 }
 
-/// The actual parameter that passes on a procedural or functional parameter of the frame so many frames out.
-#[tactic(auto, unfolding(crate::specs::Worlds::actual_of))]
-pub fn passed_on(c: &Context, up: u32, index: u32) -> Result<Actual, AllocError>
-    ensures { IfOk result (λ a. actual_of a ≡ m.RoutineActual (routine_in (frame_of (above (env_of c.now.env.value) up)) index) (env_in (frame_of (above (env_of c.now.env.value) up)) index)) }
-{
-    let (routine, parent) = routine_above(c, up, index)?;
-    Ok(Actual::Routine(routine, parent))
-}
-
 impl<'a> World<'a> {
+    /// The actual parameter that passes on a routine.
+    #[tactic(auto, unfolding(crate::specs::Worlds::actual_of))]
+    pub fn passed(&self, callee: Callee, c: &Context) -> Result<Actual, Halt>
+        ensures { Answers actual_of (Gives (m.RoutineActual (callee_routine callee (context_of c.now)) (callee_env callee (context_of c.now))) (world_of self.now)) result self.now }
+    {
+        let (routine, parent) = callee.found(c)?;
+        Ok(Actual::Routine(routine, parent))
+    }
+
     /// What was computed, or its error at a line.
     #[tactic(auto, using(crate::proofs::Answers::stops), unfolding(crate::specs::View::value_of))]
-    pub fn settled(&self, computed: Computed, line: u16, c: &Context) -> Result<Value, Stop>
+    pub fn settled(&self, computed: Computed, line: u16, c: &Context) -> Result<Value, Halt>
         ensures { Answers value_of (settled (computed_of computed) line (context_of c.now) (world_of self.now)) result self.now }
     {
         match computed {
@@ -108,7 +108,7 @@ impl<'a> World<'a> {
         x: i32,
         line: u16,
         c: &Context,
-    ) -> Result<Spot, Stop>
+    ) -> Result<Spot, Halt>
         ensures { Answers spot_of (m.component_of (spot_of spot) index x line (context_of c.now) (world_of self.now)) result self.now }
     {
         if index.low <= x && x <= index.high {
@@ -120,7 +120,7 @@ impl<'a> World<'a> {
 
     /// The number of an index's component; error 5 for one outside the index type.
     #[tactic(auto, using(crate::proofs::Answers::stops))]
-    pub fn index_place(&self, index: Ordinal, x: i32, line: u16, c: &Context) -> Result<u32, Stop>
+    pub fn index_place(&self, index: Ordinal, x: i32, line: u16, c: &Context) -> Result<u32, Halt>
         ensures { Answers number_of_place (index_place index x line (context_of c.now) (world_of self.now)) result self.now }
     {
         if index.low <= x && x <= index.high {
@@ -132,11 +132,11 @@ impl<'a> World<'a> {
 
     /// The object that a pointer points to; error 6 for nil.
     #[tactic(auto, using(crate::proofs::Answers::stops), unfolding(crate::specs::View::value_of))]
-    pub fn object_of(&self, value: Value, line: u16, c: &Context) -> Result<Spot, Stop>
+    pub fn object_of(&self, value: Value, line: u16, c: &Context) -> Result<Spot, Halt>
         ensures { Answers spot_of (m.object_of (value_of value) line (context_of c.now) (world_of self.now)) result self.now }
     {
         match value {
-            Value::Object(object) => Ok(Spot::entire(c.job.alloc, Root::Made(object))),
+            Value::Object(object) => Ok(Spot::entire(c.alloc, Root::Made(object))),
             Value::Ordinal(_) | Value::Nil | Value::Set(_) | Value::Structure(_) => {
                 Err(self.fault(6, line, c))
             }
@@ -144,10 +144,10 @@ impl<'a> World<'a> {
     }
 
     /// The object that the pointer in a variable designates; error 6 for none.
-    pub fn target_of(&self, spot: &Spot, line: u16, c: &Context) -> Result<Spot, Stop>
+    pub fn target_of(&self, spot: &Spot, line: u16, c: &Context) -> Result<Spot, Halt>
         ensures { Answers spot_of (m.object_of (contents_in (world_of self.now) (spot_of spot.now)) line (context_of c.now) (world_of self.now)) result self.now }
     {
-        let pointer = self.contents(c.job.alloc, spot)?;
+        let pointer = self.contents(c.alloc, spot)?;
         self.object_of(pointer, line, c)
     }
 
@@ -157,8 +157,8 @@ impl<'a> World<'a> {
         ensures { IfOk result (λ s. spot_of s ≡ get_or (map spot_of c.now.opened.items) which no_spot) }
     {
         match c.opened.as_slice().get(which as usize) {
-            Some(spot) => spot.copy(c.job.alloc),
-            None => Ok(Spot::entire(c.job.alloc, Root::Declared(0))),
+            Some(spot) => spot.copy(c.alloc),
+            None => Ok(Spot::entire(c.alloc, Root::Declared(0))),
         }
     }
 
@@ -178,14 +178,14 @@ impl<'a> World<'a> {
         ensures { IfOk result (λ v. m.contents_of (held_of held.now) (world_of self.now) ≡ Gives (value_of v) (world_of self.now)) }
     {
         match held {
-            Held::Text(characters) => Ok(Value::Structure(text_values(c.job.alloc, characters)?)),
-            Held::Place(spot) => self.contents(c.job.alloc, spot),
+            Held::Text(characters) => Ok(Value::Structure(text_values(c.alloc, characters)?)),
+            Held::Place(spot) => self.contents(c.alloc, spot),
         }
     }
 
     /// A value that goes into a variable of this range; error 4 for one outside it.
     #[tactic(auto, using(crate::proofs::Answers::stops))]
-    pub fn fitting(&self, range: Range, value: Value, line: u16, c: &Context) -> Result<Value, Stop>
+    pub fn fitting(&self, range: Range, value: Value, line: u16, c: &Context) -> Result<Value, Halt>
         ensures { Answers value_of (m.fitting range (value_of value) line (context_of c.now) (world_of self.now)) result self.now }
     {
         if fits(range, &value) {
@@ -204,7 +204,7 @@ impl<'a> World<'a> {
         tests: Vec<bool>,
         line: u16,
         c: &Context,
-    ) -> Result<Value, Stop>
+    ) -> Result<Value, Halt>
         ensures { Answers value_of (m.fitting_set low high (listed tests.items) line (context_of c.now) (world_of self.now)) result self.now }
     {
         if set_fits(low, high, tests.as_slice()) {
@@ -216,13 +216,13 @@ impl<'a> World<'a> {
 
     /// The members from one number to another; error 8 outside 0..255.
     #[tactic(auto, using(crate::proofs::Answers::stops, crate::proofs::Values::listed_none))]
-    pub fn set_between(&self, x: i32, y: i32, line: u16, c: &Context) -> Result<Vec<bool>, Stop>
+    pub fn set_between(&self, x: i32, y: i32, line: u16, c: &Context) -> Result<Vec<bool>, Halt>
         ensures { Answers members_of_set (m.set_between x y line (context_of c.now) (world_of self.now)) result self.now }
     {
         if y < x {
-            Ok(Vec::new(c.job.alloc))
+            Ok(Vec::new(c.alloc))
         } else if 0 <= x && x <= 255 && 0 <= y && y <= 255 {
-            Ok(interval(c.job.alloc, x as u8, y as u8)?)
+            Ok(interval(c.alloc, x as u8, y as u8)?)
         } else {
             Err(self.fault(8, line, c))
         }
@@ -237,11 +237,11 @@ impl<'a> World<'a> {
         value: Value,
         line: u16,
         c: &Context,
-    ) -> Result<(), Stop>
+    ) -> Result<(), Halt>
         ensures { Answers done_of (putting_fitting (spot_of spot.now) range (value_of value) line (context_of c.now) (world_of self.old)) result self.new }
     {
         let fitting = self.fitting(range, value, line, c)?;
-        Ok(self.put(spot, fitting)?)
+        self.put(spot, fitting)
     }
 
     /// Assigns a set to a variable of a set type; error 8 for a member outside its base.
@@ -254,16 +254,16 @@ impl<'a> World<'a> {
         tests: Vec<bool>,
         line: u16,
         c: &Context,
-    ) -> Result<(), Stop>
+    ) -> Result<(), Halt>
         ensures { Answers done_of (putting_fitting_set (spot_of spot.now) low high (members_of_set tests) line (context_of c.now) (world_of self.old)) result self.new }
     {
         let fitting = self.fitting_set(low, high, tests, line, c)?;
-        Ok(self.put(spot, fitting)?)
+        self.put(spot, fitting)
     }
 
     /// Assigns the contents of an operand to a variable.
-    pub fn put_contents(&mut self, spot: &Spot, held: &Held, c: &Context) -> Result<(), AllocError>
-        ensures { OnOk result (putting_contents (spot_of spot.now) (held_of held.now) (world_of self.old) ≡ Gives done (world_of self.new)) }
+    pub fn put_contents(&mut self, spot: &Spot, held: &Held, c: &Context) -> Result<(), Halt>
+        ensures { Answers done_of (putting_contents (spot_of spot.now) (held_of held.now) (world_of self.old)) result self.new }
     {
         let value = self.contents_of(held, c)?;
         self.put(spot, value)
@@ -277,8 +277,8 @@ impl<'a> World<'a> {
         x: &Held,
         y: &Held,
         c: &Context,
-    ) -> Result<Value, AllocError>
-        ensures { IfOk result (λ v. strings_compared relation (held_of x.now) (held_of y.now) (world_of self.now) ≡ Gives (value_of v) (world_of self.now)) }
+    ) -> Result<Value, Halt>
+        ensures { Answers value_of (strings_compared relation (held_of x.now) (held_of y.now) (world_of self.now)) result self.now }
     {
         let left = self.contents_of(x, c)?;
         let right = self.contents_of(y, c)?;

@@ -14,9 +14,9 @@ ghost use Rattle.ps_runner.specs.Runs.{Runs, comparing, levels};
 
 use crate::expressions::{evaluate, evaluate_set, evaluate_truth, take_operand};
 use crate::operators::{Comparison, combine_truths, compute, is_member, sets_hold, truth};
-use crate::stop::{Halt, Stop};
+use crate::stop::Halt;
 use crate::value::Value;
-use crate::world::{Context, World};
+use crate::world::{Context, Here, World};
 use ps_tree::tree::{
     ArithmeticStep, BooleanOperator, Expr, Relation, SetExpr, SetRelation, Structure,
 };
@@ -46,16 +46,14 @@ pub fn calculate(
     world: &mut World,
     first: &Expr,
     steps: &[ArithmeticStep],
-    c: &Context,
-    fuel: u64,
-    depth: u32,
+    here: &Here,
 ) -> Result<Value, Halt>
-    ensures { Runs value_of (m.value (caller c.now.job.now fuel) (Tree.Arithmetic (expr_of first.now) (arithmetic_of steps.now)) (context_of c.now) (world_of world.old)) depth (levels c.now.job.now fuel (max (expr_height (expr_of first.now)) (steps_height (arithmetic_of steps.now)))) result world.new }
+    ensures { Runs value_of (m.value (caller here.now.job.now here.now.fuel) (Tree.Arithmetic (expr_of first.now) (arithmetic_of steps.now)) (context_of here.now.context.now) (world_of world.old)) here.now.depth (levels here.now.job.now here.now.fuel (max (expr_height (expr_of first.now)) (steps_height (arithmetic_of steps.now)))) result world.new }
 {
-    let mut x = evaluate(world, first, c, fuel, depth)?;
+    let mut x = evaluate(world, first, here)?;
     for step in steps {
-        let y = evaluate(world, &step.operand, c, fuel, depth)?;
-        x = calculated(world, step, &x, &y, c)?;
+        let y = evaluate(world, &step.operand, here)?;
+        x = calculated(world, step, &x, &y, here.context)?;
     }
     Ok(x.ordinal())
 }
@@ -67,7 +65,7 @@ fn calculated(
     x: &Value,
     y: &Value,
     c: &Context,
-) -> Result<Value, Stop>
+) -> Result<Value, Halt>
     ensures { Answers value_of (settled (compute step.now.operator (number_of (value_of x.now)) (number_of (value_of y.now))) step.now.line.number (context_of c.now) (world_of world.now)) result world.now }
 {
     let computed = compute(step.operator, x.number(), y.number());
@@ -82,15 +80,13 @@ pub fn combine(
     operator: BooleanOperator,
     first: &Expr,
     rest: &[Expr],
-    c: &Context,
-    fuel: u64,
-    depth: u32,
+    here: &Here,
 ) -> Result<Value, Halt>
-    ensures { Runs value_of (m.value (caller c.now.job.now fuel) (Tree.Logic operator (expr_of first.now) (operands_of rest.now)) (context_of c.now) (world_of world.old)) depth (levels c.now.job.now fuel (max (expr_height (expr_of first.now)) (operands_height (operands_of rest.now)))) result world.new }
+    ensures { Runs value_of (m.value (caller here.now.job.now here.now.fuel) (Tree.Logic operator (expr_of first.now) (operands_of rest.now)) (context_of here.now.context.now) (world_of world.old)) here.now.depth (levels here.now.job.now here.now.fuel (max (expr_height (expr_of first.now)) (operands_height (operands_of rest.now)))) result world.new }
 {
-    let mut x = evaluate_truth(world, first, c, fuel, depth)?;
+    let mut x = evaluate_truth(world, first, here)?;
     for operand in rest {
-        let y = evaluate_truth(world, operand, c, fuel, depth)?;
+        let y = evaluate_truth(world, operand, here)?;
         x = combine_truths(operator, x, y);
     }
     Ok(Value::truth(x))
@@ -98,75 +94,67 @@ pub fn combine(
 
 /// A relation between two ordinals or two pointers.
 #[cycle(run)]
-#[tactic(auto, using(crate::proofs::Answers::stopped_then, crate::proofs::Answers::halted_then, crate::proofs::Answers::runs_deeper), unfolding(crate::specs::View::value_of))]
+#[tactic(auto, using(crate::proofs::Answers::halted_then), unfolding(crate::specs::View::value_of))]
 pub fn compare(
     world: &mut World,
     comparison: Comparison,
     left: &Expr,
     right: &Expr,
-    c: &Context,
-    fuel: u64,
-    depth: u32,
+    here: &Here,
 ) -> Result<Value, Halt>
-    ensures { Runs value_of (comparing c.now.job.now fuel comparison (expr_of left.now) (expr_of right.now) (context_of c.now) (world_of world.old)) depth (levels c.now.job.now fuel (max (expr_height (expr_of left.now)) (expr_height (expr_of right.now)))) result world.new }
+    ensures { Runs value_of (comparing here.now.job.now here.now.fuel comparison (expr_of left.now) (expr_of right.now) (context_of here.now.context.now) (world_of world.old)) here.now.depth (levels here.now.job.now here.now.fuel (max (expr_height (expr_of left.now)) (expr_height (expr_of right.now)))) result world.new }
 {
-    let x = evaluate(world, left, c, fuel, depth)?;
-    let y = evaluate(world, right, c, fuel, depth)?;
+    let x = evaluate(world, left, here)?;
+    let y = evaluate(world, right, here)?;
     Ok(Value::truth(comparison.holds(&x, &y)))
 }
 
 /// A relation between two sets.
 #[cycle(run)]
-#[tactic(auto, using(crate::proofs::Answers::stopped_then, crate::proofs::Answers::halted_then, crate::proofs::Answers::runs_deeper), unfolding(crate::specs::View::value_of))]
+#[tactic(auto, using(crate::proofs::Answers::halted_then), unfolding(crate::specs::View::value_of))]
 pub fn compare_sets(
     world: &mut World,
     relation: SetRelation,
     left: &SetExpr,
     right: &SetExpr,
-    c: &Context,
-    fuel: u64,
-    depth: u32,
+    here: &Here,
 ) -> Result<Value, Halt>
-    ensures { Runs value_of (m.value (caller c.now.job.now fuel) (Tree.CompareSets relation (set_of left.now) (set_of right.now)) (context_of c.now) (world_of world.old)) depth (levels c.now.job.now fuel (max (set_height (set_of left.now)) (set_height (set_of right.now)))) result world.new }
+    ensures { Runs value_of (m.value (caller here.now.job.now here.now.fuel) (Tree.CompareSets relation (set_of left.now) (set_of right.now)) (context_of here.now.context.now) (world_of world.old)) here.now.depth (levels here.now.job.now here.now.fuel (max (set_height (set_of left.now)) (set_height (set_of right.now)))) result world.new }
 {
-    let x = evaluate_set(world, left, c, fuel, depth)?;
-    let y = evaluate_set(world, right, c, fuel, depth)?;
+    let x = evaluate_set(world, left, here)?;
+    let y = evaluate_set(world, right, here)?;
     Ok(Value::truth(sets_hold(relation, x.as_slice(), y.as_slice())))
 }
 
 /// A relation between two strings, whose contents are taken when both are accessed.
 #[cycle(run)]
-#[tactic(auto, using(crate::proofs::Answers::stopped_then, crate::proofs::Answers::halted_then, crate::proofs::Answers::runs_deeper))]
+#[tactic(auto, using(crate::proofs::Answers::halted_then, crate::proofs::Answers::answers_run))]
 pub fn compare_strings(
     world: &mut World,
     relation: Relation,
     left: &Structure,
     right: &Structure,
-    c: &Context,
-    fuel: u64,
-    depth: u32,
+    here: &Here,
 ) -> Result<Value, Halt>
-    ensures { Runs value_of (m.value (caller c.now.job.now fuel) (Tree.CompareStrings relation (structure_of left.now) (structure_of right.now)) (context_of c.now) (world_of world.old)) depth (levels c.now.job.now fuel (max (structure_height (structure_of left.now)) (structure_height (structure_of right.now)))) result world.new }
+    ensures { Runs value_of (m.value (caller here.now.job.now here.now.fuel) (Tree.CompareStrings relation (structure_of left.now) (structure_of right.now)) (context_of here.now.context.now) (world_of world.old)) here.now.depth (levels here.now.job.now here.now.fuel (max (structure_height (structure_of left.now)) (structure_height (structure_of right.now)))) result world.new }
 {
-    let x = take_operand(world, left, c, fuel, depth)?;
-    let y = take_operand(world, right, c, fuel, depth)?;
-    Ok(world.strings_compared(relation, &x, &y, c)?)
+    let x = take_operand(world, left, here)?;
+    let y = take_operand(world, right, here)?;
+    world.strings_compared(relation, &x, &y, here.context)
 }
 
 /// `in`.
 #[cycle(run)]
-#[tactic(auto, using(crate::proofs::Answers::stopped_then, crate::proofs::Answers::halted_then, crate::proofs::Answers::runs_deeper), unfolding(crate::specs::View::value_of))]
+#[tactic(auto, using(crate::proofs::Answers::halted_then), unfolding(crate::specs::View::value_of))]
 pub fn test_member(
     world: &mut World,
     left: &Expr,
     right: &SetExpr,
-    c: &Context,
-    fuel: u64,
-    depth: u32,
+    here: &Here,
 ) -> Result<Value, Halt>
-    ensures { Runs value_of (m.value (caller c.now.job.now fuel) (Tree.In (expr_of left.now) (set_of right.now)) (context_of c.now) (world_of world.old)) depth (levels c.now.job.now fuel (max (expr_height (expr_of left.now)) (set_height (set_of right.now)))) result world.new }
+    ensures { Runs value_of (m.value (caller here.now.job.now here.now.fuel) (Tree.In (expr_of left.now) (set_of right.now)) (context_of here.now.context.now) (world_of world.old)) here.now.depth (levels here.now.job.now here.now.fuel (max (expr_height (expr_of left.now)) (set_height (set_of right.now)))) result world.new }
 {
-    let x = evaluate(world, left, c, fuel, depth)?.number();
-    let s = evaluate_set(world, right, c, fuel, depth)?;
+    let x = evaluate(world, left, here)?.number();
+    let s = evaluate_set(world, right, here)?;
     Ok(Value::truth(is_member(x, s.as_slice())))
 }

@@ -11,7 +11,7 @@ ghost use Rattle.ps_runner.specs.Procedures.{world_made};
 
 use crate::cost::passes_heap;
 use crate::ending::Ending;
-use crate::stop::Stop;
+use crate::stop::Halt;
 use crate::value::{Spot, Value, copy_all, first};
 use crate::world::{Context, Job, World};
 use ps_tree::types::Ordinal;
@@ -29,15 +29,23 @@ fn first_object(job: &Job, pointer: u32) -> Result<Value, AllocError>
 }
 
 impl<'a> World<'a> {
-    /// A new object with its first value; an end for heap where its bytes would pass it.
+    /// Assigns a new object with its first value; an end for heap where its bytes would pass it.
     #[tactic(auto, using(crate::proofs::Answers::stops))]
-    pub fn new_object(&mut self, pointer: u32, line: u16, c: &Context) -> Result<Value, Stop>
-        ensures { (n : ℕ) → Answers value_of (r.making c.now.job.now n pointer line (world_of self.old)) result self.new }
+    pub fn put_object(
+        &mut self,
+        spot: &Spot,
+        pointer: u32,
+        line: u16,
+        c: &Context,
+        job: &Job,
+    ) -> Result<(), Halt>
+        ensures { (n : ℕ) → Answers done_of (r.putting_object job.now n (spot_of spot.now) pointer line (world_of self.old)) result self.new }
     {
-        if passes_heap(c.job, self.made.as_slice(), pointer) {
-            return Err(self.ended(Ending::Heap { line }, &c.calls, c.job.alloc));
+        if passes_heap(job, self.made.as_slice(), pointer) {
+            return Err(self.ended(Ending::Heap { line }, &c.calls, c.alloc));
         }
-        Ok(self.make(pointer, c.job)?)
+        let object = self.make(pointer, job)?;
+        self.put(spot, object)
     }
 
     /// A new object with its first value.
@@ -144,15 +152,15 @@ impl<'a> World<'a> {
         to: Ordinal,
         line: u16,
         c: &Context,
-    ) -> Result<(), Stop>
+    ) -> Result<(), Halt>
         ensures { Answers done_of (r.packing (spot_of a.now) from k (spot_of z.now) to line (context_of c.now) (world_of self.old)) result self.new }
     {
         let count = to.value_count();
         if from.value_count() < u64::from(k) + count {
             return Err(self.fault(5, line, c));
         }
-        let value = self.packed(c.job.alloc, a, k, count)?;
-        Ok(self.put(z, value)?)
+        let value = self.packed(c.alloc, a, k, count)?;
+        self.put(z, value)
     }
 
     /// Unpacks an array into the components of another from a place on; error 5 where there are too few of them.
@@ -166,13 +174,13 @@ impl<'a> World<'a> {
         k: u32,
         line: u16,
         c: &Context,
-    ) -> Result<(), Stop>
+    ) -> Result<(), Halt>
         ensures { Answers done_of (r.unpacking (spot_of z.now) from (spot_of a.now) to k line (context_of c.now) (world_of self.old)) result self.new }
     {
         if to.value_count() < u64::from(k) + from.value_count() {
             return Err(self.fault(5, line, c));
         }
-        let value = self.unpacked(c.job.alloc, z, a, k)?;
-        Ok(self.put(a, value)?)
+        let value = self.unpacked(c.alloc, z, a, k)?;
+        self.put(a, value)
     }
 }

@@ -16,8 +16,8 @@ ghost use Rattle.ps_runner.specs.Runs.{Runs, levels, shown};
 
 use crate::calls::do_block;
 use crate::ending::Ending;
-use crate::stop::{Halt, Stop};
-use crate::world::{Context, Env, Input, Job, Numbers, World};
+use crate::stop::Halt;
+use crate::world::{Context, Env, Here, Input, Job, Numbers, World};
 use ps_tree::program::Checked;
 use std::alloc::{AllocError, Global};
 use std::rc::Rc;
@@ -80,29 +80,34 @@ fn outside(alloc: Global) -> Result<Rc<Env>, AllocError>
 }
 
 /// The context before a run.
-fn first_context<'a>(job: &'a Job<'a>) -> Result<Context<'a>, AllocError>
-    ensures context { IfOk result (λ k. context_of k ≡ m.first_context) }
-    ensures job { IfOk result (λ k. k.job.now ≡ job.now) }
+fn first_context(alloc: Global) -> Result<Context, AllocError>
+    ensures { IfOk result (λ k. context_of k ≡ m.first_context) }
 {
     Ok(Context {
-        job,
-        env: outside(job.alloc)?,
-        opened: Vec::new(job.alloc),
-        active: no_numbers(job.alloc)?,
-        calls: no_numbers(job.alloc)?,
+        alloc,
+        env: outside(alloc)?,
+        opened: Vec::new(alloc),
+        active: no_numbers(alloc)?,
+        calls: no_numbers(alloc)?,
     })
 }
 
 /// Does the program block.
-#[tactic(auto, using(crate::proofs::Heights::body_within))]
+#[tactic(auto, using(crate::proofs::Heights::body_within, crate::proofs::Answers::stopped_halts))]
 fn run_job(world: &mut World, job: &Job, fuel: u64, depth: u32) -> Result<(), Halt>
     ensures { Runs done_of (caller job.now fuel 0 Outside [] m.first_context (world_of world.old)) depth (levels job.now fuel 0) result world.new }
 {
-    let c = first_context(job)?;
+    let c = first_context(job.alloc)?;
     let parent = outside(job.alloc)?;
     let calls = no_numbers(job.alloc)?;
-    let (body, inner) = world.enter_with(0, parent, &[], calls, &c)?;
-    do_block(world, body, &inner, fuel, depth)
+    let (body, inner) = world.enter_with(0, parent, &[], calls, &c, job)?;
+    let here = Here {
+        job,
+        context: &inner,
+        fuel,
+        depth,
+    };
+    do_block(world, body, &here)
 }
 
 /// How a run on an input went.
@@ -118,12 +123,12 @@ fn run_on(job: &Job, input: &[u8], fuel: u64, depth: u32) -> Result<Ran, Refusal
             ending: Ending::Normal,
             calls: Vec::new(job.alloc),
         }),
-        Err(Halt::Stopped(Stop::Ended { ending, calls })) => Ok(Ran {
+        Err(Halt::Ended { ending, calls }) => Ok(Ran {
             transcript: world.transcript,
             ending,
             calls,
         }),
-        Err(Halt::Stopped(Stop::OutOfMemory)) => Err(Refusal::OutOfMemory),
+        Err(Halt::OutOfMemory) => Err(Refusal::OutOfMemory),
         Err(Halt::TooDeep) => Err(Refusal::TooDeep),
     }
 }

@@ -163,7 +163,6 @@ pub fn boolean_text(b: bool) -> &'static [u8]
 }
 
 /// A text right-aligned in a field of so many characters, wider if needed.
-#[tactic(auto, using(crate::proofs::Written::replicate_next))]
 pub fn right_aligned(alloc: Global, width: u32, text: &[u8]) -> Result<Vec<u8>, AllocError>
     ensures { IfOk result (λ v. v.items ≡ right_aligned width text.now) }
 {

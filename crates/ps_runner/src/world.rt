@@ -3,12 +3,12 @@
 ghost use Rattle.std.specs.Prelude.{◌≡◌, ◌+◌, ◌<◌, ◌≤◌, ◌∷◌, map, IfOk, OnOk, MatchOption, length};
 ghost use Rattle.ps_meaning.specs.Values as v;
 ghost use Rattle.ps_meaning.specs.Statements.{with_opened};
-ghost use Rattle.ps_meaning.specs.Worlds.{above, frame_of, spot_in, routine_in, env_in, contents_in, with_contents, value_at_root, with_new, says, unset, no_spot, Outside};
+ghost use Rattle.ps_meaning.specs.Worlds.{above, frame_of, spot_in, routine_in, env_in, contents_in, with_contents, put, write_text, value_at_root, with_new, says, unset, no_spot, Outside};
 ghost use Rattle.ps_runner.specs.View.{value_of, root_of, spot_of};
-ghost use Rattle.ps_runner.specs.Worlds.{context_of, env_of, entries_of, entry_spot, entry_routine, entry_env, numbers_of, world_of, ending_of, Stopped, ends, faults};
+ghost use Rattle.ps_runner.specs.Worlds.{context_of, env_of, entries_of, entry_spot, entry_routine, entry_env, numbers_of, world_of, done_of, ending_of, Answers, Stopped, ends, faults};
 
 use crate::ending::Ending;
-use crate::stop::Stop;
+use crate::stop::Halt;
 use crate::value::{Root, Spot, Value, part, with_part};
 use ps_tree::program::Checked;
 use std::alloc::{AllocError, Global};
@@ -53,12 +53,21 @@ pub enum Numbers {
 /// Where an expression or a statement stands: its environment, the records that `with` opened round it, the routines
 /// whose blocks are open, and the lines of the calls that are open, each the innermost first.
 #[derive(Drop)]
-pub struct Context<'a> {
-    pub job: &'a Job<'a>,
+pub struct Context {
+    pub alloc: Global,
     pub env: Rc<Env>,
     pub opened: Vec<Spot>,
     pub active: Rc<Numbers>,
     pub calls: Rc<Numbers>,
+}
+
+/// Where a part of a run is done: of what job, in what context, with so much fuel and at most so many levels.
+#[derive(Clone, Copy)]
+pub struct Here<'a> {
+    pub job: &'a Job<'a>,
+    pub context: &'a Context,
+    pub fuel: u64,
+    pub depth: u32,
 }
 
 /// The input that is left; whether its first byte, or the end, was looked at; and whether a line was begun.
@@ -135,7 +144,7 @@ pub fn spot_above(c: &Context, up: u32, index: u32) -> Result<Spot, AllocError>
     ensures { IfOk result (λ s. spot_of s ≡ spot_in (frame_of (above (env_of c.now.env.value) up)) index) }
 {
     let env = above(&c.env, up)?;
-    spot_in(c.job.alloc, &env, index)
+    spot_in(c.alloc, &env, index)
 }
 
 /// The routine that a name of the innermost frame stands for, with its environment.
@@ -156,7 +165,7 @@ pub fn routine_above(c: &Context, up: u32, index: u32) -> Result<(u32, Rc<Env>),
     ensures env { IfOk result (λ r. env_of r.1.value ≡ env_in (frame_of (above (env_of c.now.env.value) up)) index) }
 {
     let env = above(&c.env, up)?;
-    routine_in(c.job.alloc, &env, index)
+    routine_in(c.alloc, &env, index)
 }
 
 impl Numbers {
@@ -228,17 +237,15 @@ impl<'a> World<'a> {
     }
 
     /// Assigns to the variable at a spot.
-    pub fn put(&mut self, spot: &Spot, value: Value) -> Result<(), AllocError>
-        ensures { OnOk result (world_of self.new ≡ with_contents (world_of self.old) (spot_of spot.now) (value_of value)) }
+    pub fn put(&mut self, spot: &Spot, value: Value) -> Result<(), Halt>
+        ensures { Answers done_of (put (spot_of spot.now) (value_of value) (world_of self.old)) result self.new }
     {
         let path = spot.path.as_slice();
         match spot.root {
-            Root::Declared(name) => self.put_declared(name, path, value),
-            Root::Made(object) => {
-                self.put_made(object, path, value);
-                Ok(())
-            }
+            Root::Declared(name) => self.put_declared(name, path, value)?,
+            Root::Made(object) => self.put_made(object, path, value),
         }
+        Ok(())
     }
 
     /// A new variable with a value; its name.
@@ -257,15 +264,22 @@ impl<'a> World<'a> {
         Ok(name)
     }
 
-    /// Writes bytes.
+    /// Bytes more in the transcript.
     #[tactic(auto, using(std::proofs::lemmas::List::take_more))]
-    pub fn write(&mut self, bytes: &[u8]) -> Result<(), AllocError>
+    fn say(&mut self, bytes: &[u8]) -> Result<(), AllocError>
         ensures { OnOk result (world_of self.new ≡ says (world_of self.old) bytes.now) }
     {
         for byte in bytes {
             self.transcript.push(u16::from(*byte))?;
         }
         Ok(())
+    }
+
+    /// Writes bytes.
+    pub fn write(&mut self, bytes: &[u8]) -> Result<(), Halt>
+        ensures { Answers done_of (write_text bytes.now (world_of self.old)) result self.new }
+    {
+        Ok(self.say(bytes)?)
     }
 }
 
@@ -287,20 +301,20 @@ impl Numbers {
 
 impl<'a> World<'a> {
     /// The end of the run, with the lines of the calls that are open; or the want of memory for them.
-    pub fn ended(&self, ending: Ending, calls: &Numbers, alloc: Global) -> Stop
+    pub fn ended(&self, ending: Ending, calls: &Numbers, alloc: Global) -> Halt
         ensures { Stopped (ends (ending_of ending (numbers_of calls.now)) (world_of self.now)) result self.now }
     {
         match calls.listed(alloc) {
-            Ok(calls) => Stop::Ended { ending, calls },
-            Err(_) => Stop::OutOfMemory,
+            Ok(calls) => Halt::Ended { ending, calls },
+            Err(_) => Halt::OutOfMemory,
         }
     }
 
     /// The end with an error at a line.
-    pub fn fault(&self, number: u16, line: u16, c: &Context) -> Stop
+    pub fn fault(&self, number: u16, line: u16, c: &Context) -> Halt
         ensures { Stopped (faults number line (context_of c.now) (world_of self.now)) result self.now }
     {
-        self.ended(Ending::Error { number, line }, &c.calls, c.job.alloc)
+        self.ended(Ending::Error { number, line }, &c.calls, c.alloc)
     }
 }
 
@@ -316,16 +330,15 @@ fn copy_spots(alloc: Global, spots: &[Spot]) -> Result<Vec<Spot>, AllocError>
     Ok(copies)
 }
 
-impl<'a> Context<'a> {
+impl Context {
     /// The same context.
-    pub fn copy(&self) -> Result<Context<'a>, AllocError>
-        ensures context { IfOk result (λ k. context_of k ≡ context_of self.now) }
-        ensures job { IfOk result (λ k. k.job.now ≡ self.now.job.now) }
+    pub fn copy(&self) -> Result<Context, AllocError>
+        ensures { IfOk result (λ k. context_of k ≡ context_of self.now) }
     {
         Ok(Context {
-            job: self.job,
+            alloc: self.alloc,
             env: self.env.clone()?,
-            opened: copy_spots(self.job.alloc, self.opened.as_slice())?,
+            opened: copy_spots(self.alloc, self.opened.as_slice())?,
             active: self.active.clone()?,
             calls: self.calls.clone()?,
         })
@@ -334,8 +347,7 @@ impl<'a> Context<'a> {
     /// A record more is opened.
     #[tactic(auto)]
     pub fn open(&mut self, spot: Spot) -> Result<(), AllocError>
-        ensures context { OnOk result (context_of self.new ≡ with_opened (spot_of spot ∷ map spot_of self.old.opened.items) (context_of self.old)) }
-        ensures job { self.new.job.now ≡ self.old.job.now }
+        ensures { OnOk result (context_of self.new ≡ with_opened (spot_of spot ∷ map spot_of self.old.opened.items) (context_of self.old)) }
     {
         self.opened.insert(0, spot)?;
         Ok(())

@@ -1,7 +1,7 @@
 use Rattle.std.proofs.Common.{◌≡◌, get_or, rules}
 use Rattle.ps_runner.specs.Worlds.{world_of}
 use Rattle.ps_runner.proofs.Worlds.{says_more}
-use Rattle.ps_runner.proofs.world.World.write.Goals as goal
+use Rattle.ps_runner.proofs.world.World.say.Goals as goal
 
 pub loop-byte-preserved : goal.loop-byte-preserved
 loop-byte-preserved c =
