@@ -4,11 +4,13 @@
 //! text is lowered to, and `--steps` counts its instructions. What a run costs is unknown to both: they look at no stack and no heap. Behind a
 //! first word `slots` it runs an image in which each temporary has a slot of the frame. The input is read whole before the run, and the output
 //! written whole after it. Behind `phases` it runs nothing: it takes the text of standard input through the phases of the compiler, up to the one that
-//! the next word names: `read`, `scan`, `parse`, `check`, `lower`, `place`, `emit` or `write`.
+//! the next word names: `read`, `scan`, `parse`, `check`, `lower`, `place`, `emit` or `write`. Behind `tables` it answers the rows of tables on standard input:
+//! what single calls of the compiler's layers give.
 #![tactic(auto)]
 
 mod front;
 mod phases;
+mod rows;
 mod runs;
 mod session;
 

@@ -1,6 +1,7 @@
 // One call of the program: its words, its files, and what it tells.
 
 use crate::phases::take_standard_input;
+use crate::rows::answer_all;
 use crate::runs::{Fault, Limits, Runner, Shown, run_text};
 use pascal_cli::{
     Counted, Job, TEXT_LIMIT, Task, asked, put_all, read_file, read_standard_input, tell, texts,
@@ -13,7 +14,7 @@ use std::rt::{Env, Files};
 // The most that is read of an input.
 const INPUT_LIMIT: usize = 16_777_216;
 
-// The status of words that ask for an image.
+// The status of words that ask for an image, and of rows that end with a fault.
 const FAILED: u8 = 1;
 
 // The status of a run that the host could not hold.
@@ -39,7 +40,16 @@ fn run_texts<R: Files + Print + Eprint + Input + AllocGlobal>(rt: &R, texts: &[&
         ["code", others @ ..] => run_job(rt, Runner::Code, others),
         ["slots", others @ ..] => run_job(rt, Runner::Slots, others),
         ["phases", last] => take_standard_input(rt, last),
+        ["tables"] => take_rows(rt),
         _ => run_job(rt, Runner::Meaning, texts),
+    }
+}
+
+// Answers rows to their end, or to a fault of either stream.
+fn take_rows<R: Print + Input + AllocGlobal>(rt: &R) -> u8 {
+    match answer_all(rt) {
+        Ok(()) => 0,
+        Err(_) => FAILED,
     }
 }
 

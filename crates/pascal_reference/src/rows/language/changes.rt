@@ -1,7 +1,7 @@
 //! What the statements of a program change.
 
-use crate::check::checked;
-use crate::words::{or_none, put};
+use crate::rows::language::check::checked;
+use crate::rows::language::words::{or_none, put};
 use ps_changes::assigned::assigns;
 use ps_changes::control::control_variables;
 use ps_changes::place::Entries;

@@ -1,6 +1,6 @@
 //! Words of the processor.
 
-use crate::texts::hexadecimal;
+use crate::rows::code::texts::hexadecimal;
 use risc_word::{decode, encode, print};
 use std::alloc::{AllocError, Global};
 

@@ -1,6 +1,6 @@
 //! Tokens, and what they stand for.
 
-use crate::words::{letters, or_none, put, put_bytes, yes_or_no};
+use crate::rows::language::words::{letters, or_none, put, put_bytes, yes_or_no};
 use ps_regions::refusal::CheckRefusal;
 use ps_scan::{
     ScanRefusal, Token, is_same_name, name_spelling, number_value, scan, string_length,

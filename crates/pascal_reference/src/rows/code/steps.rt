@@ -1,7 +1,7 @@
 //! Single steps of the processor.
 
-use crate::machines::{closed, machine_of, put_held, state_of};
-use crate::texts::{hexadecimal, number, word};
+use crate::rows::code::machines::{closed, machine_of, put_held, state_of};
+use crate::rows::code::texts::{hexadecimal, number, word};
 use risc_machine::{Machine, run};
 use std::alloc::{AllocError, Global};
 use std::str::SplitWhitespace;

@@ -1,5 +1,4 @@
-//! What the public calls of ps_build and of the command say of the rows of their tables.
-#![tactic(auto)]
+// What the public calls of ps_build and of the command say of the rows of their tables.
 
 mod command_line;
 mod devices;
@@ -9,8 +8,6 @@ mod transfers;
 
 use programs::{Job, untold};
 use std::alloc::{AllocError, Global};
-use std::io;
-use tables::{Answers, answer_rows};
 
 /// What is asked of a row, by the name of its table.
 #[derive(Clone, Copy)]
@@ -32,13 +29,22 @@ enum Table {
 
 /// The table that the rows are of, and what is told of the next run.
 #[derive(Drop)]
-struct Command {
+pub struct CommandRows {
     table: Table,
     job: Job,
 }
 
-impl Answers for Command {
-    fn begin(&mut self, table: &str) {
+impl CommandRows {
+    /// Nothing is told yet.
+    pub fn new() -> CommandRows {
+        CommandRows {
+            table: Table::Unknown,
+            job: untold(),
+        }
+    }
+
+    /// A table begins; whether it is one of these.
+    pub fn begin(&mut self, table: &str) -> bool {
         self.table = match table {
             "build" => Table::Build,
             "go" => Table::Go,
@@ -54,14 +60,16 @@ impl Answers for Command {
             "texts" => Table::Texts,
             _ => Table::Unknown,
         };
+        !matches!(self.table, Table::Unknown)
     }
 
-    fn tell(&mut self, word: &str, rest: &str, _text: Vec<u8>) -> Result<(), AllocError> {
+    /// A line tells something of the next run.
+    pub fn tell(&mut self, word: &str, rest: &str) {
         self.job.tell(word, rest);
-        Ok(())
     }
 
-    fn answer(&mut self, alloc: Global, text: &[u8]) -> Result<String, AllocError> {
+    /// What is to be shown of a row.
+    pub fn answer(&mut self, alloc: Global, text: &[u8]) -> Result<String, AllocError> {
         let job = self.job;
         self.job = untold();
         let words = str::from_utf8(text).unwrap_or("");
@@ -81,12 +89,4 @@ impl Answers for Command {
             Table::Texts => transfers::went(alloc, words),
         }
     }
-}
-
-fn main(rt: HostRuntime) -> io::Result<()> {
-    let mut answers = Command {
-        table: Table::Unknown,
-        job: untold(),
-    };
-    answer_rows(&rt, &mut answers)
 }

@@ -1,6 +1,6 @@
 //! The fields of instructions, as rows write them.
 
-use crate::texts::{long_number, number, word};
+use crate::rows::code::texts::{long_number, number, word};
 use std::alloc::{AllocError, Global};
 use std::str::SplitWhitespace;
 use tac_code::code::{Base, BitOperator, Constant, Operand, Operands, Operator, Relation};

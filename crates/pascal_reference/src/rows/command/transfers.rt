@@ -1,6 +1,6 @@
 //! Whole texts and images, read and written.
 
-use crate::devices::{Broken, Drip, Narrow};
+use crate::rows::command::devices::{Broken, Drip, Narrow};
 use pascal_cli::{Counted, ReadFault, put_all, read_up_to};
 use ps_build::{Budget, go};
 use risc_machine::Streams;

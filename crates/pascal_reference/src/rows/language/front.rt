@@ -1,7 +1,7 @@
 //! What the scanner and the parser make of program texts.
 
-use crate::shown::Shown;
-use crate::tokens;
+use crate::rows::language::shown::Shown;
+use crate::rows::language::tokens;
 use ps_parse::{ParseRefusal, parse};
 use ps_scan::scan;
 use ps_syntax::{Program, height};

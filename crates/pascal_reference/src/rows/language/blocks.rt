@@ -1,9 +1,9 @@
 //! What the layers of the checker make of the block of a program, each called by itself. Of the required names only `integer`,
 //! `char` and `Boolean` are known here.
 
-use crate::front::program;
-use crate::types::{fields, relation, sizes};
-use crate::words::{or_none, put};
+use crate::rows::language::front::program;
+use crate::rows::language::types::{fields, relation, sizes};
+use crate::rows::language::words::{or_none, put};
 use ps_declare::declarations::declarations;
 use ps_declare::frame::{Declared, Frame};
 use ps_declare::points::add_block;

@@ -1,5 +1,4 @@
-//! What three-address code, its homes, and the words, the machine and the images of the processor say of the rows of their tables.
-#![tactic(auto)]
+// What three-address code, its homes, and the words, the machine and the images of the processor say of the rows of their tables.
 
 mod devices;
 mod fields;
@@ -16,8 +15,6 @@ mod words;
 
 use job::{Job, untold};
 use std::alloc::{AllocError, Global};
-use std::io;
-use tables::{Answers, answer_rows};
 use texts::letters;
 
 /// What is asked of a row, by the name of its table.
@@ -43,13 +40,22 @@ enum Table {
 
 /// The table that the rows are of, and what is told of the next one.
 #[derive(Drop)]
-struct Codes {
+pub struct CodeRows {
     table: Table,
     job: Job,
 }
 
-impl Answers for Codes {
-    fn begin(&mut self, table: &str) {
+impl CodeRows {
+    /// Nothing is told yet.
+    pub fn new(alloc: Global) -> CodeRows {
+        CodeRows {
+            table: Table::Unknown,
+            job: untold(alloc),
+        }
+    }
+
+    /// A table begins; whether it is one of these.
+    pub fn begin(&mut self, table: &str) -> bool {
         self.table = match table {
             "code" => Table::Code,
             "printed" => Table::Printed,
@@ -57,24 +63,27 @@ impl Answers for Codes {
             "homes" => Table::Homes,
             "registers" => Table::Scanned,
             "slots" => Table::Slotted,
-            "words" => Table::Words,
+            "instructions" => Table::Words,
             "steps" => Table::Steps,
-            "runs" => Table::Runs,
+            "machines" => Table::Runs,
             "streams" => Table::Streamed,
             "devices" => Table::Devices,
             "starts" => Table::Started,
-            "images" => Table::Images,
+            "views" => Table::Images,
             "written" => Table::Written,
             "loads" => Table::Loaded,
             _ => Table::Unknown,
         };
+        !matches!(self.table, Table::Unknown)
     }
 
-    fn tell(&mut self, word: &str, rest: &str, text: Vec<u8>) -> Result<(), AllocError> {
+    /// A line tells something of the next row.
+    pub fn tell(&mut self, word: &str, rest: &str, text: Vec<u8>) -> Result<(), AllocError> {
         self.job.tell(word, rest, text)
     }
 
-    fn answer(&mut self, alloc: Global, text: &[u8]) -> Result<String, AllocError> {
+    /// What is to be shown of a row.
+    pub fn answer(&mut self, alloc: Global, text: &[u8]) -> Result<String, AllocError> {
         let row = letters(text);
         let answer = match self.table {
             Table::Unknown => String::from_str(alloc, "no such table"),
@@ -97,12 +106,4 @@ impl Answers for Codes {
         self.job = untold(alloc);
         answer
     }
-}
-
-fn main(rt: HostRuntime) -> io::Result<()> {
-    let mut answers = Codes {
-        table: Table::Unknown,
-        job: untold(rt.alloc()),
-    };
-    answer_rows(&rt, &mut answers)
 }

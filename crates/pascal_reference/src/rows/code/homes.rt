@@ -1,8 +1,8 @@
 //! Homes for the temporaries of three-address code.
 
-use crate::job::Job;
-use crate::programs::code;
-use crate::texts::number;
+use crate::rows::code::job::Job;
+use crate::rows::code::programs::code;
+use crate::rows::code::texts::number;
 use risc_alloc::homes::{Home, PlaceRefusal, Raw};
 use risc_alloc::placement::Placement;
 use risc_alloc::placer::{EverySlot, Placer};

@@ -1,7 +1,7 @@
 //! What is told of a row.
 
-use crate::homes::home_of;
-use crate::texts::{long_number, number};
+use crate::rows::code::homes::home_of;
+use crate::rows::code::texts::{long_number, number};
 use risc_alloc::homes::Home;
 use std::alloc::{AllocError, Global};
 

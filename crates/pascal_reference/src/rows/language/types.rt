@@ -1,6 +1,6 @@
 //! Types: how two are related, their sizes, and the fields of records.
 
-use crate::words::put;
+use crate::rows::language::words::put;
 use ps_tree::types::{Fields, Ty, assignable, compatible};
 use std::alloc::{AllocError, Global};
 

@@ -1,7 +1,7 @@
 //! What the checker says of program texts.
 
-use crate::words::put;
-use crate::{front, tokens};
+use crate::rows::language::words::put;
+use crate::rows::language::{front, tokens};
 use ps_check::check;
 use ps_parse::parse;
 use ps_regions::refusal::CheckRefusal;

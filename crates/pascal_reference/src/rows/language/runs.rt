@@ -1,7 +1,7 @@
 //! What the slow runner shows of runs, and how they end.
 
-use crate::check::checked;
-use crate::words::{number, or_none, put, put_bytes};
+use crate::rows::language::check::checked;
+use crate::rows::language::words::{number, or_none, put, put_bytes};
 use ps_runner::ending::Ending;
 use ps_runner::run::{
     Budget, Ran, Refusal, output, reference, reference_to_depth, reference_within, trail,

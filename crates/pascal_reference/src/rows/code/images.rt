@@ -1,8 +1,8 @@
 //! Images, read, written and loaded.
 
-use crate::job::Job;
-use crate::runs::told;
-use crate::texts::put_bytes;
+use crate::rows::code::job::Job;
+use crate::rows::code::runs::told;
+use crate::rows::code::texts::put_bytes;
 use risc_image::{CallRow, FrameRow, ImageView, Parts, write};
 use risc_load::{Budget, load};
 use std::alloc::{AllocError, Global};

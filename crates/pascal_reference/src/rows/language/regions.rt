@@ -1,6 +1,6 @@
 //! The search for a name through two regions.
 
-use crate::words::letters;
+use crate::rows::language::words::letters;
 use ps_regions::meaning::Meaning;
 use ps_regions::scope::{Found, Lookup, Scope, find};
 use ps_scan::name_spelling;

@@ -1,6 +1,6 @@
 //! Texts within the limits, their lines, and slices of them.
 
-use crate::words::{letters, number, put_bytes, put_number};
+use crate::rows::language::words::{letters, number, put_bytes, put_number};
 use ps_text::{LineTable, Source, Span};
 use std::alloc::{AllocError, Global};
 

@@ -1,8 +1,8 @@
 //! Runs of the processor.
 
-use crate::job::Job;
-use crate::machines::{State, machine_of, nothing, put_held, state_of};
-use crate::texts::{hexadecimals, put_bytes};
+use crate::rows::code::job::Job;
+use crate::rows::code::machines::{State, machine_of, nothing, put_held, state_of};
+use crate::rows::code::texts::{hexadecimals, put_bytes};
 use risc_machine::{Fused, Machine, Stop, Streams, run};
 use std::alloc::{AllocError, Global};
 

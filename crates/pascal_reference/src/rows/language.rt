@@ -1,5 +1,4 @@
-//! What the front of the compiler, the checker's layers and the slow runner say of the texts of their tables.
-#![tactic(auto)]
+// What the front of the compiler, the checker's layers and the reference interpreter say of the texts of their tables.
 
 mod blocks;
 mod changes;
@@ -16,8 +15,6 @@ mod words;
 use blocks::Asked;
 use runs::{Job, untold};
 use std::alloc::{AllocError, Global};
-use std::io;
-use tables::{Answers, answer_rows};
 
 /// What is asked of a row's text, by the name of its table.
 #[derive(Clone, Copy)]
@@ -43,13 +40,22 @@ enum Table {
 
 /// The table that the rows are of, and what is told of the next run.
 #[derive(Drop)]
-struct Pascal {
+pub struct LanguageRows {
     table: Table,
     job: Job,
 }
 
-impl Answers for Pascal {
-    fn begin(&mut self, table: &str) {
+impl LanguageRows {
+    /// Nothing is told yet.
+    pub fn new(alloc: Global) -> LanguageRows {
+        LanguageRows {
+            table: Table::Unknown,
+            job: untold(alloc),
+        }
+    }
+
+    /// A table begins; whether it is one of these.
+    pub fn begin(&mut self, table: &str) -> bool {
         self.table = match table {
             "lengths" => Table::Lengths,
             "lines" => Table::Lines,
@@ -74,13 +80,16 @@ impl Answers for Pascal {
             "outputs" => Table::Outputs,
             _ => Table::Unknown,
         };
+        !matches!(self.table, Table::Unknown)
     }
 
-    fn tell(&mut self, word: &str, rest: &str, text: Vec<u8>) -> Result<(), AllocError> {
+    /// A line tells something of the next run.
+    pub fn tell(&mut self, word: &str, rest: &str, text: Vec<u8>) -> Result<(), AllocError> {
         self.job.tell(word, rest, text)
     }
 
-    fn answer(&mut self, alloc: Global, text: &[u8]) -> Result<String, AllocError> {
+    /// What is to be shown of a row.
+    pub fn answer(&mut self, alloc: Global, text: &[u8]) -> Result<String, AllocError> {
         let answer = match self.table {
             Table::Unknown => String::from_str(alloc, "no such table"),
             Table::Lengths => texts::length(alloc, text),
@@ -103,12 +112,4 @@ impl Answers for Pascal {
         self.job = untold(alloc);
         answer
     }
-}
-
-fn main(rt: HostRuntime) -> io::Result<()> {
-    let mut answers = Pascal {
-        table: Table::Unknown,
-        job: untold(rt.alloc()),
-    };
-    answer_rows(&rt, &mut answers)
 }

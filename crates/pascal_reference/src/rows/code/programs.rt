@@ -1,8 +1,8 @@
 //! Three-address code: whether it keeps its invariant, its printed form, and its runs.
 
-use crate::instructions::instruction;
-use crate::job::Job;
-use crate::texts::{number, word};
+use crate::rows::code::instructions::instruction;
+use crate::rows::code::job::Job;
+use crate::rows::code::texts::{number, word};
 use std::alloc::{AllocError, Global};
 use tac_code::code::{Body, TacRaw, TacRoutine};
 use tac_code::print::print;
