@@ -13,47 +13,15 @@ import shutil
 import signal
 
 import kit
+import stubs
 import verdicts
+from functions import functions_of, module_of
 
-HEADER = re.compile(r"^( *)(?:pub(?:\([^)]*\))? )?(?:const )?(?:unsafe )?fn (\w+)")
-OWNER = re.compile(r"^impl\b(?:<[^>]*>)? (?:.* for )?(?:&'?\w* ?)?(\w+)")
 # what the kit says of a proof that names what an edit took away, and of what rests on that
 TAKEN_AWAY = r"has no field|is not in scope|has no `|was not admitted"
 # and of what is refused only for what it rests on
 OF_OTHERS = r"which (?:is|are|was|were) not (?:proved|admitted)"
 PLACE = re.compile(r"(?:(?:note|warning): )?(?:\./)?(src/\S+?\.rt):(\d+):\d+: (.*)")
-
-
-class Function:
-    """A function of a source file, and its type, if it is a method; of its lines, counted from 0: the first of its attributes and comments, its header, the
-    first of its body, and its last."""
-
-    def __init__(self, name, owner, top, header, body, last):
-        self.name, self.owner, self.top, self.header, self.body, self.last = name, owner, top, header, body, last
-
-
-def functions_of(text):
-    """The functions of a file in the layout of `rt fmt`, in which a body opens at the end of a header or on a line of its own, and closes below it."""
-    found, owner, lines = [], None, text.split("\n")
-    for at, line in enumerate(lines):
-        if OWNER.match(line):
-            owner = OWNER.match(line)[1]
-        header = HEADER.match(line)
-        if not header or len(header[1]) > 4:
-            continue
-        space = header[1]
-        closed = next((it for it in range(at, len(lines)) if lines[it] == f"{space}}}"), at)
-        opens = (f"{space}{{", f"{space})")
-        body = at if line.endswith("{") else next((it for it in range(at, closed) if lines[it].startswith(opens) and lines[it].endswith("{")), closed)
-        found.append(Function(header[2], owner if space else None, top_of(lines, at), at, body, closed))
-    return found
-
-
-def top_of(lines, at):
-    """The first line of what stands above a header and belongs to it: a blank line, or the opening of a block, ends it."""
-    while at and lines[at - 1].strip() and not lines[at - 1].endswith(("{", "}", ";")):
-        at -= 1
-    return at
 
 
 def puts_body(text, function, old, new):
@@ -139,16 +107,23 @@ def names_of(places, functions):
 
 
 def side_by_side(edits, crate):
-    """As many of the edits as can stand in one copy, and that copy's texts: no two of one function, each text still there once."""
-    group, texts, taken = [], {}, set()
+    """As many of the edits as can stand in one copy, and that copy's texts: no two of one function, none of a function that another's calls, each text still there
+    once."""
+    group, texts, taken, sources = [], {}, set(), stubs.texts_of(crate)
     for edit in edits:
-        if edit.places is None or edit.places & taken:
+        if edit.places is None or edit.places & taken or any(calls(it, edit, sources) or calls(edit, it, sources) for it in group):
             continue
         made = edit.apply(texts, crate)
         if made is not None:
             group.append(edit)
             texts, taken = made, taken | edit.places
     return group, texts
+
+
+def calls(one, other, sources):
+    """Whether a function that an edit changes, or one in a cycle of calls with it, seems to call one that another changes, which is in no cycle with it."""
+    cycles = stubs.cycles_of(sources, one.places) & stubs.cycles_of(sources, other.places)
+    return not cycles and any(stubs.names(text, place) for text in stubs.bodies_of(sources, one.places) for place in other.places)
 
 
 def refused_at(said, texts, crate):
@@ -178,11 +153,6 @@ def by_proof_files(said, spans):
             yield path, (of[0][0], of[0][1].name, of[0][1].owner)
 
 
-def module_of(at):
-    """The names of the module that a file of src/ holds."""
-    return [it for it in at[4:-3].split("/") if it not in ("lib", "main", "mod")]
-
-
 def names_match(at, function, above, last, member):
     """Whether a folder of proofs/ is a function's: by its whole path, or, in a cycle, by its type or module and the name before its answers' names."""
     if last.startswith("+"):
@@ -193,54 +163,75 @@ def names_match(at, function, above, last, member):
 class Work:
     """What the trials of a crate's edits have proved so far, which those that follow need not prove again, in a folder that is made empty here."""
 
-    def __init__(self, crate):
-        self.crate, self.at = crate, f"{crate.folder}/out/tried"
+    def __init__(self, crate, flags):
+        self.crate, self.flags, self.at = crate, flags, f"{crate.folder}/out/tried"
         self.empty()
 
     def empty(self):
         self.remove()
         os.makedirs(self.at)
-        self.is_sound = None
+        self.is_held = False
 
     def remove(self):
         shutil.rmtree(self.at, ignore_errors=True)
+        shutil.rmtree(self.copy_at(), ignore_errors=True)
 
-    def checked(self, texts, names, flags):
-        """The check of functions of the crate with these texts in place of its own. One that is killed, most likely for memory, is made once more, and from nothing,
-        since it may have left something half written."""
-        words = [*flags, *(word for it in names for word in ("--only", it))]
-        ran = kit.rt().checked(self.crate, texts, words, self.at)
+    def copy_at(self):
+        return f"{self.crate.folder}/out/stubbed"
+
+    def checked(self, stubbed, texts, names):
+        """The check of functions of a copy with these texts. One that is killed, most likely for memory, is made once more, and from nothing, since it may have left
+        something half written."""
+        words = [*self.flags, *(word for it in names for word in ("--only", it))]
+        ran = kit.rt().checked(stubbed.crate, texts, words, self.at)
         if ran.returncode != -signal.SIGKILL:
             return ran
         self.empty()
-        return kit.rt().checked(self.crate, texts, words, self.at)
-
-    def holds(self, edits, flags):
-        """Whether the functions at which edits are to be tried are proved over it without the edits, so that what is then refused is the edits' doing."""
-        names = sorted({name for it in edits for name in [*(it.names or []), it.at] if name})
-        if self.is_sound is None and names:
-            ran = self.checked({}, names, flags)
-            self.is_sound = not ran.returncode
-            if ran.returncode:
-                print(f"without the edits it is not proved: {ran.stdout[-400:]}", flush=True)
-        return bool(names and self.is_sound)
+        return kit.rt().checked(stubbed.crate, texts, words, self.at)
 
 
-def round_of(work, edits, flags):
-    """Tries edits together and returns those that are refused, each with what was said."""
-    group, texts = side_by_side(edits, work.crate)
-    if not group:
+def beside(work, edits):
+    """Tries edits in twins of their functions, which nothing calls, all in one check, and returns those that are refused, each with what was said. A twin of each
+    such function as it is has to be proved by the same check."""
+    sources, twins, names = stubs.texts_of(work.crate), {}, {}
+    for number, it in enumerate(edits):
+        place = next(iter(it.places or ()), None)
+        if place and len(it.places) == 1 and stubs.can_have_twin(sources, place):
+            twins[it] = stubs.Twin(it.apply({}, work.crate), place, f"{place[1]}_edited{number}")
+            twins[place] = stubs.Twin(sources, place, f"{place[1]}_as_it_is")
+            names[it], names[place] = (re.sub(r"\w+$", twins[of].name, it.names[0]) for of in (it, place))
+    if not twins:
         return {}
-    said = work.checked(texts, [name for it in group for name in it.names], flags)
-    if said.returncode != 1 or not re.match(r"only=\d+", last_line(said)):
-        print(f"a round of edits told nothing: {said.stdout[-400:]}", flush=True)
+    stubbed = stubs.Stubbed(work.crate, work.copy_at(), set(), [*twins.values()])
+    texts = stubbed.texts({})
+    said = work.checked(stubbed, texts, [*names.values()])
+    found = refused_at(said.stdout, texts, work.crate) if told_something(said) else {}
+    done = {it: found[twins[it].place] for it in edits if it in twins and twins[it].place in found and is_proved(said, work.crate, names[twins[it].of])}
+    print(f"of {len(twins)} functions beside others, edited or not, {len(done)} are refused", flush=True)
+    return done
+
+
+def told_something(said):
+    """Whether a check of functions came to an end, and did not prove all."""
+    if said.returncode == 1 and re.match(r"only=\d+", last_line(said)):
+        return True
+    print(f"a check of edits told nothing: {said.stdout[-400:]}", flush=True)
+    return False
+
+
+def is_proved(said, crate, name):
+    return f"fn {crate.name}::{name}: proved\n" in said.stdout
+
+
+def round_of(stubbed, work, edits):
+    """Tries edits together in their places and returns those that are refused, each with what was said."""
+    group, edited = side_by_side(edits, work.crate)
+    texts = stubbed.texts(edited)
+    said = work.checked(stubbed, texts, [name for it in group for name in it.names]) if group else None
+    if not (group and told_something(said)):
         return {}
     found = refused_at(said.stdout, texts, work.crate)
-    done = {}
-    for edit in group:
-        at = next((it for it in edit.places if it in found), None)
-        if at:
-            done[edit] = found[at]
+    done = {edit: found[place] for edit in group for place in edit.places if place in found}
     print(f"a round of {len(group)} edits refused {len(done)}", flush=True)
     return done
 
@@ -279,13 +270,19 @@ def tried(crate, edit, flags):
     return kind if kit.is_before_keeping() else kind in (rt.REFUSED, rt.AT_LIMIT), said
 
 
-def named(work, edit, flags):
+def names_in(edit):
+    """The functions at which an edit is tried by itself."""
+    return [edit.at] if edit.at else edit.names or []
+
+
+def named(stubbed, work, edit):
     """Tries an edit at its function, and returns why that, or what it calls, is not proved: then the crate is not, either. None where that is not told, or only
     because a proof names what the edit took away."""
-    texts, names = edit.apply({}, work.crate), [edit.at] if edit.at else edit.names
-    if not (texts and names):
+    edited, names = edit.apply({}, work.crate), names_in(edit)
+    if not (edited and names):
         return None
-    ran = work.checked(texts, names, flags)
+    texts = stubbed.texts(edited)
+    ran = work.checked(stubbed, texts, names)
     lines = ran.stdout.split("\n")
     # (which counts what the function calls, too)
     told = re.match(r"only=(\d+) proved=(\d+)", last_line(ran))
@@ -356,7 +353,7 @@ def keep(crate, edit, told):
 def try_anew(crate, edits, flags):
     """Tries edits of which the store knows nothing, and keeps there those that are refused."""
     told, spent = {}, Spent()
-    for it, why in refused_by_name(crate, edits, flags, spent):
+    for it, why in refused_by_name(Work(crate, flags), edits, spent):
         told[it.path] = keep(crate, it, (True, f"must-fail {crate.name}/{it.name}: refused, as it must be: {why[:160]}"))
     for it in edits:
         if it.path not in told:
@@ -366,22 +363,40 @@ def try_anew(crate, edits, flags):
     return told
 
 
-def refused_by_name(crate, edits, flags, spent):
-    """Yields the edits that are refused at functions, each with what was said. The first round begins with nothing. Before any trial over what that left, the
-    functions of the edits that are not settled are proved over it."""
-    work, left = Work(crate), edits
-    while True:
-        done = round_of(work, left, flags)
+def refused_by_name(work, edits, spent):
+    """Yields the edits that are refused at functions, each with what was said: those beside their functions first, then those that are tried in their places, and
+    at last each of those that are left by itself."""
+    done = beside(work, edits)
+    spent.part(f"{len(done)} of {len(edits)} beside their functions")
+    yield from done.items()
+    left = [it for it in edits if it not in done and names_in(it)]
+    places = {place for it in left for place in [*(it.places or ()), *stubs.places_of(work.crate, names_in(it))]}
+    stubbed = stubs.Stubbed(work.crate, work.copy_at(), places) if left else None
+    while left:
+        left = held(stubbed, work, left, spent)
+        done = round_of(stubbed, work, left)
         spent.part(f"a round that refused {len(done)} of {len(left)}")
         yield from done.items()
         left = [it for it in left if it not in done]
-        is_sound = work.holds(left, flags)
-        spent.part("the functions of those left, without the edits")
-        if not (done and is_sound and len(left) > 1):
+        if not done:
             break
     for it in left:
-        why = work.holds(left, flags) and named(work, it, flags)
+        why = held(stubbed, work, [it], spent) and named(stubbed, work, it)
         spent.part(f"{it.name} at its function")
         if why:
             yield it, why
     work.remove()
+
+
+def held(stubbed, work, edits, spent):
+    """Those of the edits whose functions are proved in a copy without the edits, over what earlier trials left, so that what is refused with them is the edits'
+    doing."""
+    names = sorted({name for it in edits for name in names_in(it)})
+    if work.is_held or not names:
+        return edits
+    said = work.checked(stubbed, stubbed.texts({}), names)
+    work.is_held = True
+    if said.returncode:
+        print(f"without the edits it is not proved: {said.stdout[-400:]}", flush=True)
+    spent.part("the functions of those left, without the edits")
+    return [it for it in edits if all(is_proved(said, work.crate, name) or not said.returncode for name in names_in(it))]

@@ -1,0 +1,57 @@
+"""The functions of a source file in the layout of `rt fmt`: their names, their lines, and where their proofs lie."""
+
+import re
+
+HEADER = re.compile(r"^( *)(?:pub(?:\([^)]*\))? )?(const )?(?:unsafe )?fn (\w+)")
+OWNER = re.compile(r"^impl\b(?:<[^>]*>)? (.* for )?(?:&'?\w* ?)?(\w+)")
+# what else holds functions
+HOLDER = re.compile(r"^(?:pub(?:\([^)]*\))? )?(?:trait|mod|unsafe extern|macro_rules!)\b.*\{$")
+CYCLE = re.compile(r"^ *#\[cycle\((\w+)\)\]$")
+
+
+class Function:
+    """A function of a source file, and its type, if it is a method; of its lines, counted from 0: the first of its attributes and comments, its header, the
+    first of its body, and its last; the cycle of calls that it is marked as a member of, if any; whether it is a trait's method; and whether its body, below its
+    header, can be another: not that of a constant function, nor one that a macro or a trait gives."""
+
+    def __init__(self, name, owner, lines, at, body, last):
+        self.name, self.owner, self.header, self.body, self.last = name, owner, at, body, last
+        self.top = top_of(lines, at)
+        self.cycle = next((CYCLE.match(it)[1] for it in lines[self.top : at] if CYCLE.match(it)), None)
+        self.is_of_trait, self.has_body = False, False
+
+
+def functions_of(text):
+    """The functions of a file in the layout of `rt fmt`, in which a body opens at the end of a header or on a line of its own, and closes below it."""
+    found, owner, is_of_trait, is_held, lines = [], None, False, False, text.split("\n")
+    for at, line in enumerate(lines):
+        if OWNER.match(line):
+            is_of_trait, owner, is_held = bool(OWNER.match(line)[1]), OWNER.match(line)[2], False
+        elif HOLDER.match(line):
+            is_held = True
+        header = HEADER.match(line)
+        if not header or len(header[1]) > 4:
+            continue
+        space = header[1]
+        closed = next((it for it in range(at, len(lines)) if lines[it] == f"{space}}}"), at)
+        opens = (f"{space}{{", f"{space})")
+        body = at if line.endswith("{") else next((it for it in range(at, closed) if lines[it].startswith(opens) and lines[it].endswith("{")), closed)
+        function = Function(header[3], owner if space else None, lines, at, body, closed)
+        # (a header that ends in its own line, as `fn f() {}` or a trait's, would take the next one's body)
+        ends = any(HEADER.match(it) for it in lines[at + 1 : body]) or line.endswith(("}", ";"))
+        function.is_of_trait = bool(space) and is_of_trait
+        function.has_body = not (space and is_held or header[2] or ends) and body < closed
+        found.append(function)
+    return found
+
+
+def top_of(lines, at):
+    """The first line of what stands above a header and belongs to it: a blank line, or the opening of a block, ends it."""
+    while at and lines[at - 1].strip() and not lines[at - 1].endswith(("{", "}", ";")):
+        at -= 1
+    return at
+
+
+def module_of(at):
+    """The names of the module that a file of src/ holds."""
+    return [it for it in at[4:-3].split("/") if it not in ("lib", "main", "mod")]

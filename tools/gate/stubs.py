@@ -1,0 +1,165 @@
+"""The copy of a crate in which edits are tried.
+
+What a proof reads of the functions that its function calls is their contracts. So all functions of the copy but those that are asked about have a body that
+never returns: it meets any contract, has next to nothing to prove, and needs no answers. The members of a cycle of calls are proved together, so they keep
+their bodies where one of them is asked about. What is edited is refused for itself only where the copy without the edits is proved.
+"""
+
+import copy
+import os
+import re
+import shutil
+
+from functions import CYCLE, functions_of, module_of
+
+PARTS = ("src", "specs", "proofs")
+# (what asks for lemmas, which a stub needs not)
+TACTIC = re.compile(r"^ *#\[tactic\(.*\)\]$")
+BODY = "crate::returns_never()"
+# The function that never returns, by one of C that is said to keep what nothing keeps: nothing of the copy is ever built.
+NEVER = """
+unsafe extern "C" {
+    safe fn keeps_what_nothing_keeps()
+        ensures nothing { ⊥ };
+}
+
+#[tactic(auto)]
+fn returns_never() -> ! {
+    keeps_what_nothing_keeps();
+    unreachable!()
+}
+"""
+
+
+def texts_of(crate):
+    """The sources of a crate, by their paths."""
+    found = {}
+    for at, _, names in os.walk(f"{crate.folder}/src"):
+        for name in names:
+            path = os.path.join(at, name)
+            with open(path, encoding="utf-8") as file:
+                found[os.path.relpath(path, crate.folder)] = file.read()
+    return found
+
+
+def all_functions(sources):
+    """The functions of sources, each with its place: its file, name and type."""
+    return [((at, it.name, it.owner), it) for at, text in sources.items() for it in functions_of(text)]
+
+
+def cycles_of(sources, places):
+    """The cycles of calls of which functions at these places are members."""
+    return {it.cycle for place, it in all_functions(sources) if place in places} - {None}
+
+
+def bodies_of(sources, places):
+    """The bodies of the functions at these places, and of those in cycles with them."""
+    cycles = cycles_of(sources, places)
+    for place, it in all_functions(sources):
+        if place in places or it.cycle in cycles:
+            yield "\n".join(sources[place[0]].split("\n")[it.body : it.last])
+
+
+def names(text, place):
+    """Whether a body seems to call the function at a place."""
+    _, name, owner = place
+    before = rf"(?:\.|\b{owner}::|\bSelf::)" if owner else r"(?<![.\w])"
+    return bool(re.search(rf"{before}{name}(?:::<[^>]*>)?\(", text))
+
+
+def places_of(crate, names):
+    """The places of the functions with these names below the crate, where they have such."""
+    return {place for place, _ in all_functions(texts_of(crate)) if "::".join([*module_of(place[0]), *([place[2]] if place[2] else []), place[1]]) in names}
+
+
+class Twin:
+    """A function under a name of its own beside the one that it was made of, with an edit made in it, or as it is."""
+
+    def __init__(self, sources, place, name):
+        at, was, self.owner = place
+        self.of, self.at, self.name = place, at, name
+        self.place = at, name, self.owner
+        own = next(it for it in functions_of(sources[at]) if (it.name, it.owner) == place[1:])
+        lines = sources[at].split("\n")
+        lines[own.header] = lines[own.header].replace(f"fn {was}", f"fn {name}", 1)
+        self.lines = lines[own.top : own.last + 1]
+
+
+def can_have_twin(sources, place):
+    """Whether the function at a place can have a twin: it is no trait's and calls itself neither at once nor in a cycle."""
+    own = [it for it in functions_of(sources[place[0]]) if (it.name, it.owner) == place[1:]]
+    return len(own) == 1 and own[0].has_body and not (own[0].is_of_trait or own[0].cycle or any(names(it, place) for it in bodies_of(sources, {place})))
+
+
+class Stubbed:
+    """A copy of a crate, in a folder that is made here, in which only the functions at some places, as (file, name, type), have their own bodies, and twins stand
+    beside their functions."""
+
+    def __init__(self, crate, folder, places, twins=()):
+        self.places, self.twins, self.proofs = places, twins, f"{folder}/proofs"
+        self.crate = copy.copy(crate)
+        self.crate.folder, self.crate.has_c = folder, True
+        shutil.rmtree(folder, ignore_errors=True)
+        for part in PARTS:
+            if os.path.isdir(f"{crate.folder}/{part}"):
+                shutil.copytree(f"{crate.folder}/{part}", f"{folder}/{part}")
+        self.own = texts_of(crate)
+        self.cycles = cycles_of(self.own, places)
+        for twin in twins:
+            self.copy_answers(twin)
+        for place, function in all_functions(self.own):
+            if not self.keeps(place, function):
+                self.drop_answers(place, function.cycle)
+
+    def keeps(self, place, function):
+        """Whether a function keeps its body."""
+        return not function.has_body or function.cycle in self.cycles or place in self.places
+
+    def answers_of(self, place):
+        """The folders below proofs/ that hold the proof of a function's body, and those of its closures."""
+        at, name, owner = place
+        own = [owner, name] if owner else [*module_of(at), name]
+        closures = [*own[:-1], "fn", name]
+        for folder, _, _ in os.walk(self.proofs):
+            parts = os.path.relpath(folder, self.proofs).split("/")
+            # (a method lies below its type's module, which may be another than its file's)
+            if parts in (own, closures) or owner and parts[-2:] == own or owner and parts[-3:] == closures:
+                yield folder
+
+    def drop_answers(self, place, cycle):
+        """Removes the proof of a function's own body, and that of the cycle of which it was a member."""
+        of_cycle = [at for at, _, _ in os.walk(self.proofs) if cycle and at.endswith(f"/+{cycle}")]
+        for folder in [*self.answers_of(place), *of_cycle]:
+            shutil.rmtree(folder, ignore_errors=True)
+
+    def copy_answers(self, twin):
+        """Gives a twin the proof of the function that it was made of."""
+        for folder in [*self.answers_of(twin.of)]:
+            to = f"{os.path.dirname(folder)}/{twin.name}"
+            was, new = (os.path.relpath(it, self.proofs).replace("/", ".") for it in (folder, to))
+            shutil.copytree(folder, to)
+            for at, _, files in os.walk(to):
+                for name in files:
+                    with open(f"{at}/{name}", encoding="utf-8") as file:
+                        text = file.read()
+                    with open(f"{at}/{name}", "w", encoding="utf-8") as file:
+                        file.write(text.replace(f".proofs.{was}.", f".proofs.{new}."))
+
+    def texts(self, edited):
+        """The texts of the copy, with these ones of edits in place of the crate's own."""
+        made = {at: self.with_stubs(at, text) for at, text in {**self.own, **edited}.items() if at.startswith("src/")}
+        root = "src/main.rt" if "src/main.rt" in made else "src/lib.rt"
+        made[root] += NEVER
+        return {**edited, **made}
+
+    def with_stubs(self, at, text):
+        lines = text.split("\n")
+        for it in reversed(functions_of(text)):
+            place = (at, it.name, it.owner)
+            twins = [line for twin in self.twins if twin.of == place for line in ["", *twin.lines]]
+            lines[it.last + 1 : it.last + 1] = twins
+            if not self.keeps(place, it):
+                space = re.match(" *", lines[it.header])[0]
+                above = [line for line in lines[it.top : it.header] if not (CYCLE.match(line) or TACTIC.match(line))]
+                lines[it.top : it.last] = [*above, *lines[it.header : it.body + 1], f"{space}    {BODY}"]
+        return "\n".join(lines)
