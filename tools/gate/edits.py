@@ -145,7 +145,7 @@ def refused_at(said, texts, crate):
 def by_proof_files(said, spans):
     """The functions whose own answers or lemmas in proofs/ are refused: those of a function lie in a folder of its path, and those of a cycle in a folder
     of their own, each answer named by its function."""
-    refused = re.findall(r"(?m)^(?:\./)?proofs/(\S+)/[A-Z]\w+\.antt:\d+:\d+: error: (?!.*(?:is not in scope|has no|was not admitted))(?:`(\w+)-)?", said)
+    refused = re.findall(r"(?m)^(?:\./)?proofs/(\S+)/[A-Z]\w+\.antt:\d+:\d+: error: (?!.*(?:is not in scope|has no|was not admitted))(?:`((?:\w+::)*\w+)-)?", said)
     for path, member in dict.fromkeys(refused):
         *above, last = path.split("/")
         of = [(at, it) for at, functions in spans.items() for it in functions if names_match(at, it, above, last, member)]
@@ -154,10 +154,11 @@ def by_proof_files(said, spans):
 
 
 def names_match(at, function, above, last, member):
-    """Whether a folder of proofs/ is a function's: by its whole path, or, in a cycle, by its type or module and the name before its answers' names."""
-    if last.startswith("+"):
-        return function.name == member and above[-1:] == [function.owner or module_of(at)[-1]]
-    return [*above, last] == [*module_of(at), *([function.owner] if function.owner else []), function.name]
+    """Whether a folder of proofs/ is a function's: by its whole path, or, in a cycle, by that of its member before its answers' names. (A method lies below its
+    type's module, which may be another than its file's.)"""
+    path = [*above, *(member.split("::") if last.startswith("+") else [last])]
+    own = [function.owner, function.name] if function.owner else [function.name]
+    return path == [*module_of(at), *own] or bool(function.owner) and path[-2:] == own
 
 
 class Work:

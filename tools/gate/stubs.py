@@ -82,13 +82,27 @@ class Twin:
         own = next(it for it in functions_of(sources[at]) if (it.name, it.owner) == place[1:])
         lines = sources[at].split("\n")
         lines[own.header] = lines[own.header].replace(f"fn {was}", f"fn {name}", 1)
-        self.lines = lines[own.top : own.last + 1]
+        self.cycle = own.cycle
+        self.lines = [it for it in lines[own.top : own.last + 1] if not CYCLE.match(it)]
 
 
 def can_have_twin(sources, place):
-    """Whether the function at a place can have a twin: it is no trait's and calls itself neither at once nor in a cycle."""
+    """Whether the function at a place can have a twin: it has a body and is no trait's."""
     own = [it for it in functions_of(sources[place[0]]) if (it.name, it.owner) == place[1:]]
-    return len(own) == 1 and own[0].has_body and not (own[0].is_of_trait or own[0].cycle or any(names(it, place) for it in bodies_of(sources, {place})))
+    return len(own) == 1 and own[0].has_body and not own[0].is_of_trait
+
+
+def answers_of_member(text, member):
+    """Of the answers of a cycle of calls those of one member, as if it were in none: its twin calls what stands for the others, and itself. The names of a member's
+    goals begin with its own, and their answers take what is known of the cycle first."""
+    head, *blocks = re.split(r"(?m)^(?=(?:--.*\n)*(?:abbrev )?pub )", text)
+    own = []
+    for block in blocks:
+        name = re.match(rf"(?:--.*\n)*(?:abbrev )?pub ((invariant-|decreases-|){re.escape(member)}-(\S+)) :", block)
+        if name:
+            new = name[2] + name[3]
+            own.append(re.sub(rf"(?m)^({re.escape(new)}) t\b", r"\1", re.sub(rf"(?<![\w-]){re.escape(name[1])}(?![\w-])", new, block)))
+    return head + "".join(own) if own else None
 
 
 class Stubbed:
@@ -136,14 +150,29 @@ class Stubbed:
         """Gives a twin the proof of the function that it was made of."""
         for folder in [*self.answers_of(twin.of)]:
             to = f"{os.path.dirname(folder)}/{twin.name}"
-            was, new = (os.path.relpath(it, self.proofs).replace("/", ".") for it in (folder, to))
             shutil.copytree(folder, to)
             for at, _, files in os.walk(to):
                 for name in files:
-                    with open(f"{at}/{name}", encoding="utf-8") as file:
-                        text = file.read()
-                    with open(f"{at}/{name}", "w", encoding="utf-8") as file:
-                        file.write(text.replace(f".proofs.{was}.", f".proofs.{new}."))
+                    self.rewrite(f"{at}/{name}", f"{at}/{name}", folder, to, None)
+        for at in [it for it, _, _ in os.walk(self.proofs) if twin.cycle and it.endswith(f"/+{twin.cycle}")]:
+            above = os.path.relpath(os.path.dirname(at), self.proofs).split("/")
+            module = module_of(twin.at)
+            # (the answers of a cycle through several modules name each member with its own)
+            beyond = module[len([it for it in above if it != "."]) :] if not twin.owner else []
+            to = "/".join([os.path.dirname(at), *beyond, twin.name])
+            for name in os.listdir(at):
+                self.rewrite(f"{at}/{name}", f"{to}/{name}", at, to, "::".join([*beyond, twin.of[1]]))
+
+    def rewrite(self, source, target, folder, to, member):
+        """Writes a file of a proof for a twin, whose folder is another; of a cycle's, what is of one member."""
+        with open(source, encoding="utf-8") as file:
+            text = file.read()
+        text = answers_of_member(text, member) if member else text
+        was, new = (os.path.relpath(it, self.proofs).replace("/", ".") for it in (folder, to))
+        if text is not None:
+            os.makedirs(to, exist_ok=True)
+            with open(target, "w", encoding="utf-8") as file:
+                file.write(text.replace(f".proofs.{was}.", f".proofs.{new}."))
 
     def texts(self, edited):
         """The texts of the copy, with these ones of edits in place of the crate's own."""
