@@ -107,11 +107,11 @@ def names_of(places, functions):
 
 
 def side_by_side(edits, crate):
-    """As many of the edits as can stand in one copy, and that copy's texts: no two of one function, none of a function that another's calls, each text still there
-    once."""
+    """As many of the edits as can stand in one copy, and that copy's texts: none that names the function at which it must fail, no two of one function, none of a
+    function that another's calls, each text still there once."""
     group, texts, taken, sources = [], {}, set(), stubs.texts_of(crate)
     for edit in edits:
-        if edit.places is None or edit.places & taken or any(calls(it, edit, sources) or calls(edit, it, sources) for it in group):
+        if edit.places is None or edit.at or edit.places & taken or any(calls(it, edit, sources) or calls(edit, it, sources) for it in group):
             continue
         made = edit.apply(texts, crate)
         if made is not None:
@@ -197,7 +197,7 @@ def beside(work, edits):
     sources, twins, names = stubs.texts_of(work.crate), {}, {}
     for number, it in enumerate(edits):
         place = next(iter(it.places or ()), None)
-        if place and len(it.places) == 1 and stubs.can_have_twin(sources, place):
+        if place and not it.at and len(it.places) == 1 and stubs.can_have_twin(sources, place):
             twins[it] = stubs.Twin(it.apply({}, work.crate), place, f"{place[1]}_edited{number}")
             twins[place] = stubs.Twin(sources, place, f"{place[1]}_as_it_is")
             names[it], names[place] = (re.sub(r"\w+$", twins[of].name, it.names[0]) for of in (it, place))
@@ -207,7 +207,11 @@ def beside(work, edits):
     texts = stubbed.texts({})
     said = work.checked(stubbed, texts, [*names.values()])
     found = refused_at(said.stdout, texts, work.crate) if told_something(said) else {}
-    done = {it: found[twins[it].place] for it in edits if it in twins and twins[it].place in found and is_proved(said, work.crate, names[twins[it].of])}
+    done = {}
+    for it in edits:
+        why = it in twins and (found.get(twins[it].place) or unproved(said, work.crate, names[it]))
+        if why and is_proved(said, work.crate, names[twins[it].of]):
+            done[it] = why
     print(f"of {len(twins)} functions beside others, edited or not, {len(done)} are refused", flush=True)
     return done
 
@@ -222,6 +226,11 @@ def told_something(said):
 
 def is_proved(said, crate, name):
     return f"fn {crate.name}::{name}: proved\n" in said.stdout
+
+
+def unproved(said, crate, name):
+    """The line that tells that no proof of a function was found, where the check says nothing more of it, or None."""
+    return next((it for it in said.stdout.split("\n") if it.startswith(f"fn {crate.name}::{name}: no proof: expected ")), None)
 
 
 def round_of(stubbed, work, edits):
@@ -290,7 +299,7 @@ def named(stubbed, work, edit):
     if ran.returncode != 1 or not told or told[1] == told[2] or any(kit.rt().unread(it, texts) for it in lines):
         return None
     errors = [it for it in lines if re.match(r"(note: )?(\./)?(src|specs|proofs)/\S+:\d+:\d+: (error|it is not proved)", it)]
-    of = [it for it in lines if any(it.startswith(f"fn {work.crate.name}::{name}: no proof: expected ") for name in names)]
+    of = [it for it in (unproved(ran, work.crate, name) for name in names) if it]
     return next((it for it in errors or of if not re.search(TAKEN_AWAY, it)), None)
 
 

@@ -68,8 +68,12 @@ def names(text, place):
 
 
 def places_of(crate, names):
-    """The places of the functions with these names below the crate, where they have such."""
-    return {place for place, _ in all_functions(texts_of(crate)) if "::".join([*module_of(place[0]), *([place[2]] if place[2] else []), place[1]]) in names}
+    """The places of the functions with these names below the crate, or of all that end so where a name has more, as that of a trait's method has."""
+    functions, found = all_functions(texts_of(crate)), set()
+    for name in names:
+        own = {place for place, _ in functions if "::".join([*module_of(place[0]), *([place[2]] if place[2] else []), place[1]]) == name}
+        found |= own or {place for place, _ in functions if place[1] == name.split("::")[-1]}
+    return found
 
 
 class Twin:
