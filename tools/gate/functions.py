@@ -1,5 +1,6 @@
 """The functions of a source file in the layout of `rt fmt`: their names, their lines, and where their proofs lie."""
 
+import functools
 import re
 
 HEADER = re.compile(r"^( *)(?:pub(?:\([^)]*\))? )?(const )?(?:unsafe )?fn (\w+)")
@@ -21,6 +22,7 @@ class Function:
         self.is_of_trait, self.has_body = False, False
 
 
+@functools.lru_cache(512)
 def functions_of(text):
     """The functions of a file in the layout of `rt fmt`, in which a body opens at the end of a header or on a line of its own, and closes below it."""
     found, owner, is_of_trait, is_held, lines = [], None, False, False, text.split("\n")
