@@ -191,29 +191,59 @@ class Work:
         return kit.rt().checked(stubbed.crate, texts, words, self.at)
 
 
+class Beside:
+    """Edits that are tried beside one another, in one copy of a crate. Each is made in a twin of its function, which nothing calls; of a function that can have no
+    twin, as a trait's method, one edit is made in its place, if it has no answers. A function with answers, which a twin gets a copy of, has one twin more, as it
+    is, and so has the first without: twins of such differ from their functions by the name alone."""
+
+    def __init__(self, crate, edits):
+        self.crate, self.sources = crate, stubs.texts_of(crate)
+        # of each edit, and of each function of which a twin is as it is, the place and the name in the copy; of each edit the function whose twin holds it
+        self.at, self.held, self.twins, self.first = {}, {}, [], None
+        self.edited, self.in_place = {}, set()
+        for it in edits:
+            if len(it.places or ()) == 1 and not it.at:
+                self.add(it, *it.places)
+
+    def add(self, edit, place):
+        has_answers = stubs.has_answers(self.crate, self.sources, place)
+        if stubs.can_have_twin(self.sources, place):
+            self.add_twin(edit, edit, place, edit.apply({}, self.crate), f"edited{len(self.at)}")
+            self.first = self.first or (None if has_answers else place)
+            self.held[edit] = place if has_answers else self.first
+            if self.held[edit] not in self.at:
+                self.add_twin(place, edit, place, self.sources, "as_it_is")
+        elif not has_answers and place not in self.in_place:
+            made = edit.apply(self.edited, self.crate)
+            if made is not None:
+                self.edited, self.at[edit], self.held[edit] = made, (place, edit.names[0]), None
+                self.in_place.add(place)
+
+    def add_twin(self, key, edit, place, sources, ending):
+        twin = stubs.Twin(sources, place, f"{place[1]}_{ending}")
+        self.twins.append(twin)
+        self.at[key] = twin.place, re.sub(r"\w+$", twin.name, edit.names[0])
+
+    def tried(self, work):
+        """Checks all of them, and returns those that are refused, each with what was said."""
+        stubbed = stubs.Stubbed(self.crate, work.copy_at(), self.in_place, self.twins)
+        texts = stubbed.texts(self.edited)
+        said = work.checked(stubbed, texts, [name for _, name in self.at.values()])
+        found, done = refused_at(said.stdout, texts, self.crate) if told_something(said) else {}, {}
+        for it, function in self.held.items():
+            place, name = self.at[it]
+            _, as_it_is = self.at.get(function or self.first, (None, None))
+            why = found.get(place) or unproved(said, self.crate, name)
+            if why and is_proved(said, self.crate, as_it_is):
+                done[it] = why
+        print(f"of {len(self.held)} edits beside {len(self.at) - len(self.held)} functions as they are, {len(done)} are refused", flush=True)
+        return done
+
+
 def beside(work, edits):
-    """Tries edits in twins of their functions, which nothing calls, all in one check, and returns those that are refused, each with what was said. A twin of each
-    such function as it is has to be proved by the same check."""
-    sources, twins, names = stubs.texts_of(work.crate), {}, {}
-    for number, it in enumerate(edits):
-        place = next(iter(it.places or ()), None)
-        if place and not it.at and len(it.places) == 1 and stubs.can_have_twin(sources, place):
-            twins[it] = stubs.Twin(it.apply({}, work.crate), place, f"{place[1]}_edited{number}")
-            twins[place] = stubs.Twin(sources, place, f"{place[1]}_as_it_is")
-            names[it], names[place] = (re.sub(r"\w+$", twins[of].name, it.names[0]) for of in (it, place))
-    if not twins:
-        return {}
-    stubbed = stubs.Stubbed(work.crate, work.copy_at(), set(), [*twins.values()])
-    texts = stubbed.texts({})
-    said = work.checked(stubbed, texts, [*names.values()])
-    found = refused_at(said.stdout, texts, work.crate) if told_something(said) else {}
-    done = {}
-    for it in edits:
-        why = it in twins and (found.get(twins[it].place) or unproved(said, work.crate, names[it]))
-        if why and is_proved(said, work.crate, names[twins[it].of]):
-            done[it] = why
-    print(f"of {len(twins)} functions beside others, edited or not, {len(done)} are refused", flush=True)
-    return done
+    """Tries edits beside one another, all in one check, and returns those that are refused, each with what was said."""
+    trial = Beside(work.crate, edits)
+    return trial.tried(work) if trial.twins else {}
 
 
 def told_something(said):

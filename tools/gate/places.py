@@ -32,7 +32,7 @@ class Task:
         self.name, self.part = key
         self.is_edits = self.part == "edits"
         self.behind = 0
-        self.taken = self.jobs = self.began = 0
+        self.taken = self.places = self.jobs = self.began = 0
 
 
 def chained(tasks):
@@ -95,10 +95,13 @@ class Places:
             chosen = (proofs or ready)[:1]
             if not chosen or not self.has_place(chosen[0]):
                 return
-            self.start(chosen[0], 1 if chosen[0].is_edits else max(1, self.idle() // len(ready)))
+            places = 1 if chosen[0].is_edits else max(1, self.idle() // len(ready))
+            # (where only proofs are left and each has a place, they share all places, since some would stand idle when one has ended before another)
+            is_end = [it for it in self.left if it.lines] == proofs and len(proofs) <= self.idle()
+            self.start(chosen[0], places, self.count if is_end else places)
 
     def idle(self):
-        return self.count - sum(it.jobs for it in self.running.values())
+        return self.count - sum(it.places for it in self.running.values())
 
     def has_place(self, task):
         is_last = not any(not it.is_edits for it in [*self.left, *self.running.values()])
@@ -122,11 +125,12 @@ class Places:
         self.short_since = self.short_since or time.time()
         return not self.running and (task.memory > self.memory or time.time() - self.short_since > PATIENCE)
 
-    def start(self, task, jobs):
+    def start(self, task, places, jobs):
         self.left.remove(task)
         self.short_since = None
         free = self.free()
         task.jobs = min(4, jobs, max(1, 1 + int((free / task.memory - 1) / 0.6)))
+        task.places = min(places, task.jobs)
         task.taken = task.memory * (1 + 0.6 * (task.jobs - 1))
         task.began = time.time()
         sys.stdout.flush()

@@ -96,6 +96,23 @@ def can_have_twin(sources, place):
     return len(own) == 1 and own[0].has_body and not own[0].is_of_trait
 
 
+def answers_of(proofs, place):
+    """The folders below a folder proofs/ that hold the proof of a function's body, and those of its closures."""
+    at, name, owner = place
+    own = [owner, name] if owner else [*module_of(at), name]
+    closures = [*own[:-1], "fn", name]
+    for folder, _, _ in os.walk(proofs):
+        parts = os.path.relpath(folder, proofs).split("/")
+        # (a method lies below its type's module, which may be another than its file's)
+        if parts in (own, closures) or owner and parts[-2:] == own or owner and parts[-3:] == closures:
+            yield folder
+
+
+def has_answers(crate, sources, place):
+    """Whether the function at a place has answers in files: its own, or its part of a cycle's."""
+    return bool(cycles_of(sources, [place])) or any(answers_of(f"{crate.folder}/proofs", place))
+
+
 def answers_of_member(text, member):
     """Of the answers of a cycle of calls those of one member, as if it were in none: its twin calls what stands for the others, and itself. The names of a member's
     goals begin with its own, and their answers take what is known of the cycle first."""
@@ -133,26 +150,15 @@ class Stubbed:
         """Whether a function keeps its body."""
         return not function.has_body or function.cycle in self.cycles or place in self.places
 
-    def answers_of(self, place):
-        """The folders below proofs/ that hold the proof of a function's body, and those of its closures."""
-        at, name, owner = place
-        own = [owner, name] if owner else [*module_of(at), name]
-        closures = [*own[:-1], "fn", name]
-        for folder, _, _ in os.walk(self.proofs):
-            parts = os.path.relpath(folder, self.proofs).split("/")
-            # (a method lies below its type's module, which may be another than its file's)
-            if parts in (own, closures) or owner and parts[-2:] == own or owner and parts[-3:] == closures:
-                yield folder
-
     def drop_answers(self, place, cycle):
         """Removes the proof of a function's own body, and that of the cycle of which it was a member."""
         of_cycle = [at for at, _, _ in os.walk(self.proofs) if cycle and at.endswith(f"/+{cycle}")]
-        for folder in [*self.answers_of(place), *of_cycle]:
+        for folder in [*answers_of(self.proofs, place), *of_cycle]:
             shutil.rmtree(folder, ignore_errors=True)
 
     def copy_answers(self, twin):
         """Gives a twin the proof of the function that it was made of."""
-        for folder in [*self.answers_of(twin.of)]:
+        for folder in [*answers_of(self.proofs, twin.of)]:
             to = f"{os.path.dirname(folder)}/{twin.name}"
             shutil.copytree(folder, to)
             for at, _, files in os.walk(to):
