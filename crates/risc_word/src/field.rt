@@ -3,7 +3,7 @@
 use std::marker::Model;
 
 /// The number of a register, at most 15.
-#[derive(Clone, Copy, PartialEq, Eq, Debug)]
+#[derive(Clone, Copy, Debug)]
 pub struct Register {
     number: u8,
 }
@@ -41,7 +41,7 @@ impl Register {
 }
 
 /// A number as the second operand of an operation, from -65536 to 65535.
-#[derive(Clone, Copy, PartialEq, Eq, Debug)]
+#[derive(Clone, Copy, Debug)]
 pub struct Immediate {
     value: i32,
 }
@@ -79,7 +79,7 @@ impl Immediate {
 }
 
 /// The signed offset of a load or a store in bytes, of 20 bits.
-#[derive(Clone, Copy, PartialEq, Eq, Debug)]
+#[derive(Clone, Copy, Debug)]
 pub struct Offset {
     bytes: i32,
 }
@@ -117,7 +117,7 @@ impl Offset {
 }
 
 /// The signed distance of a branch in words, from the next instruction, of 24 bits.
-#[derive(Clone, Copy, PartialEq, Eq, Debug)]
+#[derive(Clone, Copy, Debug)]
 pub struct Displacement {
     words: i32,
 }

@@ -3,7 +3,7 @@
 use crate::field::{Displacement, Immediate, Offset, Register};
 
 /// An operation on two words.
-#[derive(Clone, Copy, PartialEq, Eq, Debug)]
+#[derive(Clone, Copy, Debug)]
 pub enum Operation {
     /// Shifts to the left, by the second operand modulo 32.
     Lsl,
@@ -34,7 +34,7 @@ pub enum Operation {
 }
 
 /// The second operand of an operation.
-#[derive(Clone, Copy, PartialEq, Eq, Debug)]
+#[derive(Clone, Copy, Debug)]
 pub enum Operand {
     /// What a register holds.
     Content(Register),
@@ -43,7 +43,7 @@ pub enum Operand {
 }
 
 /// How much a load or a store moves.
-#[derive(Clone, Copy, PartialEq, Eq, Debug)]
+#[derive(Clone, Copy, Debug)]
 pub enum Width {
     /// Four bytes, lowest first, at a multiple of 4.
     Word,
@@ -85,7 +85,7 @@ pub enum Condition {
 }
 
 /// Where a branch goes.
-#[derive(Clone, Copy, PartialEq, Eq, Debug)]
+#[derive(Clone, Copy, Debug)]
 pub enum Target {
     /// So many words on from the next instruction.
     Relative(Displacement),
@@ -94,7 +94,7 @@ pub enum Target {
 }
 
 /// An instruction.
-#[derive(Clone, Copy, PartialEq, Eq, Debug)]
+#[derive(Clone, Copy, Debug)]
 pub enum Instr {
     /// `to := operand`.
     Move {
