@@ -4,7 +4,7 @@ ghost use Rattle.std.specs.Prelude.{MatchResult};
 ghost use Rattle.risc_machine.specs.Console.{World, Took, Wrote, Failed};
 
 /// A device did not give or take its byte.
-#[derive(Clone, Copy, PartialEq, Eq, Debug)]
+#[derive(Clone, Copy, Debug)]
 pub struct DeviceFault;
 
 /// A console: bytes come one at a time, and bytes go one at a time.

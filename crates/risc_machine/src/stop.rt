@@ -1,7 +1,7 @@
 // How a run ends.
 
 /// What an instruction could not do. The machine is left as before it.
-#[derive(Clone, Copy, PartialEq, Eq, Debug)]
+#[derive(Clone, Copy, Debug)]
 pub enum Fault {
     /// The word at PC is no instruction.
     BadWord,
@@ -14,7 +14,7 @@ pub enum Fault {
 }
 
 /// Why a run stopped.
-#[derive(Clone, Copy, PartialEq, Eq, Debug)]
+#[derive(Clone, Copy, Debug)]
 pub enum Stop {
     /// The program stored 0 at FFFFC4H.
     Normal,
