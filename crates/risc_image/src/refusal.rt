@@ -6,7 +6,7 @@ ghost use Rattle.risc_image.specs.Refusal.{number_of};
 use thiserror::Error;
 
 /// The first check that the bytes fail.
-#[derive(Clone, Copy, PartialEq, Eq, Debug, Error)]
+#[derive(Clone, Copy, Debug, Error)]
 pub enum ImageRefusal {
     /// One of the first four bytes that are there differs from the magic.
     #[error("Magic")]

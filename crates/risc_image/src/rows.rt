@@ -1,7 +1,7 @@
 //! The rows of an image's tables.
 
 /// A row of the frame table. Row r is of routine r.
-#[derive(Clone, Copy, PartialEq, Eq, Debug)]
+#[derive(Clone, Copy, Debug)]
 pub struct FrameRow {
     /// The address of the routine's first instruction.
     pub entry: u32,
@@ -10,7 +10,7 @@ pub struct FrameRow {
 }
 
 /// A row of the object table. Row t is of pointer type t.
-#[derive(Clone, Copy, PartialEq, Eq, Debug)]
+#[derive(Clone, Copy, Debug)]
 pub struct ObjectRow {
     /// The number of the pointer type.
     pub pointer_type: u32,
@@ -19,7 +19,7 @@ pub struct ObjectRow {
 }
 
 /// A row of the trap table: what a trap with this link means.
-#[derive(Clone, Copy, PartialEq, Eq, Debug)]
+#[derive(Clone, Copy, Debug)]
 pub struct TrapRow {
     /// The address after the instruction that traps.
     pub link: u32,
@@ -30,7 +30,7 @@ pub struct TrapRow {
 }
 
 /// A row of the call table: the line of the call that returns to this link.
-#[derive(Clone, Copy, PartialEq, Eq, Debug)]
+#[derive(Clone, Copy, Debug)]
 pub struct CallRow {
     /// The address after the call.
     pub link: u32,
