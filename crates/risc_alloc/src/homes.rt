@@ -1,7 +1,7 @@
 // Homes, and the parts of an untested placement.
 
 /// Where a temporary lives while its routine runs.
-#[derive(Clone, Copy, PartialEq, Eq, Debug)]
+#[derive(Clone, Copy)]
 pub enum Home {
     /// A slot of its routine's frame, by number, below the count of the routine's temporaries.
     Slot(u32),
@@ -16,7 +16,7 @@ pub struct Raw {
 }
 
 /// Why a placement was refused.
-#[derive(Clone, Copy, PartialEq, Eq, Debug)]
+#[derive(Clone, Copy)]
 pub enum PlaceRefusal {
     /// Two temporaries that may be alive at once share a home, or one lives in a register across a call, or a home does not exist.
     BadPlacement,

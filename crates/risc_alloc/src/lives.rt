@@ -243,25 +243,38 @@ fn enter(survey: &mut Survey, parameters: u32) {
     vote_parameters(candidates, parameters);
 }
 
+// What walks with a seat for each temporary find to be alive. None where they go on to find more.
+fn own_claims(alloc: Global, routine: &TacRoutine) -> Result<Option<Claims>, OutOfMemory> {
+    let count = routine.temporaries as usize;
+    let seats = own_seats(alloc, count)?;
+    let mut table = Table::new(alloc, count.saturating_add(REGISTERS))?;
+    settle(alloc, &mut table, seats.as_slice(), routine.body.as_slice())
+}
+
+fn surveyed(
+    alloc: Global,
+    routine: &TacRoutine,
+    claims: &Claims,
+) -> Result<Vec<Candidate>, OutOfMemory> {
+    let mut survey = Survey::new(alloc, routine)?;
+    let body = routine.body.as_slice();
+    for place in (0..body.len()).rev() {
+        let instruction = &body[place];
+        survey.go_behind(claims, instruction, place, body.len());
+        survey.go_before(instruction);
+        survey.begin_loops(place);
+    }
+    enter(&mut survey, routine.parameters);
+    Ok(survey.candidates)
+}
+
 /// A routine's temporaries that may get registers, in their order. None where walks go on to find who is alive.
 pub(crate) fn candidates_of(
     alloc: Global,
     routine: &TacRoutine,
 ) -> Result<Option<Vec<Candidate>>, OutOfMemory> {
-    let count = routine.temporaries as usize;
-    let seats = own_seats(alloc, count)?;
-    let mut table = Table::new(alloc, count.saturating_add(REGISTERS))?;
-    let body = routine.body.as_slice();
-    let Some(claims) = settle(alloc, &mut table, seats.as_slice(), body)? else {
-        return Ok(None);
-    };
-    let mut survey = Survey::new(alloc, routine)?;
-    for place in (0..body.len()).rev() {
-        let instruction = &body[place];
-        survey.go_behind(&claims, instruction, place, body.len());
-        survey.go_before(instruction);
-        survey.begin_loops(place);
+    match own_claims(alloc, routine)? {
+        Some(claims) => Ok(Some(surveyed(alloc, routine, &claims)?)),
+        None => Ok(None),
     }
-    enter(&mut survey, routine.parameters);
-    Ok(Some(survey.candidates))
 }

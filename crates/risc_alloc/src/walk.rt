@@ -17,7 +17,7 @@ use tac_code::code::{Instruction, OutOfMemory};
 const WALKS: u32 = 16;
 
 /// What a walk came to.
-#[derive(Clone, Copy, PartialEq, Eq, Debug)]
+#[derive(Clone, Copy)]
 enum Verdict {
     /// Two temporaries want one home, or one wants a register across a call.
     Clash,
