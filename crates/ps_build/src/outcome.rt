@@ -8,7 +8,7 @@ use risc_machine::Fault;
 use risc_trail::Trail;
 
 /// What a processor could not do, or a stop whose link the trap table doesn't have.
-#[derive(Clone, Copy, PartialEq, Eq, Debug)]
+#[derive(Clone, Copy, Debug)]
 pub enum FaultKind {
     BadWord,
     BadAddress,
@@ -18,7 +18,7 @@ pub enum FaultKind {
 }
 
 /// How a run ended. Errors and stops have their number and their line of the text.
-#[derive(Clone, Copy, PartialEq, Eq, Debug)]
+#[derive(Clone, Copy, Debug)]
 pub enum Outcome {
     /// The program came to its end.
     Normal,

@@ -15,7 +15,7 @@ use std::alloc::{AllocError, AllocFailed};
 use thiserror::Error;
 
 /// Why a text, an image or a budget is refused. Faults of the tokens, the syntax and the rules of a text have its line, counted from 1.
-#[derive(Clone, Copy, Debug, PartialEq, Eq, Error)]
+#[derive(Clone, Copy, Debug, Error)]
 pub enum Refusal {
     /// A text of more than 1,048,576 bytes.
     #[error("TooLong")]
