@@ -14,7 +14,7 @@ use Rattle.ps_points.specs.declared.uses.Use.{Use}
 use Rattle.ps_points.specs.declared.bodies.Repeated.{Repeated}
 use Rattle.ps_points.specs.Points.{Points, point, within}
 use Rattle.ps_points.specs.Absent.{AreAlike, IsAbsent}
-use Rattle.ps_points.specs.Uses.{IsFound, IsFoundIn, statements_body}
+use Rattle.ps_points.specs.Uses.{IsFound, IsFoundIn, IsUseAt, statements_body}
 use Rattle.ps_points.specs.Levels.{Level, own_level, Nested}
 use Rattle.ps_points.specs.Control.{Lacks, form_at, IsFormal, IsByVariable, Takes, Threatens, IsInLoop, is_counted, IsCounted, IsCountedIn, IsInRoutine, IsField, IsForeign, IsNotLocal, IsControlIn}
 
@@ -67,8 +67,8 @@ module _ (text : List ℕ) (points : Points) where
   pub counted_further : (l : Level) (ls : Nested) (name : Span) → Lacks text points l.region name → IsCountedIn text points ls name → IsCountedIn text points (l ∷ ls) name
   counted_further l ls name h k = inr (h, k)
 
-  pub in_routine : (region : Region) (b : Block) (ls : Nested) (at : ℕ) (threat : Use) → IsFound (statements_body (out-Block b).statements false).uses (Some threat) → threat.name.from ≡ at → Lacks text points region threat.name → IsCountedIn text points ls threat.name → Threatens text points (own_level region b ∷ ls) threat.way → IsInRoutine text points (own_level region b) ls at
-  in_routine region b ls at threat f told lacks is threatens = record { threat = threat; stands = f.stands; lacks = lacks; counted = is; threatens = threatens; told = told }
+  pub in_routine : (region : Region) (b : Block) (ls : Nested) (at : ℕ) (threat : Use) → IsUseAt (statements_body (out-Block b).statements false).uses at threat → Lacks text points region threat.name → IsCountedIn text points ls threat.name → Threatens text points (own_level region b ∷ ls) threat.way → IsInRoutine text points (own_level region b) ls at
+  in_routine region b ls at threat h lacks is threatens = record { threat = threat; stands = h.stands; lacks = lacks; counted = is; threatens = threatens; told = h.told }
 
   pub field_found : (name : Span) (i : ℕ) (x : Point) → i < length points → x ≡ get_or points i x → x.form ≡ Field → spelled text x.name ≡ spelled text name → IsField text points name
   field_found name i x lt at form alike = record { field = x; stands = (i, lt, sym at); form = form; alike = alike }
@@ -79,8 +79,8 @@ module _ (text : List ℕ) (points : Points) where
   pub foreign_field : (region : Region) (control : Use) → control.way ≡ CountedWithin → IsField text points control.name → IsForeign text points region control control.way
   foreign_field region control is h = subst (λ w. IsForeign text points region control w) (sym is) (inr h)
 
-  pub not_local : (region : Region) (b : Block) (at : ℕ) (control : Use) → IsFound (statements_body (out-Block b).statements false).uses (Some control) → control.name.from ≡ at → IsForeign text points region control control.way → IsNotLocal text points (own_level region b) at
-  not_local region b at control f told foreign = record { control = control; stands = f.stands; foreign = foreign; told = told }
+  pub not_local : (region : Region) (b : Block) (at : ℕ) (control : Use) → IsUseAt (statements_body (out-Block b).statements false).uses at control → IsForeign text points region control control.way → IsNotLocal text points (own_level region b) at
+  not_local region b at control h foreign = record { control = control; stands = h.stands; foreign = foreign; told = h.told }
 
   pub broken_in_loop : (own : Level) (outer : Nested) (at : ℕ) → IsInLoop text points own outer at → IsControlIn text points (own ∷ outer) at
   broken_in_loop own outer at h = inl h

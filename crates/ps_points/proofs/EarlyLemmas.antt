@@ -13,12 +13,12 @@ use Rattle.ps_points.specs.declared.point.Form.TheVariants.{Constant}
 use Rattle.ps_points.specs.declared.uses.Use.{Use}
 use Rattle.ps_points.specs.Points.{Points, point}
 use Rattle.ps_points.specs.Absent.{AreAlike}
-use Rattle.ps_points.specs.Uses.{Uses, IsFound, either, statements_body}
+use Rattle.ps_points.specs.Uses.{Uses, IsFound, IsUseAt, statements_body}
 use Rattle.ps_points.specs.DeclaredUses.{Definition, constant_definition, type_definition}
 use Rattle.ps_points.specs.Levels.{Level, Nested, own_level, block_declared_uses, block_definitions, routine_heading, routine_heading_uses}
 use Rattle.ps_points.specs.Control.{Lacks}
 use Rattle.ps_points.specs.Early.{is_looked_up, IsDefined, IsBehind, IsBehindIn, IsBeforePoint, is_hidden, IsBeforeHidden, IsBeforeField, IsUseOf, IsOwn, IsOwnIn, IsEarly}
-use Rattle.ps_points.proofs.Found.{found_both, get_any}
+use Rattle.ps_points.proofs.Found.{get_any}
 
 module _ (text : List ℕ) (points : Points) where
   pub defined : (region : Region) (name : Span) (i : ℕ) (x like : Point) → i < length points → x ≡ get_or points i x → like ≡ point region name Constant → AreAlike text like x → IsDefined text points region name
@@ -30,17 +30,14 @@ module _ (text : List ℕ) (points : Points) where
   pub behind_further : (l : Level) (ls : Nested) (u : Use) → Lacks text points l.region u.name → IsBehindIn text points ls u → IsBehindIn text points (l ∷ ls) u
   behind_further l ls u h k = inr (h, k)
 
-  pub before_point : (region : Region) (b : Block) (outer : Nested) (at : ℕ) (x y r : Option Use) (u : Use) → IsFound (block_declared_uses b) x → IsFound (statements_body (out-Block b).statements false).uses y → r ≡ either x y → r ≡ Some u → u.name.from ≡ at → is_looked_up u.way ≡ true → IsBehindIn text points (own_level region b ∷ outer) u → IsBeforePoint text points (own_level region b) outer at
-  before_point region b outer at x y r u f g e is told way behind =
-      let found : IsFound (block_declared_uses b ++ (statements_body (out-Block b).statements false).uses) (either x y) = found_both (block_declared_uses b) (statements_body (out-Block b).statements false).uses x y f g in
-      let one : IsFound (block_declared_uses b ++ (statements_body (out-Block b).statements false).uses) (Some u) = subst (λ o. IsFound (block_declared_uses b ++ (statements_body (out-Block b).statements false).uses) o) (sym e ∙ is) found in
-      record { occurrence = u; stands = one.stands; way = way; behind = behind; told = told }
+  pub before_point : (region : Region) (b : Block) (outer : Nested) (at : ℕ) (u : Use) → IsUseAt (block_declared_uses b ++ (statements_body (out-Block b).statements false).uses) at u → is_looked_up u.way ≡ true → IsBehindIn text points (own_level region b ∷ outer) u → IsBeforePoint text points (own_level region b) outer at
+  before_point region b outer at u h way behind = record { occurrence = u; stands = h.stands; way = way; behind = behind; told = h.told }
 
   pub before_hidden : (u : Use) (i : ℕ) (x : Point) → i < length points → x ≡ get_or points i x → is_hidden x.form ≡ true → x.region.owner.from < u.name.from → u.name.from < x.name.from → spelled text x.name ≡ spelled text u.name → IsBeforeHidden text points u
   before_hidden u i x lt at form inside order alike = record { later = x; stands = (i, lt, sym at); form = form; alike = alike; inside = inside; order = order }
 
-  pub before_field : (b : Block) (at : ℕ) (u : Use) → IsFound (block_declared_uses b) (Some u) → u.name.from ≡ at → is_looked_up u.way ≡ true → IsBeforeHidden text points u → IsBeforeField text points (block_declared_uses b) at
-  before_field b at u f told way before = record { occurrence = u; stands = f.stands; way = way; before = before; told = told }
+  pub before_field : (b : Block) (at : ℕ) (u : Use) → IsUseAt (block_declared_uses b) at u → is_looked_up u.way ≡ true → IsBeforeHidden text points u → IsBeforeField text points (block_declared_uses b) at
+  before_field b at u h way before = record { occurrence = u; stands = h.stands; way = way; before = before; told = h.told }
 
   pub early_point : (own : Level) (outer : Nested) (at : ℕ) → IsBeforePoint text points own outer at → IsEarly text points own outer at
   early_point own outer at h = inl h

@@ -17,12 +17,11 @@ use Rattle.ps_points.specs.declared.undefined.TheConstants.{TYPES, CONSTANTS, FU
 use Rattle.ps_points.specs.Points.{Points, point}
 use Rattle.ps_points.specs.Absent.{AreAlike}
 use Rattle.ps_points.specs.Needs.{is_declared_function, fits, fits_required, need_of, need_of_formal, takes_argument}
-use Rattle.ps_points.specs.Uses.{IsFound, either, statements_body}
+use Rattle.ps_points.specs.Uses.{IsFound, IsUseAt, statements_body}
 use Rattle.ps_points.specs.Levels.{Level, Nested, own_level, block_declared_uses}
 use Rattle.ps_points.specs.Control.{Lacks, IsFormal, IsCalled, IsField}
 use Rattle.ps_points.specs.Early.{is_looked_up, is_hidden}
 use Rattle.ps_points.specs.Kinds.{required, IsOneOf, IsOtherRequired, HasFormal, IsArgument, Needs, IsOther, IsOtherIn, HasFunction, IsNoBlockOf, IsOutside, IsOdd, IsMisused, IsOfWrongKind, IsMisusedField, IsOddField, IsBehindHidden, IsBesideField, IsRefused, IsWrongArgument, IsMiscast}
-use Rattle.ps_points.proofs.Found.{found_both}
 
 -- ---- required names
 
@@ -134,20 +133,17 @@ module _ (text : List ℕ) (points : Points) where
 
   -- ---- the rule
 
-  pub wrong_kind : (region : Region) (b : Block) (outer : Nested) (at : ℕ) (x y r : Option Use) (u : Use) → IsFound (block_declared_uses b) x → IsFound (statements_body (out-Block b).statements false).uses y → r ≡ either x y → r ≡ Some u → u.name.from ≡ at → IsMisused text points (own_level region b ∷ outer) u → IsOfWrongKind text points (own_level region b) outer at
-  wrong_kind region b outer at x y r u f g e is told odd =
-      let found : IsFound (block_declared_uses b ++ (statements_body (out-Block b).statements false).uses) (either x y) = found_both (block_declared_uses b) (statements_body (out-Block b).statements false).uses x y f g in
-      let one : IsFound (block_declared_uses b ++ (statements_body (out-Block b).statements false).uses) (Some u) = subst (λ o. IsFound (block_declared_uses b ++ (statements_body (out-Block b).statements false).uses) o) (sym e ∙ is) found in
-      record { occurrence = u; stands = one.stands; odd = odd; told = told }
+  pub wrong_kind : (region : Region) (b : Block) (outer : Nested) (at : ℕ) (u : Use) → IsUseAt (block_declared_uses b ++ (statements_body (out-Block b).statements false).uses) at u → IsMisused text points (own_level region b ∷ outer) u → IsOfWrongKind text points (own_level region b) outer at
+  wrong_kind region b outer at u h odd = record { occurrence = u; stands = h.stands; odd = odd; told = h.told }
 
-  pub odd_field : (region : Region) (b : Block) (outer : Nested) (at : ℕ) (u : Use) → IsFound (statements_body (out-Block b).statements false).uses (Some u) → u.name.from ≡ at → IsMisusedField text points (own_level region b ∷ outer) u → IsOddField text points (own_level region b) outer at
-  odd_field region b outer at u f told odd = record { occurrence = u; stands = f.stands; odd = odd; told = told }
+  pub odd_field : (region : Region) (b : Block) (outer : Nested) (at : ℕ) (u : Use) → IsUseAt (statements_body (out-Block b).statements false).uses at u → IsMisusedField text points (own_level region b ∷ outer) u → IsOddField text points (own_level region b) outer at
+  odd_field region b outer at u h odd = record { occurrence = u; stands = h.stands; odd = odd; told = h.told }
 
   pub behind_hidden : (u : Use) (i : ℕ) (x : Point) → i < length points → x ≡ get_or points i x → is_hidden x.form ≡ true → x.name.from < u.name.from → spelled text x.name ≡ spelled text u.name → IsBehindHidden text points u
   behind_hidden u i x lt at form order alike = record { earlier = x; stands = (i, lt, sym at); form = form; alike = alike; order = order }
 
-  pub beside_field : (b : Block) (at : ℕ) (u : Use) → IsFound (block_declared_uses b) (Some u) → u.name.from ≡ at → is_looked_up u.way ≡ true → IsBehindHidden text points u → IsBesideField text points (block_declared_uses b) at
-  beside_field b at u f told way hidden = record { occurrence = u; stands = f.stands; way = way; hidden = hidden; told = told }
+  pub beside_field : (b : Block) (at : ℕ) (u : Use) → IsUseAt (block_declared_uses b) at u → is_looked_up u.way ≡ true → IsBehindHidden text points u → IsBesideField text points (block_declared_uses b) at
+  beside_field b at u h way hidden = record { occurrence = u; stands = h.stands; way = way; hidden = hidden; told = h.told }
 
   pub wrong_argument : (region : Region) (b : Block) (outer : Nested) (at index : ℕ) (variable : Bool) (u : Use) → IsFound (statements_body (out-Block b).statements false).uses (Some u) → u.way ≡ Given index at variable → IsRefused text points (own_level region b ∷ outer) u.name index variable → IsWrongArgument text points (own_level region b) outer at
   wrong_argument region b outer at index variable u f way refused = record { occurrence = u; index = index; variable = variable; stands = f.stands; way = way; refused = refused }

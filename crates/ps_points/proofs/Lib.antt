@@ -7,6 +7,7 @@ pub mod Formals
 pub mod ControlLemmas
 pub mod FunctionLemmas
 pub mod DeclaredFound
+pub mod UsedLemmas
 pub mod UnknownLemmas
 pub mod WalkLemmas
 pub mod EarlyLemmas

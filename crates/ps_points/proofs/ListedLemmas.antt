@@ -9,13 +9,12 @@ use Rattle.ps_points.specs.declared.point.Region.{Region}
 use Rattle.ps_points.specs.declared.point.Form.TheVariants.{ProgramParameter}
 use Rattle.ps_points.specs.declared.uses.Use.{Use}
 use Rattle.ps_points.specs.Points.{Points}
-use Rattle.ps_points.specs.Uses.{IsFound, either, statements_body}
+use Rattle.ps_points.specs.Uses.{IsUseAt, statements_body}
 use Rattle.ps_points.specs.Levels.{Nested, own_level, block_declared_uses}
 use Rattle.ps_points.specs.Control.{IsCalled}
 use Rattle.ps_points.specs.Unknown.{AllLack}
 use Rattle.ps_points.specs.Listed.{NeedsUnlisted, IsUnlisted}
 use Rattle.ps_points.proofs.Lists.{Each, each_at}
-use Rattle.ps_points.proofs.Found.{found_both}
 
 pub record Unlisted (text name : List ℕ) (points : Points) (i : ℕ) : Type 0 where
   pub rest : Each (λ (q : Point). q.form ≡ ProgramParameter → IsCalled text name q.name → ⊥) (drop i points) → Each (λ (q : Point). q.form ≡ ProgramParameter → IsCalled text name q.name → ⊥) points
@@ -27,16 +26,13 @@ module _ (text name : List ℕ) (points : Points) where
   pub unlisted_start : Unlisted text name points 0
   unlisted_start = record { rest = λ e. e }
 
-  pub unlisted_next : (i : ℕ) (x : Point) → i < length points → x ≡ get_or points i x → Unlisted text name points i → IsNone x → Unlisted text name points (i + 1)
-  unlisted_next i x lt at b none = record {
-    rest = λ e. b.rest (subst (Each IsNone) (sym (drop-cons points i x lt)) (subst IsNone at none, (let s : i + 1 ≡ suc i = omega arith in subst (λ k. Each IsNone (drop k points)) s e)));
+  pub unlisted_next : (i : ℕ) (d : Point) → i < length points → Unlisted text name points i → IsNone (get_or points i d) → Unlisted text name points (i + 1)
+  unlisted_next i d lt b none = record {
+    rest = λ e. b.rest (subst (Each IsNone) (sym (drop-cons points i d lt)) (none, (let s : i + 1 ≡ suc i = omega arith in subst (λ k. Each IsNone (drop k points)) s e)));
   }
 
   pub unlisted_end : (i : ℕ) → length points ≤ i → Unlisted text name points i → (q : Point) → Contains points q → IsNone q
   unlisted_end i le b q c = each_at IsNone points q (b.rest (subst (Each IsNone) (sym (drop_all i points le)) tt)) c
 
-pub unlisted_found : (text : List ℕ) (points : Points) (region : Region) (b : Block) (outer : Nested) (at : ℕ) (x y r : Option Use) (u : Use) → IsFound (block_declared_uses b) x → IsFound (statements_body (out-Block b).statements false).uses y → r ≡ either x y → r ≡ Some u → u.name.from ≡ at → AllLack text points (own_level region b ∷ outer) u.name → NeedsUnlisted text points u → IsUnlisted text points (own_level region b) outer at
-unlisted_found text points region b outer at x y r u f g e is told lacks needs =
-    let found : IsFound (block_declared_uses b ++ (statements_body (out-Block b).statements false).uses) (either x y) = found_both (block_declared_uses b) (statements_body (out-Block b).statements false).uses x y f g in
-    let one : IsFound (block_declared_uses b ++ (statements_body (out-Block b).statements false).uses) (Some u) = subst (λ o. IsFound (block_declared_uses b ++ (statements_body (out-Block b).statements false).uses) o) (sym e ∙ is) found in
-    record { occurrence = u; stands = one.stands; lacks = lacks; unlisted = needs; told = told }
+pub unlisted_found : (text : List ℕ) (points : Points) (region : Region) (b : Block) (outer : Nested) (at : ℕ) (u : Use) → IsUseAt (block_declared_uses b ++ (statements_body (out-Block b).statements false).uses) at u → AllLack text points (own_level region b ∷ outer) u.name → NeedsUnlisted text points u → IsUnlisted text points (own_level region b) outer at
+unlisted_found text points region b outer at u h lacks needs = record { occurrence = u; stands = h.stands; lacks = lacks; unlisted = needs; told = h.told }

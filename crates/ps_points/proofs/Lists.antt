@@ -45,6 +45,10 @@ pub gathered-map : {A B : Type 0} (f : B → Points) (g : A → B) (xs : List A)
 gathered-map f g [] = refl
 gathered-map f g (x ∷ xs) = ap (λ l. f (g x) ++ l) (gathered-map f g xs)
 
+pub gathered_one : {A : Type 0} (f : A → Point) (xs : List A) → gathered (λ x. f x ∷ []) xs ≡ map f xs
+gathered_one f [] = refl
+gathered_one f (x ∷ xs) = ap (λ l. f x ∷ l) (gathered_one f xs)
+
 -- ---- points behind points
 
 pub nothing_added : (a ys : Points) → ys ≡ [] → a ≡ a ++ ys
@@ -83,9 +87,9 @@ module _ (text : List ℕ) (kind : Kind) (p : Point) (points : Points) where
   pub missing_start : Missing text kind p points 0
   missing_start = record { rest = λ e. e }
 
-  pub none_next : (i : ℕ) (x : Point) → i < length points → x ≡ get_or points i x → Missing text kind p points i → IsNone x → Missing text kind p points (i + 1)
-  none_next i x lt at b none = record {
-    rest = λ e. b.rest (subst (Each IsNone) (sym (drop-cons points i x lt)) (subst IsNone at none, (let s : i + 1 ≡ suc i = omega arith in subst (λ k. Each IsNone (drop k points)) s e)));
+  pub none_next : (i : ℕ) (d : Point) → i < length points → Missing text kind p points i → IsNone (get_or points i d) → Missing text kind p points (i + 1)
+  none_next i d lt b none = record {
+    rest = λ e. b.rest (subst (Each IsNone) (sym (drop-cons points i d lt)) (none, (let s : i + 1 ≡ suc i = omega arith in subst (λ k. Each IsNone (drop k points)) s e)));
   }
 
   all_none : (i : ℕ) → length points ≤ i → Missing text kind p points i → Each IsNone points

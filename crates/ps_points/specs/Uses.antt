@@ -43,6 +43,11 @@ all_uses f (x ∷ xs) = f x ++ all_uses f xs
 pub record IsFound (uses : Uses) (found : Option Use) : Type 0 where
   pub stands : IfSome found (Contains uses)
 
+-- the use stands among these, its name at this offset
+pub record IsUseAt (uses : Uses) (at : ℕ) (u : Use) : Type 0 where
+  pub stands : Contains uses u
+  pub told : u.name.from ≡ at
+
 -- the first of two that were found
 abbrev pub either : Option Use → Option Use → Option Use
 either (Some x) y = Some x

@@ -67,7 +67,6 @@ fn is_such(reading: &Reading, kind: Kind, like: Point, point: Point) -> bool
 }
 
 /// Whether no point of this kind is alike.
-#[tactic(auto, using(crate::proofs::Lists::none_next, crate::proofs::Lists::none_end))]
 pub fn is_absent(reading: &Reading, points: &[Point], kind: Kind, like: Point) -> bool
     ensures { result ≡ true → IsAbsent reading.now.source.now points.now kind like }
 {

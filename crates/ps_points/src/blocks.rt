@@ -37,7 +37,6 @@ fn add_definition(
     add_type(points, region, &definition.ty)
 }
 
-#[tactic(auto, using(crate::proofs::Lists::gained_next, crate::proofs::Lists::gained_end))]
 fn add_definitions(
     points: &mut Vec<Point>,
     region: Region,
@@ -63,7 +62,6 @@ fn add_declaration(
     add_type(points, region, &declaration.ty)
 }
 
-#[tactic(auto, using(crate::proofs::Lists::gained_next, crate::proofs::Lists::gained_end))]
 fn add_variables(
     points: &mut Vec<Point>,
     region: Region,
@@ -110,7 +108,6 @@ fn add_block(points: &mut Vec<Point>, region: Region, written: &Block) -> Result
 }
 
 #[cycle(block)]
-#[tactic(auto, using(crate::proofs::Lists::gained_next, crate::proofs::Lists::gained_end))]
 fn add_routines(points: &mut Vec<Point>, region: Region, list: &[Routine]) -> Result<(), AllocError>
     ensures { OnOk result (points.new.items ≡ points.old.items ++ gathered (λ x. routine_points x region) list.now) }
 {

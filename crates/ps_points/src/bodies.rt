@@ -21,7 +21,6 @@ pub struct Repeated {
 }
 
 /// A use in a variable, which is one of its name, and this way, where it is a name alone.
-#[tactic(auto, using(crate::proofs::Found::entire_alone, crate::proofs::Found::entire_other))]
 fn in_entire(variable: &Variable, way: Way, sought: Sought<'_>) -> Option<Use>
     ensures { IsFound (entire way (variable_part variable.now)) result }
 {
@@ -41,7 +40,6 @@ pub fn in_constant(constant: &Constant, sought: Sought<'_>) -> Option<Use>
     }
 }
 
-#[tactic(auto, using(crate::proofs::Found::constants_found, crate::proofs::Found::found_none))]
 fn in_constants(list: &[Constant], sought: Sought<'_>) -> Option<Use>
     ensures { IsFound (all_uses constant_uses list.now) result }
 {

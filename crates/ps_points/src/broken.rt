@@ -7,7 +7,7 @@ ghost use Rattle.ps_points.specs.declared.walk.Asked.TheVariants.{OfUnknown};
 ghost use Rattle.ps_points.specs.Points.{program_points};
 ghost use Rattle.ps_points.specs.Levels.{program_levels};
 ghost use Rattle.ps_points.specs.Walk.{IsSomewhere};
-ghost use Rattle.ps_points.specs.Broken.{BrokenAt, IsToldOf};
+ghost use Rattle.ps_points.specs.Broken.{IsOpen, IsFunction, BrokenAt, IsToldOf};
 
 use crate::blocks::program_points;
 use crate::earliest::{earlier, first_undefined};
@@ -114,6 +114,36 @@ fn looked_at(
     Ok(confirmed(asked, reading, points.as_slice(), written, Some(at)))
 }
 
+/// The first forward heading of the text that has no block.
+fn open_heading(
+    alloc: Global,
+    reading: &Reading,
+    written: &Program,
+) -> Result<Option<u32>, AllocError>
+    ensures { IfOk result (λ found. IfSome found (IsOpen reading.now.source.now (program_points written.now))) }
+{
+    let points = program_points(alloc, written)?;
+    first_open(reading, alloc, points.as_slice())
+}
+
+/// The offset, if the name of a function with its block stands there.
+fn function_named(alloc: Global, written: &Program, at: u32) -> Result<Option<u32>, AllocError>
+    ensures { IfOk result (λ found. IfSome found (IsFunction (program_points written.now))) }
+{
+    let points = program_points(alloc, written)?;
+    Ok(function_at(points.as_slice(), at))
+}
+
+/// A rule that is broken at an offset, if one was found.
+fn answered(
+    rule: Rule,
+    found: Result<Option<u32>, AllocError>,
+) -> Result<Option<(Rule, u32)>, AllocError>
+    ensures { (text : List ℕ) → (p : Program) → IfOk found (λ at. IfSome at (BrokenAt text p rule)) → IfOk result (λ found. IfSome found (λ told. BrokenAt text p told.0 told.1)) }
+{
+    Ok(with_rule(rule, found?))
+}
+
 /// A rule that a program breaks, and where, by one that it is known to break. Where that is `Unknown` or `Twice`, it is the
 /// one of both that is broken first in the text. It is broken at the first token of the text that breaks it, where it is
 /// `Unknown`, `Twice` or `ForwardOpen`, and else where it is known to, which is looked at anew where the rule is
@@ -130,31 +160,33 @@ fn place(
     match rule {
         Rule::Unknown => undefined_or_repeated(alloc, reading, written, Some(at)),
         Rule::Twice => undefined_or_repeated(alloc, reading, written, None),
-        Rule::ForwardOpen => {
-            let points = program_points(alloc, written)?;
-            let found = first_open(reading, alloc, points.as_slice())?;
-            Ok(with_rule(Rule::ForwardOpen, found))
-        }
+        Rule::ForwardOpen => answered(Rule::ForwardOpen, open_heading(alloc, reading, written)),
         Rule::UsedBefore => {
-            let found = looked_at(alloc, Asked::OfEarly, reading, written, at)?;
-            Ok(with_rule(Rule::UsedBefore, found))
+            answered(
+                Rule::UsedBefore,
+                looked_at(alloc, Asked::OfEarly, reading, written, at),
+            )
         }
         Rule::WrongKind => {
-            let found = looked_at(alloc, Asked::OfKind, reading, written, at)?;
-            Ok(with_rule(Rule::WrongKind, found))
+            answered(
+                Rule::WrongKind,
+                looked_at(alloc, Asked::OfKind, reading, written, at),
+            )
         }
         Rule::ControlVariable => {
-            let found = looked_at(alloc, Asked::OfControl, reading, written, at)?;
-            Ok(with_rule(Rule::ControlVariable, found))
+            answered(
+                Rule::ControlVariable,
+                looked_at(alloc, Asked::OfControl, reading, written, at),
+            )
         }
         Rule::NoInputOutput => {
-            let found = looked_at(alloc, Asked::OfFiles, reading, written, at)?;
-            Ok(with_rule(Rule::NoInputOutput, found))
+            answered(
+                Rule::NoInputOutput,
+                looked_at(alloc, Asked::OfFiles, reading, written, at),
+            )
         }
         Rule::NoResultAssigned => {
-            let points = program_points(alloc, written)?;
-            let found = function_at(points.as_slice(), at);
-            Ok(with_rule(Rule::NoResultAssigned, found))
+            answered(Rule::NoResultAssigned, function_named(alloc, written, at))
         }
         Rule::NotInProfile
         | Rule::WrongType

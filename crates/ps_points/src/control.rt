@@ -11,6 +11,7 @@ use crate::bodies::{changed_in, in_statements};
 use crate::levels::Levels;
 use crate::point::{Form, Point, Region, within};
 use crate::twice::{are_alike, same_name};
+use crate::used::stated_at;
 use crate::uses::{Sought, Use, Way};
 use ps_regions::reading::Reading;
 use ps_syntax::Block;
@@ -227,11 +228,10 @@ fn is_in_routine(
         block,
         outer,
     };
-    match in_statements(block.statements.as_slice(), false, Sought::At(at)) {
+    match stated_at(block, at) {
         None => false,
         Some(threat) => {
-            threat.name.from == at
-                && lacks(reading, points, region, threat.name)
+            lacks(reading, points, region, threat.name)
                 && is_counted_in(reading, points, outer, threat.name)
                 && threatens(reading, points, &levels, threat.way)
         }
@@ -281,9 +281,9 @@ fn is_foreign(reading: &Reading, points: &[Point], region: Region, control: Use)
 fn is_not_local(reading: &Reading, points: &[Point], region: Region, block: &Block, at: u32) -> bool
     ensures { result ≡ true → IsNotLocal reading.now.source.now points.now (own_level region block.now) at }
 {
-    match in_statements(block.statements.as_slice(), false, Sought::At(at)) {
+    match stated_at(block, at) {
         None => false,
-        Some(control) => { control.name.from == at && is_foreign(reading, points, region, control) }
+        Some(control) => is_foreign(reading, points, region, control),
     }
 }
 

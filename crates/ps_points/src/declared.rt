@@ -27,7 +27,6 @@ fn in_ordinal(ordinal: &Ordinal, sought: Sought<'_>) -> Option<Use>
     }
 }
 
-#[tactic(auto, using(crate::proofs::DeclaredFound::ordinals_found, crate::proofs::Found::found_none))]
 fn in_ordinals(list: &[Ordinal], sought: Sought<'_>) -> Option<Use>
     ensures { IsFound (all_uses ordinal_uses list.now) result }
 {
@@ -84,7 +83,6 @@ fn in_fields(list: &[Fields], sought: Sought<'_>) -> Option<Use>
     None
 }
 
-#[tactic(auto, using(crate::proofs::DeclaredFound::constant_definitions_found, crate::proofs::Found::found_none))]
 fn in_constant_definitions(list: &[ConstantDefinition], sought: Sought<'_>) -> Option<Use>
     ensures { IsFound (all_uses constant_definition_uses list.now) result }
 {
@@ -97,7 +95,6 @@ fn in_constant_definitions(list: &[ConstantDefinition], sought: Sought<'_>) -> O
     None
 }
 
-#[tactic(auto, using(crate::proofs::DeclaredFound::type_definitions_found, crate::proofs::Found::found_none))]
 fn in_type_definitions(list: &[TypeDefinition], sought: Sought<'_>) -> Option<Use>
     ensures { IsFound (all_uses type_definition_uses list.now) result }
 {
@@ -110,7 +107,6 @@ fn in_type_definitions(list: &[TypeDefinition], sought: Sought<'_>) -> Option<Us
     None
 }
 
-#[tactic(auto, using(crate::proofs::DeclaredFound::variables_found, crate::proofs::Found::found_none))]
 fn in_variables(list: &[Variables], sought: Sought<'_>) -> Option<Use>
     ensures { IsFound (all_uses variables_uses list.now) result }
 {
@@ -165,7 +161,6 @@ fn in_section(section: &Section, sought: Sought<'_>) -> Option<Use>
     }
 }
 
-#[tactic(auto, using(crate::proofs::DeclaredFound::routine_found_whole, crate::proofs::DeclaredFound::routine_found_forward, crate::proofs::DeclaredFound::routine_found_completion))]
 pub fn in_routine_heading(routine: &Routine, sought: Sought<'_>) -> Option<Use>
     ensures { IsFound (routine_heading_uses routine.now) result }
 {
@@ -176,7 +171,6 @@ pub fn in_routine_heading(routine: &Routine, sought: Sought<'_>) -> Option<Use>
     }
 }
 
-#[tactic(auto, using(crate::proofs::DeclaredFound::headings_found, crate::proofs::Found::found_none))]
 fn in_headings(list: &[Routine], sought: Sought<'_>) -> Option<Use>
     ensures { IsFound (all_uses routine_heading_uses list.now) result }
 {

@@ -6,15 +6,16 @@ ghost use Rattle.ps_points.specs.Levels.{own_level, levels_of, block_declared_us
 ghost use Rattle.ps_points.specs.Early.{is_looked_up, reach, IsDefined, IsBehind, IsBehindIn, IsBeforePoint, IsBeforeHidden, IsBeforeField, is_named, IsUseOf, IsOwn, IsOwnIn, IsEarly};
 
 use crate::absent::{Kind, is_absent};
-use crate::bodies::{in_constant, in_statements};
+use crate::bodies::in_constant;
 use crate::control::{lacks, named};
-use crate::declared::{in_declarations, in_routine_heading, in_type};
+use crate::declared::{in_routine_heading, in_type};
 use crate::headings::routine_name;
 use crate::levels::Levels;
 use crate::point::{Point, Region};
 use crate::twice::{are_alike, same_name};
 use crate::undefined::is_hidden;
-use crate::uses::{Sought, Use, Way, first};
+use crate::used::{declared_at, used_at};
+use crate::uses::{Sought, Use, Way};
 use ps_regions::reading::Reading;
 use ps_syntax::{Block, ConstantDefinition, Routine, TypeDefinition};
 use ps_text::Span;
@@ -92,15 +93,9 @@ fn is_before_point(
         block,
         outer,
     };
-    let declared = in_declarations(block, Sought::At(at));
-    let stated = in_statements(block.statements.as_slice(), false, Sought::At(at));
-    match first(declared, stated) {
+    match used_at(block, at) {
         None => false,
-        Some(found) => {
-            found.name.from == at
-                && is_looked_up(found.way)
-                && is_behind_in(reading, points, &levels, found)
-        }
+        Some(found) => { is_looked_up(found.way) && is_behind_in(reading, points, &levels, found) }
     }
 }
 
@@ -127,13 +122,9 @@ fn is_before_hidden(reading: &Reading, points: &[Point], found: Use) -> bool
 fn is_before_field(reading: &Reading, points: &[Point], block: &Block, at: u32) -> bool
     ensures { result ≡ true → IsBeforeField reading.now.source.now points.now (block_declared_uses block.now) at }
 {
-    match in_declarations(block, Sought::At(at)) {
+    match declared_at(block, at) {
         None => false,
-        Some(found) => {
-            found.name.from == at
-                && is_looked_up(found.way)
-                && is_before_hidden(reading, points, found)
-        }
+        Some(found) => is_looked_up(found.way) && is_before_hidden(reading, points, found),
     }
 }
 

@@ -84,7 +84,6 @@ fn add_list(points: &mut Vec<Point>, region: Region, written: &Heading) -> Resul
 }
 
 #[cycle(heading)]
-#[tactic(auto, using(crate::proofs::Lists::gained_next, crate::proofs::Lists::gained_end))]
 fn add_sections(points: &mut Vec<Point>, region: Region, list: &[Section]) -> Result<(), AllocError>
     ensures { OnOk result (points.new.items ≡ points.old.items ++ gathered (λ x. section_points x region) list.now) }
 {

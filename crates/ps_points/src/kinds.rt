@@ -8,7 +8,6 @@ ghost use Rattle.ps_points.specs.Kinds.{required, IsOneOf, IsOtherRequired, IsIn
 use crate::absent::{Kind, is_absent};
 use crate::bodies::in_statements;
 use crate::control::{formal_of, has_field, is_read, lacks, named};
-use crate::declared::in_declarations;
 use crate::early::{is_defined, is_looked_up};
 use crate::levels::Levels;
 use crate::listed::writes_output;
@@ -18,7 +17,8 @@ use crate::needs::{
 use crate::point::{Form, Point, Region};
 use crate::twice::{are_alike, is_spelled, same_name};
 use crate::undefined::{CONSTANTS, FUNCTIONS, PROCEDURES, TYPES, is_hidden};
-use crate::uses::{Sought, Use, Way, first};
+use crate::used::{declared_at, stated_at, used_at};
+use crate::uses::{Sought, Use, Way};
 use ps_regions::reading::Reading;
 use ps_syntax::Block;
 use ps_text::Span;
@@ -266,11 +266,9 @@ fn is_of_wrong_kind(
         block,
         outer,
     };
-    let declared = in_declarations(block, Sought::At(at));
-    let stated = in_statements(block.statements.as_slice(), false, Sought::At(at));
-    match first(declared, stated) {
+    match used_at(block, at) {
         None => false,
-        Some(found) => found.name.from == at && is_misused(reading, points, &levels, found),
+        Some(found) => is_misused(reading, points, &levels, found),
     }
 }
 
@@ -302,9 +300,9 @@ fn is_odd_field(
         block,
         outer,
     };
-    match in_statements(block.statements.as_slice(), false, Sought::At(at)) {
+    match stated_at(block, at) {
         None => false,
-        Some(found) => found.name.from == at && is_misused_field(reading, points, &levels, found),
+        Some(found) => is_misused_field(reading, points, &levels, found),
     }
 }
 
@@ -329,13 +327,9 @@ fn is_behind_hidden(reading: &Reading, points: &[Point], found: Use) -> bool
 fn is_beside_field(reading: &Reading, points: &[Point], block: &Block, at: u32) -> bool
     ensures { result ≡ true → IsBesideField reading.now.source.now points.now (block_declared_uses block.now) at }
 {
-    match in_declarations(block, Sought::At(at)) {
+    match declared_at(block, at) {
         None => false,
-        Some(found) => {
-            found.name.from == at
-                && is_looked_up(found.way)
-                && is_behind_hidden(reading, points, found)
-        }
+        Some(found) => is_looked_up(found.way) && is_behind_hidden(reading, points, found),
     }
 }
 

@@ -22,5 +22,6 @@ mod twice;
 mod types;
 mod undefined;
 mod unknown;
+mod used;
 mod uses;
 mod walk;

@@ -6,14 +6,13 @@ ghost use Rattle.ps_points.specs.Levels.{own_level, levels_of};
 ghost use Rattle.ps_points.specs.Control.{IsCalled};
 ghost use Rattle.ps_points.specs.Listed.{is_called, ReadsInput, WritesOutput, IsInput, IsOutput, IsNotListed, NeedsUnlisted, IsUnlisted};
 
-use crate::bodies::in_statements;
 use crate::control::is_read;
-use crate::declared::in_declarations;
 use crate::levels::Levels;
 use crate::point::{Form, Point, Region};
 use crate::twice::is_spelled;
 use crate::unknown::all_lack;
-use crate::uses::{Sought, Use, Way, first};
+use crate::used::used_at;
+use crate::uses::{Use, Way};
 use ps_regions::reading::Reading;
 use ps_syntax::Block;
 use ps_text::Span;
@@ -79,7 +78,6 @@ fn lists(reading: &Reading, point: Point, name: &[u8]) -> bool
 }
 
 /// Whether no program parameter has the name.
-#[tactic(auto, using(crate::proofs::ListedLemmas::unlisted_next, crate::proofs::ListedLemmas::unlisted_end))]
 fn is_not_listed(reading: &Reading, points: &[Point], name: &[u8]) -> bool
     ensures { result ≡ true → IsNotListed reading.now.source.now points.now name.now }
 {
@@ -115,14 +113,10 @@ pub fn is_unlisted(
         block,
         outer,
     };
-    let declared = in_declarations(block, Sought::At(at));
-    let stated = in_statements(block.statements.as_slice(), false, Sought::At(at));
-    match first(declared, stated) {
+    match used_at(block, at) {
         None => false,
         Some(found) => {
-            found.name.from == at
-                && all_lack(reading, points, &levels, found.name)
-                && needs_unlisted(reading, points, found)
+            all_lack(reading, points, &levels, found.name) && needs_unlisted(reading, points, found)
         }
     }
 }

@@ -82,7 +82,6 @@ pub fn add_point(
 }
 
 /// The points of names of one form.
-#[tactic(auto, unfolding(crate::specs::Points::named))]
 pub fn add_names(
     points: &mut Vec<Point>,
     region: Region,

@@ -92,6 +92,27 @@ impl Latest {
     }
 }
 
+/// The first of these points that is one too many in its region.
+fn first_replaced(
+    reading: &Reading,
+    alloc: Global,
+    points: &[Point],
+    latest: &mut Latest,
+) -> Result<Option<u32>, AllocError>
+    ensures { IfOk result (λ found. IfSome found (IsTwice reading.now.source.now points.now)) }
+{
+    for (later, point) in points.iter().enumerate() {
+        let key = key(reading, alloc, point.region, point.name)?;
+        if let Some(earlier) = latest.replace(key, later)? {
+            let found = repeated(reading, points, earlier, later);
+            if found.is_some() {
+                return Ok(found);
+            }
+        }
+    }
+    Ok(None)
+}
+
 /// The first point of the text that is one too many in its region.
 pub fn first_repeated(
     reading: &Reading,
@@ -104,14 +125,5 @@ pub fn first_repeated(
         keys: Names::new(alloc),
         places: Vec::new(alloc),
     };
-    for (later, point) in points.iter().enumerate() {
-        let key = key(reading, alloc, point.region, point.name)?;
-        if let Some(earlier) = latest.replace(key, later)? {
-            let found = repeated(reading, points, earlier, later);
-            if found.is_some() {
-                return Ok(found);
-            }
-        }
-    }
-    Ok(None)
+    first_replaced(reading, alloc, points, &mut latest)
 }

@@ -21,7 +21,6 @@ fn add_ordinal(points: &mut Vec<Point>, region: Region, ordinal: &Ordinal) -> Re
     }
 }
 
-#[tactic(auto, using(crate::proofs::Lists::gained_next, crate::proofs::Lists::gained_end))]
 fn add_ordinals(points: &mut Vec<Point>, region: Region, list: &[Ordinal]) -> Result<(), AllocError>
     ensures { OnOk result (points.new.items ≡ points.old.items ++ gathered (λ x. ordinal_points x region) list.now) }
 {
@@ -106,7 +105,6 @@ fn add_section(
 }
 
 #[cycle(types)]
-#[tactic(auto, using(crate::proofs::Lists::gained_next, crate::proofs::Lists::gained_end))]
 fn add_fields(
     points: &mut Vec<Point>,
     own: Region,

@@ -37,6 +37,16 @@ pub const PROCEDURES: [&[u8]; 7] = [
     b"read", b"readln", b"write", b"writeln", b"new", b"pack", b"unpack",
 ];
 
+/// Adds what a region is known by.
+fn add_region(key: &mut Vec<u8>, reading: &Reading, region: Region) -> Result<(), AllocError> {
+    key.push(b'/')?;
+    for byte in reading.bytes(region.owner) {
+        key.push(byte.to_ascii_lowercase())?;
+    }
+    key.push(b'/')?;
+    key.extend_from_slice(&region.outer.to_le_bytes())
+}
+
 /// What a name in a region is looked up by: the spelling, and what the region is known by.
 pub fn key(
     reading: &Reading,
@@ -45,15 +55,8 @@ pub fn key(
     name: Span,
 ) -> Result<Vec<u8>, AllocError> {
     let mut key = reading.name(alloc, name)?;
-    key.push(b'/')?;
-    for byte in reading.bytes(region.owner) {
-        key.push(byte.to_ascii_lowercase())?;
-    }
-    key.push(b'/')?;
-    for byte in region.outer.to_le_bytes() {
-        key.push(byte)?;
-    }
-    Ok(key)
+    let added = add_region(&mut key, reading, region);
+    added.and(Ok(key))
 }
 
 /// The points of a program, to be looked up.

@@ -5,14 +5,13 @@ ghost use Rattle.ps_points.specs.Levels.{own_level, levels_of};
 ghost use Rattle.ps_points.specs.Unknown.{required_names, IsNoneOf, AllLack, HasNoHeading, IsNowhere, IsLacking, IsUnknown};
 
 use crate::absent::{Kind, is_absent};
-use crate::bodies::in_statements;
 use crate::control::{lacks, named};
-use crate::declared::in_declarations;
 use crate::levels::Levels;
 use crate::point::{Point, Region};
 use crate::twice::is_spelled;
 use crate::undefined::REQUIRED;
-use crate::uses::{Sought, Use, Way, first};
+use crate::used::used_at;
+use crate::uses::{Use, Way};
 use ps_regions::reading::Reading;
 use ps_syntax::Block;
 use ps_text::Span;
@@ -83,7 +82,7 @@ fn is_lacking(reading: &Reading, points: &[Point], levels: &Levels, found: Use) 
 
 /// Whether a use stands at an offset in the declarations or the statements of a block, whose name it and the blocks round
 /// it lack.
-#[tactic(auto, using(crate::proofs::UnknownLemmas::unknown_found), unfolding(crate::specs::Levels::levels_of))]
+#[tactic(auto, unfolding(crate::specs::Levels::levels_of))]
 pub fn is_unknown(
     reading: &Reading,
     points: &[Point],
@@ -99,10 +98,8 @@ pub fn is_unknown(
         block,
         outer,
     };
-    let declared = in_declarations(block, Sought::At(at));
-    let stated = in_statements(block.statements.as_slice(), false, Sought::At(at));
-    match first(declared, stated) {
+    match used_at(block, at) {
         None => false,
-        Some(found) => { found.name.from == at && is_lacking(reading, points, &levels, found) }
+        Some(found) => is_lacking(reading, points, &levels, found),
     }
 }

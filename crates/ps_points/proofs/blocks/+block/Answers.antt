@@ -1,7 +1,8 @@
 use Rattle.std.proofs.Common.{rules, ◌≡◌, ◌++◌}
 use Rattle.std.proofs.lemmas.Result.{on_ok_weaker}
-use Rattle.ps_points.specs.Points.{heading, heading_points, within, whole_form}
+use Rattle.ps_points.specs.Points.{heading, heading_points, routine_points, within, whole_form}
 use Rattle.ps_points.proofs.Equations.{whole_added}
+use Rattle.ps_points.proofs.Lists.{gained_start, gained_next, gained_end}
 use Rattle.ps_points.proofs.blocks.+block.Goals as goal
 
 pub add_routine-returns-in_ok-add_heading-in-Whole : goal.add_routine-returns-in_ok-add_heading-in-Whole
@@ -11,3 +12,12 @@ add_routine-returns-in_ok-add_heading-in-Whole t c =
     let name : c.heading_name.result ≡ (heading c.in-Whole.heading).name = search rules in
     let inner : c.within.result ≡ within c.args.region c.heading_name.result = search rules in
     on_ok_weaker c.add_block.result (λ e. whole_added c.args.written.now c.in-Whole.heading c.in-Whole.block c.args.region c.within.result c.heading_name.result c.whole_form.result c.args.points.now.items c.add_heading.new.points.items c.add_block.new.points.items c.in-Whole.is own e form inner name) c.add_block.ensures
+
+pub add_routines-loop-written-init : goal.add_routines-loop-written-init
+add_routines-loop-written-init t c = gained_start _ _ _
+
+pub add_routines-loop-written-preserved : goal.add_routines-loop-written-preserved
+add_routines-loop-written-preserved t c = gained_next (λ x. routine_points x c.args.region) _ _ _ _ _ _ c.loop-written-test.true c.written-item.is c.loop-written.invariant c.in_ok-add_routine.ensures
+
+pub add_routines-returns : goal.add_routines-returns
+add_routines-returns t c = gained_end (λ x. routine_points x c.args.region) _ _ _ _ c.loop-written-test.false c.loop-written.invariant

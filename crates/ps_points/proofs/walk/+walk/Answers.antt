@@ -3,7 +3,7 @@ use Rattle.ps_syntax.specs.declared.program.Block.{out-Block}
 use Rattle.ps_syntax.specs.declared.program.Routine.TheVariants as r
 use Rattle.ps_points.specs.Levels.{own_level, levels_of, routine_levels, routines_levels}
 use Rattle.ps_points.specs.Walk.{IsSomewhere}
-use Rattle.ps_points.proofs.WalkLemmas.{block_here, block_within, routine_completion}
+use Rattle.ps_points.proofs.WalkLemmas.{block_here, block_within, routine_completion, routines_one}
 use Rattle.ps_points.proofs.walk.+walk.Goals as goal
 
 pub in_block-returns-then-is_in : goal.in_block-returns-then-is_in
@@ -21,3 +21,6 @@ in_routine-returns-in-Completion t c = λ e.
     let h : IsSomewhere c.args.asked c.args.reading.now.source.now c.args.points.now (routine_levels (r.Completion c.in-Completion.name c.in-Completion.block) c.args.region (levels_of c.args.outer.now)) c.args.at
     = routine_completion c.args.asked c.args.reading.now.source.now c.args.points.now c.in-Completion.name c.in-Completion.block c.args.region c.within.result (levels_of c.args.outer.now) c.args.at c.within.ensures (c.in_block-in-Completion.ensures e) in
     subst (λ x. IsSomewhere c.args.asked c.args.reading.now.source.now c.args.points.now (routine_levels x c.args.region (levels_of c.args.outer.now)) c.args.at) (sym c.in-Completion.is) h
+
+pub in_routines-returns-then-in_routine : goal.in_routines-returns-then-in_routine
+in_routines-returns-then-in_routine t c = λ _. routines_one _ _ _ _ _ _ _ _ _ c.loop-routine-test.true c.routine-item.is (c.in_routine.ensures c.if-in_routine.true)

@@ -1,0 +1,12 @@
+use Rattle.ps_points.specs.Points.{section_points}
+use Rattle.ps_points.proofs.Lists.{gained_start, gained_next, gained_end}
+use Rattle.ps_points.proofs.headings.+heading.Goals as goal
+
+pub add_sections-loop-section-init : goal.add_sections-loop-section-init
+add_sections-loop-section-init t c = gained_start _ _ _
+
+pub add_sections-loop-section-preserved : goal.add_sections-loop-section-preserved
+add_sections-loop-section-preserved t c = gained_next (λ x. section_points x c.args.region) _ _ _ _ _ _ c.loop-section-test.true c.section-item.is c.loop-section.invariant c.in_ok-add_section.ensures
+
+pub add_sections-returns : goal.add_sections-returns
+add_sections-returns t c = gained_end (λ x. section_points x c.args.region) _ _ _ _ c.loop-section-test.false c.loop-section.invariant
