@@ -1,5 +1,5 @@
 -- Names of another kind than their place needs, step by step.
-use Rattle.std.proofs.Common.{◌≡◌, inl, inr, ℕ, ◌<◌, Bool, true, List, ◌∷◌, ◌++◌, length, get_or, map, Option, Some, None, refl, sym, ◌∙◌, subst}
+use Rattle.std.proofs.Common.{◌≡◌, inl, inr, ℕ, ◌<◌, Bool, true, List, ◌∷◌, ◌++◌, length, get_or, map, Option, Some, None, refl, sym, subst}
 use Rattle.std.specs.Prelude.{false, IfSome}
 use Rattle.ps_text.specs.declared.Span.{Span}
 use Rattle.ps_syntax.specs.declared.program.Block.{Block, out-Block}

@@ -52,7 +52,7 @@ fn in_constants(list: &[Constant], sought: Sought<'_>) -> Option<Use>
     None
 }
 
-#[tactic(auto, using(crate::proofs::Found::width_found), unfolding(crate::specs::Uses::parameter_part))]
+#[tactic(auto, unfolding(crate::specs::Uses::parameter_part))]
 fn in_parameter(
     routine: Span,
     index: usize,
@@ -80,7 +80,6 @@ fn in_parameter(
     }
 }
 
-#[tactic(auto, using(crate::proofs::Found::parameters_found, crate::proofs::Found::found_none))]
 fn in_parameters(routine: Span, list: &[Parameter], sought: Sought<'_>) -> Option<Use>
     ensures { IsFound (arguments routine 0 (map parameter_part list.now)) result }
 {
@@ -93,7 +92,6 @@ fn in_parameters(routine: Span, list: &[Parameter], sought: Sought<'_>) -> Optio
     None
 }
 
-#[tactic(auto, using(crate::proofs::Found::found_cons))]
 fn in_procedure(name: Span, list: &[Parameter], sought: Sought<'_>) -> Option<Use>
     ensures { IsFound (used name Called ∷ arguments name 0 (map parameter_part list.now)) result }
 {
@@ -102,7 +100,6 @@ fn in_procedure(name: Span, list: &[Parameter], sought: Sought<'_>) -> Option<Us
     first(own, more)
 }
 
-#[tactic(auto, using(crate::proofs::Found::records_found, crate::proofs::Found::found_none))]
 fn in_records(list: &[Variable], sought: Sought<'_>) -> Option<Use>
     ensures { IsFound (all_uses record_uses list.now) result }
 {
@@ -128,7 +125,7 @@ fn counted(opened: bool) -> Way
 
 /// A use in a statement; `opened` tells whether a `with` statement stands round it.
 #[cycle(body)]
-#[tactic(auto, using(crate::proofs::BodyLemmas::found_assign, crate::proofs::BodyLemmas::found_call, crate::proofs::BodyLemmas::found_compound, crate::proofs::BodyLemmas::found_if, crate::proofs::BodyLemmas::found_if_else, crate::proofs::BodyLemmas::found_case, crate::proofs::BodyLemmas::found_while, crate::proofs::BodyLemmas::found_repeat, crate::proofs::BodyLemmas::found_for, crate::proofs::BodyLemmas::found_with, crate::proofs::Found::found_none))]
+#[tactic(auto, using(crate::proofs::BodyLemmas::found_if, crate::proofs::BodyLemmas::found_while))]
 fn in_statement(statement: &Statement, opened: bool, sought: Sought<'_>) -> Option<Use>
     ensures { IsFound (statement_body statement.now opened).uses result }
 {
@@ -189,7 +186,6 @@ fn in_statement(statement: &Statement, opened: bool, sought: Sought<'_>) -> Opti
 
 /// A use in a sequence of statements.
 #[cycle(body)]
-#[tactic(auto, using(crate::proofs::BodyLemmas::statements_found, crate::proofs::Found::found_none))]
 pub fn in_statements(list: &[Statement], opened: bool, sought: Sought<'_>) -> Option<Use>
     ensures { IsFound (statements_body list.now opened).uses result }
 {
@@ -203,7 +199,6 @@ pub fn in_statements(list: &[Statement], opened: bool, sought: Sought<'_>) -> Op
 }
 
 #[cycle(body)]
-#[tactic(auto, using(crate::proofs::BodyLemmas::elements_found, crate::proofs::Found::found_none))]
 fn in_elements(list: &[Element], opened: bool, sought: Sought<'_>) -> Option<Use>
     ensures { IsFound (elements_body list.now opened).uses result }
 {
@@ -247,7 +242,7 @@ fn first_changed(found: Option<Repeated>, next: Option<Repeated>) -> Option<Repe
 
 /// The use at an offset in what a `for` statement of this statement repeats, if it is of the control variable's spelling.
 #[cycle(changed)]
-#[tactic(auto, using(crate::proofs::BodyLemmas::repeated_compound, crate::proofs::BodyLemmas::repeated_if, crate::proofs::BodyLemmas::repeated_if_else, crate::proofs::BodyLemmas::repeated_case, crate::proofs::BodyLemmas::repeated_while, crate::proofs::BodyLemmas::repeated_repeat, crate::proofs::BodyLemmas::repeated_for, crate::proofs::BodyLemmas::repeated_with, crate::proofs::BodyLemmas::repeated_none))]
+#[tactic(auto, using(crate::proofs::BodyLemmas::repeated_compound, crate::proofs::BodyLemmas::repeated_if, crate::proofs::BodyLemmas::repeated_while, crate::proofs::BodyLemmas::repeated_repeat, crate::proofs::BodyLemmas::repeated_none))]
 fn changed_in_statement(
     reading: &Reading,
     statement: &Statement,
@@ -284,7 +279,6 @@ fn changed_in_statement(
 
 /// The same of a sequence of statements.
 #[cycle(changed)]
-#[tactic(auto, using(crate::proofs::BodyLemmas::statements_repeated, crate::proofs::BodyLemmas::repeated_none))]
 pub fn changed_in(reading: &Reading, list: &[Statement], opened: bool, at: u32) -> Option<Repeated>
     ensures { IsFoundIn (statements_body list.now opened).loops result }
 {
@@ -298,7 +292,6 @@ pub fn changed_in(reading: &Reading, list: &[Statement], opened: bool, at: u32) 
 }
 
 #[cycle(changed)]
-#[tactic(auto, using(crate::proofs::BodyLemmas::elements_repeated, crate::proofs::BodyLemmas::repeated_none))]
 fn changed_in_elements(
     reading: &Reading,
     list: &[Element],

@@ -41,7 +41,6 @@ fn in_ordinals(list: &[Ordinal], sought: Sought<'_>) -> Option<Use>
 
 /// A use in a type denoter.
 #[cycle(denoted)]
-#[tactic(auto, using(crate::proofs::DeclaredFound::type_found_ordinal, crate::proofs::DeclaredFound::type_found_pointer, crate::proofs::DeclaredFound::type_found_structure, crate::proofs::DeclaredFound::type_found_packed))]
 pub fn in_type(ty: &TypeDenoter, sought: Sought<'_>) -> Option<Use>
     ensures { IsFound (type_uses ty.now) result }
 {
@@ -54,7 +53,6 @@ pub fn in_type(ty: &TypeDenoter, sought: Sought<'_>) -> Option<Use>
 }
 
 #[cycle(denoted)]
-#[tactic(auto, using(crate::proofs::DeclaredFound::structure_found_array, crate::proofs::DeclaredFound::structure_found_record, crate::proofs::DeclaredFound::structure_found_set))]
 fn in_structure(structure: &Structure, sought: Sought<'_>) -> Option<Use>
     ensures { IsFound (structure_uses structure.now) result }
 {
@@ -70,7 +68,6 @@ fn in_structure(structure: &Structure, sought: Sought<'_>) -> Option<Use>
 }
 
 #[cycle(denoted)]
-#[tactic(auto, using(crate::proofs::DeclaredFound::fields_found, crate::proofs::Found::found_none))]
 fn in_fields(list: &[Fields], sought: Sought<'_>) -> Option<Use>
     ensures { IsFound (all_uses fields_uses list.now) result }
 {
@@ -121,7 +118,6 @@ fn in_variables(list: &[Variables], sought: Sought<'_>) -> Option<Use>
 
 /// A use in a heading.
 #[cycle(headings)]
-#[tactic(auto, using(crate::proofs::DeclaredFound::heading_found_procedure, crate::proofs::DeclaredFound::heading_found_function))]
 fn in_heading(heading: &Heading, sought: Sought<'_>) -> Option<Use>
     ensures { IsFound (heading_uses heading.now) result }
 {
@@ -136,7 +132,6 @@ fn in_heading(heading: &Heading, sought: Sought<'_>) -> Option<Use>
 }
 
 #[cycle(headings)]
-#[tactic(auto, using(crate::proofs::DeclaredFound::sections_found, crate::proofs::Found::found_none))]
 fn in_sections(list: &[Section], sought: Sought<'_>) -> Option<Use>
     ensures { IsFound (all_uses section_uses list.now) result }
 {
@@ -150,7 +145,6 @@ fn in_sections(list: &[Section], sought: Sought<'_>) -> Option<Use>
 }
 
 #[cycle(headings)]
-#[tactic(auto, using(crate::proofs::DeclaredFound::section_found_value, crate::proofs::DeclaredFound::section_found_variable, crate::proofs::DeclaredFound::section_found_routine))]
 fn in_section(section: &Section, sought: Sought<'_>) -> Option<Use>
     ensures { IsFound (section_uses section.now) result }
 {
@@ -184,7 +178,6 @@ fn in_headings(list: &[Routine], sought: Sought<'_>) -> Option<Use>
 }
 
 /// A use in the declarations of a block.
-#[tactic(auto, using(crate::proofs::DeclaredFound::block_found))]
 pub fn in_declarations(block: &Block, sought: Sought<'_>) -> Option<Use>
     ensures { IsFound (block_declared_uses block.now) result }
 {

@@ -117,5 +117,7 @@ pub fn first_undefined(
         outer: 0,
         owner: written.name,
     };
-    Ok(in_block(looking, &written.block, region, &Levels::Outside))
+    let found = in_block(looking, &written.block, region, &Levels::Outside);
+    drop(defined);
+    Ok(found)
 }

@@ -107,18 +107,30 @@ impl Defined {
         Ok(())
     }
 
+    /// More points, in the order of the text.
+    fn add_all(
+        &mut self,
+        reading: &Reading,
+        alloc: Global,
+        points: &[Point],
+    ) -> Result<(), AllocError> {
+        for point in points {
+            self.add(reading, alloc, *point)?;
+        }
+        Ok(())
+    }
+
     /// These points, in the order of the text.
     pub fn new(reading: &Reading, alloc: Global, points: &[Point]) -> Result<Defined, AllocError> {
+        let required = required(alloc)?;
         let mut defined = Defined {
             keys: Names::new(alloc),
             firsts: Vec::new(alloc),
             hidden: Names::new(alloc),
-            required: required(alloc)?,
+            required,
         };
-        for point in points {
-            defined.add(reading, alloc, *point)?;
-        }
-        Ok(defined)
+        let added = defined.add_all(reading, alloc, points);
+        added.and(Ok(defined))
     }
 }
 

@@ -224,7 +224,6 @@ pub fn expr_whole(x: &Expr) -> Whole
 
 /// A use in an expression.
 #[cycle(uses)]
-#[tactic(auto, using(crate::proofs::Found::expr_found, crate::proofs::Found::compare_found))]
 pub fn in_expr(x: &Expr, sought: Sought<'_>) -> Option<Use>
     ensures { IsFound (expr_part x.now).uses result }
 {
@@ -239,7 +238,6 @@ pub fn in_expr(x: &Expr, sought: Sought<'_>) -> Option<Use>
 }
 
 #[cycle(uses)]
-#[tactic(auto, using(crate::proofs::Found::simple_found))]
 fn in_simple(simple: &Simple, sought: Sought<'_>) -> Option<Use>
     ensures { IsFound (simple_part simple.now).uses result }
 {
@@ -249,7 +247,6 @@ fn in_simple(simple: &Simple, sought: Sought<'_>) -> Option<Use>
 }
 
 #[cycle(uses)]
-#[tactic(auto, using(crate::proofs::Found::added_found, crate::proofs::Found::found_none))]
 fn in_added(list: &[AddedTerm], sought: Sought<'_>) -> Option<Use>
     ensures { IsFound (all_uses added_uses list.now) result }
 {
@@ -263,7 +260,6 @@ fn in_added(list: &[AddedTerm], sought: Sought<'_>) -> Option<Use>
 }
 
 #[cycle(uses)]
-#[tactic(auto, using(crate::proofs::Found::term_found))]
 fn in_term(term: &Term, sought: Sought<'_>) -> Option<Use>
     ensures { IsFound (term_part term.now).uses result }
 {
@@ -273,7 +269,6 @@ fn in_term(term: &Term, sought: Sought<'_>) -> Option<Use>
 }
 
 #[cycle(uses)]
-#[tactic(auto, using(crate::proofs::Found::multiplied_found, crate::proofs::Found::found_none))]
 fn in_multiplied(list: &[MultipliedFactor], sought: Sought<'_>) -> Option<Use>
     ensures { IsFound (all_uses multiplied_uses list.now) result }
 {
@@ -287,7 +282,7 @@ fn in_multiplied(list: &[MultipliedFactor], sought: Sought<'_>) -> Option<Use>
 }
 
 #[cycle(uses)]
-#[tactic(auto, using(crate::proofs::Found::factor_found_variable, crate::proofs::Found::factor_found_call, crate::proofs::Found::factor_found_set, crate::proofs::Found::factor_found_group, crate::proofs::Found::factor_found_not, crate::proofs::Found::found_none))]
+#[tactic(auto, using(crate::proofs::Found::found_none))]
 fn in_factor(factor: &Factor, sought: Sought<'_>) -> Option<Use>
     ensures { IsFound (factor_part factor.now).uses result }
 {
@@ -302,7 +297,6 @@ fn in_factor(factor: &Factor, sought: Sought<'_>) -> Option<Use>
 }
 
 #[cycle(uses)]
-#[tactic(auto, using(crate::proofs::Found::found_cons))]
 fn in_call(name: Span, list: &[Expr], sought: Sought<'_>) -> Option<Use>
     ensures { IsFound (used name Applied ∷ arguments name 0 (map expr_part list.now)) result }
 {
@@ -312,7 +306,6 @@ fn in_call(name: Span, list: &[Expr], sought: Sought<'_>) -> Option<Use>
 }
 
 #[cycle(uses)]
-#[tactic(auto, using(crate::proofs::Found::arguments_found, crate::proofs::Found::found_none))]
 fn in_arguments(name: Span, list: &[Expr], sought: Sought<'_>) -> Option<Use>
     ensures { IsFound (arguments name 0 (map expr_part list.now)) result }
 {
@@ -327,7 +320,6 @@ fn in_arguments(name: Span, list: &[Expr], sought: Sought<'_>) -> Option<Use>
 
 /// A use in an actual parameter, which is one where the parameter is a name alone.
 #[cycle(uses)]
-#[tactic(auto, using(crate::proofs::Found::argument_alone, crate::proofs::Found::argument_other))]
 pub fn in_argument(routine: Span, index: usize, x: &Expr, sought: Sought<'_>) -> Option<Use>
     ensures { IsFound (argument routine index (expr_part x.now)) result }
 {
@@ -349,7 +341,6 @@ pub fn in_argument(routine: Span, index: usize, x: &Expr, sought: Sought<'_>) ->
 }
 
 #[cycle(uses)]
-#[tactic(auto, using(crate::proofs::Found::members_found, crate::proofs::Found::found_none))]
 fn in_members(list: &[Member], sought: Sought<'_>) -> Option<Use>
     ensures { IsFound (all_uses member_uses list.now) result }
 {
@@ -363,7 +354,6 @@ fn in_members(list: &[Member], sought: Sought<'_>) -> Option<Use>
 }
 
 #[cycle(uses)]
-#[tactic(auto, using(crate::proofs::Found::member_found_one, crate::proofs::Found::member_found_range))]
 fn in_member(member: &Member, sought: Sought<'_>) -> Option<Use>
     ensures { IsFound (member_uses member.now) result }
 {
@@ -390,7 +380,6 @@ fn variable_way(variable: &Variable) -> Way
 
 /// A use in a variable.
 #[cycle(uses)]
-#[tactic(auto, using(crate::proofs::Found::variable_found))]
 pub fn in_variable(variable: &Variable, sought: Sought<'_>) -> Option<Use>
     ensures { IsFound (variable_part variable.now).uses result }
 {
@@ -400,7 +389,6 @@ pub fn in_variable(variable: &Variable, sought: Sought<'_>) -> Option<Use>
 }
 
 #[cycle(uses)]
-#[tactic(auto, using(crate::proofs::Found::selectors_found, crate::proofs::Found::found_none))]
 fn in_selectors(list: &[Selector], sought: Sought<'_>) -> Option<Use>
     ensures { IsFound (all_uses selector_uses list.now) result }
 {
@@ -414,7 +402,6 @@ fn in_selectors(list: &[Selector], sought: Sought<'_>) -> Option<Use>
 }
 
 #[cycle(uses)]
-#[tactic(auto, using(crate::proofs::Found::selector_found, crate::proofs::Found::selector_found_field, crate::proofs::Found::found_none))]
 fn in_selector(selector: &Selector, sought: Sought<'_>) -> Option<Use>
     ensures { IsFound (selector_uses selector.now) result }
 {
@@ -426,7 +413,6 @@ fn in_selector(selector: &Selector, sought: Sought<'_>) -> Option<Use>
 }
 
 #[cycle(uses)]
-#[tactic(auto, using(crate::proofs::Found::exprs_found, crate::proofs::Found::found_none))]
 fn in_exprs(list: &[Expr], sought: Sought<'_>) -> Option<Use>
     ensures { IsFound (all_uses (λ x. (expr_part x).uses) list.now) result }
 {

@@ -53,7 +53,6 @@ fn is_in(
 
 /// Whether the rule is broken at an offset in a block or in one within it.
 #[cycle(walk)]
-#[tactic(auto, using(crate::proofs::WalkLemmas::block_here, crate::proofs::WalkLemmas::block_within), unfolding(crate::specs::Levels::levels_of))]
 fn in_block(
     asked: Asked,
     reading: &Reading,
@@ -85,7 +84,6 @@ fn in_block(
 }
 
 #[cycle(walk)]
-#[tactic(auto, using(crate::proofs::WalkLemmas::routines_one))]
 fn in_routines(
     asked: Asked,
     reading: &Reading,
@@ -106,7 +104,6 @@ fn in_routines(
 }
 
 #[cycle(walk)]
-#[tactic(auto, using(crate::proofs::WalkLemmas::routine_whole, crate::proofs::WalkLemmas::routine_completion))]
 fn in_routine(
     asked: Asked,
     reading: &Reading,

@@ -1,9 +1,9 @@
-use Rattle.std.proofs.Common.{rules, ◌≡◌, ◌∷◌, sym, subst}
+use Rattle.std.proofs.Common.{arith, rules, ◌≡◌, ◌∷◌, sym, subst}
 use Rattle.ps_syntax.specs.declared.program.Block.{out-Block}
 use Rattle.ps_syntax.specs.declared.program.Routine.TheVariants as r
 use Rattle.ps_points.specs.Levels.{own_level, levels_of, routine_levels, routines_levels}
 use Rattle.ps_points.specs.Walk.{IsSomewhere}
-use Rattle.ps_points.proofs.WalkLemmas.{block_here, block_within, routine_completion, routines_one}
+use Rattle.ps_points.proofs.WalkLemmas.{block_here, block_within, routine_whole, routine_completion, routines_one}
 use Rattle.ps_points.proofs.walk.+walk.Goals as goal
 
 pub in_block-returns-then-is_in : goal.in_block-returns-then-is_in
@@ -24,3 +24,6 @@ in_routine-returns-in-Completion t c = λ e.
 
 pub in_routines-returns-then-in_routine : goal.in_routines-returns-then-in_routine
 in_routines-returns-then-in_routine t c = λ _. routines_one _ _ _ _ _ _ _ _ _ c.loop-routine-test.true c.routine-item.is (c.in_routine.ensures c.if-in_routine.true)
+
+pub in_routine-returns-in-Whole : goal.in_routine-returns-in-Whole
+in_routine-returns-in-Whole t c = grind (arith, routine_whole)
