@@ -213,7 +213,7 @@ pub fn block(
 
 /// The routines of a block, in their order.
 #[cycle(block)]
-#[tactic(auto, using(ps_regions::proofs::Lists::stepped_next_map, ps_regions::proofs::Lists::stepped_fault_map, ps_regions::proofs::Lists::stepped_end_map))]
+#[tactic(auto, using(ps_regions::proofs::Lists::stepped_fault_map))]
 fn read_routines(
     list: &[Routine],
     frame: &Frame,

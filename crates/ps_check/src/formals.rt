@@ -78,7 +78,6 @@ fn add_formals(
 
 /// The formal parameters of sections, one for each name.
 #[cycle(formals)]
-#[tactic(auto, using(crate::proofs::FormalLemmas::listed_next, crate::proofs::FormalLemmas::listed_end))]
 pub fn formals_of(sections: &[Section], alloc: Global) -> Result<Vec<Formal>, AllocError>
     ensures { IfOk result (λ formals. formals_of formals.items ≡ regions.formals_of (sections_of sections.now)) }
 {
@@ -120,7 +119,6 @@ fn add_parameter(ty: &Ty, entry: u32, known: &mut Vec<Meaning>, at: u32) -> Resu
 }
 
 /// Parameters of one type.
-#[tactic(auto, using(crate::proofs::FormalLemmas::repeated_next, crate::proofs::FormalLemmas::repeated_fault, crate::proofs::FormalLemmas::repeated_end))]
 fn add_parameters(
     ty: &Ty,
     count: u32,
@@ -170,7 +168,7 @@ fn add_section(
 
 /// The meanings of the formal parameters, whose entries begin with this one, and the entry behind them. `at` is where
 /// a fault is told.
-#[tactic(auto, using(crate::proofs::FormalLemmas::entered_next, crate::proofs::FormalLemmas::entered_fault, crate::proofs::FormalLemmas::entered_end))]
+#[tactic(auto, using(crate::proofs::FormalLemmas::entered_fault))]
 pub fn add_sections(
     sections: &[Section],
     entry: u32,

@@ -97,7 +97,6 @@ fn add_names(
 }
 
 /// The spellings of the names of a heading's parameters.
-#[tactic(auto, using(crate::proofs::Lists::gained_next, crate::proofs::Lists::gained_end))]
 fn parameter_names(
     list: &[Section],
     frame: &Frame,

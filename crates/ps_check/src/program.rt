@@ -1,6 +1,6 @@
 //! The region around the program, the files that its heading lists, and the program of its routines.
 
-ghost use Rattle.std.specs.Prelude.{◌≡◌, Some, None, IfOk, IfErr, OnOk, map, option_map};
+ghost use Rattle.std.specs.Prelude.{◌≡◌, ◌++◌, ◌∷◌, [], Some, None, IfOk, IfErr, OnOk, map, option_map};
 ghost use Rattle.ps_tree.specs.Counts.{is_within_limits};
 ghost use Rattle.ps_tree.specs.View as tree;
 ghost use Rattle.ps_tree.specs.View.{routine_of};
@@ -9,6 +9,7 @@ ghost use Rattle.ps_regions.specs.Option.{provided, steps, traverse};
 ghost use Rattle.ps_regions.specs.Refusal.{IsFault, IsToldAt};
 ghost use Rattle.ps_regions.specs.Regions.{BlockRegion, FileMeaning};
 ghost use Rattle.ps_regions.specs.Views.{meaning_of};
+ghost use Rattle.ps_declare.specs.Points.{add_name};
 ghost use Rattle.ps_check.specs.Programs.{required, add_required, file_named, list_file, no_files, assembled, program_routine, program_of};
 ghost use Rattle.ps_check.specs.declared.state.Gathered.{Gathered};
 ghost use Rattle.ps_check.specs.Views.{standard_meaning, files_of, finished_of, gathered_of, done_of};
@@ -155,34 +156,50 @@ fn file_named(name: &[u8]) -> Option<File>
     }
 }
 
-/// One more program parameter.
-#[tactic(auto, unfolding(crate::specs::Programs::list_file, ps_regions::specs::Views::meaning_of))]
-fn list_file(reading: &Reading, alloc: Global, files: &mut Files, at: Span) -> Result<(), Fault>
-    ensures ok { OnOk result (list_file reading.now.source.now (files_of files.old) at ≡ Some (files_of files.new)) }
-    ensures err { IfErr result (λ fault. IsFault fault → list_file reading.now.source.now (files_of files.old) at ≡ None) }
+/// The file of this name. `at` is where a fault is told.
+fn listed_file(name: &[u8], at: u32) -> Result<File, Fault>
+    ensures ok { IfOk result (λ file. file_named name.now ≡ Some (FileMeaning file)) }
+    ensures err { IfErr result (λ fault. IsFault fault → file_named name.now ≡ None) }
 {
-    let name = reading.name(alloc, at)?;
-    let file = match file_named(&name) {
-        None => {
-            return Err(Fault::Broken {
-                rule: Rule::NotInProfile,
-                at: at.from,
-            });
-        }
-        Some(file) => file,
-    };
+    match file_named(name) {
+        None => Err(Fault::Broken {
+            rule: Rule::NotInProfile,
+            at,
+        }),
+        Some(file) => Ok(file),
+    }
+}
+
+/// One more file, whose name is new. `at` is where a fault is told.
+#[tactic(auto, unfolding(ps_regions::specs::Views::meaning_of))]
+fn add_file(files: &mut Files, name: Vec<u8>, file: File, at: u32) -> Result<(), Fault>
+    ensures names { OnOk result (add_name files.old.names name.items ≡ Some files.new.names) }
+    ensures known { OnOk result (map meaning_of files.new.known.items ≡ map meaning_of files.old.known.items ++ FileMeaning file ∷ []) }
+    ensures err { IfErr result (λ fault. IsFault fault → add_name files.old.names name.items ≡ None) }
+{
     if !files.names.add(name)? {
         return Err(Fault::Broken {
             rule: Rule::Twice,
-            at: at.from,
+            at,
         });
     }
     files.known.push(Meaning::File(file))?;
     Ok(())
 }
 
+/// One more program parameter.
+#[tactic(auto, unfolding(crate::specs::Programs::list_file))]
+fn list_file(reading: &Reading, alloc: Global, files: &mut Files, at: Span) -> Result<(), Fault>
+    ensures ok { OnOk result (list_file reading.now.source.now (files_of files.old) at ≡ Some (files_of files.new)) }
+    ensures err { IfErr result (λ fault. IsFault fault → list_file reading.now.source.now (files_of files.old) at ≡ None) }
+{
+    let name = reading.name(alloc, at)?;
+    let file = listed_file(&name, at.from)?;
+    add_file(files, name, file, at.from)
+}
+
 /// The files that a program heading lists.
-#[tactic(auto, using(ps_regions::proofs::Lists::stepped_next, ps_regions::proofs::Lists::stepped_fault, ps_regions::proofs::Lists::stepped_end))]
+#[tactic(auto, using(ps_regions::proofs::Lists::stepped_fault))]
 pub fn list_files(reading: &Reading, alloc: Global, parameters: &[Span]) -> Result<Files, Fault>
     ensures ok { IfOk result (λ files. steps (list_file reading.now.source.now) no_files parameters.now ≡ Some (files_of files)) }
     ensures err { IfErr result (λ fault. IsFault fault → steps (list_file reading.now.source.now) no_files parameters.now ≡ None) }

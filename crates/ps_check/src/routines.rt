@@ -92,7 +92,7 @@ fn add_routine(
 }
 
 /// The names of a block's routines, behind those that are there.
-#[tactic(auto, using(ps_regions::proofs::Lists::stepped_next_map, ps_regions::proofs::Lists::stepped_fault_map, ps_regions::proofs::Lists::stepped_end_map))]
+#[tactic(auto, using(ps_regions::proofs::Lists::stepped_fault_map))]
 pub fn add_routines(
     reading: &Reading,
     alloc: Global,
@@ -176,7 +176,7 @@ pub fn is_complete(gathered: &Gathered, meaning: &Meaning) -> bool
 }
 
 /// Whether every routine has its block.
-#[tactic(auto, using(crate::proofs::Lists::all_next, crate::proofs::Lists::one_fails, crate::proofs::Lists::all_end), unfolding(crate::specs::Forwards::all_complete))]
+#[tactic(auto, using(crate::proofs::Lists::one_fails), unfolding(crate::specs::Forwards::all_complete))]
 pub fn all_complete(gathered: &Gathered, known: &[Meaning]) -> bool
     ensures { result ≡ all_complete (gathered_of gathered.now) (map meaning_of known.now) }
 {
@@ -264,7 +264,7 @@ fn add_name(names: &mut Names, name: &[u8], alloc: Global, at: u32) -> Result<()
 }
 
 /// These names, each of which is new.
-#[tactic(auto, using(ps_regions::proofs::Lists::stepped_next_map, ps_regions::proofs::Lists::stepped_fault_map, ps_regions::proofs::Lists::stepped_end_map))]
+#[tactic(auto, using(ps_regions::proofs::Lists::stepped_next_map, ps_regions::proofs::Lists::stepped_fault_map))]
 fn names_of(list: &[Vec<u8>], alloc: Global, at: u32) -> Result<Names, Fault>
     ensures ok { IfOk result (λ names. steps add_name [] (map (λ name. name.items) list.now) ≡ Some names) }
     ensures err { IfErr result (λ fault. IsFault fault → steps add_name [] (map (λ name. name.items) list.now) ≡ None) }

@@ -46,7 +46,6 @@ fn routine_threat(finished: &Option<Finished>, depth: usize, watched: Entries<'_
 }
 
 /// The same of the first routine that threatens one, if there is one.
-#[tactic(auto, using(crate::proofs::Lists::none_next, crate::proofs::Lists::one_found, crate::proofs::Lists::none_end))]
 fn first_threat(within: &[Option<Finished>], depth: usize, watched: Entries<'_>) -> Option<u32>
     ensures { is_some result ≡ list_any (routine_threatens depth (watched_of watched.entry)) (map finished_of within.now) }
 {
@@ -90,7 +89,6 @@ fn routine_assigns(finished: &Option<Finished>, depth: usize) -> bool
 }
 
 /// Whether a routine of these assigns to the function's result.
-#[tactic(auto, using(crate::proofs::Lists::none_next, crate::proofs::Lists::one_found, crate::proofs::Lists::none_end))]
 fn is_assigned(within: &[Option<Finished>], depth: usize) -> bool
     ensures { result ≡ list_any (routine_assigns depth) (map finished_of within.now) }
 {

@@ -1,0 +1,11 @@
+use Rattle.ps_check.proofs.FormalLemmas.{entered_start, entered_next, entered_end}
+use Rattle.ps_check.proofs.formals.add_sections.Goals as goal
+
+pub loop-section-init : goal.loop-section-init
+loop-section-init c = entered_start _ _
+
+pub loop-section-preserved : goal.loop-section-preserved
+loop-section-preserved c = entered_next _ _ _ _ _ _ c.loop-section-test.true c.section-item.is c.loop-section.invariant c.in_ok-next.ensures.ok
+
+pub returns-clause-ok : goal.returns-clause-ok
+returns-clause-ok c = entered_end _ _ _ _ c.loop-section-test.false c.loop-section.invariant

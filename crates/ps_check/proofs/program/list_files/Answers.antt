@@ -1,0 +1,8 @@
+use Rattle.ps_regions.proofs.Lists.{stepped_next, stepped_end}
+use Rattle.ps_check.proofs.program.list_files.Goals as goal
+
+pub loop-at-preserved : goal.loop-at-preserved
+loop-at-preserved c = stepped_next _ _ _ _ _ _ _ c.loop-at-test.true c.loop-at.invariant c.in_ok-list_file.ensures.ok
+
+pub returns-clause-ok : goal.returns-clause-ok
+returns-clause-ok c = stepped_end _ _ _ _ _ c.loop-at-test.false c.loop-at.invariant

@@ -1,0 +1,11 @@
+use Rattle.ps_regions.proofs.Lists.{stepped_start, stepped_next_map, stepped_end_map}
+use Rattle.ps_check.proofs.routines.add_routines.Goals as goal
+
+pub loop-written-init : goal.loop-written-init
+loop-written-init c = stepped_start _ _ _
+
+pub loop-written-preserved : goal.loop-written-preserved
+loop-written-preserved c = stepped_next_map _ _ _ _ _ _ _ _ c.loop-written-test.true c.written-item.is c.loop-written.invariant c.in_ok-add_routine.ensures.ok
+
+pub returns-clause-ok : goal.returns-clause-ok
+returns-clause-ok c = stepped_end_map _ _ _ _ _ _ c.loop-written-test.false c.loop-written.invariant
