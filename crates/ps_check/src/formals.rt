@@ -168,7 +168,6 @@ fn add_section(
 
 /// The meanings of the formal parameters, whose entries begin with this one, and the entry behind them. `at` is where
 /// a fault is told.
-#[tactic(auto, using(crate::proofs::FormalLemmas::entered_fault))]
 pub fn add_sections(
     sections: &[Section],
     entry: u32,
