@@ -203,10 +203,18 @@ impl<'a> Parser<'a> {
         match self.relation() {
             None => Ok(Expr::Simple(left)),
             Some((relation, at)) => {
-                let right = self.simple(depth)?;
-                Ok(Expr::Compare(left, relation, at, Boxed::new(self.alloc, right)?))
+                Ok(Expr::Compare(left, relation, at, self.right_side(depth)?))
             }
         }
+    }
+
+    /// The simple expression after a relation, which goes to the heap.
+    #[cycle(expression)]
+    fn right_side(&mut self, depth: u32) -> Result<Boxed<Simple>, Fault>
+        ensures { Reads (read.simple (read.term (read.read_factor depth)) self.old.rest.now) result self.new.rest.now }
+    {
+        let right = self.simple(depth)?;
+        Ok(Boxed::new(self.alloc, right)?)
     }
 
     /// As `expr`, where the value goes to the heap. A factor alone goes there straight, so that a level of
@@ -418,7 +426,7 @@ impl<'a> Parser<'a> {
     }
 
     #[cycle(expression)]
-    #[tactic(auto, unfolding(crate::specs::ReadExpressions::set, crate::specs::Steps::eat))]
+    #[tactic(auto, using(crate::proofs::Closed::closed), unfolding(crate::specs::ReadExpressions::set, crate::specs::Steps::eat))]
     fn set(&mut self, depth: u32, at: Span) -> Result<Factor, Fault>
         ensures { Reads (read.set (read.read_expr depth) at self.old.rest.now) result self.new.rest.now }
     {
@@ -426,8 +434,8 @@ impl<'a> Parser<'a> {
             return Ok(Factor::Set(at, Items::new(self.alloc)));
         }
         let members = self.members(depth)?;
-        self.expect(Kind::RightBracket)?;
-        Ok(Factor::Set(at, members))
+        let end = self.expect(Kind::RightBracket);
+        end.and(Ok(Factor::Set(at, members)))
     }
 
     #[cycle(expression)]

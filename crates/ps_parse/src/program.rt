@@ -116,14 +116,14 @@ impl<'a> Parser<'a> {
     }
 
     #[cycle(heading)]
-    #[tactic(auto, unfolding(crate::specs::ReadPrograms::formal_list))]
+    #[tactic(auto, using(crate::proofs::Closed::closed), unfolding(crate::specs::ReadPrograms::formal_list))]
     fn formal_list(&mut self, depth: u32) -> Result<Items<Section>, Fault>
         ensures { Reads (read.formal_list (read.read_formals depth) self.old.rest.now) result self.new.rest.now }
     {
         self.expect(Kind::LeftParen)?;
         let sections = self.sections(depth)?;
-        self.expect(Kind::RightParen)?;
-        Ok(sections)
+        let end = self.expect(Kind::RightParen);
+        end.and(Ok(sections))
     }
 
     #[cycle(heading)]
@@ -148,26 +148,26 @@ impl<'a> Parser<'a> {
         Ok(ConstantDefinition { name, value })
     }
 
-    #[tactic(auto, unfolding(crate::specs::ReadPrograms::type_definition))]
+    #[tactic(auto, using(crate::proofs::Closed::closed), unfolding(crate::specs::ReadPrograms::type_definition))]
     fn type_definition(&mut self, depth: u32) -> Result<TypeDefinition, Fault>
         ensures { Reads (read.type_definition (read.read_type depth) self.old.rest.now) result self.new.rest.now }
     {
         let name = self.expect(Kind::Name)?;
         self.expect(Kind::Equal)?;
         let ty = self.type_denoter(depth)?;
-        self.expect(Kind::Semicolon)?;
-        Ok(TypeDefinition { name, ty })
+        let end = self.expect(Kind::Semicolon);
+        end.and(Ok(TypeDefinition { name, ty }))
     }
 
-    #[tactic(auto, unfolding(crate::specs::ReadPrograms::variables))]
+    #[tactic(auto, using(crate::proofs::Closed::closed), unfolding(crate::specs::ReadPrograms::variables))]
     fn declared_variables(&mut self, depth: u32) -> Result<Variables, Fault>
         ensures { Reads (read.variables (read.read_type depth) self.old.rest.now) result self.new.rest.now }
     {
         let names = self.names()?;
         self.expect(Kind::Colon)?;
         let ty = self.type_denoter(depth)?;
-        self.expect(Kind::Semicolon)?;
-        Ok(Variables { names, ty })
+        let end = self.expect(Kind::Semicolon);
+        end.and(Ok(Variables { names, ty }))
     }
 
     fn constant_part(&mut self) -> Result<Items<ConstantDefinition>, Fault>
@@ -306,13 +306,13 @@ impl<'a> Parser<'a> {
     }
 
     #[cycle(block)]
-    #[tactic(auto, unfolding(crate::specs::ReadPrograms::routine))]
+    #[tactic(auto, using(crate::proofs::Closed::closed), unfolding(crate::specs::ReadPrograms::routine))]
     fn routine(&mut self, text: &[u8], depth: u32) -> Result<Routine, Fault>
         ensures { Reads (read.routine (is_forward text.now) (read.read_formals depth) (read.read_block (is_forward text.now) depth) self.old.rest.now) result self.new.rest.now }
     {
         let routine = self.routine_head(text, depth)?;
-        self.expect(Kind::Semicolon)?;
-        Ok(routine)
+        let end = self.expect(Kind::Semicolon);
+        end.and(Ok(routine))
     }
 
     #[cycle(block)]
@@ -330,7 +330,7 @@ impl<'a> Parser<'a> {
     }
 
     #[cycle(block)]
-    #[tactic(auto, unfolding(crate::specs::ReadPrograms::any_block))]
+    #[tactic(auto, using(crate::proofs::Closed::closed), unfolding(crate::specs::ReadPrograms::any_block))]
     fn any_block(&mut self, text: &[u8], depth: u32) -> Result<Block, Fault>
         ensures { Reads (read.any_block (is_forward text.now) (read.read_type depth) (read.read_formals depth) (read_statement depth) (read.read_block (is_forward text.now) depth) self.old.rest.now) result self.new.rest.now }
     {
@@ -340,15 +340,15 @@ impl<'a> Parser<'a> {
         let routines = self.routines(text, depth)?;
         let begin = self.expect(Kind::Begin)?;
         let statements = self.sequence(depth)?;
-        self.expect(Kind::End)?;
-        Ok(Block {
+        let end = self.expect(Kind::End);
+        end.and(Ok(Block {
             constants,
             types,
             variables,
             routines,
             begin,
             statements,
-        })
+        }))
     }
 
     #[cycle(block)]
@@ -362,7 +362,7 @@ impl<'a> Parser<'a> {
         self.any_block(text, depth - 1)
     }
 
-    #[tactic(auto, unfolding(crate::specs::ReadPrograms::program_names, crate::specs::Steps::eat))]
+    #[tactic(auto, using(crate::proofs::Closed::closed), unfolding(crate::specs::ReadPrograms::program_names, crate::specs::Steps::eat))]
     fn program_names(&mut self, text: &[u8], depth: u32) -> Result<Items<Span>, Fault>
         ensures { Reads (read.program_names (is_forward text.now) (read.read_block (is_forward text.now) depth) self.old.rest.now) result self.new.rest.now }
     {
@@ -370,11 +370,11 @@ impl<'a> Parser<'a> {
             return Ok(Items::new(self.alloc));
         }
         let names = self.names()?;
-        self.expect(Kind::RightParen)?;
-        Ok(names)
+        let end = self.expect(Kind::RightParen);
+        end.and(Ok(names))
     }
 
-    #[tactic(auto, unfolding(crate::specs::ReadPrograms::program))]
+    #[tactic(auto, using(crate::proofs::Closed::closed), unfolding(crate::specs::ReadPrograms::program))]
     pub fn program(&mut self, text: &[u8], depth: u32) -> Result<Program, Fault>
         ensures { Reads (read.program (is_forward text.now) (read.read_block (is_forward text.now) depth) self.old.rest.now) result self.new.rest.now }
     {
@@ -383,12 +383,12 @@ impl<'a> Parser<'a> {
         let parameters = self.program_names(text, depth)?;
         self.expect(Kind::Semicolon)?;
         let block = self.block(text, depth)?;
-        self.expect(Kind::Dot)?;
-        Ok(Program {
+        let end = self.expect(Kind::Dot);
+        end.and(Ok(Program {
             name,
             parameters,
             block,
-        })
+        }))
     }
 }
 

@@ -168,6 +168,15 @@ impl<'a> Parser<'a> {
         self.any_statement(depth - 1)
     }
 
+    /// As `statement`, where the value goes to the heap.
+    #[cycle(statement)]
+    fn boxed_statement(&mut self, depth: u32) -> Result<Boxed<Statement>, Fault>
+        ensures { Reads (read.read_statement depth self.old.rest.now) result self.new.rest.now }
+    {
+        let value = self.statement(depth)?;
+        Ok(Boxed::new(self.alloc, value)?)
+    }
+
     #[cycle(statement)]
     #[tactic(auto, unfolding(crate::specs::ReadStatements::any_statement))]
     fn any_statement(&mut self, depth: u32) -> Result<Statement, Fault>
@@ -241,13 +250,13 @@ impl<'a> Parser<'a> {
     }
 
     #[cycle(statement)]
-    #[tactic(auto, unfolding(crate::specs::ReadStatements::compound, crate::specs::ReadStatements::sequence))]
+    #[tactic(auto, using(crate::proofs::Closed::closed), unfolding(crate::specs::ReadStatements::compound, crate::specs::ReadStatements::sequence))]
     fn compound(&mut self, depth: u32) -> Result<Statement, Fault>
         ensures { Reads (read.compound (expression.read_expr depth) (read.read_statement depth) self.old.rest.now) result self.new.rest.now }
     {
         let statements = self.sequence(depth)?;
-        self.expect(Kind::End)?;
-        Ok(Statement::Compound(statements))
+        let end = self.expect(Kind::End);
+        end.and(Ok(Statement::Compound(statements)))
     }
 
     #[cycle(statement)]
@@ -257,11 +266,11 @@ impl<'a> Parser<'a> {
     {
         let condition = self.boxed_expr(depth)?;
         self.expect(Kind::Then)?;
-        let chosen = Boxed::new(self.alloc, self.statement(depth)?)?;
+        let chosen = self.boxed_statement(depth)?;
         if !self.eat(Kind::Else) {
             return Ok(Statement::If(condition, chosen));
         }
-        let other = Boxed::new(self.alloc, self.statement(depth)?)?;
+        let other = self.boxed_statement(depth)?;
         Ok(Statement::IfElse(condition, chosen, other))
     }
 
@@ -298,15 +307,15 @@ impl<'a> Parser<'a> {
     }
 
     #[cycle(statement)]
-    #[tactic(auto, unfolding(crate::specs::ReadStatements::case_statement))]
+    #[tactic(auto, using(crate::proofs::Closed::closed), unfolding(crate::specs::ReadStatements::case_statement))]
     fn case_statement(&mut self, depth: u32, at: Span) -> Result<Statement, Fault>
         ensures { Reads (read.case_statement (expression.read_expr depth) (read.read_statement depth) at self.old.rest.now) result self.new.rest.now }
     {
         let index = self.boxed_expr(depth)?;
         self.expect(Kind::Of)?;
         let elements = self.elements(depth)?;
-        self.expect(Kind::End)?;
-        Ok(Statement::Case(at, index, elements))
+        let end = self.expect(Kind::End);
+        end.and(Ok(Statement::Case(at, index, elements)))
     }
 
     #[cycle(statement)]
@@ -316,7 +325,7 @@ impl<'a> Parser<'a> {
     {
         let condition = self.boxed_expr(depth)?;
         self.expect(Kind::Do)?;
-        let body = Boxed::new(self.alloc, self.statement(depth)?)?;
+        let body = self.boxed_statement(depth)?;
         Ok(Statement::While(condition, body))
     }
 
@@ -344,7 +353,7 @@ impl<'a> Parser<'a> {
         };
         let last = self.boxed_expr(depth)?;
         self.expect(Kind::Do)?;
-        let body = Boxed::new(self.alloc, self.statement(depth)?)?;
+        let body = self.boxed_statement(depth)?;
         Ok(Statement::For {
             variable,
             first,
@@ -361,7 +370,7 @@ impl<'a> Parser<'a> {
     {
         let records = self.variables(depth)?;
         self.expect(Kind::Do)?;
-        let body = Boxed::new(self.alloc, self.statement(depth)?)?;
+        let body = self.boxed_statement(depth)?;
         Ok(Statement::With(records, body))
     }
 }

@@ -81,13 +81,13 @@ impl<'a> Parser<'a> {
         }
     }
 
-    #[tactic(auto, unfolding(crate::specs::ReadPrograms::enumeration))]
+    #[tactic(auto, using(crate::proofs::Closed::closed), unfolding(crate::specs::ReadPrograms::enumeration))]
     fn enumeration(&mut self, at: Span) -> Result<Ordinal, Fault>
         ensures { Reads (read.enumeration at self.old.rest.now) result self.new.rest.now }
     {
         let names = self.names()?;
-        self.expect(Kind::RightParen)?;
-        Ok(Ordinal::Enumeration(at, names))
+        let end = self.expect(Kind::RightParen);
+        end.and(Ok(Ordinal::Enumeration(at, names)))
     }
 
     #[tactic(auto, unfolding(crate::specs::ReadPrograms::ordinal))]
@@ -134,6 +134,15 @@ impl<'a> Parser<'a> {
             return Err(self.too_deep(self.begins_type()));
         }
         self.any_type(depth - 1)
+    }
+
+    /// As `type_denoter`, where the value goes to the heap.
+    #[cycle(ty)]
+    fn boxed_type(&mut self, depth: u32) -> Result<Boxed<TypeDenoter>, Fault>
+        ensures { Reads (read.read_type depth self.old.rest.now) result self.new.rest.now }
+    {
+        let value = self.type_denoter(depth)?;
+        Ok(Boxed::new(self.alloc, value)?)
     }
 
     #[cycle(ty)]
@@ -194,12 +203,11 @@ impl<'a> Parser<'a> {
         let indices = self.indices(depth)?;
         self.expect(Kind::RightBracket)?;
         self.expect(Kind::Of)?;
-        let component = self.type_denoter(depth)?;
-        Ok(Structure::Array(at, indices, Boxed::new(self.alloc, component)?))
+        Ok(Structure::Array(at, indices, self.boxed_type(depth)?))
     }
 
     #[cycle(ty)]
-    #[tactic(auto, unfolding(crate::specs::ReadPrograms::record_of, crate::specs::Steps::eat))]
+    #[tactic(auto, using(crate::proofs::Closed::closed), unfolding(crate::specs::ReadPrograms::record_of, crate::specs::Steps::eat))]
     fn record(&mut self, depth: u32, at: Span) -> Result<Structure, Fault>
         ensures { Reads (read.record_of (read.read_index depth) (read.read_type depth) at self.old.rest.now) result self.new.rest.now }
     {
@@ -207,8 +215,8 @@ impl<'a> Parser<'a> {
             return Ok(Structure::Record(at, Items::new(self.alloc)));
         }
         let sections = self.sections_of_record(depth)?;
-        self.expect(Kind::End)?;
-        Ok(Structure::Record(at, sections))
+        let end = self.expect(Kind::End);
+        end.and(Ok(Structure::Record(at, sections)))
     }
 
     #[tactic(auto, unfolding(crate::specs::ReadPrograms::set_of))]
