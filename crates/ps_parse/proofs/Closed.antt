@@ -1,5 +1,5 @@
 -- A value that was read, and the token that ends it.
-use Rattle.std.proofs.Common.{Ok, Err, Result, ap}
+use Rattle.std.proofs.Common.{Ok, Err, Result, Some, ap}
 use Rattle.ps_text.specs.declared.Span.{Span}
 use Rattle.ps_grammar.specs.Symbols.{Tokens}
 use Rattle.ps_parse.specs.declared.error.Fault.{Fault}
@@ -9,3 +9,7 @@ use Rattle.std.specs.Result.{result_and}
 pub closed : {A : Type 0} (o : Outcome Span) (end : Result Span Fault) (x : A) (r : Tokens) → Reads o end r → Reads (and_then o (λ _. pure x)) (result_and end (Ok x)) r
 closed o (Ok at) x r h = ap (λ (z : Outcome Span). and_then z (λ _. pure x)) h
 closed o (Err e) x r h = λ m. ap (λ (z : Outcome Span). and_then z (λ _. pure x)) (h m)
+
+pub closed_some : {A : Type 0} (o : Outcome Span) (end : Result Span Fault) (x : A) (r : Tokens) → Reads o end r → Reads (and_then (and_then o (λ _. pure x)) (λ y. pure (Some y))) (result_and end (Ok (Some x))) r
+closed_some o (Ok at) x r h = ap (λ (z : Outcome Span). and_then (and_then z (λ _. pure x)) (λ y. pure (Some y))) h
+closed_some o (Err e) x r h = λ m. ap (λ (z : Outcome Span). and_then (and_then z (λ _. pure x)) (λ y. pure (Some y))) (h m)

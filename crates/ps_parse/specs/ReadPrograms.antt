@@ -132,18 +132,19 @@ module _ (formals : Parser (List Section)) where
     at ← expect k.Name
     function_named at
 
-  unfoldable pub value_section : Parser Section
-  value_section = do
+  -- names and their type
+  abbrev pub plain_section : (List Span → Span → Section) → Parser Section
+  plain_section make = do
     xs ← names
     expect k.Colon
-    x.Value xs <$> expect k.Name
+    make xs <$> expect k.Name
+
+  unfoldable pub value_section : Parser Section
+  value_section = plain_section x.Value
 
   -- after the word `var`
   unfoldable pub variable_section : Parser Section
-  variable_section = do
-    xs ← names
-    expect k.Colon
-    x.Variable xs <$> expect k.Name
+  variable_section = plain_section x.Variable
 
   abbrev pub section_by : Kind → Parser Section
   section_by k.Var = skip >> variable_section

@@ -8,7 +8,7 @@ use thiserror::Error;
 
 /// Why tokens are no program of a height of at most `MAX_HEIGHT`. Each but `OutOfMemory` has the
 /// line, from 1 on, of the token that it is told at; the end counts as a token, at the end of the text.
-#[derive(Clone, Copy, Debug, PartialEq, Eq, Error)]
+#[derive(Clone, Copy, Debug, Error)]
 pub enum ParseRefusal {
     /// No derivation from the start can take the token with this number, counted from 0.
     #[error("NotAProgram")]
@@ -51,7 +51,7 @@ impl ParseRefusal {
 }
 
 /// The same, by how many tokens are left.
-#[derive(Clone, Copy, Debug, PartialEq, Eq)]
+#[derive(Clone, Copy)]
 pub enum Fault {
     OutOfMemory,
     Unexpected(usize),

@@ -6,6 +6,7 @@ ghost use Rattle.ps_parse.specs.Steps.{Reads, separated, many};
 ghost use Rattle.ps_parse.specs.ReadExpressions as read;
 ghost use Rattle.ps_parse.specs.Refusals as refusals;
 
+use crate::answer::{beside, boxed_answer, push_answer};
 use crate::error::Fault;
 use crate::parser::Parser;
 use ps_scan::{Kind, Token};
@@ -106,9 +107,11 @@ impl<'a> Parser<'a> {
         ensures read { read.eat_operator read.relation_of self.old.rest.now ≡ Ok (result, self.new.rest.now) }
         ensures kept { self.new.left_out ≡ self.old.left_out }
     {
-        let token = self.peek()?;
+        let [token, rest @ ..] = self.rest else {
+            return None;
+        };
         let relation = relation_of(token.kind)?;
-        self.skip();
+        self.rest = rest;
         Some((relation, token.span))
     }
 
@@ -117,9 +120,11 @@ impl<'a> Parser<'a> {
         ensures read { read.eat_operator read.sign_of self.old.rest.now ≡ Ok (result, self.new.rest.now) }
         ensures kept { self.new.left_out ≡ self.old.left_out }
     {
-        let token = self.peek()?;
+        let [token, rest @ ..] = self.rest else {
+            return None;
+        };
         let sign = sign_of(token.kind)?;
-        self.skip();
+        self.rest = rest;
         Some((sign, token.span))
     }
 
@@ -128,9 +133,11 @@ impl<'a> Parser<'a> {
         ensures read { read.eat_operator read.adding_of self.old.rest.now ≡ Ok (result, self.new.rest.now) }
         ensures kept { self.new.left_out ≡ self.old.left_out }
     {
-        let token = self.peek()?;
+        let [token, rest @ ..] = self.rest else {
+            return None;
+        };
         let operator = adding_of(token.kind)?;
-        self.skip();
+        self.rest = rest;
         Some((operator, token.span))
     }
 
@@ -139,9 +146,11 @@ impl<'a> Parser<'a> {
         ensures read { read.eat_operator read.multiplying_of self.old.rest.now ≡ Ok (result, self.new.rest.now) }
         ensures kept { self.new.left_out ≡ self.old.left_out }
     {
-        let token = self.peek()?;
+        let [token, rest @ ..] = self.rest else {
+            return None;
+        };
         let operator = multiplying_of(token.kind)?;
-        self.skip();
+        self.rest = rest;
         Some((operator, token.span))
     }
 
@@ -203,18 +212,21 @@ impl<'a> Parser<'a> {
         match self.relation() {
             None => Ok(Expr::Simple(left)),
             Some((relation, at)) => {
-                Ok(Expr::Compare(left, relation, at, self.right_side(depth)?))
+                let (left, right) = beside(left, self.right_side(depth))?;
+                Ok(Expr::Compare(left, relation, at, right))
             }
         }
     }
 
     /// The simple expression after a relation, which goes to the heap.
     #[cycle(expression)]
+    #[tactic(auto, unfolding(crate::specs::ReadExpressions::simple, crate::specs::ReadExpressions::term))]
     fn right_side(&mut self, depth: u32) -> Result<Boxed<Simple>, Fault>
         ensures { Reads (read.simple (read.term (read.read_factor depth)) self.old.rest.now) result self.new.rest.now }
     {
-        let right = self.simple(depth)?;
-        Ok(Boxed::new(self.alloc, right)?)
+        let sign = self.sign();
+        let first = self.factor(depth)?;
+        boxed_answer(self.alloc, self.simple_from(depth, sign, first))
     }
 
     /// As `expr`, where the value goes to the heap. A factor alone goes there straight, so that a level of
@@ -252,18 +264,7 @@ impl<'a> Parser<'a> {
     ) -> Result<Boxed<Expr>, Fault>
         ensures { Reads (read.expr_after (read.read_factor depth) sign first self.old.rest.now) result self.new.rest.now }
     {
-        let value = self.expr_from(depth, sign, first)?;
-        Ok(Boxed::new(self.alloc, value)?)
-    }
-
-    #[cycle(expression)]
-    #[tactic(auto, unfolding(crate::specs::ReadExpressions::simple, crate::specs::ReadExpressions::term))]
-    fn simple(&mut self, depth: u32) -> Result<Simple, Fault>
-        ensures { Reads (read.simple (read.term (read.read_factor depth)) self.old.rest.now) result self.new.rest.now }
-    {
-        let sign = self.sign();
-        let first = self.factor(depth)?;
-        self.simple_from(depth, sign, first)
+        boxed_answer(self.alloc, self.expr_from(depth, sign, first))
     }
 
     /// A simple expression of which the sign and the first factor were read.
@@ -277,7 +278,7 @@ impl<'a> Parser<'a> {
         ensures { Reads (read.simple_after (read.read_factor depth) sign first self.old.rest.now) result self.new.rest.now }
     {
         let first = self.term_from(depth, first)?;
-        let more = self.terms(depth)?;
+        let (first, more) = beside(first, self.terms(depth))?;
         Ok(Simple { sign, first, more })
     }
 
@@ -310,7 +311,7 @@ impl<'a> Parser<'a> {
     fn term_from(&mut self, depth: u32, first: Factor) -> Result<Term, Fault>
         ensures { Reads (read.term_from (read.read_factor depth) first self.old.rest.now) result self.new.rest.now }
     {
-        let more = self.factors(depth)?;
+        let (first, more) = beside(first, self.factors(depth))?;
         Ok(Term { first, more })
     }
 
@@ -368,8 +369,7 @@ impl<'a> Parser<'a> {
             }
             Kind::Not => {
                 self.skip();
-                let negated = Boxed::new(self.alloc, self.negated(depth)?)?;
-                Ok(Factor::Not(token.span, negated))
+                Ok(Factor::Not(token.span, self.negated(depth)?))
             }
             _ => Err(self.refusal()),
         }
@@ -377,13 +377,13 @@ impl<'a> Parser<'a> {
 
     #[cycle(expression)]
     #[tactic(auto, unfolding(crate::specs::ReadExpressions::read_negated))]
-    fn negated(&mut self, depth: u32) -> Result<Factor, Fault>
+    fn negated(&mut self, depth: u32) -> Result<Boxed<Factor>, Fault>
         ensures { Reads (read.read_negated depth self.old.rest.now) result self.new.rest.now }
     {
         if depth == 0 {
             return Err(self.too_deep(self.begins_factor()));
         }
-        self.factor(depth - 1)
+        boxed_answer(self.alloc, self.factor(depth - 1))
     }
 
     /// Goes past the parentheses that come next, at most so many, and answers how many they are.
@@ -439,14 +439,14 @@ impl<'a> Parser<'a> {
     }
 
     #[cycle(expression)]
-    #[tactic(auto, unfolding(crate::specs::ReadExpressions::named, crate::specs::ReadExpressions::call, crate::specs::ReadExpressions::variable, crate::specs::Steps::eat))]
+    #[tactic(auto, using(crate::proofs::Closed::closed), unfolding(crate::specs::ReadExpressions::named, crate::specs::ReadExpressions::call, crate::specs::ReadExpressions::variable, crate::specs::Steps::eat))]
     fn named(&mut self, depth: u32, at: Span) -> Result<Factor, Fault>
         ensures { Reads (read.named (read.read_expr depth) at self.old.rest.now) result self.new.rest.now }
     {
         if self.eat(Kind::LeftParen) {
             let parameters = self.exprs(depth)?;
-            self.expect(Kind::RightParen)?;
-            return Ok(Factor::Call(at, parameters));
+            let end = self.expect(Kind::RightParen);
+            return end.and(Ok(Factor::Call(at, parameters)));
         }
         let selectors = self.selectors(depth)?;
         Ok(Factor::Variable(Variable {
@@ -470,7 +470,7 @@ impl<'a> Parser<'a> {
     }
 
     #[cycle(expression)]
-    #[tactic(auto, unfolding(crate::specs::ReadExpressions::selector, crate::specs::ReadExpressions::index))]
+    #[tactic(auto, using(crate::proofs::Closed::closed_some), unfolding(crate::specs::ReadExpressions::selector, crate::specs::ReadExpressions::index))]
     fn selector(&mut self, depth: u32) -> Result<Option<Selector>, Fault>
         ensures { Reads (read.selector (read.read_expr depth) self.old.rest.now) result self.new.rest.now }
     {
@@ -481,8 +481,8 @@ impl<'a> Parser<'a> {
             Kind::LeftBracket => {
                 self.skip();
                 let indices = self.exprs(depth)?;
-                self.expect(Kind::RightBracket)?;
-                Ok(Some(Selector::Index(indices)))
+                let end = self.expect(Kind::RightBracket);
+                end.and(Ok(Some(Selector::Index(indices))))
             }
             Kind::Dot => {
                 self.skip();
@@ -501,12 +501,12 @@ impl<'a> Parser<'a> {
         ensures { Reads (separated k.Comma (read.read_expr depth) self.old.rest.now) result self.new.rest.now }
     {
         let mut found = Items::new(self.alloc);
-        found.push(self.expr(depth)?)?;
+        push_answer(&mut found, self.expr(depth))?;
         for _turn in 0..self.left() {
             if !self.eat(Kind::Comma) {
                 return Ok(found);
             }
-            found.push(self.expr(depth)?)?;
+            push_answer(&mut found, self.expr(depth))?;
         }
         Ok(found)
     }
@@ -516,12 +516,12 @@ impl<'a> Parser<'a> {
         ensures { Reads (separated k.Comma (read.member (read.read_expr depth)) self.old.rest.now) result self.new.rest.now }
     {
         let mut found = Items::new(self.alloc);
-        found.push(self.member(depth)?)?;
+        push_answer(&mut found, self.member(depth))?;
         for _turn in 0..self.left() {
             if !self.eat(Kind::Comma) {
                 return Ok(found);
             }
-            found.push(self.member(depth)?)?;
+            push_answer(&mut found, self.member(depth))?;
         }
         Ok(found)
     }

@@ -1,6 +1,7 @@
 //! The parser: from a text's tokens to the tree that derives from them (ISO 7185 6.2 to 6.10).
 #![tactic(auto)]
 
+mod answer;
 mod error;
 mod expression;
 mod parser;

@@ -136,12 +136,13 @@ impl<'a> Parser<'a> {
         ensures read { spec.accept kind self.old.rest.now ≡ Ok (result, self.new.rest.now) }
         ensures kept { self.new.left_out ≡ self.old.left_out }
     {
-        let token = self.peek()?;
-        if !is(token.kind, kind) {
-            return None;
+        match self.rest {
+            [token, rest @ ..] if is(token.kind, kind) => {
+                self.rest = rest;
+                Some(token.span)
+            }
+            _ => None,
         }
-        self.skip();
-        Some(token.span)
     }
 
     #[tactic(auto, unfolding(crate::specs::Steps::expect))]

@@ -1,13 +1,15 @@
 //! Headings, blocks and programs.
 
-ghost use Rattle.std.specs.Prelude.{◌≡◌, ◌||◌};
+ghost use Rattle.std.specs.Prelude.{◌≡◌, ◌||◌, if◌then◌else◌};
 ghost use Rattle.ps_scan.specs.declared.token.Kind.TheVariants as k;
+ghost use Rattle.ps_syntax.specs.declared.program.Section.TheVariants as x;
 ghost use Rattle.ps_parse.specs.Steps.{Reads, separated, many, part, if_begins};
 ghost use Rattle.ps_parse.specs.ReadStatements.{read_statement};
 ghost use Rattle.ps_parse.specs.ReadPrograms as read;
 ghost use Rattle.ps_grammar.specs.Forward.{is_forward};
 ghost use Rattle.ps_parse.specs.Refusals as refusals;
 
+use crate::answer::push_answer;
 use crate::error::Fault;
 use crate::parser::Parser;
 use ps_scan::{Kind, Token};
@@ -57,26 +59,22 @@ impl<'a> Parser<'a> {
         self.function_named(depth, name)
     }
 
-    #[tactic(auto, unfolding(crate::specs::ReadPrograms::value_section))]
-    fn value_section(&mut self, depth: u32) -> Result<Section, Fault>
-        ensures { Reads (read.value_section (read.read_formals depth) self.old.rest.now) result self.new.rest.now }
+    /// A section of names and their type, after the word `var` if they are variable parameters.
+    fn plain_section(&mut self, depth: u32, are_variable: bool) -> Result<Section, Fault>
+        ensures { Reads (read.plain_section (read.read_formals depth) (if are_variable then x.Variable else x.Value) self.old.rest.now) result self.new.rest.now }
     {
         let names = self.names()?;
         self.expect(Kind::Colon)?;
-        Ok(Section::Value(names, self.expect(Kind::Name)?))
-    }
-
-    #[tactic(auto, unfolding(crate::specs::ReadPrograms::variable_section))]
-    fn variable_section(&mut self, depth: u32) -> Result<Section, Fault>
-        ensures { Reads (read.variable_section (read.read_formals depth) self.old.rest.now) result self.new.rest.now }
-    {
-        let names = self.names()?;
-        self.expect(Kind::Colon)?;
-        Ok(Section::Variable(names, self.expect(Kind::Name)?))
+        let ty = self.expect(Kind::Name)?;
+        if are_variable {
+            Ok(Section::Variable(names, ty))
+        } else {
+            Ok(Section::Value(names, ty))
+        }
     }
 
     #[cycle(heading)]
-    #[tactic(auto, unfolding(crate::specs::ReadPrograms::section))]
+    #[tactic(auto, unfolding(crate::specs::ReadPrograms::section, crate::specs::ReadPrograms::value_section, crate::specs::ReadPrograms::variable_section))]
     fn section(&mut self, depth: u32) -> Result<Section, Fault>
         ensures { Reads (read.section (read.read_formals depth) self.old.rest.now) result self.new.rest.now }
     {
@@ -86,7 +84,7 @@ impl<'a> Parser<'a> {
         match token.kind {
             Kind::Var => {
                 self.skip();
-                self.variable_section(depth)
+                self.plain_section(depth, true)
             }
             Kind::Procedure => {
                 self.skip();
@@ -96,7 +94,7 @@ impl<'a> Parser<'a> {
                 self.skip();
                 Ok(Section::Routine(self.function(depth)?))
             }
-            _ => self.value_section(depth),
+            _ => self.plain_section(depth, false),
         }
     }
 
@@ -105,12 +103,12 @@ impl<'a> Parser<'a> {
         ensures { Reads (separated k.Semicolon (read.section (read.read_formals depth)) self.old.rest.now) result self.new.rest.now }
     {
         let mut found = Items::new(self.alloc);
-        found.push(self.section(depth)?)?;
+        push_answer(&mut found, self.section(depth))?;
         for _turn in 0..self.left() {
             if !self.eat(Kind::Semicolon) {
                 return Ok(found);
             }
-            found.push(self.section(depth)?)?;
+            push_answer(&mut found, self.section(depth))?;
         }
         Ok(found)
     }
@@ -137,15 +135,15 @@ impl<'a> Parser<'a> {
         self.formal_list(depth - 1)
     }
 
-    #[tactic(auto, unfolding(crate::specs::ReadPrograms::constant_definition))]
+    #[tactic(auto, using(crate::proofs::Closed::closed), unfolding(crate::specs::ReadPrograms::constant_definition))]
     fn constant_definition(&mut self) -> Result<ConstantDefinition, Fault>
         ensures { Reads (read.constant_definition self.old.rest.now) result self.new.rest.now }
     {
         let name = self.expect(Kind::Name)?;
         self.expect(Kind::Equal)?;
         let value = self.constant()?;
-        self.expect(Kind::Semicolon)?;
-        Ok(ConstantDefinition { name, value })
+        let end = self.expect(Kind::Semicolon);
+        end.and(Ok(ConstantDefinition { name, value }))
     }
 
     #[tactic(auto, using(crate::proofs::Closed::closed), unfolding(crate::specs::ReadPrograms::type_definition))]
@@ -177,12 +175,12 @@ impl<'a> Parser<'a> {
         if !self.eat(Kind::Const) {
             return Ok(found);
         }
-        found.push(self.constant_definition()?)?;
+        push_answer(&mut found, self.constant_definition())?;
         for _turn in 0..self.left() {
             if !self.sees(Kind::Name) {
                 return Ok(found);
             }
-            found.push(self.constant_definition()?)?;
+            push_answer(&mut found, self.constant_definition())?;
         }
         Ok(found)
     }
@@ -194,12 +192,12 @@ impl<'a> Parser<'a> {
         if !self.eat(Kind::Type) {
             return Ok(found);
         }
-        found.push(self.type_definition(depth)?)?;
+        push_answer(&mut found, self.type_definition(depth))?;
         for _turn in 0..self.left() {
             if !self.sees(Kind::Name) {
                 return Ok(found);
             }
-            found.push(self.type_definition(depth)?)?;
+            push_answer(&mut found, self.type_definition(depth))?;
         }
         Ok(found)
     }
@@ -211,12 +209,12 @@ impl<'a> Parser<'a> {
         if !self.eat(Kind::Var) {
             return Ok(found);
         }
-        found.push(self.declared_variables(depth)?)?;
+        push_answer(&mut found, self.declared_variables(depth))?;
         for _turn in 0..self.left() {
             if !self.sees(Kind::Name) {
                 return Ok(found);
             }
-            found.push(self.declared_variables(depth)?)?;
+            push_answer(&mut found, self.declared_variables(depth))?;
         }
         Ok(found)
     }
@@ -324,7 +322,7 @@ impl<'a> Parser<'a> {
             if !self.sees_routine() {
                 return Ok(found);
             }
-            found.push(self.routine(text, depth)?)?;
+            push_answer(&mut found, self.routine(text, depth))?;
         }
         Ok(found)
     }

@@ -58,6 +58,7 @@ fn whole_program(alloc: Global, text: &[u8], tokens: &[Token]) -> Result<Program
             if parser.left() == 0 {
                 return Ok(program);
             }
+            drop(program);
             Err(parser.refusal())
         }
         Err(fault) => Err(fault),

@@ -6,6 +6,7 @@ ghost use Rattle.ps_parse.specs.Steps.{Reads, separated, terminated};
 ghost use Rattle.ps_parse.specs.ReadExpressions as expression;
 ghost use Rattle.ps_parse.specs.ReadStatements as read;
 
+use crate::answer::{beside, boxed_answer, push_answer};
 use crate::error::Fault;
 use crate::parser::Parser;
 use ps_scan::{Kind, Token};
@@ -28,9 +29,11 @@ impl<'a> Parser<'a> {
         ensures read { expression.eat_operator read.direction_of self.old.rest.now ≡ Ok (result, self.new.rest.now) }
         ensures kept { self.new.left_out ≡ self.old.left_out }
     {
-        let token = self.peek()?;
+        let [token, rest @ ..] = self.rest else {
+            return None;
+        };
         let direction = direction_of(token.kind)?;
-        self.skip();
+        self.rest = rest;
         Some((direction, token.span))
     }
 
@@ -62,12 +65,12 @@ impl<'a> Parser<'a> {
         ensures { Reads (separated k.Comma read.constant self.old.rest.now) result self.new.rest.now }
     {
         let mut found = Items::new(self.alloc);
-        found.push(self.constant()?)?;
+        push_answer(&mut found, self.constant())?;
         for _turn in 0..self.left() {
             if !self.eat(Kind::Comma) {
                 return Ok(found);
             }
-            found.push(self.constant()?)?;
+            push_answer(&mut found, self.constant())?;
         }
         Ok(found)
     }
@@ -80,7 +83,7 @@ impl<'a> Parser<'a> {
         if !self.eat(Kind::Colon) {
             return Ok(Parameter::Plain(value));
         }
-        let width = self.boxed_expr(depth)?;
+        let (value, width) = beside(value, self.boxed_expr(depth))?;
         if self.sees(Kind::Colon) {
             self.leave_out();
         }
@@ -91,12 +94,12 @@ impl<'a> Parser<'a> {
         ensures { Reads (separated k.Comma (read.parameter (expression.read_expr depth)) self.old.rest.now) result self.new.rest.now }
     {
         let mut found = Items::new(self.alloc);
-        found.push(self.parameter(depth)?)?;
+        push_answer(&mut found, self.parameter(depth))?;
         for _turn in 0..self.left() {
             if !self.eat(Kind::Comma) {
                 return Ok(found);
             }
-            found.push(self.parameter(depth)?)?;
+            push_answer(&mut found, self.parameter(depth))?;
         }
         Ok(found)
     }
@@ -114,24 +117,24 @@ impl<'a> Parser<'a> {
         ensures { Reads (separated k.Comma (read.named_variable (expression.read_expr depth)) self.old.rest.now) result self.new.rest.now }
     {
         let mut found = Items::new(self.alloc);
-        found.push(self.named_variable(depth)?)?;
+        push_answer(&mut found, self.named_variable(depth))?;
         for _turn in 0..self.left() {
             if !self.eat(Kind::Comma) {
                 return Ok(found);
             }
-            found.push(self.named_variable(depth)?)?;
+            push_answer(&mut found, self.named_variable(depth))?;
         }
         Ok(found)
     }
 
-    #[tactic(auto, unfolding(crate::specs::ReadStatements::after_name, crate::specs::Steps::eat))]
+    #[tactic(auto, using(crate::proofs::Closed::closed), unfolding(crate::specs::ReadStatements::after_name, crate::specs::Steps::eat))]
     fn after_name(&mut self, depth: u32, name: Span) -> Result<Statement, Fault>
         ensures { Reads (read.after_name (expression.read_expr depth) name self.old.rest.now) result self.new.rest.now }
     {
         if self.eat(Kind::LeftParen) {
             let parameters = self.parameters(depth)?;
-            self.expect(Kind::RightParen)?;
-            return Ok(Statement::Call(name, parameters));
+            let end = self.expect(Kind::RightParen);
+            return end.and(Ok(Statement::Call(name, parameters)));
         }
         let selectors = self.selectors(depth)?;
         let becomes = self.accept(Kind::Assign);
@@ -173,8 +176,7 @@ impl<'a> Parser<'a> {
     fn boxed_statement(&mut self, depth: u32) -> Result<Boxed<Statement>, Fault>
         ensures { Reads (read.read_statement depth self.old.rest.now) result self.new.rest.now }
     {
-        let value = self.statement(depth)?;
-        Ok(Boxed::new(self.alloc, value)?)
+        boxed_answer(self.alloc, self.statement(depth))
     }
 
     #[cycle(statement)]
@@ -239,12 +241,12 @@ impl<'a> Parser<'a> {
         ensures { Reads (separated k.Semicolon (read.read_statement depth) self.old.rest.now) result self.new.rest.now }
     {
         let mut found = Items::new(self.alloc);
-        found.push(self.statement(depth)?)?;
+        push_answer(&mut found, self.statement(depth))?;
         for _turn in 0..self.left() {
             if !self.eat(Kind::Semicolon) {
                 return Ok(found);
             }
-            found.push(self.statement(depth)?)?;
+            push_answer(&mut found, self.statement(depth))?;
         }
         Ok(found)
     }
@@ -293,7 +295,7 @@ impl<'a> Parser<'a> {
         ensures { Reads (terminated k.Semicolon k.End (read.element (expression.read_expr depth) (read.read_statement depth)) self.old.rest.now) result self.new.rest.now }
     {
         let mut found = Items::new(self.alloc);
-        found.push(self.element(depth)?)?;
+        push_answer(&mut found, self.element(depth))?;
         for _turn in 0..self.left() {
             if !self.eat(Kind::Semicolon) {
                 return Ok(found);
@@ -301,7 +303,7 @@ impl<'a> Parser<'a> {
             if self.sees(Kind::End) {
                 return Ok(found);
             }
-            found.push(self.element(depth)?)?;
+            push_answer(&mut found, self.element(depth))?;
         }
         Ok(found)
     }

@@ -6,6 +6,7 @@ ghost use Rattle.ps_parse.specs.Steps.{Reads, separated, terminated};
 ghost use Rattle.ps_parse.specs.ReadPrograms as read;
 ghost use Rattle.ps_parse.specs.Refusals as refusals;
 
+use crate::answer::{boxed_answer, push_answer};
 use crate::error::Fault;
 use crate::parser::Parser;
 use ps_scan::{Kind, Token};
@@ -52,12 +53,12 @@ impl<'a> Parser<'a> {
         ensures { Reads (read.names self.old.rest.now) result self.new.rest.now }
     {
         let mut found = Items::new(self.alloc);
-        found.push(self.expect(Kind::Name)?)?;
+        push_answer(&mut found, self.expect(Kind::Name))?;
         for _turn in 0..self.left() {
             if !self.eat(Kind::Comma) {
                 return Ok(found);
             }
-            found.push(self.expect(Kind::Name)?)?;
+            push_answer(&mut found, self.expect(Kind::Name))?;
         }
         Ok(found)
     }
@@ -115,12 +116,12 @@ impl<'a> Parser<'a> {
         ensures { Reads (separated k.Comma (read.read_index depth) self.old.rest.now) result self.new.rest.now }
     {
         let mut found = Items::new(self.alloc);
-        found.push(self.index(depth)?)?;
+        push_answer(&mut found, self.index(depth))?;
         for _turn in 0..self.left() {
             if !self.eat(Kind::Comma) {
                 return Ok(found);
             }
-            found.push(self.index(depth)?)?;
+            push_answer(&mut found, self.index(depth))?;
         }
         Ok(found)
     }
@@ -141,8 +142,7 @@ impl<'a> Parser<'a> {
     fn boxed_type(&mut self, depth: u32) -> Result<Boxed<TypeDenoter>, Fault>
         ensures { Reads (read.read_type depth self.old.rest.now) result self.new.rest.now }
     {
-        let value = self.type_denoter(depth)?;
-        Ok(Boxed::new(self.alloc, value)?)
+        boxed_answer(self.alloc, self.type_denoter(depth))
     }
 
     #[cycle(ty)]
@@ -246,7 +246,7 @@ impl<'a> Parser<'a> {
         ensures { Reads (terminated k.Semicolon k.End (read.fields (read.read_index depth) (read.read_type depth)) self.old.rest.now) result self.new.rest.now }
     {
         let mut found = Items::new(self.alloc);
-        found.push(self.fields(depth)?)?;
+        push_answer(&mut found, self.fields(depth))?;
         for _turn in 0..self.left() {
             if !self.eat(Kind::Semicolon) {
                 return Ok(found);
@@ -254,7 +254,7 @@ impl<'a> Parser<'a> {
             if self.sees(Kind::End) {
                 return Ok(found);
             }
-            found.push(self.fields(depth)?)?;
+            push_answer(&mut found, self.fields(depth))?;
         }
         Ok(found)
     }

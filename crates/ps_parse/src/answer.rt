@@ -1,0 +1,34 @@
+//! Answers of calls that may fail, put together. What an answer holds goes on as it is, whatever its type.
+
+ghost use Rattle.std.specs.Prelude.{◌≡◌, ◌≢◌, ◌++◌, ◌∷◌, [], OnOk, IfOk, IfErr, IsOkAnd, Ok, Err};
+ghost use Rattle.ps_parse.specs.declared.error.Fault.TheVariants.{OutOfMemory};
+
+use crate::error::Fault;
+use ps_syntax::{Boxed, Items};
+use std::alloc::Global;
+
+/// Adds what an answer holds to a list.
+pub fn push_answer<A: Drop>(list: &mut Items<A>, answer: Result<A, Fault>) -> Result<(), Fault>
+    ensures ok { OnOk result (IsOkAnd answer (λ item. list.new ≡ list.old ++ item ∷ [])) }
+    ensures err { IfErr result (λ fault. fault ≢ OutOfMemory → answer ≡ Err fault) }
+{
+    list.push(answer?)?;
+    Ok(())
+}
+
+/// What an answer holds, on the heap.
+pub fn boxed_answer<A: Drop>(alloc: Global, answer: Result<A, Fault>) -> Result<Boxed<A>, Fault>
+    ensures ok { IfOk result (λ value. answer ≡ Ok value) }
+    ensures err { IfErr result (λ fault. fault ≢ OutOfMemory → answer ≡ Err fault) }
+{
+    Ok(Boxed::new(alloc, answer?)?)
+}
+
+/// A value, and what an answer holds.
+pub fn beside<A: Drop, B: Drop>(value: A, answer: Result<B, Fault>) -> Result<(A, B), Fault>
+    ensures first { IfOk result (λ pair. value ≡ pair.0) }
+    ensures second { IfOk result (λ pair. answer ≡ Ok pair.1) }
+    ensures err { IfErr result (λ fault. answer ≡ Err fault) }
+{
+    Ok((value, answer?))
+}
