@@ -44,13 +44,13 @@ pub of_type_start : (type : DataType) (start : FieldTypes) (names : Points) → 
 of_type_start type start names = record { rest = refl }
 
 module _ (type : DataType) (start : FieldTypes) (names : Points) (i : ℕ) (done : FieldTypes) where
-  pub of_type_next : (new : FieldTypes) (d : Span) → i < length names → OfType type start names i done → new ≡ done ++ type ∷ [] → OfType type start names (i + 1) new
-  of_type_next new d lt v n = record {
+  pub of_type_next : (new : FieldTypes) → i < length names → OfType type start names i done → new ≡ done ++ type ∷ [] → OfType type start names (i + 1) new
+  of_type_next new lt v n = record {
     rest =
         ap (λ l. l ++ fields_of_type type (drop (i + 1) names)) n
         ∙ append_assoc done (type ∷ []) (fields_of_type type (drop (i + 1) names))
         ∙ (let e : i + 1 ≡ suc i = omega arith in ap (λ k. done ++ type ∷ fields_of_type type (drop k names)) e)
-        ∙ ap (λ l. done ++ fields_of_type type l) (sym (drop-cons names i d lt))
+        ∙ ap (λ l. done ++ fields_of_type type l) (sym (drop-cons names i no_name lt))
         ∙ v.rest;
   }
 

@@ -88,38 +88,35 @@ fn pass_hidden(reading: &Reading, alloc: Global, hidden: &Hidden, name: Span) ->
     }
 }
 
-/// Whether a name is that of a variable within whose declaration the place stands.
-fn is_own_variable(
-    hidden: &Hidden,
-    reading: &Reading,
-    alloc: Global,
-    name: Span,
-) -> Result<bool, Fault> {
-    match hidden {
-        Hidden::Nothing => Ok(false),
-        Hidden::Variables(points) => {
-            let mut names = Names::new(alloc);
-            add_points(reading, alloc, &mut names, points)?;
-            let spelling = reading.spelling(alloc, name)?;
-            Ok(names.contains(spelling.as_slice()))
+/// Whether one of these names is spelled as this one.
+fn has_name(reading: &Reading, points: &[Span], name: Span) -> bool {
+    let spelled = reading.bytes(name);
+    for point in points {
+        if reading.bytes(*point).eq_ignore_ascii_case(spelled) {
+            return true;
         }
-        Hidden::Record { outer, .. } => is_own_variable(outer, reading, alloc, name),
+    }
+    false
+}
+
+/// Whether a name is that of a variable within whose declaration the place stands.
+fn is_own_variable(hidden: &Hidden, reading: &Reading, name: Span) -> bool {
+    match hidden {
+        Hidden::Nothing => false,
+        Hidden::Variables(points) => has_name(reading, points, name),
+        Hidden::Record { outer, .. } => is_own_variable(outer, reading, name),
     }
 }
 
 /// What is told of a name that can't be used: a variable's name stands before the type in its declaration.
-fn told_of_use(fault: Fault, hidden: &Hidden, reading: &Reading, alloc: Global, name: Span) -> Fault
+fn told_of_use(fault: Fault, hidden: &Hidden, reading: &Reading, name: Span) -> Fault
     ensures { IsFault result → IsFault fault }
 {
     match fault {
         Fault::Broken {
             rule: Rule::UsedBefore,
             at,
-        } => match is_own_variable(hidden, reading, alloc, name) {
-            Ok(true) => broken(Rule::WrongKind, at),
-            Ok(false) => fault,
-            Err(_) => Fault::OutOfMemory,
-        },
+        } if is_own_variable(hidden, reading, name) => broken(Rule::WrongKind, at),
         _ => fault,
     }
 }
@@ -181,7 +178,7 @@ pub(crate) fn type_in(
     };
     match type_named(frame.reading, alloc, &scope, name) {
         Ok(ty) => Ok(ty),
-        Err(fault) => Err(told_of_use(fault, hidden, frame.reading, alloc, name)),
+        Err(fault) => Err(told_of_use(fault, hidden, frame.reading, name)),
     }
 }
 
@@ -224,7 +221,7 @@ pub(crate) fn constant_in(
         Ok(value) => Ok(value),
         Err(fault) => match written {
             Constant::Number(..) | Constant::Text(_) => Err(fault),
-            Constant::Name(_, name) => Err(told_of_use(fault, hidden, frame.reading, alloc, name)),
+            Constant::Name(_, name) => Err(told_of_use(fault, hidden, frame.reading, name)),
         },
     }
 }
@@ -331,13 +328,18 @@ fn ordinal(
     match denoter {
         OrdinalDenoter::Name(at) => {
             let ty = type_in(frame, alloc, hidden, declared.known.as_slice(), *at)?;
-            ordinal_at(&ty, at.from)
+            let ordinal = ordinal_at(&ty, at.from);
+            drop(ty);
+            ordinal
         }
         OrdinalDenoter::Enumeration(at, names) => enumeration(at.from, names.as_slice(), declared),
         OrdinalDenoter::Subrange(low, high) => {
             let first = constant_in(frame, alloc, hidden, declared.known.as_slice(), *low)?;
             let second = constant_in(frame, alloc, hidden, declared.known.as_slice(), *high)?;
-            subrange(denoter.first_token(), &first, &second)
+            let ordinal = subrange(denoter.first_token(), &first, &second);
+            drop(first);
+            drop(second);
+            ordinal
         }
     }
 }
@@ -395,6 +397,7 @@ fn small(ty: Ty, at: u32) -> Result<Ty, Fault>
     if ty.cells() <= 100_000 {
         Ok(ty)
     } else {
+        drop(ty);
         Err(broken(Rule::Limit, at))
     }
 }
@@ -688,7 +691,9 @@ fn add_fields(
     ensures err { IfErr result (λ fault. IsFault fault → add_fields (frame_of frame.now) (hidden_of hidden.now) (map type_of done.old.items, declared_of declared.old) (fields (frame_of frame.now) section.now) ≡ None) }
 {
     let ty = denoter(&section.ty, frame, alloc, hidden, declared)?;
-    fields_of_type(done, &ty, section.names.as_slice())
+    let added = fields_of_type(done, &ty, section.names.as_slice());
+    drop(ty);
+    added
 }
 
 /// The fields of a record, within whose denoter their names hide others.

@@ -76,6 +76,7 @@ fn result_type(
     if is_result(&ty) {
         Ok(ty)
     } else {
+        drop(ty);
         Err(broken(Rule::WrongType, name.from))
     }
 }

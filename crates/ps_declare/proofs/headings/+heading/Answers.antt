@@ -1,7 +1,7 @@
-use Rattle.std.proofs.Common.{rules, ◌≡◌, ◌<◌, length, arith, None, [], map}
+use Rattle.std.proofs.Common.{rules, ◌≡◌, ◌<◌, ◌≤◌, length, arith, None, [], map}
 use Rattle.ps_regions.specs.Option.{steps}
 use Rattle.ps_regions.specs.Views.{meaning_of, section_of}
-use Rattle.ps_regions.proofs.Lists.{stepped_fault_map}
+use Rattle.ps_regions.proofs.Lists.{stepped_next_map, stepped_fault_map, stepped_end_map}
 use Rattle.ps_declare.specs.Headings.{add_section, section}
 use Rattle.ps_declare.specs.Views.{frame_of, hidden_of}
 use Rattle.ps_declare.proofs.HeadingLemmas.{section_Routine, routine_made}
@@ -15,3 +15,13 @@ all_sections-returns-in_err-add_section-clause-err t c =
 
 pub section-returns-in_ok-new-in-Routine-clause-ok : goal.section-returns-in_ok-new-in-Routine-clause-ok
 section-returns-in_ok-new-in-Routine-clause-ok t c = search (rules, section_Routine, routine_made)
+
+pub all_sections-loop-written-preserved : goal.all_sections-loop-written-preserved
+all_sections-loop-written-preserved t c =
+    let below : c.loop-written.written-index < length c.args.list.now = omega (arith, c.loop-written-test.true) in
+    stepped_next_map _ _ _ _ _ _ c.written-item.result _ below c.written-item.is c.loop-written.invariant (rw c.behind-inside.ensures.same at c.in_ok-add_section.ensures.ok)
+
+pub all_sections-returns-clause-ok : goal.all_sections-returns-clause-ok
+all_sections-returns-clause-ok t c =
+    let over : length c.args.list.now ≤ c.loop-written.written-index = omega (arith, c.loop-written-test.false) in
+    stepped_end_map _ _ _ _ _ _ over c.loop-written.invariant

@@ -1,0 +1,15 @@
+use Rattle.std.proofs.Common.{◌<◌, ◌≤◌, length, arith}
+use Rattle.ps_regions.proofs.Lists.{stepped_next, stepped_end}
+use Rattle.ps_declare.specs.Points.{add_points}
+use Rattle.ps_declare.proofs.points.add_points.Goals as goal
+
+pub loop-point-preserved : goal.loop-point-preserved
+loop-point-preserved c =
+    let below : c.loop-point.point-index < length c.args.points.now = omega (arith, c.loop-point-test.true) in
+    stepped_next _ _ _ _ _ _ _ below c.loop-point.invariant c.in_ok-add_point.ensures.ok
+
+pub returns-clause-ok : goal.returns-clause-ok
+unfolding add_points
+returns-clause-ok c =
+    let over : length c.args.points.now ≤ c.loop-point.point-index = omega (arith, c.loop-point-test.false) in
+    stepped_end _ _ _ _ _ over c.loop-point.invariant
