@@ -7,7 +7,7 @@ use ps_text::Span;
 use sqlite_items::{Boxed, Items};
 
 /// A relational operator (ISO 7185, 6.7.2.5).
-#[derive(Clone, Copy, Debug, PartialEq, Eq)]
+#[derive(Clone, Copy)]
 pub enum Relation {
     Equal,
     NotEqual,
@@ -19,14 +19,14 @@ pub enum Relation {
 }
 
 /// The sign of a term or of a constant.
-#[derive(Clone, Copy, Debug, PartialEq, Eq)]
+#[derive(Clone, Copy)]
 pub enum Sign {
     Plus,
     Minus,
 }
 
 /// An adding operator (6.7.2.1).
-#[derive(Clone, Copy, Debug, PartialEq, Eq)]
+#[derive(Clone, Copy)]
 pub enum Adding {
     Plus,
     Minus,
@@ -34,7 +34,7 @@ pub enum Adding {
 }
 
 /// A multiplying operator (6.7.2.1).
-#[derive(Clone, Copy, Debug, PartialEq, Eq)]
+#[derive(Clone, Copy)]
 pub enum Multiplying {
     Times,
     Div,

@@ -8,7 +8,7 @@ use ps_text::Span;
 use sqlite_items::{Boxed, Items};
 
 /// A constant as it is written.
-#[derive(Clone, Copy, Debug, PartialEq, Eq)]
+#[derive(Clone, Copy)]
 pub enum Constant {
     Number(Option<(Sign, Span)>, Span),
     Name(Option<(Sign, Span)>, Span),
@@ -16,7 +16,7 @@ pub enum Constant {
 }
 
 /// Which way a `for` statement counts: `to` or `downto`.
-#[derive(Clone, Copy, Debug, PartialEq, Eq)]
+#[derive(Clone, Copy)]
 pub enum Direction {
     Up,
     Down,
