@@ -12,7 +12,7 @@ use crate::tree::{
 use crate::types::Ty;
 
 /// How many nodes a part of the tree has, and how many cells its variables and the copies at its calls take.
-#[derive(Clone, Copy, PartialEq, Eq, Debug)]
+#[derive(Clone, Copy)]
 pub struct Extent {
     pub nodes: u64,
     pub taken: u64,

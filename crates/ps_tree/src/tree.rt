@@ -9,7 +9,7 @@ use crate::types::Ty;
 use std::alloc::{AllocError, Global};
 
 /// An operator on two integers (6.7.2.2).
-#[derive(Clone, Copy, PartialEq, Eq, Debug)]
+#[derive(Clone, Copy)]
 pub enum ArithmeticOperator {
     Add,
     Subtract,
@@ -19,14 +19,14 @@ pub enum ArithmeticOperator {
 }
 
 /// An operator on two Boolean values (6.7.2.3).
-#[derive(Clone, Copy, PartialEq, Eq, Debug)]
+#[derive(Clone, Copy, PartialEq, Eq)]
 pub enum BooleanOperator {
     And,
     Or,
 }
 
 /// An operator on two sets (6.7.2.4).
-#[derive(Clone, Copy, PartialEq, Eq, Debug)]
+#[derive(Clone, Copy)]
 pub enum SetOperator {
     Union,
     Difference,
@@ -34,7 +34,7 @@ pub enum SetOperator {
 }
 
 /// A relational operator on ordinals or strings (6.7.2.5).
-#[derive(Clone, Copy, PartialEq, Eq, Debug)]
+#[derive(Clone, Copy)]
 pub enum Relation {
     Equal,
     Different,
@@ -45,14 +45,14 @@ pub enum Relation {
 }
 
 /// A relational operator on pointers.
-#[derive(Clone, Copy, PartialEq, Eq, Debug)]
+#[derive(Clone, Copy)]
 pub enum PointerRelation {
     Same,
     Other,
 }
 
 /// A relational operator on sets.
-#[derive(Clone, Copy, PartialEq, Eq, Debug)]
+#[derive(Clone, Copy)]
 pub enum SetRelation {
     Same,
     Other,
@@ -61,7 +61,7 @@ pub enum SetRelation {
 }
 
 /// A required function of an ordinal (6.6.6). `succ` and `pred` bear the greatest and the least value of their type.
-#[derive(Clone, Copy, PartialEq, Eq, Debug)]
+#[derive(Clone, Copy)]
 pub enum RequiredFunction {
     Abs,
     Sqr,
@@ -73,14 +73,14 @@ pub enum RequiredFunction {
 }
 
 /// The values that a variable of a simple type takes: those of an ordinal type, or any where it is a pointer.
-#[derive(Clone, Copy, PartialEq, Eq, Debug)]
+#[derive(Clone, Copy)]
 pub enum Range {
     Any,
     Within { low: i32, high: i32 },
 }
 
 /// The direction of a `for` statement.
-#[derive(Clone, Copy, PartialEq, Eq, Debug)]
+#[derive(Clone, Copy)]
 pub enum Direction {
     To,
     Downto,

@@ -13,7 +13,7 @@ use std::marker::Model;
 use std::rc::Rc;
 
 /// What the values of an ordinal type are (6.4.2.2, 6.4.2.3). An enumerated type is known by its denoter.
-#[derive(Clone, Copy, PartialEq, Eq, Debug)]
+#[derive(Clone, Copy)]
 pub enum Host {
     Integer,
     Char,
@@ -24,7 +24,7 @@ pub enum Host {
 
 /// An ordinal type (6.4.2): its host, the offset of its own denoter's first token where it is a subrange, and its
 /// lowest and highest value.
-#[derive(Clone, Copy, PartialEq, Eq, Debug)]
+#[derive(Clone, Copy)]
 pub struct Ordinal {
     pub host: Host,
     pub subrange: Option<u32>,
@@ -33,7 +33,7 @@ pub struct Ordinal {
 }
 
 /// Whether a set type is packed. A set constructor's type is both packed and not (6.7.1).
-#[derive(Clone, Copy, PartialEq, Eq, Debug)]
+#[derive(Clone, Copy)]
 pub enum Packing {
     Packed,
     Unpacked,
