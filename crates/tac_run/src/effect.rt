@@ -3,7 +3,7 @@
 use tac_code::code::{BitOperator, Block, Operator, Relation, Value};
 
 /// How a run ended, or that its bound was used up.
-#[derive(Clone, Copy, PartialEq, Eq, Debug)]
+#[derive(Clone, Copy)]
 pub enum Ending {
     More,
     Normal,
@@ -38,7 +38,7 @@ pub enum Effect {
 }
 
 ghost use Rattle.std.specs.Prelude.{◌≡◌, ◌<◌, MatchResult, MatchOption, MatchBool, IsTrue, ◌↔◌, ◌≤◌, if◌then◌else◌, FitsSigned, unsigned_abs, Some, None, ℤ, pos, ◌-ℤ◌, ◌+◌, ◌*◌, nat_lt, int_lt, false, not, ◌&&◌, ◌||◌, length, List, ℕ};
-ghost use Rattle.tac_code.specs.Numbers.{computed, Gives, Fails, bits, compared, truth, is_integer, is_in_range, steps_above};
+ghost use Rattle.tac_code.specs.Numbers.{computed, within, Gives, Fails, bits, compared, truth, is_in_range, steps_above};
 ghost use Rattle.tac_code.specs.Meaning.{pointer_of, same_pointer, pointers_related, related, is_nil};
 ghost use Rattle.tac_run.specs.Effect.{ended_by, if_some, if_number, if_address, if_routine, if_byte, checked_by, given_address, given_component, given_computed};
 
@@ -54,7 +54,7 @@ pub(crate) fn ending_by_number(number: u8, line: u16) -> Ending
 }
 
 fn fitting(z: i64, error: u8) -> Result<i32, u8>
-    ensures { MatchResult result (λ y. (y ≡ z) × IsTrue (is_integer z)) (λ e. (e ≡ error) × (is_integer z ≡ false)) }
+    ensures { MatchResult result (λ y. within error z ≡ Gives y) (λ e. within error z ≡ Fails e) }
 {
     if -2147483648 <= z && z <= 2147483647 {
         Ok(z as i32)

@@ -12,7 +12,6 @@ use tac_code::code::{Block, OutOfMemory, TacRoutine, Value};
 const MARK: u16 = 256;
 
 /// An open activation.
-#[derive(Drop)]
 pub struct Activation {
     pub routine: u32,
     pub place: usize,
@@ -20,6 +19,19 @@ pub struct Activation {
     pub temporaries: Temporaries,
     pub result: u32,
     pub line: u16,
+}
+
+impl Drop for Activation {
+    fn drop(self) {
+        let Activation {
+            routine: _,
+            place: _,
+            number: _,
+            temporaries: _,
+            result: _,
+            line: _,
+        } = self;
+    }
 }
 
 /// A call: the temporary of the caller that its result goes to, the routine, and the line that it stands in.
@@ -31,7 +43,6 @@ pub struct Call {
 }
 
 /// The state of a run; the innermost caller comes first.
-#[derive(Drop)]
 pub struct Machine<'a> {
     pub current: Activation,
     pub callers: Vec<Activation>,
@@ -43,6 +54,21 @@ pub struct Machine<'a> {
     pub transcript: Vec<u16>,
 }
 
+impl<'a> Drop for Machine<'a> {
+    fn drop(self) {
+        let Machine {
+            current: _,
+            callers: _,
+            memory: _,
+            count: _,
+            heap: _,
+            input: _,
+            ended: _,
+            transcript: _,
+        } = self;
+    }
+}
+
 ghost use Rattle.std.specs.Prelude.{◌≡◌, ◌+◌, ◌<◌, ◌≤◌, ◌^◌, ◌∷◌, map, nat_lt, if◌then◌else◌, IfOk, OnOk, OnSome};
 ghost use Rattle.tac_code.specs.Memory.{store, store_byte};
 ghost use Rattle.behavior.specs.Endings.{Heap};
@@ -50,6 +76,23 @@ ghost use Rattle.tac_code.specs.Meaning.{with_some, Over, Goes, gives, goes_on, 
 ghost use Rattle.tac_run.specs.Effect.{state_of, activation_of, Leads, made_object, with_activation, with_blocks, first_of, KeepsShown, SameCounters};
 
 impl<'a> Machine<'a> {
+    // What the run showed so far, of which all else is let go.
+    pub(crate) fn into_transcript(self) -> Vec<u16>
+        ensures { result ≡ self.entry.transcript }
+    {
+        let Machine {
+            current: _,
+            callers: _,
+            memory: _,
+            count: _,
+            heap: _,
+            input: _,
+            ended: _,
+            transcript,
+        } = self;
+        transcript
+    }
+
     // On to the next instruction.
     pub(crate) fn proceed(&mut self)
         requires { self.old.current.place + 1 < 2 ^ 64 }
@@ -145,10 +188,9 @@ impl<'a> Machine<'a> {
             return Ok(Some(Ending::Stuck));
         }
         let to = self.current.result;
-        let mut caller = self.callers.remove(0);
-        caller.temporaries.set(to, value)?;
-        self.current = caller;
+        self.current = self.callers.remove(0);
         self.memory.leave();
+        self.current.temporaries.set(to, value)?;
         Ok(None)
     }
 
@@ -229,9 +271,9 @@ impl<'a> Machine<'a> {
         ensures count { OnOk result (self.new.count ≡ self.old.count + 1) }
         ensures heap { OnOk result (self.new.heap ≡ self.old.heap) }
     {
-        let entered = new_activation(alloc, self.count, call, values)?;
+        let number = self.count;
         self.add_blocks(alloc, called)?;
-        self.switch(entered)
+        self.switch(new_activation(alloc, number, call, values)?)
     }
 }
 

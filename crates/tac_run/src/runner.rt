@@ -27,19 +27,14 @@ impl<'a> Machine<'a> {
     fn finish(self, alloc: Global, tac: &Tac, ending: Ending) -> Result<Report, OutOfMemory>
         ensures { IfOk result (λ r. shown_of r ≡ ended_at (length tac.now.program) ending (state_of self.entry)) }
     {
-        let Machine {
-            current,
-            callers,
-            transcript,
-            ..
-        } = self;
         let mut calls = Vec::new(alloc);
         add_open_calls(
             &mut calls,
             tac.program().len(),
-            &current,
-            callers.as_slice(),
+            &self.current,
+            self.callers.as_slice(),
         )?;
+        let transcript = self.into_transcript();
         Ok(Report {
             transcript,
             ending,
