@@ -1,6 +1,6 @@
 -- An instruction does what its effect does.
-use Rattle.std.proofs.Common.{◌≡◌, ℕ, suc, ◌+◌, ◌-◌, ◌*◌, Bool, true, false, not, nat_lt, nat_eq, if◌then◌else◌, List, [], ◌∷◌, length, slice_get, Option, Some, None, ℤ, pos, negsuc, refl, sym, ap, ◌∙◌}
-use Rattle.std.proofs.lemmas.Bool.{eq-eqb}
+use Rattle.std.proofs.Common.{◌≡◌, ◌≢◌, ℕ, suc, ◌+◌, ◌-◌, ◌*◌, Bool, true, false, not, nat_lt, nat_eq, if◌then◌else◌, List, [], ◌∷◌, length, slice_get, Option, Some, None, ℤ, pos, negsuc, refl, sym, ap, ◌∙◌}
+use Rattle.std.proofs.lemmas.Bool.{eq-eqb, ne_eqb}
 use Rattle.behavior.specs.Endings as ending
 use Rattle.behavior.specs.Endings.{failed, ending_by}
 use Rattle.tac_code.specs.declared.code.Block.{Block}
@@ -142,6 +142,19 @@ module _ (code : Code) (F G : ℕ → ℕ) (S H : ℕ) (t r : ℕ) (operands : L
       ap (λ (o : Option (List Value)). with_some o (λ vs. enter code F G S H r vs t line (onward s.current ∷ s.callers) s)) given
       ∙ (ap (λ (o : Option TacRoutine). with_some o (λ x. if not (nat_eq (length values) x.parameters) then Over ending.Stuck else if full then Over (ending.Stack x.line) else Goes (entered code F G S H x r values t line (onward s.current ∷ s.callers) s))) found
       ∙ decided b (eq-eqb (length values) routine.parameters same) e)
+
+-- ---- a call that nothing comes of
+
+module _ (code : Code) (F G : ℕ → ℕ) (S H : ℕ) (t r : ℕ) (operands : List ℕ) (line : ℕ) (s : State) where
+  pub call_unwritten : values_of s.current.temporaries operands ≡ None → calls code F G S H t r operands line s ≡ Over ending.Stuck
+  call_unwritten none =
+      ap (λ (o : Option (List Value)). with_some o (λ vs. enter code F G S H r vs t line (onward s.current ∷ s.callers) s)) none
+
+  pub call_mismatched : (values : List Value) (routine : TacRoutine) → values_of s.current.temporaries operands ≡ Some values → slice_get (routines code) r ≡ Some routine → length values ≢ routine.parameters → calls code F G S H t r operands line s ≡ Over ending.Stuck
+  call_mismatched values routine given found other =
+      ap (λ (o : Option (List Value)). with_some o (λ vs. enter code F G S H r vs t line (onward s.current ∷ s.callers) s)) given
+      ∙ (ap (λ (o : Option TacRoutine). with_some o (λ x. if not (nat_eq (length values) x.parameters) then Over ending.Stuck else if is_full code F G S H r (onward s.current ∷ s.callers) then Over (ending.Stack x.line) else Goes (entered code F G S H x r values t line (onward s.current ∷ s.callers) s))) found
+      ∙ ap (λ (x : Bool). if not x then Over ending.Stuck else if is_full code F G S H r (onward s.current ∷ s.callers) then Over (ending.Stack routine.line) else Goes (entered code F G S H routine r values t line (onward s.current ∷ s.callers) s)) (ne_eqb (length values) routine.parameters other))
 
 pub values_after_none : (o : Option (List Value)) → values_after [] o ≡ o
 values_after_none None = refl
