@@ -56,7 +56,7 @@ impl Operands {
 }
 
 /// Operators on numbers. A result outside -2147483648..2147483647 is the error that the instruction names.
-#[derive(Clone, Copy, PartialEq, Eq, Debug)]
+#[derive(Clone, Copy)]
 pub enum Operator {
     Add,
     Subtract,
@@ -68,7 +68,7 @@ pub enum Operator {
 }
 
 /// Operators on words, which never fail.
-#[derive(Clone, Copy, PartialEq, Eq, Debug)]
+#[derive(Clone, Copy)]
 pub enum BitOperator {
     And,
     Or,
@@ -81,7 +81,7 @@ pub enum BitOperator {
 }
 
 /// A relation between two numbers; two pointers are only equal or not.
-#[derive(Clone, Copy, PartialEq, Eq, Debug)]
+#[derive(Clone, Copy)]
 pub enum Relation {
     Equal,
     NotEqual,
@@ -92,7 +92,7 @@ pub enum Relation {
 }
 
 /// A block of memory. Activations and objects are counted from 0 over the whole run, so no name is used twice.
-#[derive(Clone, Copy, PartialEq, Eq, Debug)]
+#[derive(Clone, Copy)]
 pub enum Block {
     /// The variables of an activation, with its parameters, result and static link.
     Frame(u64),
@@ -104,7 +104,7 @@ pub enum Block {
 }
 
 /// What a temporary or a word of memory holds. A truth value is 1 or 0, and nil is 0.
-#[derive(Clone, Copy, PartialEq, Eq, Debug)]
+#[derive(Clone, Copy)]
 pub enum Value {
     Number(i32),
     /// A block and an offset in bytes.
@@ -113,14 +113,14 @@ pub enum Value {
 }
 
 /// A right operand: what a temporary holds, or a number.
-#[derive(Clone, Copy, PartialEq, Eq, Debug)]
+#[derive(Clone, Copy)]
 pub enum Operand {
     Temporary(u32),
     Number(i32),
 }
 
 /// What an address is counted from.
-#[derive(Clone, Copy, PartialEq, Eq, Debug)]
+#[derive(Clone, Copy)]
 pub enum Base {
     /// The frame block of the activation itself.
     Frame,
