@@ -4,20 +4,23 @@ use pascal_cli::{TEXT_LIMIT, read_standard_input};
 use ps_build::{Refusal, code_of_text};
 use ps_check::check;
 use ps_parse::parse;
-use ps_scan::scan;
+use ps_scan::{Token, scan};
+use ps_syntax::Program;
 use ps_text::Source;
+use risc_alloc::placement::Placement;
 use risc_alloc::placer::Placer;
 use risc_alloc::scan::Scan;
 use risc_emit::emit::emit;
 use risc_image::write;
 use std::alloc::Global;
+use tac_code::tac::Tac;
 
 const DONE: u8 = 0;
 
 const REFUSED: u8 = 1;
 
 /// The last phase of a text.
-#[derive(Clone, Copy, PartialEq, Eq)]
+#[derive(Clone, Copy)]
 enum Phase {
     Read,
     Scan,
@@ -46,33 +49,59 @@ fn phase_named(word: &str) -> Phase {
 // The phases up to the checker.
 fn take_to_checker(alloc: Global, text: &[u8], last: Phase) -> Result<(), Refusal> {
     let source = Source::new(text)?;
-    if last == Phase::Read {
+    if matches!(last, Phase::Read) {
         return Ok(());
     }
     let tokens = scan(alloc, &source)?;
-    if last == Phase::Scan {
+    if matches!(last, Phase::Scan) {
         return Ok(());
     }
-    let program = parse(alloc, &source, &tokens)?;
-    if last == Phase::Parse {
+    take_tokens(alloc, &source, &tokens, last)
+}
+
+fn take_tokens(
+    alloc: Global,
+    source: &Source,
+    tokens: &[Token],
+    last: Phase,
+) -> Result<(), Refusal> {
+    let program = parse(alloc, source, tokens)?;
+    take_tree(alloc, source, &program, last)
+}
+
+fn take_tree(
+    alloc: Global,
+    source: &Source,
+    program: &Program,
+    last: Phase,
+) -> Result<(), Refusal> {
+    if matches!(last, Phase::Parse) {
         return Ok(());
     }
-    check(alloc, &source, &program)?;
+    check(alloc, source, program)?;
     Ok(())
 }
 
 // Those up to the lowering, and the ones behind it: homes of the temporaries, the parts of an image, and its bytes.
 fn take_past_checker(alloc: Global, text: &[u8], last: Phase) -> Result<(), Refusal> {
     let tac = code_of_text(alloc, text)?;
-    if last == Phase::Lower {
+    if matches!(last, Phase::Lower) {
         return Ok(());
     }
-    let placement = Scan.place(alloc, &tac)?;
-    if last == Phase::Place {
+    take_code(alloc, &tac, last)
+}
+
+fn take_code(alloc: Global, tac: &Tac, last: Phase) -> Result<(), Refusal> {
+    let placement = Scan.place(alloc, tac)?;
+    if matches!(last, Phase::Place) {
         return Ok(());
     }
-    let parts = emit(alloc, &tac, &placement)?;
-    if last == Phase::Emit {
+    take_homes(alloc, tac, &placement, last)
+}
+
+fn take_homes(alloc: Global, tac: &Tac, placement: &Placement, last: Phase) -> Result<(), Refusal> {
+    let parts = emit(alloc, tac, placement)?;
+    if matches!(last, Phase::Emit) {
         return Ok(());
     }
     write(alloc, &parts)?;

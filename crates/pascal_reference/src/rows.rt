@@ -3,6 +3,7 @@
 mod code;
 mod command;
 mod language;
+mod texts;
 
 use code::CodeRows;
 use command::CommandRows;

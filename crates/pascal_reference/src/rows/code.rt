@@ -13,9 +13,9 @@ mod steps;
 mod texts;
 mod words;
 
+use crate::rows::texts::letters;
 use job::{Job, untold};
 use std::alloc::{AllocError, Global};
-use texts::letters;
 
 /// What is asked of a row, by the name of its table.
 #[derive(Clone, Copy)]

@@ -6,6 +6,7 @@ mod programs;
 mod reports;
 mod transfers;
 
+use crate::rows::texts::letters;
 use programs::{Job, untold};
 use std::alloc::{AllocError, Global};
 
@@ -72,7 +73,7 @@ impl CommandRows {
     pub fn answer(&mut self, alloc: Global, text: &[u8]) -> Result<String, AllocError> {
         let job = self.job;
         self.job = untold();
-        let words = str::from_utf8(text).unwrap_or("");
+        let words = letters(text);
         match self.table {
             Table::Unknown => String::from_str(alloc, "no such table"),
             Table::Build => programs::built(alloc, text),

@@ -39,18 +39,25 @@ impl Write for Failing {
     }
 }
 
+fn called_once(
+    alloc: Global,
+    console: &mut Streams<Failing, Failing>,
+    word: &str,
+) -> Result<String, AllocError> {
+    if word == "take" {
+        let taken = console.take();
+        return format!(in alloc; "{taken:?} ");
+    }
+    let put = console.put(7);
+    format!(in alloc; "{put:?} ")
+}
+
 /// What a console gives at each `take` of the row, and says to each `put` of a byte 7; and how often its reader and its writer are called.
 pub(crate) fn called(alloc: Global, row: &str) -> Result<String, AllocError> {
     let mut console = Streams::new(Failing { calls: 0 }, Failing { calls: 0 });
     let mut line = String::new(alloc);
     for word in row.split_whitespace() {
-        let told = if word == "take" {
-            let taken = console.take();
-            format!(in alloc; "{taken:?} ")?
-        } else {
-            let put = console.put(7);
-            format!(in alloc; "{put:?} ")?
-        };
+        let told = called_once(alloc, &mut console, word)?;
         line.push_str(told.as_str())?;
     }
     let (reader, writer) = console.into_parts();

@@ -1,41 +1,42 @@
 //! The fields of instructions, as rows write them.
 
-use crate::rows::code::texts::{long_number, number, word};
+use crate::rows::code::texts::word;
+use crate::rows::texts::{i32_of, u8_of, u16_of, u32_of, u64_of};
 use std::alloc::{AllocError, Global};
 use std::str::SplitWhitespace;
 use tac_code::code::{Base, BitOperator, Constant, Operand, Operands, Operator, Relation};
 
 /// A temporary, or a number of bytes.
 pub(crate) fn natural(words: &mut SplitWhitespace) -> u32 {
-    number(word(words))
+    u32_of(word(words))
 }
 
 /// A value.
 pub(crate) fn integer(words: &mut SplitWhitespace) -> i32 {
-    word(words).parse::<i32>().unwrap_or(0)
+    i32_of(word(words))
 }
 
 /// How far a jump goes.
 pub(crate) fn distance(words: &mut SplitWhitespace) -> u64 {
-    long_number(word(words))
+    u64_of(word(words))
 }
 
 /// The number of an error.
 pub(crate) fn error(words: &mut SplitWhitespace) -> u8 {
-    word(words).parse::<u8>().unwrap_or(0)
+    u8_of(word(words))
 }
 
 /// The number of a line.
 pub(crate) fn line(words: &mut SplitWhitespace) -> u16 {
-    word(words).parse::<u16>().unwrap_or(0)
+    u16_of(word(words))
 }
 
 /// `t5` is a temporary, all else a number.
 pub(crate) fn operand(words: &mut SplitWhitespace) -> Operand {
     let word = word(words);
     match word.strip_prefix("t") {
-        Some(digits) => Operand::Temporary(number(digits)),
-        None => Operand::Number(word.parse::<i32>().unwrap_or(0)),
+        Some(digits) => Operand::Temporary(u32_of(digits)),
+        None => Operand::Number(i32_of(word)),
     }
 }
 
@@ -44,7 +45,7 @@ pub(crate) fn base(words: &mut SplitWhitespace) -> Base {
         "frame" => Base::Frame,
         "scratch" => Base::Scratch,
         "program" => Base::Program,
-        temporary => Base::Temporary(number(temporary.strip_prefix("t").unwrap_or(""))),
+        temporary => Base::Temporary(u32_of(temporary.strip_prefix("t").unwrap_or(""))),
     }
 }
 
@@ -83,7 +84,7 @@ pub(crate) fn relation(words: &mut SplitWhitespace) -> Relation {
 pub(crate) fn operands(alloc: Global, words: &mut SplitWhitespace) -> Result<Operands, AllocError> {
     let mut operands = Operands::new(alloc);
     for temporary in words {
-        operands.push(number(temporary))?;
+        operands.push(u32_of(temporary))?;
     }
     Ok(operands)
 }
@@ -92,7 +93,7 @@ pub(crate) fn operands(alloc: Global, words: &mut SplitWhitespace) -> Result<Ope
 pub(crate) fn bytes(alloc: Global, words: &mut SplitWhitespace) -> Result<Constant, AllocError> {
     let mut bytes = Vec::new(alloc);
     for byte in words {
-        bytes.push(byte.parse::<u8>().unwrap_or(0))?;
+        bytes.push(u8_of(byte))?;
     }
     Ok(Constant::new(bytes))
 }

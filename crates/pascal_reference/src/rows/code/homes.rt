@@ -2,7 +2,7 @@
 
 use crate::rows::code::job::Job;
 use crate::rows::code::programs::code;
-use crate::rows::code::texts::number;
+use crate::rows::texts::{u8_of, u32_of};
 use risc_alloc::homes::{Home, PlaceRefusal, Raw};
 use risc_alloc::placement::Placement;
 use risc_alloc::placer::{EverySlot, Placer};
@@ -13,8 +13,8 @@ use tac_code::tac::Tac;
 /// The home that a word names: `r5` is a register, `s5` a slot.
 pub(crate) fn home_of(word: &str) -> Home {
     match word.strip_prefix("r") {
-        Some(digits) => Home::Reg(digits.parse::<u8>().unwrap_or(0)),
-        None => Home::Slot(number(word.strip_prefix("s").unwrap_or(""))),
+        Some(digits) => Home::Reg(u8_of(digits)),
+        None => Home::Slot(u32_of(word.strip_prefix("s").unwrap_or(""))),
     }
 }
 
@@ -37,15 +37,20 @@ pub(crate) fn tried(alloc: Global, row: &str, job: &Job) -> Result<String, Alloc
     }
 }
 
+fn put_home(alloc: Global, line: &mut String, home: Home) -> Result<(), AllocError> {
+    let (letter, number) = match home {
+        Home::Slot(slot) => ("s", slot),
+        Home::Reg(register) => ("r", u32::from(register)),
+    };
+    let told = format!(in alloc; "{letter}{number} ")?;
+    line.push_str(told.as_str())
+}
+
 // The homes of a placement, and whether a copy of them is taken.
 fn shown(alloc: Global, tac: &Tac, placement: &Placement) -> Result<String, AllocError> {
     let mut line = String::new(alloc);
     for home in &placement.raw().homes {
-        let told = match *home {
-            Home::Slot(slot) => format!(in alloc; "s{slot} ")?,
-            Home::Reg(register) => format!(in alloc; "r{register} ")?,
-        };
-        line.push_str(told.as_str())?;
+        put_home(alloc, &mut line, *home)?;
     }
     line.push_str(verdict(alloc, tac, &placement.raw().homes)?)?;
     Ok(line)

@@ -1,7 +1,7 @@
 //! What is told of a row.
 
 use crate::rows::code::homes::home_of;
-use crate::rows::code::texts::{long_number, number};
+use crate::rows::texts::{u16_of, u32_of, u64_of};
 use risc_alloc::homes::Home;
 use std::alloc::{AllocError, Global};
 
@@ -56,10 +56,10 @@ impl Job {
             "steps" => return self.tell_limits(rest),
             "homes" => return self.tell_homes(rest),
             "singly" => self.is_stepped = true,
-            "room" => self.room = rest.parse::<u16>().unwrap_or(0),
-            "take" => self.take = long_number(rest),
-            "put" => self.put = long_number(rest),
-            _ => self.tell_number(word, number(rest)),
+            "room" => self.room = u16_of(rest),
+            "take" => self.take = u64_of(rest),
+            "put" => self.put = u64_of(rest),
+            _ => self.tell_number(word, u32_of(rest)),
         }
         Ok(())
     }
@@ -77,7 +77,7 @@ impl Job {
 
     fn tell_limits(&mut self, rest: &str) -> Result<(), AllocError> {
         for word in rest.split_whitespace() {
-            self.limits.push(long_number(word))?;
+            self.limits.push(u64_of(word))?;
         }
         Ok(())
     }

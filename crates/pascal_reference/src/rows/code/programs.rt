@@ -2,7 +2,8 @@
 
 use crate::rows::code::instructions::instruction;
 use crate::rows::code::job::Job;
-use crate::rows::code::texts::{number, word};
+use crate::rows::code::texts::word;
+use crate::rows::texts::u32_of;
 use std::alloc::{AllocError, Global};
 use tac_code::code::{Body, TacRaw, TacRoutine};
 use tac_code::print::print;
@@ -19,10 +20,10 @@ fn routine(alloc: Global, text: &str) -> Result<TacRoutine, AllocError> {
         instructions.push(instruction(alloc, &mut told.split_whitespace())?)?;
     }
     Ok(TacRoutine {
-        parameters: number(word(&mut counts)),
-        temporaries: number(word(&mut counts)),
+        parameters: u32_of(word(&mut counts)),
+        temporaries: u32_of(word(&mut counts)),
         frame: 8,
-        scratch: number(word(&mut counts)),
+        scratch: u32_of(word(&mut counts)),
         line: 3,
         body: Body::new(instructions),
     })
@@ -68,11 +69,14 @@ fn ending(alloc: Global, report: &Report) -> Result<String, AllocError> {
     }
 }
 
+fn put_number(alloc: Global, line: &mut String, number: u16) -> Result<(), AllocError> {
+    let word = format!(in alloc; " {number}")?;
+    line.push_str(word.as_str())
+}
+
 fn put_numbers(alloc: Global, line: &mut String, numbers: &[u16]) -> Result<(), AllocError> {
     for number in numbers {
-        let number = *number;
-        let word = format!(in alloc; " {number}")?;
-        line.push_str(word.as_str())?;
+        put_number(alloc, line, *number)?;
     }
     Ok(())
 }

@@ -2,7 +2,8 @@
 
 use crate::rows::code::job::Job;
 use crate::rows::code::machines::{State, machine_of, nothing, put_held, state_of};
-use crate::rows::code::texts::{hexadecimals, put_bytes};
+use crate::rows::code::texts::hexadecimals;
+use crate::rows::texts::put_bracketed;
 use risc_machine::{Fused, Machine, Stop, Streams, run};
 use std::alloc::{AllocError, Global};
 
@@ -32,36 +33,65 @@ fn put_stop(
 
 /// How the runs of one machine end, one behind the other, and what it has written then. The row has the words of its code.
 pub(crate) fn ran(alloc: Global, row: &str, job: &Job) -> Result<String, AllocError> {
-    let words = hexadecimals(alloc, row)?;
-    let mut machine = machine_of(alloc, &words, job.globals)?;
-    let mut console = Fused::new(alloc, &job.input, usize::from(job.room), job.take, job.put)?;
+    let mut machine = machine_told(alloc, row, job)?;
     let before = state_of(alloc, &machine)?;
     let mut line = String::new(alloc);
+    put_runs(alloc, &mut line, &mut machine, &before, job)?;
+    Ok(line)
+}
+
+// The machine with the words of a row.
+fn machine_told(alloc: Global, row: &str, job: &Job) -> Result<Machine, AllocError> {
+    let words = hexadecimals(alloc, row)?;
+    let machine = machine_of(alloc, &words, job.globals)?;
+    Ok(machine)
+}
+
+fn put_runs(
+    alloc: Global,
+    line: &mut String,
+    machine: &mut Machine,
+    before: &State,
+    job: &Job,
+) -> Result<(), AllocError> {
+    let mut console = Fused::new(alloc, &job.input, usize::from(job.room), job.take, job.put)?;
     for limit in &job.limits {
         let stop = if job.is_stepped {
-            step_by_step(&mut machine, &mut console, *limit)
+            step_by_step(machine, &mut console, *limit)
         } else {
-            run(&mut machine, &mut console, *limit)
+            run(machine, &mut console, *limit)
         };
-        put_stop(alloc, &mut line, stop, &before, &machine)?;
-        line.push(' ')?;
-        put_bytes(&mut line, console.output())?;
-        line.push(';')?;
+        put_stop(alloc, line, stop, before, machine)?;
+        put_output(line, console.output())?;
     }
-    Ok(line)
+    Ok(())
+}
+
+fn put_output(line: &mut String, output: &[u8]) -> Result<(), AllocError> {
+    line.push(' ')?;
+    put_bracketed(line, output)?;
+    line.push(';')
 }
 
 /// How the run of code ends over a reader and a writer, how much of the input is left, and what is written.
 pub(crate) fn streamed(alloc: Global, row: &str, job: &Job) -> Result<String, AllocError> {
-    let words = hexadecimals(alloc, row)?;
-    let mut machine = machine_of(alloc, &words, job.globals)?;
+    let mut machine = machine_told(alloc, row, job)?;
     let input: &[u8] = &job.input;
     let mut console = Streams::new(input, Vec::new(alloc));
     let stop = run(&mut machine, &mut console, job.limit());
     let (left, written) = console.into_parts();
-    let (place, left) = (machine.pc(), left.len());
+    streams_told(alloc, stop, machine.pc(), left.len(), &written)
+}
+
+fn streams_told(
+    alloc: Global,
+    stop: Stop,
+    place: u32,
+    left: usize,
+    written: &[u8],
+) -> Result<String, AllocError> {
     let mut line = format!(in alloc; "{stop:?} at {place}, {left} left ")?;
-    put_bytes(&mut line, &written)?;
+    put_bracketed(&mut line, written)?;
     Ok(line)
 }
 

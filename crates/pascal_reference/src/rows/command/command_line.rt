@@ -1,22 +1,29 @@
 //! The words of the command line.
 
+use crate::rows::texts::put_parts;
 use pascal_cli::{CommandFault, Job, Task, command};
 use std::alloc::{AllocError, Global};
+
+/// What a task is, in two words and the names of its files behind them.
+fn parts_of(task: Task<'_>) -> [&str; 4] {
+    match task {
+        Task::Go { source } => ["go ", source, "", ""],
+        Task::GoStandardInput => ["go standard input", "", "", ""],
+        Task::Compile { source, image } => ["compile ", source, " to ", image],
+        Task::List { source } => ["list ", source, "", ""],
+        Task::Run { image } => ["run ", image, "", ""],
+    }
+}
 
 fn told(alloc: Global, job: &Job<'_>) -> Result<String, AllocError> {
     let stack = job.stack;
     let heap = job.heap;
     let steps = job.steps;
-    let numbers = format!(in alloc; "stack {stack}, heap {heap}, steps {steps}")?;
-    match job.task {
-        Task::Go { source } => format!(in alloc; "go {source}, {numbers}"),
-        Task::GoStandardInput => format!(in alloc; "go standard input, {numbers}"),
-        Task::Compile { source, image } => {
-            format!(in alloc; "compile {source} to {image}, {numbers}")
-        }
-        Task::List { source } => format!(in alloc; "list {source}, {numbers}"),
-        Task::Run { image } => format!(in alloc; "run {image}, {numbers}"),
-    }
+    let mut line = String::new(alloc);
+    put_parts(&mut line, &parts_of(job.task))?;
+    let numbers = format!(in alloc; ", stack {stack}, heap {heap}, steps {steps}")?;
+    line.push_str(numbers.as_str())?;
+    Ok(line)
 }
 
 /// What words ask for. A row without words is a call without words.

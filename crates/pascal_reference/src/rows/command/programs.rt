@@ -1,5 +1,6 @@
 //! Programs that are built and run, and images that are run.
 
+use crate::rows::texts::{put_bracketed, u32_of, u64_of};
 use pascal_cli::message;
 use ps_build::{Budget, Outcome, Refusal, build, go, list, run_image};
 use risc_machine::{Fused, Streams};
@@ -29,10 +30,10 @@ impl Job {
     /// Takes what a line tells of the run.
     pub(crate) fn tell(&mut self, word: &str, rest: &str) {
         match word {
-            "stack" => self.budget.stack = rest.parse::<u32>().unwrap_or(0),
-            "heap" => self.budget.heap = rest.parse::<u32>().unwrap_or(0),
-            "steps" => self.steps = rest.parse::<u64>().unwrap_or(0),
-            "put" => self.failing_put = rest.parse::<u64>().unwrap_or(0),
+            "stack" => self.budget.stack = u32_of(rest),
+            "heap" => self.budget.heap = u32_of(rest),
+            "steps" => self.steps = u64_of(rest),
+            "put" => self.failing_put = u64_of(rest),
             _ => {}
         }
     }
@@ -41,13 +42,10 @@ impl Job {
 /// How a run ended, and what it wrote, in brackets.
 fn told(alloc: Global, end: Result<Outcome, Refusal>, output: &[u8]) -> Result<String, AllocError> {
     let mut shown = match end {
-        Ok(outcome) => format!(in alloc; "{outcome:?} [")?,
-        Err(refusal) => format!(in alloc; "refused: {refusal:?} [")?,
+        Ok(outcome) => format!(in alloc; "{outcome:?} ")?,
+        Err(refusal) => format!(in alloc; "refused: {refusal:?} ")?,
     };
-    for byte in output {
-        shown.push(char::from(*byte))?;
-    }
-    shown.push(']')?;
+    put_bracketed(&mut shown, output)?;
     Ok(shown)
 }
 

@@ -1,11 +1,12 @@
 //! Statuses and messages.
 
+use crate::rows::texts::u32_of;
 use pascal_cli::{message, status};
 use ps_build::{FaultKind, Outcome, Refusal, Rule, Trail};
 use std::alloc::{AllocError, Global};
 
 fn number(word: Option<&str>) -> u32 {
-    word.unwrap_or("").parse::<u32>().unwrap_or(0)
+    u32_of(word.unwrap_or(""))
 }
 
 fn refusal(name: &str, line: u32) -> Refusal {

@@ -1,14 +1,15 @@
 //! Whole texts and images, read and written.
 
 use crate::rows::command::devices::{Broken, Drip, Narrow};
+use crate::rows::texts::{put_bracketed, u16_of, u32_of};
 use pascal_cli::{Counted, ReadFault, put_all, read_up_to};
-use ps_build::{Budget, go};
+use ps_build::{Budget, Outcome, Refusal, go};
 use risc_machine::Streams;
 use std::alloc::{AllocError, Global};
 use std::io;
 
 fn number(word: Option<&str>) -> u16 {
-    word.unwrap_or("").parse::<u16>().unwrap_or(0)
+    u16_of(word.unwrap_or(""))
 }
 
 /// What a writer takes of ten digits. The row has the room that it has, and whether it fails then or takes no byte.
@@ -20,14 +21,15 @@ pub(crate) fn put(alloc: Global, row: &str) -> Result<String, AllocError> {
         fails: words.next() == Some("fails"),
     };
     let end = put_all(&mut Counted::new(&mut writer), b"0123456789");
+    put_told(alloc, end, &writer.taken)
+}
+
+fn put_told(alloc: Global, end: Result<(), usize>, taken: &[u8]) -> Result<String, AllocError> {
     let mut shown = match end {
-        Ok(()) => String::from_str(alloc, "all [")?,
-        Err(count) => format!(in alloc; "{count} [")?,
+        Ok(()) => String::from_str(alloc, "all ")?,
+        Err(count) => format!(in alloc; "{count} ")?,
     };
-    for byte in &writer.taken {
-        shown.push(char::from(*byte))?;
-    }
-    shown.push(']')?;
+    put_bracketed(&mut shown, taken)?;
     Ok(shown)
 }
 
@@ -67,11 +69,15 @@ pub(crate) fn read(alloc: Global, row: &str) -> Result<String, AllocError> {
 
 /// How a text of so many spaces goes that is read byte by byte, up to one byte more than the longest text.
 pub(crate) fn went(alloc: Global, row: &str) -> Result<String, AllocError> {
-    let left = row.parse::<u32>().unwrap_or(0) as usize;
+    let left = u32_of(row) as usize;
     let mut reader = Drip { left, turns: 0 };
-    let Ok(text) = read_up_to(alloc, &mut Counted::new(&mut reader), 1_048_577) else {
-        return String::from_str(alloc, "not read");
-    };
+    match read_up_to(alloc, &mut Counted::new(&mut reader), 1_048_577) {
+        Ok(text) => gone(alloc, &text),
+        Err(_) => String::from_str(alloc, "not read"),
+    }
+}
+
+fn gone(alloc: Global, text: &[u8]) -> Result<String, AllocError> {
     let writer = Narrow {
         taken: Vec::new(alloc),
         room: 0,
@@ -79,8 +85,11 @@ pub(crate) fn went(alloc: Global, row: &str) -> Result<String, AllocError> {
     };
     let mut streams = Streams::new(io::empty(), writer);
     let budget = Budget { stack: 0, heap: 0 };
-    let end = go(alloc, &text, budget, &mut streams, 1);
-    let count = text.len();
+    let end = go(alloc, text, budget, &mut streams, 1);
+    told(alloc, text.len(), end)
+}
+
+fn told(alloc: Global, count: usize, end: Result<Outcome, Refusal>) -> Result<String, AllocError> {
     match end {
         Ok(outcome) => format!(in alloc; "{count} bytes: {outcome:?}"),
         Err(refusal) => format!(in alloc; "{count} bytes: refused: {refusal:?}"),

@@ -10,14 +10,14 @@ use ps_declare::points::add_block;
 use ps_regions::constants::{BOOLEAN, CHAR, INTEGER};
 use ps_regions::meaning::Meaning;
 use ps_regions::reading::Reading;
-use ps_regions::refusal::Fault;
+use ps_regions::refusal::{Fault, Rule};
 use ps_regions::scope::Scope;
 use ps_statements::statement::statements;
 use ps_syntax::{Block, Expr, Statement, Variable};
 use ps_text::{LineTable, Source};
 use ps_tree::names::Names;
 use ps_tree::tree::{Expr as Typed, Statement as Checked};
-use ps_tree::types::Ty;
+use ps_tree::types::{Ordinal, Ty};
 use ps_typing::expression::{expr_value, variable_place};
 use ps_typing::site::Site;
 use ps_typing::value::TypedValue;
@@ -47,15 +47,23 @@ struct Known {
     meanings: Vec<Meaning>,
 }
 
+/// Adds a name that stands for an ordinal type.
+fn add_ordinal(
+    alloc: Global,
+    known: &mut Known,
+    name: &str,
+    ordinal: Ordinal,
+) -> Result<(), AllocError> {
+    known.names.add(Vec::from_slice(alloc, name.as_bytes())?)?;
+    known.meanings.push(Meaning::Type(Ty::Simple(ordinal)))?;
+    Ok(())
+}
+
 /// The required types.
-fn required(alloc: Global) -> Result<Known, AllocError> {
-    let mut names = Names::new(alloc);
-    let mut meanings = Vec::new(alloc);
-    for (name, ordinal) in [("integer", INTEGER), ("char", CHAR), ("boolean", BOOLEAN)] {
-        names.add(Vec::from_slice(alloc, name.as_bytes())?)?;
-        meanings.push(Meaning::Type(Ty::Simple(ordinal)))?;
-    }
-    Ok(Known { names, meanings })
+fn add_required(alloc: Global, known: &mut Known) -> Result<(), AllocError> {
+    add_ordinal(alloc, known, "integer", INTEGER)?;
+    add_ordinal(alloc, known, "char", CHAR)?;
+    add_ordinal(alloc, known, "boolean", BOOLEAN)
 }
 
 fn counts(alloc: Global, declared: &Declared) -> Result<String, AllocError> {
@@ -73,39 +81,75 @@ fn assignment(written: &[Statement]) -> Option<(&Variable, &Expr)> {
     }
 }
 
-fn relation_in(site: Site<'_>, variable: &Variable, value: &Expr) -> Result<String, Fault> {
-    let variable = variable_place(variable, site)?;
-    let told = match &expr_value(value, site)? {
-        TypedValue::Simple(_, ty) | TypedValue::Set(_, ty) | TypedValue::Structure(_, ty) => {
-            relation(site.alloc, ty, &variable.ty)?
-        }
-    };
-    Ok(told)
+/// A text, or that memory is short for it.
+fn told(text: Result<String, AllocError>) -> Result<String, Fault> {
+    match text {
+        Ok(text) => Ok(text),
+        Err(AllocError) => Err(Fault::OutOfMemory),
+    }
 }
 
-fn form_of(site: Site<'_>, value: &Expr) -> Result<String, Fault> {
-    let form = match &expr_value(value, site)? {
+fn type_of(value: &TypedValue) -> &Ty {
+    match value {
+        TypedValue::Simple(_, ty) => ty,
+        TypedValue::Set(_, ty) => ty,
+        TypedValue::Structure(_, ty) => ty,
+    }
+}
+
+fn relation_in(site: Site<'_>, variable: &Variable, value: &Expr) -> Result<String, Fault> {
+    let variable = variable_place(variable, site)?;
+    let value = expr_value(value, site)?;
+    told(relation(site.alloc, type_of(&value), &variable.ty))
+}
+
+fn form_of(value: &TypedValue) -> &'static str {
+    match value {
         TypedValue::Simple(Typed::Arithmetic { .. }, _) => "arithmetic",
         TypedValue::Simple(_, _) => "simple",
         TypedValue::Set(_, _) => "set",
         TypedValue::Structure(_, _) => "structure",
-    };
-    Ok(String::from_str(site.alloc, form)?)
+    }
 }
 
-fn statements_of(site: Site<'_>, written: &[Statement]) -> Result<String, Fault> {
-    let mut shown = String::new(site.alloc);
-    for statement in &statements(written, site)? {
-        put(
-            &mut shown,
-            if matches!(statement, Checked::Empty) {
-                "empty"
-            } else {
-                "other"
-            },
-        )?;
+fn form_in(site: Site<'_>, value: &Expr) -> Result<String, Fault> {
+    let value = expr_value(value, site)?;
+    told(String::from_str(site.alloc, form_of(&value)))
+}
+
+fn kind_of(statement: &Checked) -> &'static str {
+    match statement {
+        Checked::Empty => "empty",
+        _ => "other",
     }
-    Ok(or_none(site.alloc, shown)?)
+}
+
+fn kinds_of(alloc: Global, statements: &[Checked]) -> Result<String, AllocError> {
+    let mut shown = String::new(alloc);
+    for statement in statements {
+        put(&mut shown, kind_of(statement))?;
+    }
+    or_none(alloc, shown)
+}
+
+fn statements_in(site: Site<'_>, written: &[Statement]) -> Result<String, Fault> {
+    let statements = statements(written, site)?;
+    told(kinds_of(site.alloc, &statements))
+}
+
+/// What is asked of the first statement, where it is an assignment.
+fn asked_of_assignment(
+    asked: Asked,
+    site: Site<'_>,
+    written: &[Statement],
+) -> Result<String, Fault> {
+    match assignment(written) {
+        None => told(String::from_str(site.alloc, "no assignment")),
+        Some((variable, value)) if matches!(asked, Asked::Types) => {
+            relation_in(site, variable, value)
+        }
+        Some((_, value)) => form_in(site, value),
+    }
 }
 
 fn asked_of(
@@ -115,51 +159,95 @@ fn asked_of(
     written: &[Statement],
 ) -> Result<String, Fault> {
     match asked {
-        Asked::Declarations => Ok(counts(site.alloc, declared)?),
-        Asked::Sizes => Ok(sizes(site.alloc, &declared.variables)?),
-        Asked::Fields => Ok(fields(site.alloc, &declared.variables)?),
-        Asked::Types => match assignment(written) {
-            Some((variable, value)) => relation_in(site, variable, value),
-            None => Ok(String::from_str(site.alloc, "no assignment")?),
-        },
-        Asked::Expressions => match assignment(written) {
-            Some((_, value)) => form_of(site, value),
-            None => Ok(String::from_str(site.alloc, "no assignment")?),
-        },
-        Asked::Statements => statements_of(site, written),
+        Asked::Declarations => told(counts(site.alloc, declared)),
+        Asked::Sizes => told(sizes(site.alloc, &declared.variables)),
+        Asked::Fields => told(fields(site.alloc, &declared.variables)),
+        Asked::Types => asked_of_assignment(asked, site, written),
+        Asked::Expressions => asked_of_assignment(asked, site, written),
+        Asked::Statements => statements_in(site, written),
     }
 }
 
-/// The declarations of a block.
-fn declared(
+/// Adds the declarations of a block.
+fn declare(
     reading: &Reading,
     alloc: Global,
     block: &Block,
     names: &Names,
     outer: &Scope,
-) -> Result<Declared, Fault> {
+    declared: &mut Declared,
+) -> Result<(), Fault> {
     let frame = Frame {
         reading,
         routine: 0,
         names,
         outer,
     };
+    declarations(
+        &frame,
+        alloc,
+        0,
+        declared,
+        block.constants.as_slice(),
+        block.types.as_slice(),
+        block.variables.as_slice(),
+    )
+}
+
+/// What is asked of a block whose names and declarations are known.
+fn asked_behind(
+    reading: &Reading,
+    alloc: Global,
+    scope: &Scope,
+    declared: &Declared,
+    asked: Asked,
+    written: &[Statement],
+) -> Result<String, Fault> {
+    let behind = Reading {
+        source: reading.source,
+        lines: reading.lines,
+        domains: &declared.domains,
+        has_input: false,
+        has_output: false,
+    };
+    let site = Site {
+        alloc,
+        reading: &behind,
+        scope,
+    };
+    asked_of(asked, declared, site, written)
+}
+
+/// What is asked of a block whose names are known.
+fn asked_below(
+    reading: &Reading,
+    alloc: Global,
+    block: &Block,
+    names: &Names,
+    outer: &Scope,
+    asked: Asked,
+) -> Result<String, Fault> {
     let mut declared = Declared {
         known: Vec::new(alloc),
         domains: Vec::new(alloc),
         pending: Vec::new(alloc),
         variables: Vec::new(alloc),
     };
-    declarations(
-        &frame,
+    declare(reading, alloc, block, names, outer, &mut declared)?;
+    let scope = Scope::Block {
+        routine: 0,
+        names,
+        known: &declared.known,
+        outer,
+    };
+    asked_behind(
+        reading,
         alloc,
-        0,
-        &mut declared,
-        block.constants.as_slice(),
-        block.types.as_slice(),
-        block.variables.as_slice(),
-    )?;
-    Ok(declared)
+        &scope,
+        &declared,
+        asked,
+        block.statements.as_slice(),
+    )
 }
 
 /// What is asked of a block within a region.
@@ -179,26 +267,7 @@ fn asked_within(
         block.types.as_slice(),
         block.variables.as_slice(),
     )?;
-    let declared = declared(reading, alloc, block, &names, outer)?;
-    let scope = Scope::Block {
-        routine: 0,
-        names: &names,
-        known: &declared.known,
-        outer,
-    };
-    let behind = Reading {
-        source: reading.source,
-        lines: reading.lines,
-        domains: &declared.domains,
-        has_input: false,
-        has_output: false,
-    };
-    let site = Site {
-        alloc,
-        reading: &behind,
-        scope: &scope,
-    };
-    asked_of(asked, &declared, site, block.statements.as_slice())
+    asked_below(reading, alloc, block, &names, outer, asked)
 }
 
 fn asked_in(
@@ -207,7 +276,11 @@ fn asked_in(
     block: &Block,
     asked: Asked,
 ) -> Result<String, Fault> {
-    let known = required(alloc)?;
+    let mut known = Known {
+        names: Names::new(alloc),
+        meanings: Vec::new(alloc),
+    };
+    add_required(alloc, &mut known)?;
     let outer = Scope::Block {
         routine: 0,
         names: &known.names,
@@ -217,28 +290,40 @@ fn asked_in(
     asked_within(reading, alloc, block, &outer, asked)
 }
 
-/// What is asked of a program's block, or the rule that it breaks.
-pub(crate) fn answer(alloc: Global, text: &[u8], asked: Asked) -> Result<String, AllocError> {
-    let Ok(source) = Source::new(text) else {
-        return String::from_str(alloc, "no source");
-    };
-    let Some(program) = program(alloc, &source) else {
-        return String::from_str(alloc, "refused");
-    };
-    let lines = LineTable::new(alloc, &source)?;
+fn refused(alloc: Global, rule: Rule, at: u32) -> Result<String, AllocError> {
+    let number = rule.number();
+    format!(in alloc; "{number} {rule} at byte {at}")
+}
+
+/// What is asked of the block of a text.
+fn answer_in(
+    alloc: Global,
+    source: &Source,
+    block: &Block,
+    asked: Asked,
+) -> Result<String, AllocError> {
+    let lines = LineTable::new(alloc, source)?;
     let reading = Reading {
-        source: &source,
+        source,
         lines: &lines,
         domains: &[],
         has_input: false,
         has_output: false,
     };
-    match asked_in(&reading, alloc, &program.block, asked) {
+    match asked_in(&reading, alloc, block, asked) {
         Ok(answer) => Ok(answer),
         Err(Fault::OutOfMemory) => Err(AllocError),
-        Err(Fault::Broken { rule, at }) => {
-            let number = rule.number();
-            format!(in alloc; "{number} {rule} at byte {at}")
-        }
+        Err(Fault::Broken { rule, at }) => refused(alloc, rule, at),
+    }
+}
+
+/// What is asked of a program's block, or the rule that it breaks.
+pub(crate) fn answer(alloc: Global, text: &[u8], asked: Asked) -> Result<String, AllocError> {
+    let Ok(source) = Source::new(text) else {
+        return String::from_str(alloc, "no source");
+    };
+    match program(alloc, &source) {
+        Some(program) => answer_in(alloc, &source, &program.block, asked),
+        None => String::from_str(alloc, "refused"),
     }
 }

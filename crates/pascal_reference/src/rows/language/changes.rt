@@ -48,24 +48,38 @@ fn controlled(alloc: Global, body: &[Statement]) -> Result<String, AllocError> {
     or_none(alloc, shown)
 }
 
+/// Puts what is told behind a line, if memory was enough for it.
+fn put_told(
+    line: &mut String,
+    word: &str,
+    told: Result<String, AllocError>,
+) -> Result<(), AllocError> {
+    let told = told?;
+    line.push_str(word)?;
+    line.push_str(told.as_str())
+}
+
 /// What the statements of a routine change: its own entries, and those of the routine round it.
 fn of_routine(alloc: Global, body: &[Statement]) -> Result<String, AllocError> {
-    let own = threatened(alloc, body, 0)?;
-    let outer = threatened(alloc, body, 1)?;
-    let set = assigned(alloc, body, 0)?;
-    let set_outside = assigned(alloc, body, 1)?;
-    let controls = controlled(alloc, body)?;
-    format!(in alloc;
-        "threatens {own}, outside {outer}; assigns {set}, outside {set_outside}; controls {controls}"
-    )
+    let mut line = String::new(alloc);
+    put_told(&mut line, "[threatens ", threatened(alloc, body, 0))?;
+    put_told(&mut line, ", outside ", threatened(alloc, body, 1))?;
+    put_told(&mut line, "; assigns ", assigned(alloc, body, 0))?;
+    put_told(&mut line, ", outside ", assigned(alloc, body, 1))?;
+    put_told(&mut line, "; controls ", controlled(alloc, body))?;
+    line.push(']')?;
+    Ok(line)
+}
+
+fn put_routine(alloc: Global, line: &mut String, body: &[Statement]) -> Result<(), AllocError> {
+    let told = of_routine(alloc, body)?;
+    put(line, told.as_str())
 }
 
 fn of_program(alloc: Global, program: &Checked) -> Result<String, AllocError> {
     let mut shown = String::new(alloc);
     for routine in program.routines() {
-        let told = of_routine(alloc, routine.body.as_slice())?;
-        let word = format!(in alloc; "[{told}]")?;
-        put(&mut shown, word.as_str())?;
+        put_routine(alloc, &mut shown, routine.body.as_slice())?;
     }
     Ok(shown)
 }

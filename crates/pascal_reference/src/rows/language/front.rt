@@ -3,8 +3,8 @@
 use crate::rows::language::shown::Shown;
 use crate::rows::language::tokens;
 use ps_parse::{ParseRefusal, parse};
-use ps_scan::scan;
-use ps_syntax::{Program, height};
+use ps_scan::{Token, scan};
+use ps_syntax::{Program, Statement, height};
 use ps_text::Source;
 use std::alloc::{AllocError, Global};
 
@@ -22,8 +22,26 @@ pub(crate) fn refused(alloc: Global, refusal: ParseRefusal) -> Result<String, Al
 
 /// The tree of a text that is known to have one; a text that has none is a slip of its table.
 pub(crate) fn program(alloc: Global, source: &Source) -> Option<Program> {
-    let tokens = scan(alloc, source).ok()?;
-    parse(alloc, source, &tokens).ok()
+    match scan(alloc, source) {
+        Ok(tokens) => parse(alloc, source, &tokens).ok(),
+        Err(_) => None,
+    }
+}
+
+fn height_told(alloc: Global, program: &Program) -> Result<String, AllocError> {
+    let height = height(program);
+    format!(in alloc; "accepted, height {height}")
+}
+
+fn height_of_tokens(
+    alloc: Global,
+    source: &Source,
+    tokens: &[Token],
+) -> Result<String, AllocError> {
+    match parse(alloc, source, tokens) {
+        Ok(program) => height_told(alloc, &program),
+        Err(refusal) => refused(alloc, refusal),
+    }
 }
 
 /// The height of a text's tree, or the refusal.
@@ -31,17 +49,23 @@ pub(crate) fn height_of(alloc: Global, text: &[u8]) -> Result<String, AllocError
     let Ok(source) = Source::new(text) else {
         return String::from_str(alloc, "no source");
     };
-    let tokens = match scan(alloc, &source) {
-        Ok(tokens) => tokens,
-        Err(refusal) => return tokens::refused(alloc, refusal),
-    };
-    match parse(alloc, &source, &tokens) {
-        Ok(program) => {
-            let height = height(&program);
-            format!(in alloc; "accepted, height {height}")
-        }
-        Err(refusal) => refused(alloc, refusal),
+    match scan(alloc, &source) {
+        Ok(tokens) => height_of_tokens(alloc, &source, &tokens),
+        Err(refusal) => tokens::refused(alloc, refusal),
     }
+}
+
+fn shown(alloc: Global, text: &[u8], statements: &[Statement]) -> Result<String, AllocError> {
+    let mut shown = Shown {
+        text,
+        line: String::new(alloc),
+        is_short: false,
+    };
+    shown.statements(statements);
+    if shown.is_short {
+        return Err(AllocError);
+    }
+    String::from_str(alloc, shown.line.as_str().trim_start())
 }
 
 /// The statements of a text's tree.
@@ -49,13 +73,8 @@ pub(crate) fn tree(alloc: Global, text: &[u8]) -> Result<String, AllocError> {
     let Ok(source) = Source::new(text) else {
         return String::from_str(alloc, "no source");
     };
-    let Some(program) = program(alloc, &source) else {
-        return String::from_str(alloc, "refused");
-    };
-    let mut shown = Shown {
-        text: source.bytes(),
-        line: String::new(alloc),
-    };
-    shown.statements(program.block.statements.as_slice())?;
-    String::from_str(alloc, shown.line.as_str().trim_start())
+    match program(alloc, &source) {
+        Some(program) => shown(alloc, source.bytes(), program.block.statements.as_slice()),
+        None => String::from_str(alloc, "refused"),
+    }
 }

@@ -1,6 +1,6 @@
 //! The search for a name through two regions.
 
-use crate::rows::language::words::letters;
+use crate::rows::texts::letters;
 use ps_regions::meaning::Meaning;
 use ps_regions::scope::{Found, Lookup, Scope, find};
 use ps_scan::name_spelling;
@@ -14,22 +14,35 @@ struct Region {
     known: Vec<Meaning>,
 }
 
+fn add_name(
+    alloc: Global,
+    region: &mut Region,
+    word: &str,
+    is_later: bool,
+) -> Result<(), AllocError> {
+    let spelling = name_spelling(alloc, word.as_bytes())?;
+    region.names.add(spelling)?;
+    if !is_later {
+        region.known.push(Meaning::LeftOut)?;
+    }
+    Ok(())
+}
+
 /// The region of some words: names, of which those behind the word `later` stand behind the place.
 fn region_of(alloc: Global, words: &str) -> Result<Region, AllocError> {
-    let mut names = Names::new(alloc);
-    let mut known = Vec::new(alloc);
+    let mut region = Region {
+        names: Names::new(alloc),
+        known: Vec::new(alloc),
+    };
     let mut is_later = false;
     for word in words.split(' ') {
         if word == "later" {
             is_later = true;
-            continue;
-        }
-        names.add(name_spelling(alloc, word.as_bytes())?)?;
-        if !is_later {
-            known.push(Meaning::LeftOut)?;
+        } else {
+            add_name(alloc, &mut region, word, is_later)?;
         }
     }
-    Ok(Region { names, known })
+    Ok(region)
 }
 
 fn told(alloc: Global, lookup: Lookup) -> Result<String, AllocError> {
@@ -48,6 +61,15 @@ pub(crate) fn found(alloc: Global, row: &[u8]) -> Result<String, AllocError> {
     let (outer, inner) = regions.split_once(" / ").unwrap_or(("", ""));
     let outer = region_of(alloc, outer)?;
     let inner = region_of(alloc, inner)?;
+    found_in(alloc, &outer, &inner, name)
+}
+
+fn found_in(
+    alloc: Global,
+    outer: &Region,
+    inner: &Region,
+    name: &str,
+) -> Result<String, AllocError> {
     let around = Scope::Block {
         routine: 0,
         names: &outer.names,

@@ -1,7 +1,8 @@
 //! What the slow runner shows of runs, and how they end.
 
 use crate::rows::language::check::checked;
-use crate::rows::language::words::{number, or_none, put, put_bytes};
+use crate::rows::language::words::{number, or_none, put};
+use crate::rows::texts::put_bracketed;
 use ps_runner::ending::Ending;
 use ps_runner::run::{
     Budget, Ran, Refusal, output, reference, reference_to_depth, reference_within, trail,
@@ -95,35 +96,44 @@ fn ending(alloc: Global, ran: &Ran) -> Result<String, AllocError> {
     }
 }
 
+fn put_line(alloc: Global, shown: &mut String, line: u32) -> Result<(), AllocError> {
+    let word = format!(in alloc; "{line}")?;
+    put(shown, word.as_str())
+}
+
 fn put_lines(alloc: Global, shown: &mut String, lines: &[u32]) -> Result<(), AllocError> {
     for line in lines.iter().take(16) {
-        let line = *line;
-        let word = format!(in alloc; "{line}")?;
-        put(shown, word.as_str())?;
+        put_line(alloc, shown, *line)?;
     }
     Ok(())
 }
 
-/// The lines of the calls that are open at an error, up to 16.
-fn calls(alloc: Global, ran: &Ran) -> Result<String, AllocError> {
-    let mut shown = String::new(alloc);
+/// Puts the lines of the calls that are open at an error, up to 16.
+fn put_calls(alloc: Global, shown: &mut String, ran: &Ran) -> Result<(), AllocError> {
     if matches!(ran.ending, Ending::Error { .. }) && !ran.calls.is_empty() {
         shown.push_str(", called at")?;
-        put_lines(alloc, &mut shown, &ran.calls)?;
+        put_lines(alloc, shown, &ran.calls)?;
     }
-    Ok(shown)
+    Ok(())
 }
 
-/// A transcript, with `^` for a mark at a first look at a byte of the input, or at its end.
-fn transcript(alloc: Global, ran: &Ran) -> Result<String, AllocError> {
-    let mut shown = String::new(alloc);
-    for item in &ran.transcript {
-        shown.push(match *item {
-            256 => '^',
-            byte => char::from((byte % 256) as u8),
-        })?;
+/// The letter of an item of a transcript: `^` for a mark at a first look at a byte of the input, or at its end.
+fn letter_of(item: u16) -> char {
+    match item {
+        256 => '^',
+        byte => char::from((byte % 256) as u8),
     }
-    Ok(shown)
+}
+
+/// Puts a transcript, with a space before it if there is any.
+fn put_transcript(shown: &mut String, transcript: &[u16]) -> Result<(), AllocError> {
+    if !transcript.is_empty() {
+        shown.push(' ')?;
+    }
+    for item in transcript {
+        shown.push(letter_of(*item))?;
+    }
+    Ok(())
 }
 
 fn refused(alloc: Global, refusal: Refusal) -> Result<String, AllocError> {
@@ -134,58 +144,74 @@ fn refused(alloc: Global, refusal: Refusal) -> Result<String, AllocError> {
 }
 
 fn told(alloc: Global, ran: &Ran) -> Result<String, AllocError> {
-    let ending = ending(alloc, ran)?;
-    let calls = calls(alloc, ran)?;
-    let transcript = transcript(alloc, ran)?;
-    let space = if transcript.is_empty() { "" } else { " " };
-    format!(in alloc; "{ending}{calls}:{space}{transcript}")
+    let mut shown = ending(alloc, ran)?;
+    put_calls(alloc, &mut shown, ran)?;
+    shown.push(':')?;
+    put_transcript(&mut shown, &ran.transcript)?;
+    Ok(shown)
+}
+
+fn bracketed(alloc: Global, bytes: &[u8]) -> Result<String, AllocError> {
+    let mut shown = String::new(alloc);
+    put_bracketed(&mut shown, bytes)?;
+    Ok(shown)
 }
 
 /// The output of a run, in brackets.
 fn written(alloc: Global, ran: &Ran) -> Result<String, AllocError> {
-    let Ok(bytes) = output(alloc, &ran.transcript) else {
-        return String::from_str(alloc, "no output");
-    };
-    let mut shown = String::new(alloc);
-    shown.push('[')?;
-    put_bytes(&mut shown, &bytes)?;
-    shown.push(']')?;
-    Ok(shown)
+    match output(alloc, &ran.transcript) {
+        Ok(bytes) => bracketed(alloc, &bytes),
+        Err(_) => String::from_str(alloc, "no output"),
+    }
 }
 
-/// How the run of a program ends, the calls that are open there, and what it shows.
-pub(crate) fn ran(alloc: Global, text: &[u8], job: &Job) -> Result<String, AllocError> {
-    let Some(program) = checked(alloc, text) else {
-        return String::from_str(alloc, "refused");
-    };
-    match run(alloc, &program, job) {
+fn ran_of(alloc: Global, program: &Checked, job: &Job) -> Result<String, AllocError> {
+    match run(alloc, program, job) {
         Ok(ran) => told(alloc, &ran),
         Err(refusal) => refused(alloc, refusal),
     }
 }
 
+fn lines_of(alloc: Global, lines: &[u32]) -> Result<String, AllocError> {
+    let mut shown = String::new(alloc);
+    put_lines(alloc, &mut shown, lines)?;
+    or_none(alloc, shown)
+}
+
+fn trail_in(alloc: Global, program: &Checked, job: &Job) -> Result<String, AllocError> {
+    match trail(alloc, program, &job.input, job.fuel) {
+        Ok(lines) => lines_of(alloc, &lines),
+        Err(refusal) => refused(alloc, refusal),
+    }
+}
+
+fn output_in(alloc: Global, program: &Checked, job: &Job) -> Result<String, AllocError> {
+    match run(alloc, program, job) {
+        Ok(ran) => written(alloc, &ran),
+        Err(refusal) => refused(alloc, refusal),
+    }
+}
+
+/// How the run of a program ends, the calls that are open there, and what it shows.
+pub(crate) fn ran(alloc: Global, text: &[u8], job: &Job) -> Result<String, AllocError> {
+    match checked(alloc, text) {
+        Some(program) => ran_of(alloc, &program, job),
+        None => String::from_str(alloc, "refused"),
+    }
+}
+
 /// The lines that `trail` tells of a run.
 pub(crate) fn trail_of(alloc: Global, text: &[u8], job: &Job) -> Result<String, AllocError> {
-    let Some(program) = checked(alloc, text) else {
-        return String::from_str(alloc, "refused");
-    };
-    match trail(alloc, &program, &job.input, job.fuel) {
-        Ok(lines) => {
-            let mut shown = String::new(alloc);
-            put_lines(alloc, &mut shown, &lines)?;
-            or_none(alloc, shown)
-        }
-        Err(refusal) => refused(alloc, refusal),
+    match checked(alloc, text) {
+        Some(program) => trail_in(alloc, &program, job),
+        None => String::from_str(alloc, "refused"),
     }
 }
 
 /// The bytes that `output` makes of a run's transcript.
 pub(crate) fn output_of(alloc: Global, text: &[u8], job: &Job) -> Result<String, AllocError> {
-    let Some(program) = checked(alloc, text) else {
-        return String::from_str(alloc, "refused");
-    };
-    match run(alloc, &program, job) {
-        Ok(ran) => written(alloc, &ran),
-        Err(refusal) => refused(alloc, refusal),
+    match checked(alloc, text) {
+        Some(program) => output_in(alloc, &program, job),
+        None => String::from_str(alloc, "refused"),
     }
 }

@@ -1,246 +1,278 @@
 //! The statements of a tree, with brackets round what belongs together.
 
+use crate::rows::texts::put_bytes;
 use ps_syntax::{
     Adding, Constant, Direction, Element, Expr, Factor, Member, Multiplying, Parameter, Relation,
     Selector, Sign, Simple, Statement, Term, Variable,
 };
 use ps_text::Span;
-use std::alloc::AllocError;
 
-/// A text, and what is shown of its tree so far.
+/// A text, what is shown of its tree so far, and whether memory was short for some of that.
 #[derive(Drop)]
 pub struct Shown<'a> {
     pub text: &'a [u8],
     pub line: String,
+    pub is_short: bool,
+}
+
+fn sign_of(sign: Option<(Sign, Span)>) -> &'static str {
+    match sign {
+        None => "",
+        Some((Sign::Plus, _)) => "+",
+        Some((Sign::Minus, _)) => "-",
+    }
+}
+
+fn relation_of(relation: Relation) -> &'static str {
+    match relation {
+        Relation::Equal => " = ",
+        Relation::NotEqual => " <> ",
+        Relation::Less => " < ",
+        Relation::Greater => " > ",
+        Relation::LessEqual => " <= ",
+        Relation::GreaterEqual => " >= ",
+        Relation::In => " in ",
+    }
+}
+
+fn adding_of(operator: Adding) -> &'static str {
+    match operator {
+        Adding::Plus => " + ",
+        Adding::Minus => " - ",
+        Adding::Or => " or ",
+    }
+}
+
+fn multiplying_of(operator: Multiplying) -> &'static str {
+    match operator {
+        Multiplying::Times => " * ",
+        Multiplying::Div => " div ",
+        Multiplying::Mod => " mod ",
+        Multiplying::And => " and ",
+    }
+}
+
+fn direction_of(direction: Direction) -> &'static str {
+    match direction {
+        Direction::Up => " to ",
+        Direction::Down => " downto ",
+    }
 }
 
 impl<'a> Shown<'a> {
-    fn word(&mut self, word: &str) -> Result<(), AllocError> {
-        self.line.push_str(word)
+    fn word(&mut self, word: &str) {
+        if self.line.push_str(word).is_err() {
+            self.is_short = true;
+        }
     }
 
-    fn span(&mut self, span: Span) -> Result<(), AllocError> {
-        let bytes = self.text.get(span.from as usize..span.to as usize);
-        for byte in bytes.unwrap_or(&[]) {
-            self.line.push(char::from(*byte))?;
+    fn repeated(&mut self, word: &str, count: u32) {
+        for _level in 0..count {
+            self.word(word);
         }
-        Ok(())
+    }
+
+    fn span(&mut self, span: Span) {
+        let bytes = self.text.get(span.from as usize..span.to as usize);
+        if put_bytes(&mut self.line, bytes.unwrap_or(&[])).is_err() {
+            self.is_short = true;
+        }
     }
 
     #[cycle(expression)]
-    fn expr(&mut self, expr: &Expr) -> Result<(), AllocError> {
+    fn expr(&mut self, expr: &Expr) {
         match expr {
             Expr::Simple(only) => self.simple(only),
             Expr::Compare(left, relation, _, right) => {
-                self.word("[")?;
-                self.simple(left)?;
-                self.word(match relation {
-                    Relation::Equal => " = ",
-                    Relation::NotEqual => " <> ",
-                    Relation::Less => " < ",
-                    Relation::Greater => " > ",
-                    Relation::LessEqual => " <= ",
-                    Relation::GreaterEqual => " >= ",
-                    Relation::In => " in ",
-                })?;
-                self.simple(right.get())?;
-                self.word("]")
+                self.word("[");
+                self.simple(left);
+                self.word(relation_of(*relation));
+                self.simple(right.get());
+                self.word("]");
             }
         }
     }
 
     #[cycle(expression)]
-    fn simple(&mut self, simple: &Simple) -> Result<(), AllocError> {
-        self.sign(simple.sign)?;
-        self.term(&simple.first)?;
+    fn simple(&mut self, simple: &Simple) {
+        self.word(sign_of(simple.sign));
+        self.term(&simple.first);
         for added in simple.more.as_slice() {
-            self.word(match added.operator {
-                Adding::Plus => " + ",
-                Adding::Minus => " - ",
-                Adding::Or => " or ",
-            })?;
-            self.term(&added.term)?;
-        }
-        Ok(())
-    }
-
-    fn sign(&mut self, sign: Option<(Sign, Span)>) -> Result<(), AllocError> {
-        match sign {
-            None => Ok(()),
-            Some((Sign::Plus, _)) => self.word("+"),
-            Some((Sign::Minus, _)) => self.word("-"),
+            self.word(adding_of(added.operator));
+            self.term(&added.term);
         }
     }
 
     #[cycle(expression)]
-    fn term(&mut self, term: &Term) -> Result<(), AllocError> {
+    fn term(&mut self, term: &Term) {
         if term.more.is_empty() {
             return self.factor(&term.first);
         }
-        self.word("[")?;
-        self.factor(&term.first)?;
+        self.word("[");
+        self.factor(&term.first);
         for multiplied in term.more.as_slice() {
-            self.word(match multiplied.operator {
-                Multiplying::Times => " * ",
-                Multiplying::Div => " div ",
-                Multiplying::Mod => " mod ",
-                Multiplying::And => " and ",
-            })?;
-            self.factor(&multiplied.factor)?;
+            self.word(multiplying_of(multiplied.operator));
+            self.factor(&multiplied.factor);
         }
-        self.word("]")
+        self.word("]");
     }
 
     #[cycle(expression)]
-    fn factor(&mut self, factor: &Factor) -> Result<(), AllocError> {
+    fn factor(&mut self, factor: &Factor) {
         match factor {
             Factor::Variable(variable) => self.variable(variable),
             Factor::Number(at) | Factor::Text(at) | Factor::Nil(at) => self.span(*at),
             Factor::Call(name, parameters) => {
-                self.span(*name)?;
-                self.exprs(parameters.as_slice())
+                self.span(*name);
+                self.exprs(parameters.as_slice());
             }
-            Factor::Set(_, members) => {
-                self.word("{")?;
-                for member in members.as_slice() {
-                    self.word("(")?;
-                    self.member(member)?;
-                    self.word(")")?;
-                }
-                self.word("}")
-            }
-            Factor::Group(_, redundant, inner) => {
-                for _level in 0..*redundant {
-                    self.word("(")?;
-                }
-                self.word("(")?;
-                self.expr(inner.get())?;
-                for _level in 0..*redundant {
-                    self.word(")")?;
-                }
-                self.word(")")
-            }
+            Factor::Set(_, members) => self.members(members.as_slice()),
+            Factor::Group(_, redundant, inner) => self.group(*redundant, inner.get()),
             Factor::Not(_, inner) => {
-                self.word("not ")?;
-                self.factor(inner.get())
+                self.word("not ");
+                self.factor(inner.get());
             }
         }
     }
 
     #[cycle(expression)]
-    fn exprs(&mut self, exprs: &[Expr]) -> Result<(), AllocError> {
-        for expr in exprs {
-            self.word("(")?;
-            self.expr(expr)?;
-            self.word(")")?;
+    fn members(&mut self, members: &[Member]) {
+        self.word("{");
+        for member in members {
+            self.word("(");
+            self.member(member);
+            self.word(")");
         }
-        Ok(())
+        self.word("}");
     }
 
     #[cycle(expression)]
-    fn member(&mut self, member: &Member) -> Result<(), AllocError> {
+    fn group(&mut self, redundant: u32, inner: &Expr) {
+        self.word("(");
+        self.repeated("(", redundant);
+        self.expr(inner);
+        self.repeated(")", redundant);
+        self.word(")");
+    }
+
+    #[cycle(expression)]
+    fn exprs(&mut self, exprs: &[Expr]) {
+        for expr in exprs {
+            self.word("(");
+            self.expr(expr);
+            self.word(")");
+        }
+    }
+
+    #[cycle(expression)]
+    fn member(&mut self, member: &Member) {
         match member {
             Member::One(only) => self.expr(only.get()),
             Member::Range(low, high) => {
-                self.expr(low.get())?;
-                self.word("..")?;
-                self.expr(high.get())
+                self.expr(low.get());
+                self.word("..");
+                self.expr(high.get());
             }
         }
     }
 
     /// Several indices are shown as those of arrays in one another.
     #[cycle(expression)]
-    fn variable(&mut self, variable: &Variable) -> Result<(), AllocError> {
-        self.span(variable.name)?;
+    fn variable(&mut self, variable: &Variable) {
+        self.span(variable.name);
         for selector in variable.selectors.as_slice() {
             match selector {
-                Selector::Index(indices) => self.exprs(indices.as_slice())?,
+                Selector::Index(indices) => self.exprs(indices.as_slice()),
                 Selector::Field(name) => {
-                    self.word(".")?;
-                    self.span(*name)?;
+                    self.word(".");
+                    self.span(*name);
                 }
-                Selector::Content(_) => self.word("^")?,
+                Selector::Content(_) => self.word("^"),
             }
         }
-        Ok(())
     }
 
-    fn parameters(&mut self, parameters: &[Parameter]) -> Result<(), AllocError> {
+    fn parameter(&mut self, parameter: &Parameter) {
+        match parameter {
+            Parameter::Plain(value) => self.expr(value),
+            Parameter::Width(value, width) => {
+                self.expr(value);
+                self.word(" : ");
+                self.expr(width.get());
+            }
+        }
+    }
+
+    fn parameters(&mut self, parameters: &[Parameter]) {
         for parameter in parameters {
-            self.word("(")?;
-            match parameter {
-                Parameter::Plain(value) => self.expr(value)?,
-                Parameter::Width(value, width) => {
-                    self.expr(value)?;
-                    self.word(" : ")?;
-                    self.expr(width.get())?;
-                }
-            }
-            self.word(")")?;
+            self.word("(");
+            self.parameter(parameter);
+            self.word(")");
         }
-        Ok(())
     }
 
-    fn constants(&mut self, constants: &[Constant]) -> Result<(), AllocError> {
+    fn constant(&mut self, constant: &Constant) {
+        let (sign, at) = match constant {
+            Constant::Number(sign, at) => (sign_of(*sign), *at),
+            Constant::Name(sign, at) => (sign_of(*sign), *at),
+            Constant::Text(at) => ("", *at),
+        };
+        self.word(sign);
+        self.span(at);
+    }
+
+    fn constants(&mut self, constants: &[Constant]) {
         for constant in constants {
-            self.word(" ")?;
-            match constant {
-                Constant::Number(sign, at) | Constant::Name(sign, at) => {
-                    self.sign(*sign)?;
-                    self.span(*at)?;
-                }
-                Constant::Text(at) => self.span(*at)?,
-            }
-            self.word(":")?;
+            self.word(" ");
+            self.constant(constant);
+            self.word(":");
         }
-        Ok(())
     }
 
     #[cycle(statement)]
-    pub fn statement(&mut self, statement: &Statement) -> Result<(), AllocError> {
+    pub fn statement(&mut self, statement: &Statement) {
         match statement {
-            Statement::Empty => Ok(()),
+            Statement::Empty => {}
             Statement::Assign(variable, _, value) => {
-                self.variable(variable)?;
-                self.word(" := ")?;
-                self.expr(value.get())
+                self.variable(variable);
+                self.word(" := ");
+                self.expr(value.get());
             }
             Statement::Call(name, parameters) => {
-                self.span(*name)?;
-                self.parameters(parameters.as_slice())
+                self.span(*name);
+                self.parameters(parameters.as_slice());
             }
             Statement::Compound(statements) => self.statements(statements.as_slice()),
             Statement::If(condition, chosen) => {
-                self.condition("if ", condition.get())?;
-                self.braced(chosen.get())
+                self.condition("if ", condition.get());
+                self.braced(chosen.get());
             }
             Statement::IfElse(condition, chosen, other) => {
-                self.condition("if ", condition.get())?;
-                self.braced(chosen.get())?;
-                self.word(" else ")?;
-                self.braced(other.get())
+                self.condition("if ", condition.get());
+                self.braced(chosen.get());
+                self.word(" else ");
+                self.braced(other.get());
             }
             Statement::While(condition, body) => {
-                self.condition("while ", condition.get())?;
-                self.braced(body.get())
+                self.condition("while ", condition.get());
+                self.braced(body.get());
             }
             _ => self.longer_statement(statement),
         }
     }
 
     #[cycle(statement)]
-    fn longer_statement(&mut self, statement: &Statement) -> Result<(), AllocError> {
+    fn longer_statement(&mut self, statement: &Statement) {
         match statement {
             Statement::Case(_, index, elements) => {
-                self.word("case ")?;
-                self.expr(index.get())?;
-                self.elements(elements.as_slice())
+                self.word("case ");
+                self.expr(index.get());
+                self.elements(elements.as_slice());
             }
             Statement::Repeat(statements, condition) => {
-                self.statements(statements.as_slice())?;
-                self.word(" until ")?;
-                self.expr(condition.get())
+                self.statements(statements.as_slice());
+                self.word(" until ");
+                self.expr(condition.get());
             }
             Statement::For {
                 variable,
@@ -249,54 +281,53 @@ impl<'a> Shown<'a> {
                 last,
                 body,
             } => {
-                self.word("for ")?;
-                self.span(*variable)?;
-                self.word(" := ")?;
-                self.expr(first.get())?;
-                self.word(match direction {
-                    Direction::Up => " to ",
-                    Direction::Down => " downto ",
-                })?;
-                self.expr(last.get())?;
-                self.braced(body.get())
+                self.word("for ");
+                self.span(*variable);
+                self.word(" := ");
+                self.expr(first.get());
+                self.word(direction_of(*direction));
+                self.expr(last.get());
+                self.braced(body.get());
             }
             Statement::With(records, body) => {
-                for record in records.as_slice() {
-                    self.word(" with ")?;
-                    self.variable(record)?;
-                }
-                self.braced(body.get())
+                self.records(records.as_slice());
+                self.braced(body.get());
             }
-            _ => Ok(()),
+            _ => {}
         }
     }
 
-    fn condition(&mut self, word: &str, condition: &Expr) -> Result<(), AllocError> {
-        self.word(word)?;
-        self.expr(condition)
+    fn records(&mut self, records: &[Variable]) {
+        for record in records {
+            self.word(" with ");
+            self.variable(record);
+        }
+    }
+
+    fn condition(&mut self, word: &str, condition: &Expr) {
+        self.word(word);
+        self.expr(condition);
     }
 
     #[cycle(statement)]
-    fn braced(&mut self, statement: &Statement) -> Result<(), AllocError> {
-        self.word(" {")?;
-        self.statement(statement)?;
-        self.word("}")
+    fn braced(&mut self, statement: &Statement) {
+        self.word(" {");
+        self.statement(statement);
+        self.word("}");
     }
 
     #[cycle(statement)]
-    pub fn statements(&mut self, statements: &[Statement]) -> Result<(), AllocError> {
+    pub fn statements(&mut self, statements: &[Statement]) {
         for statement in statements {
-            self.braced(statement)?;
+            self.braced(statement);
         }
-        Ok(())
     }
 
     #[cycle(statement)]
-    fn elements(&mut self, elements: &[Element]) -> Result<(), AllocError> {
+    fn elements(&mut self, elements: &[Element]) {
         for element in elements {
-            self.constants(element.constants.as_slice())?;
-            self.braced(&element.statement)?;
+            self.constants(element.constants.as_slice());
+            self.braced(&element.statement);
         }
-        Ok(())
     }
 }

@@ -1,6 +1,7 @@
 //! Texts within the limits, their lines, and slices of them.
 
-use crate::rows::language::words::{letters, number, put_bytes, put_number};
+use crate::rows::language::words::{number, put_number};
+use crate::rows::texts::{letters, put_bytes};
 use ps_text::{LineTable, Source, Span};
 use std::alloc::{AllocError, Global};
 
@@ -24,17 +25,36 @@ pub(crate) fn lines(alloc: Global, text: &[u8]) -> Result<String, AllocError> {
     let Ok(source) = Source::new(text) else {
         return String::from_str(alloc, "no source");
     };
-    let table = LineTable::new(alloc, &source)?;
-    let mut counted = String::new(alloc);
-    let mut found = String::new(alloc);
-    for offset in 0..=source.len() {
-        put_number(alloc, &mut counted, u64::from(source.line_of(offset)))?;
-        put_number(alloc, &mut found, u64::from(table.line_of(offset)))?;
-    }
+    let mut line = size(alloc, &source)?;
+    put_counted(alloc, &mut line, &source)?;
+    line.push_str(", by the table")?;
+    put_found(alloc, &mut line, &source)?;
+    Ok(line)
+}
+
+/// How many bytes a text has, and holds.
+fn size(alloc: Global, source: &Source) -> Result<String, AllocError> {
     let length = source.len();
     let held = source.bytes().len();
     let kind = if source.is_empty() { "empty, " } else { "" };
-    format!(in alloc; "{kind}{length} bytes, {held} held, lines{counted}, by the table{found}")
+    format!(in alloc; "{kind}{length} bytes, {held} held, lines")
+}
+
+/// Puts the lines of offsets as the text counts them.
+fn put_counted(alloc: Global, line: &mut String, source: &Source) -> Result<(), AllocError> {
+    for offset in 0..=source.len() {
+        put_number(alloc, line, u64::from(source.line_of(offset)))?;
+    }
+    Ok(())
+}
+
+/// Puts the lines of offsets as a table finds them.
+fn put_found(alloc: Global, line: &mut String, source: &Source) -> Result<(), AllocError> {
+    let table = LineTable::new(alloc, source)?;
+    for offset in 0..=source.len() {
+        put_number(alloc, line, u64::from(table.line_of(offset)))?;
+    }
+    Ok(())
 }
 
 /// A slice of a text, in brackets. The row has where it begins, where it ends, and the text.

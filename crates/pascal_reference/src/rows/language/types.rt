@@ -1,6 +1,7 @@
 //! Types: how two are related, their sizes, and the fields of records.
 
 use crate::rows::language::words::put;
+use crate::rows::texts::put_parts;
 use ps_tree::types::{Fields, Ty, assignable, compatible};
 use std::alloc::{AllocError, Global};
 
@@ -26,17 +27,23 @@ pub(crate) fn relation(alloc: Global, value: &Ty, variable: &Ty) -> Result<Strin
     } else {
         ""
     };
-    format!(in alloc; "{forth}{back}{to}{from}")
+    let mut line = String::new(alloc);
+    put_parts(&mut line, &[forth, back, to, from])?;
+    Ok(line)
+}
+
+fn put_size(alloc: Global, shown: &mut String, ty: &Ty) -> Result<(), AllocError> {
+    let cells = ty.cells();
+    let bytes = ty.bytes();
+    let word = format!(in alloc; "{cells} cells, {bytes} bytes")?;
+    put(shown, word.as_str())
 }
 
 /// The cells and bytes of types.
 pub(crate) fn sizes(alloc: Global, types: &[Ty]) -> Result<String, AllocError> {
     let mut shown = String::new(alloc);
     for ty in types {
-        let cells = ty.cells();
-        let bytes = ty.bytes();
-        let word = format!(in alloc; "{cells} cells, {bytes} bytes")?;
-        put(&mut shown, word.as_str())?;
+        put_size(alloc, &mut shown, ty)?;
     }
     Ok(shown)
 }

@@ -1,15 +1,11 @@
 //! Words of rows, and lines of answers.
 
+use crate::rows::texts::u64_of;
 use std::alloc::{AllocError, Global};
-
-/// The letters of a text; none where it isn't written in letters of UTF-8.
-pub(crate) fn letters(text: &[u8]) -> &str {
-    str::from_utf8(text).unwrap_or("")
-}
 
 /// The number that a word is, 0 where it is none.
 pub(crate) fn number(word: Option<&str>) -> u64 {
-    word.unwrap_or("").parse::<u64>().unwrap_or(0)
+    u64_of(word.unwrap_or(""))
 }
 
 /// Puts a word behind a line, with a space before it unless it is the first.
@@ -24,14 +20,6 @@ pub(crate) fn put(line: &mut String, word: &str) -> Result<(), AllocError> {
 pub(crate) fn put_number(alloc: Global, line: &mut String, number: u64) -> Result<(), AllocError> {
     let word = format!(in alloc; " {number}")?;
     line.push_str(word.as_str())
-}
-
-/// Puts bytes behind a line, each as the letter with its code.
-pub(crate) fn put_bytes(line: &mut String, bytes: &[u8]) -> Result<(), AllocError> {
-    for byte in bytes {
-        line.push(char::from(*byte))?;
-    }
-    Ok(())
 }
 
 /// A line, or `none` where nothing stands on it.

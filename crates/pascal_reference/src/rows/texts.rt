@@ -1,0 +1,56 @@
+//! Letters and numbers of rows, and lines of answers.
+
+use std::alloc::AllocError;
+
+/// The letters of a text; none where it isn't written in letters of UTF-8.
+pub(crate) fn letters(text: &[u8]) -> &str {
+    str::from_utf8(text).unwrap_or("")
+}
+
+/// The number that a word is, 0 where it is none.
+pub(crate) fn u64_of(word: &str) -> u64 {
+    word.parse::<u64>().unwrap_or(0)
+}
+
+/// The number that a word is, 0 where it is none of 32 bits.
+pub(crate) fn u32_of(word: &str) -> u32 {
+    u32::try_from(u64_of(word)).unwrap_or(0)
+}
+
+/// The number that a word is, 0 where it is none of 16 bits.
+pub(crate) fn u16_of(word: &str) -> u16 {
+    u16::try_from(u64_of(word)).unwrap_or(0)
+}
+
+/// The number that a word is, 0 where it is none of 8 bits.
+pub(crate) fn u8_of(word: &str) -> u8 {
+    u8::try_from(u64_of(word)).unwrap_or(0)
+}
+
+/// The number that a word is, 0 where it is none; it may have a sign.
+pub(crate) fn i32_of(word: &str) -> i32 {
+    word.parse::<i32>().unwrap_or(0)
+}
+
+/// Puts bytes behind a line, each as the letter with its code.
+pub(crate) fn put_bytes(line: &mut String, bytes: &[u8]) -> Result<(), AllocError> {
+    for byte in bytes {
+        line.push(char::from(*byte))?;
+    }
+    Ok(())
+}
+
+/// Puts bytes behind a line so, in brackets.
+pub(crate) fn put_bracketed(line: &mut String, bytes: &[u8]) -> Result<(), AllocError> {
+    line.push('[')?;
+    put_bytes(line, bytes)?;
+    line.push(']')
+}
+
+/// Puts words behind a line as they are.
+pub(crate) fn put_parts(line: &mut String, parts: &[&str]) -> Result<(), AllocError> {
+    for part in parts {
+        line.push_str(part)?;
+    }
+    Ok(())
+}
