@@ -7,13 +7,11 @@ use ps_parse::parse;
 use ps_scan::{Token, scan};
 use ps_syntax::Program;
 use ps_text::Source;
-use risc_alloc::placement::Placement;
 use risc_alloc::placer::Placer;
 use risc_alloc::scan::Scan;
 use risc_emit::emit::emit;
 use risc_image::write;
 use std::alloc::Global;
-use tac_code::tac::Tac;
 
 const DONE: u8 = 0;
 
@@ -88,19 +86,11 @@ fn take_past_checker(alloc: Global, text: &[u8], last: Phase) -> Result<(), Refu
     if matches!(last, Phase::Lower) {
         return Ok(());
     }
-    take_code(alloc, &tac, last)
-}
-
-fn take_code(alloc: Global, tac: &Tac, last: Phase) -> Result<(), Refusal> {
-    let placement = Scan.place(alloc, tac)?;
+    let placement = Scan.place(alloc, &tac)?;
     if matches!(last, Phase::Place) {
         return Ok(());
     }
-    take_homes(alloc, tac, &placement, last)
-}
-
-fn take_homes(alloc: Global, tac: &Tac, placement: &Placement, last: Phase) -> Result<(), Refusal> {
-    let parts = emit(alloc, tac, placement)?;
+    let parts = emit(alloc, &tac, &placement)?;
     if matches!(last, Phase::Emit) {
         return Ok(());
     }

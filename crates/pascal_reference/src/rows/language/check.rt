@@ -76,23 +76,14 @@ fn checked_of(alloc: Global, source: &Source) -> Option<Checked> {
     }
 }
 
-fn put_counts(
-    alloc: Global,
-    shown: &mut String,
-    program: &Checked,
-    routine: u32,
-) -> Result<(), AllocError> {
-    let nodes = program.nodes(routine);
-    let cells = program.cells(routine);
-    let word = format!(in alloc; "{nodes}/{cells}")?;
-    put(shown, word.as_str())
-}
-
 fn counts_of(alloc: Global, program: &Checked) -> Result<String, AllocError> {
     let mut shown = String::new(alloc);
     let count = u32::try_from(program.routines().len()).unwrap_or(0);
     for routine in 0..count {
-        put_counts(alloc, &mut shown, program, routine)?;
+        let nodes = program.nodes(routine);
+        let cells = program.cells(routine);
+        let word = format!(in alloc; "{nodes}/{cells}")?;
+        put(&mut shown, word.as_str())?;
     }
     let domains = program.domains().len();
     format!(in alloc; "{shown}, domains {domains}")
