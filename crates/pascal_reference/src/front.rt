@@ -16,7 +16,9 @@ fn checked_program(alloc: Global, source: &Source, program: &Program) -> Result<
 
 fn checked_tokens(alloc: Global, source: &Source, tokens: &[Token]) -> Result<Checked, Refusal> {
     let program = parse(alloc, source, tokens)?;
-    checked_program(alloc, source, &program)
+    let checked = checked_program(alloc, source, &program);
+    drop(program);
+    checked
 }
 
 /// The checked program of a text, or why the text is refused.

@@ -64,7 +64,9 @@ fn take_tokens(
     last: Phase,
 ) -> Result<(), Refusal> {
     let program = parse(alloc, source, tokens)?;
-    take_tree(alloc, source, &program, last)
+    let end = take_tree(alloc, source, &program, last);
+    drop(program);
+    end
 }
 
 fn take_tree(

@@ -38,6 +38,34 @@ enum Table {
     Loaded,
 }
 
+/// The table of a name.
+fn table_named(name: &str) -> Table {
+    match name {
+        "code" => Table::Code,
+        "printed" => Table::Printed,
+        "runs of code" => Table::Ran,
+        "homes" => Table::Homes,
+        "registers" => Table::Scanned,
+        "slots" => Table::Slotted,
+        "instructions" => Table::Words,
+        "steps" => Table::Steps,
+        _ => later_table(name),
+    }
+}
+
+fn later_table(name: &str) -> Table {
+    match name {
+        "machines" => Table::Runs,
+        "streams" => Table::Streamed,
+        "devices" => Table::Devices,
+        "starts" => Table::Started,
+        "views" => Table::Images,
+        "written" => Table::Written,
+        "loads" => Table::Loaded,
+        _ => Table::Unknown,
+    }
+}
+
 /// The table that the rows are of, and what is told of the next one.
 #[derive(Drop)]
 pub struct CodeRows {
@@ -56,24 +84,7 @@ impl CodeRows {
 
     /// A table begins; whether it is one of these.
     pub fn begin(&mut self, table: &str) -> bool {
-        self.table = match table {
-            "code" => Table::Code,
-            "printed" => Table::Printed,
-            "runs of code" => Table::Ran,
-            "homes" => Table::Homes,
-            "registers" => Table::Scanned,
-            "slots" => Table::Slotted,
-            "instructions" => Table::Words,
-            "steps" => Table::Steps,
-            "machines" => Table::Runs,
-            "streams" => Table::Streamed,
-            "devices" => Table::Devices,
-            "starts" => Table::Started,
-            "views" => Table::Images,
-            "written" => Table::Written,
-            "loads" => Table::Loaded,
-            _ => Table::Unknown,
-        };
+        self.table = table_named(table);
         !matches!(self.table, Table::Unknown)
     }
 

@@ -28,6 +28,31 @@ enum Table {
     Texts,
 }
 
+/// The table of a name.
+fn table_named(name: &str) -> Table {
+    match name {
+        "build" => Table::Build,
+        "go" => Table::Go,
+        "built" => Table::Built,
+        "writers" => Table::Writers,
+        "images" => Table::Images,
+        "calls" => Table::Calls,
+        "listings" => Table::Listings,
+        "reports" => Table::Reports,
+        _ => later_table(name),
+    }
+}
+
+fn later_table(name: &str) -> Table {
+    match name {
+        "words" => Table::Words,
+        "puts" => Table::Puts,
+        "reads" => Table::Reads,
+        "texts" => Table::Texts,
+        _ => Table::Unknown,
+    }
+}
+
 /// The table that the rows are of, and what is told of the next run.
 #[derive(Drop)]
 pub struct CommandRows {
@@ -46,21 +71,7 @@ impl CommandRows {
 
     /// A table begins; whether it is one of these.
     pub fn begin(&mut self, table: &str) -> bool {
-        self.table = match table {
-            "build" => Table::Build,
-            "go" => Table::Go,
-            "built" => Table::Built,
-            "writers" => Table::Writers,
-            "images" => Table::Images,
-            "calls" => Table::Calls,
-            "listings" => Table::Listings,
-            "reports" => Table::Reports,
-            "words" => Table::Words,
-            "puts" => Table::Puts,
-            "reads" => Table::Reads,
-            "texts" => Table::Texts,
-            _ => Table::Unknown,
-        };
+        self.table = table_named(table);
         !matches!(self.table, Table::Unknown)
     }
 

@@ -38,6 +38,46 @@ enum Table {
     Outputs,
 }
 
+/// The table of a name.
+fn table_named(name: &str) -> Table {
+    match name {
+        "lengths" => Table::Lengths,
+        "lines" => Table::Lines,
+        "slices" => Table::Slices,
+        "kinds" => Table::Kinds,
+        "spans" => Table::Spans,
+        "values" => Table::Values,
+        "parse" => Table::Parse,
+        "trees" => Table::Trees,
+        _ => later_table(name),
+    }
+}
+
+fn later_table(name: &str) -> Table {
+    match name {
+        "regions" => Table::Regions,
+        "declarations" => Table::Block(Asked::Declarations),
+        "sizes" => Table::Block(Asked::Sizes),
+        "fields" => Table::Block(Asked::Fields),
+        "types" => Table::Block(Asked::Types),
+        "expressions" => Table::Block(Asked::Expressions),
+        "statements" => Table::Block(Asked::Statements),
+        "check" => Table::Check,
+        _ => last_table(name),
+    }
+}
+
+fn last_table(name: &str) -> Table {
+    match name {
+        "programs" => Table::Programs,
+        "changes" => Table::Changes,
+        "runs" => Table::Runs,
+        "trails" => Table::Trails,
+        "outputs" => Table::Outputs,
+        _ => Table::Unknown,
+    }
+}
+
 /// The table that the rows are of, and what is told of the next run.
 #[derive(Drop)]
 pub struct LanguageRows {
@@ -56,30 +96,7 @@ impl LanguageRows {
 
     /// A table begins; whether it is one of these.
     pub fn begin(&mut self, table: &str) -> bool {
-        self.table = match table {
-            "lengths" => Table::Lengths,
-            "lines" => Table::Lines,
-            "slices" => Table::Slices,
-            "kinds" => Table::Kinds,
-            "spans" => Table::Spans,
-            "values" => Table::Values,
-            "parse" => Table::Parse,
-            "trees" => Table::Trees,
-            "regions" => Table::Regions,
-            "declarations" => Table::Block(Asked::Declarations),
-            "sizes" => Table::Block(Asked::Sizes),
-            "fields" => Table::Block(Asked::Fields),
-            "types" => Table::Block(Asked::Types),
-            "expressions" => Table::Block(Asked::Expressions),
-            "statements" => Table::Block(Asked::Statements),
-            "check" => Table::Check,
-            "programs" => Table::Programs,
-            "changes" => Table::Changes,
-            "runs" => Table::Runs,
-            "trails" => Table::Trails,
-            "outputs" => Table::Outputs,
-            _ => Table::Unknown,
-        };
+        self.table = table_named(table);
         !matches!(self.table, Table::Unknown)
     }
 

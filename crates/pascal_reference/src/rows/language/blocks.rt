@@ -99,8 +99,16 @@ fn type_of(value: &TypedValue) -> &Ty {
 
 fn relation_in(site: Site<'_>, variable: &Variable, value: &Expr) -> Result<String, Fault> {
     let variable = variable_place(variable, site)?;
+    let related = relation_to(site, value, &variable.ty);
+    drop(variable);
+    related
+}
+
+fn relation_to(site: Site<'_>, value: &Expr, ty: &Ty) -> Result<String, Fault> {
     let value = expr_value(value, site)?;
-    told(relation(site.alloc, type_of(&value), &variable.ty))
+    let related = told(relation(site.alloc, type_of(&value), ty));
+    drop(value);
+    related
 }
 
 fn form_of(value: &TypedValue) -> &'static str {
@@ -114,7 +122,9 @@ fn form_of(value: &TypedValue) -> &'static str {
 
 fn form_in(site: Site<'_>, value: &Expr) -> Result<String, Fault> {
     let value = expr_value(value, site)?;
-    told(String::from_str(site.alloc, form_of(&value)))
+    let form = form_of(&value);
+    drop(value);
+    told(String::from_str(site.alloc, form))
 }
 
 fn kind_of(statement: &Checked) -> &'static str {
@@ -323,7 +333,11 @@ pub(crate) fn answer(alloc: Global, text: &[u8], asked: Asked) -> Result<String,
         return String::from_str(alloc, "no source");
     };
     match program(alloc, &source) {
-        Some(program) => answer_in(alloc, &source, &program.block, asked),
+        Some(program) => {
+            let answer = answer_in(alloc, &source, &program.block, asked);
+            drop(program);
+            answer
+        }
         None => String::from_str(alloc, "refused"),
     }
 }

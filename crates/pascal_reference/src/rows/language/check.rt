@@ -40,7 +40,11 @@ fn said_of_program(
 
 fn said_of_tokens(alloc: Global, source: &Source, tokens: &[Token]) -> Result<String, AllocError> {
     match parse(alloc, source, tokens) {
-        Ok(program) => said_of_program(alloc, source, &program),
+        Ok(program) => {
+            let said = said_of_program(alloc, source, &program);
+            drop(program);
+            said
+        }
         Err(refusal) => parse_refused(alloc, refusal),
     }
 }
@@ -71,7 +75,11 @@ pub(crate) fn checked(alloc: Global, text: &[u8]) -> Option<Checked> {
 
 fn checked_of(alloc: Global, source: &Source) -> Option<Checked> {
     match front::program(alloc, source) {
-        Some(program) => check(alloc, source, &program).ok(),
+        Some(program) => {
+            let checked = check(alloc, source, &program).ok();
+            drop(program);
+            checked
+        }
         None => None,
     }
 }

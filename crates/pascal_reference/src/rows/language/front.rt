@@ -12,12 +12,16 @@ use std::alloc::{AllocError, Global};
 pub(crate) fn refused(alloc: Global, refusal: ParseRefusal) -> Result<String, AllocError> {
     let number = refusal.number();
     let line = refusal.line().unwrap_or(0);
-    match refusal {
-        ParseRefusal::NotAProgram { token, .. } => {
-            format!(in alloc; "{number} {refusal} at line {line}, token {token}")
-        }
-        _ => format!(in alloc; "{number} {refusal} at line {line}"),
+    let mut told = format!(in alloc; "{number} {refusal} at line {line}")?;
+    if let ParseRefusal::NotAProgram { token, .. } = refusal {
+        put_token(alloc, &mut told, token)?;
     }
+    Ok(told)
+}
+
+fn put_token(alloc: Global, line: &mut String, token: u32) -> Result<(), AllocError> {
+    let told = format!(in alloc; ", token {token}")?;
+    line.push_str(told.as_str())
 }
 
 /// The tree of a text that is known to have one; a text that has none is a slip of its table.
@@ -39,7 +43,11 @@ fn height_of_tokens(
     tokens: &[Token],
 ) -> Result<String, AllocError> {
     match parse(alloc, source, tokens) {
-        Ok(program) => height_told(alloc, &program),
+        Ok(program) => {
+            let told = height_told(alloc, &program);
+            drop(program);
+            told
+        }
         Err(refusal) => refused(alloc, refusal),
     }
 }
@@ -74,7 +82,11 @@ pub(crate) fn tree(alloc: Global, text: &[u8]) -> Result<String, AllocError> {
         return String::from_str(alloc, "no source");
     };
     match program(alloc, &source) {
-        Some(program) => shown(alloc, source.bytes(), program.block.statements.as_slice()),
+        Some(program) => {
+            let told = shown(alloc, source.bytes(), program.block.statements.as_slice());
+            drop(program);
+            told
+        }
         None => String::from_str(alloc, "refused"),
     }
 }

@@ -233,29 +233,17 @@ impl<'a> Shown<'a> {
     pub fn statement(&mut self, statement: &Statement) {
         match statement {
             Statement::Empty => {}
-            Statement::Assign(variable, _, value) => {
-                self.variable(variable);
-                self.word(" := ");
-                self.expr(value.get());
-            }
-            Statement::Call(name, parameters) => {
-                self.span(*name);
-                self.parameters(parameters.as_slice());
-            }
+            Statement::Assign(variable, _, value) => self.assignment(variable, value.get()),
+            Statement::Call(name, parameters) => self.call(*name, parameters.as_slice()),
             Statement::Compound(statements) => self.statements(statements.as_slice()),
             Statement::If(condition, chosen) => {
-                self.condition("if ", condition.get());
-                self.braced(chosen.get());
+                self.guarded("if ", condition.get(), chosen.get());
             }
             Statement::IfElse(condition, chosen, other) => {
-                self.condition("if ", condition.get());
-                self.braced(chosen.get());
-                self.word(" else ");
-                self.braced(other.get());
+                self.either(condition.get(), chosen.get(), other.get());
             }
             Statement::While(condition, body) => {
-                self.condition("while ", condition.get());
-                self.braced(body.get());
+                self.guarded("while ", condition.get(), body.get());
             }
             _ => self.longer_statement(statement),
         }
@@ -281,12 +269,7 @@ impl<'a> Shown<'a> {
                 last,
                 body,
             } => {
-                self.word("for ");
-                self.span(*variable);
-                self.word(" := ");
-                self.expr(first.get());
-                self.word(direction_of(*direction));
-                self.expr(last.get());
+                self.range(*variable, first.get(), *direction, last.get());
                 self.braced(body.get());
             }
             Statement::With(records, body) => {
@@ -302,6 +285,39 @@ impl<'a> Shown<'a> {
             self.word(" with ");
             self.variable(record);
         }
+    }
+
+    fn range(&mut self, variable: Span, first: &Expr, direction: Direction, last: &Expr) {
+        self.word("for ");
+        self.span(variable);
+        self.word(" := ");
+        self.expr(first);
+        self.word(direction_of(direction));
+        self.expr(last);
+    }
+
+    fn assignment(&mut self, variable: &Variable, value: &Expr) {
+        self.variable(variable);
+        self.word(" := ");
+        self.expr(value);
+    }
+
+    fn call(&mut self, name: Span, parameters: &[Parameter]) {
+        self.span(name);
+        self.parameters(parameters);
+    }
+
+    #[cycle(statement)]
+    fn guarded(&mut self, word: &str, condition: &Expr, body: &Statement) {
+        self.condition(word, condition);
+        self.braced(body);
+    }
+
+    #[cycle(statement)]
+    fn either(&mut self, condition: &Expr, chosen: &Statement, other: &Statement) {
+        self.guarded("if ", condition, chosen);
+        self.word(" else ");
+        self.braced(other);
     }
 
     fn condition(&mut self, word: &str, condition: &Expr) {

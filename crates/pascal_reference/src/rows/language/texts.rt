@@ -1,7 +1,7 @@
 //! Texts within the limits, their lines, and slices of them.
 
 use crate::rows::language::words::{number, put_number};
-use crate::rows::texts::{letters, put_bytes};
+use crate::rows::texts::{letters, put_bracketed};
 use ps_text::{LineTable, Source, Span};
 use std::alloc::{AllocError, Global};
 
@@ -62,13 +62,16 @@ pub(crate) fn slice(alloc: Global, row: &[u8]) -> Result<String, AllocError> {
     let mut words = letters(row).splitn(3, ' ');
     let from = u32::try_from(number(words.next())).unwrap_or(0);
     let to = u32::try_from(number(words.next())).unwrap_or(0);
+    let text = words.next().unwrap_or("").as_bytes();
     let mut shown = String::new(alloc);
-    shown.push('[')?;
-    if let Ok(source) = Source::new(words.next().unwrap_or("").as_bytes()) {
-        if from <= to && to <= source.len() {
-            put_bytes(&mut shown, source.slice(Span { from, to }))?;
-        }
-    }
-    shown.push(']')?;
+    put_bracketed(&mut shown, slice_of(text, from, to))?;
     Ok(shown)
+}
+
+/// A slice of a text, empty where there is none.
+fn slice_of(text: &[u8], from: u32, to: u32) -> &[u8] {
+    match Source::new(text) {
+        Ok(source) if from <= to && to <= source.len() => source.slice(Span { from, to }),
+        _ => &[],
+    }
 }
