@@ -237,13 +237,18 @@ impl<'a> Shown<'a> {
             Statement::Call(name, parameters) => self.call(*name, parameters.as_slice()),
             Statement::Compound(statements) => self.statements(statements.as_slice()),
             Statement::If(condition, chosen) => {
-                self.guarded("if ", condition.get(), chosen.get());
+                self.condition("if ", condition.get());
+                self.braced(chosen.get());
             }
             Statement::IfElse(condition, chosen, other) => {
-                self.either(condition.get(), chosen.get(), other.get());
+                self.condition("if ", condition.get());
+                self.braced(chosen.get());
+                self.word(" else ");
+                self.braced(other.get());
             }
             Statement::While(condition, body) => {
-                self.guarded("while ", condition.get(), body.get());
+                self.condition("while ", condition.get());
+                self.braced(body.get());
             }
             _ => self.longer_statement(statement),
         }
@@ -305,19 +310,6 @@ impl<'a> Shown<'a> {
     fn call(&mut self, name: Span, parameters: &[Parameter]) {
         self.span(name);
         self.parameters(parameters);
-    }
-
-    #[cycle(statement)]
-    fn guarded(&mut self, word: &str, condition: &Expr, body: &Statement) {
-        self.condition(word, condition);
-        self.braced(body);
-    }
-
-    #[cycle(statement)]
-    fn either(&mut self, condition: &Expr, chosen: &Statement, other: &Statement) {
-        self.guarded("if ", condition, chosen);
-        self.word(" else ");
-        self.braced(other);
     }
 
     fn condition(&mut self, word: &str, condition: &Expr) {
