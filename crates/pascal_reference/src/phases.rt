@@ -1,16 +1,14 @@
 // The phases of the compiler, one after another, up to one of them: `bench/phases` tells their shares of the time by it.
 
+use crate::front::{checked, parsed};
 use pascal_cli::{TEXT_LIMIT, read_standard_input};
 use ps_build::{Refusal, code_of_text};
-use ps_check::check;
-use ps_parse::parse;
-use ps_scan::{Token, scan};
-use ps_syntax::Program;
+use ps_scan::scan;
 use ps_text::Source;
 use risc_alloc::placer::Placer;
 use risc_alloc::scan::Scan;
 use risc_emit::emit::emit;
-use risc_image::write;
+use risc_image::{Parts, write};
 use std::alloc::Global;
 
 const DONE: u8 = 0;
@@ -44,45 +42,20 @@ fn phase_named(word: &str) -> Phase {
     }
 }
 
-// The phases up to the checker.
-fn take_to_checker(alloc: Global, text: &[u8], last: Phase) -> Result<(), Refusal> {
+fn take_tokens(alloc: Global, text: &[u8]) -> Result<(), Refusal> {
     let source = Source::new(text)?;
-    if matches!(last, Phase::Read) {
-        return Ok(());
-    }
-    let tokens = scan(alloc, &source)?;
-    if matches!(last, Phase::Scan) {
-        return Ok(());
-    }
-    take_tokens(alloc, &source, &tokens, last)
-}
-
-fn take_tokens(
-    alloc: Global,
-    source: &Source,
-    tokens: &[Token],
-    last: Phase,
-) -> Result<(), Refusal> {
-    let program = parse(alloc, source, tokens)?;
-    let end = take_tree(alloc, source, &program, last);
-    drop(program);
-    end
-}
-
-fn take_tree(
-    alloc: Global,
-    source: &Source,
-    program: &Program,
-    last: Phase,
-) -> Result<(), Refusal> {
-    if matches!(last, Phase::Parse) {
-        return Ok(());
-    }
-    check(alloc, source, program)?;
+    scan(alloc, &source)?;
     Ok(())
 }
 
-// Those up to the lowering, and the ones behind it: homes of the temporaries, the parts of an image, and its bytes.
+fn take_tree(alloc: Global, text: &[u8]) -> Result<(), Refusal> {
+    let source = Source::new(text)?;
+    let program = parsed(alloc, &source)?;
+    drop(program);
+    Ok(())
+}
+
+// The phases behind the checker: the code, homes of its temporaries, the parts of an image, and its bytes.
 fn take_past_checker(alloc: Global, text: &[u8], last: Phase) -> Result<(), Refusal> {
     let tac = code_of_text(alloc, text)?;
     if matches!(last, Phase::Lower) {
@@ -93,22 +66,33 @@ fn take_past_checker(alloc: Global, text: &[u8], last: Phase) -> Result<(), Refu
         return Ok(());
     }
     let parts = emit(alloc, &tac, &placement)?;
-    if matches!(last, Phase::Emit) {
-        return Ok(());
+    let end = take_parts(alloc, &parts, last);
+    drop(parts);
+    end
+}
+
+fn take_parts(alloc: Global, parts: &Parts, last: Phase) -> Result<(), Refusal> {
+    if matches!(last, Phase::Write) {
+        write(alloc, parts)?;
     }
-    write(alloc, &parts)?;
     Ok(())
 }
 
 fn take(alloc: Global, text: &[u8], last: Phase) -> Result<(), Refusal> {
     match last {
-        Phase::Read | Phase::Scan | Phase::Parse | Phase::Check => {
-            take_to_checker(alloc, text, last)
+        Phase::Read => {
+            Source::new(text)?;
+        }
+        Phase::Scan => take_tokens(alloc, text)?,
+        Phase::Parse => take_tree(alloc, text)?,
+        Phase::Check => {
+            checked(alloc, text)?;
         }
         Phase::Lower | Phase::Place | Phase::Emit | Phase::Write => {
-            take_past_checker(alloc, text, last)
+            take_past_checker(alloc, text, last)?
         }
     }
+    Ok(())
 }
 
 /// Takes the text of standard input through the phases up to the one that a word names, and gives the status: 0, or 1 where the text is refused or cannot be read.

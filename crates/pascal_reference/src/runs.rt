@@ -101,9 +101,12 @@ pub fn run_text(
         Runner::Code => by_code(alloc, text, input, limits.steps)?,
         Runner::Slots => return by_slots(alloc, text, input, limits),
     };
+    let outcome = outcome_of(ran.ending, &ran.calls);
+    let bytes = output(alloc, &ran.transcript);
+    drop(ran);
     Ok(Shown {
-        bytes: output(alloc, &ran.transcript)?,
-        outcome: outcome_of(ran.ending, &ran.calls),
+        bytes: bytes?,
+        outcome,
     })
 }
 
@@ -114,9 +117,13 @@ fn by_slots(alloc: Global, text: &[u8], input: &[u8], limits: Limits) -> Result<
         stack: limits.stack,
         heap: limits.heap,
     };
-    let outcome = run_image(alloc, built.bytes(), budget, &mut console, limits.steps)?;
+    let outcome = run_image(alloc, built.bytes(), budget, &mut console, limits.steps);
+    drop(built);
+    let bytes = console.output().to_vec(alloc);
+    drop(console);
+    let outcome = outcome?;
     Ok(Shown {
-        bytes: console.output().to_vec(alloc)?,
+        bytes: bytes?,
         outcome,
     })
 }
@@ -160,8 +167,8 @@ fn ran_of(alloc: Global, report: code::Report) -> Result<Ran, Fault> {
     })
 }
 
-// The end of a run of code, as that of a run of the meaning.
-fn ending_of(ending: code::Ending) -> Result<Ending, Fault> {
+/// The end of a run of code, as that of a run of the meaning.
+pub fn ending_of(ending: code::Ending) -> Result<Ending, Fault> {
     match ending {
         code::Ending::Normal => Ok(Ending::Normal),
         code::Ending::Error { number, line } => Ok(Ending::Error {

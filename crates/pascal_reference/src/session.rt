@@ -22,14 +22,11 @@ const GIVEN_UP: u8 = 6;
 
 /// Does what the program's words ask for, and gives its status.
 pub fn run<R: Files + Print + Eprint + Input + Env + AllocGlobal>(rt: &R) -> u8 {
-    match words(rt) {
-        Ok(words) => run_words(rt, &words),
-        Err(status) => status,
-    }
-}
-
-fn run_words<R: Files + Print + Eprint + Input + AllocGlobal>(rt: &R, words: &[String]) -> u8 {
-    match texts(rt, words) {
+    let words = match words(rt) {
+        Ok(words) => words,
+        Err(status) => return status,
+    };
+    match texts(rt, &words) {
         Ok(texts) => run_texts(rt, &texts),
         Err(status) => status,
     }

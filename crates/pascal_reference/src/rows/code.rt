@@ -21,12 +21,7 @@ use std::alloc::{AllocError, Global};
 #[derive(Clone, Copy)]
 enum Table {
     Unknown,
-    Code,
-    Printed,
-    Ran,
-    Homes,
-    Scanned,
-    Slotted,
+    Code(programs::Asked),
     Words,
     Steps,
     Runs,
@@ -38,32 +33,32 @@ enum Table {
     Loaded,
 }
 
-/// The table of a name.
-fn table_named(name: &str) -> Table {
-    match name {
-        "code" => Table::Code,
-        "printed" => Table::Printed,
-        "runs of code" => Table::Ran,
-        "homes" => Table::Homes,
-        "registers" => Table::Scanned,
-        "slots" => Table::Slotted,
-        "instructions" => Table::Words,
-        "steps" => Table::Steps,
-        _ => later_table(name),
-    }
-}
+// The tables by their names.
+const TABLES: &[(&str, Table)] = &[
+    ("code", Table::Code(programs::Asked::Kept)),
+    ("printed", Table::Code(programs::Asked::Printed)),
+    ("runs of code", Table::Code(programs::Asked::Ran)),
+    ("homes", Table::Code(programs::Asked::Tried)),
+    ("registers", Table::Code(programs::Asked::Scanned)),
+    ("slots", Table::Code(programs::Asked::Slotted)),
+    ("instructions", Table::Words),
+    ("steps", Table::Steps),
+    ("machines", Table::Runs),
+    ("streams", Table::Streamed),
+    ("devices", Table::Devices),
+    ("starts", Table::Started),
+    ("views", Table::Images),
+    ("written", Table::Written),
+    ("loads", Table::Loaded),
+];
 
-fn later_table(name: &str) -> Table {
-    match name {
-        "machines" => Table::Runs,
-        "streams" => Table::Streamed,
-        "devices" => Table::Devices,
-        "starts" => Table::Started,
-        "views" => Table::Images,
-        "written" => Table::Written,
-        "loads" => Table::Loaded,
-        _ => Table::Unknown,
+fn table_named(name: &str) -> Table {
+    for (known, table) in TABLES {
+        if *known == name {
+            return *table;
+        }
     }
+    Table::Unknown
 }
 
 /// The table that the rows are of, and what is told of the next one.
@@ -98,12 +93,7 @@ impl CodeRows {
         let row = letters(text);
         let answer = match self.table {
             Table::Unknown => String::from_str(alloc, "no such table"),
-            Table::Code => programs::is_code(alloc, row),
-            Table::Printed => programs::printed(alloc, row),
-            Table::Ran => programs::ran(alloc, row, &self.job),
-            Table::Homes => homes::tried(alloc, row, &self.job),
-            Table::Scanned => homes::scanned(alloc, row),
-            Table::Slotted => homes::slotted(alloc, row),
+            Table::Code(asked) => programs::answer(alloc, row, asked, &self.job),
             Table::Words => words::decoded(alloc, row),
             Table::Steps => steps::stepped(alloc, row),
             Table::Runs => runs::ran(alloc, row, &self.job),

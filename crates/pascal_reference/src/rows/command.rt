@@ -14,13 +14,11 @@ use std::alloc::{AllocError, Global};
 #[derive(Clone, Copy)]
 enum Table {
     Unknown,
-    Build,
+    Built(programs::Asked),
     Go,
-    Built,
     Writers,
     Images,
     Calls,
-    Listings,
     Reports,
     Words,
     Puts,
@@ -28,29 +26,29 @@ enum Table {
     Texts,
 }
 
-/// The table of a name.
-fn table_named(name: &str) -> Table {
-    match name {
-        "build" => Table::Build,
-        "go" => Table::Go,
-        "built" => Table::Built,
-        "writers" => Table::Writers,
-        "images" => Table::Images,
-        "calls" => Table::Calls,
-        "listings" => Table::Listings,
-        "reports" => Table::Reports,
-        _ => later_table(name),
-    }
-}
+// The tables by their names.
+const TABLES: &[(&str, Table)] = &[
+    ("build", Table::Built(programs::Asked::Built)),
+    ("go", Table::Go),
+    ("built", Table::Built(programs::Asked::Ran)),
+    ("writers", Table::Writers),
+    ("images", Table::Images),
+    ("calls", Table::Calls),
+    ("listings", Table::Built(programs::Asked::Listed)),
+    ("reports", Table::Reports),
+    ("words", Table::Words),
+    ("puts", Table::Puts),
+    ("reads", Table::Reads),
+    ("texts", Table::Texts),
+];
 
-fn later_table(name: &str) -> Table {
-    match name {
-        "words" => Table::Words,
-        "puts" => Table::Puts,
-        "reads" => Table::Reads,
-        "texts" => Table::Texts,
-        _ => Table::Unknown,
+fn table_named(name: &str) -> Table {
+    for (known, table) in TABLES {
+        if *known == name {
+            return *table;
+        }
     }
+    Table::Unknown
 }
 
 /// The table that the rows are of, and what is told of the next run.
@@ -87,13 +85,11 @@ impl CommandRows {
         let words = letters(text);
         match self.table {
             Table::Unknown => String::from_str(alloc, "no such table"),
-            Table::Build => programs::built(alloc, text),
+            Table::Built(asked) => programs::answer(alloc, text, asked, job),
             Table::Go => programs::went(alloc, text, job),
-            Table::Built => programs::ran_as_built(alloc, text, job),
             Table::Writers => programs::wrote(alloc, text, job),
             Table::Images => programs::ran(alloc, text, job),
             Table::Calls => programs::reported(alloc, text, job),
-            Table::Listings => programs::listed(alloc, text),
             Table::Reports => reports::report(alloc, words),
             Table::Words => command_line::asked(alloc, words),
             Table::Puts => transfers::put(alloc, words),

@@ -12,7 +12,6 @@ mod tokens;
 mod types;
 mod words;
 
-use blocks::Asked;
 use runs::{Job, untold};
 use std::alloc::{AllocError, Global};
 
@@ -23,59 +22,48 @@ enum Table {
     Lengths,
     Lines,
     Slices,
-    Kinds,
-    Spans,
+    Tokens(tokens::Asked),
     Values,
     Parse,
     Trees,
     Regions,
-    Block(Asked),
+    Block(blocks::Asked),
     Check,
-    Programs,
-    Changes,
-    Runs,
-    Trails,
-    Outputs,
+    Program(check::Asked),
 }
 
-/// The table of a name.
+// The tables by their names.
+const TABLES: &[(&str, Table)] = &[
+    ("lengths", Table::Lengths),
+    ("lines", Table::Lines),
+    ("slices", Table::Slices),
+    ("kinds", Table::Tokens(tokens::Asked::Kinds)),
+    ("spans", Table::Tokens(tokens::Asked::Spans)),
+    ("values", Table::Values),
+    ("parse", Table::Parse),
+    ("trees", Table::Trees),
+    ("regions", Table::Regions),
+    ("declarations", Table::Block(blocks::Asked::Declarations)),
+    ("sizes", Table::Block(blocks::Asked::Sizes)),
+    ("fields", Table::Block(blocks::Asked::Fields)),
+    ("types", Table::Block(blocks::Asked::Types)),
+    ("expressions", Table::Block(blocks::Asked::Expressions)),
+    ("statements", Table::Block(blocks::Asked::Statements)),
+    ("check", Table::Check),
+    ("programs", Table::Program(check::Asked::Counts)),
+    ("changes", Table::Program(check::Asked::Changes)),
+    ("runs", Table::Program(check::Asked::Run)),
+    ("trails", Table::Program(check::Asked::Trail)),
+    ("outputs", Table::Program(check::Asked::Output)),
+];
+
 fn table_named(name: &str) -> Table {
-    match name {
-        "lengths" => Table::Lengths,
-        "lines" => Table::Lines,
-        "slices" => Table::Slices,
-        "kinds" => Table::Kinds,
-        "spans" => Table::Spans,
-        "values" => Table::Values,
-        "parse" => Table::Parse,
-        "trees" => Table::Trees,
-        _ => later_table(name),
+    for (known, table) in TABLES {
+        if *known == name {
+            return *table;
+        }
     }
-}
-
-fn later_table(name: &str) -> Table {
-    match name {
-        "regions" => Table::Regions,
-        "declarations" => Table::Block(Asked::Declarations),
-        "sizes" => Table::Block(Asked::Sizes),
-        "fields" => Table::Block(Asked::Fields),
-        "types" => Table::Block(Asked::Types),
-        "expressions" => Table::Block(Asked::Expressions),
-        "statements" => Table::Block(Asked::Statements),
-        "check" => Table::Check,
-        _ => last_table(name),
-    }
-}
-
-fn last_table(name: &str) -> Table {
-    match name {
-        "programs" => Table::Programs,
-        "changes" => Table::Changes,
-        "runs" => Table::Runs,
-        "trails" => Table::Trails,
-        "outputs" => Table::Outputs,
-        _ => Table::Unknown,
-    }
+    Table::Unknown
 }
 
 /// The table that the rows are of, and what is told of the next run.
@@ -112,19 +100,14 @@ impl LanguageRows {
             Table::Lengths => texts::length(alloc, text),
             Table::Lines => texts::lines(alloc, text),
             Table::Slices => texts::slice(alloc, text),
-            Table::Kinds => tokens::kinds(alloc, text),
-            Table::Spans => tokens::spans(alloc, text),
+            Table::Tokens(asked) => tokens::tokens(alloc, text, asked),
             Table::Values => tokens::value(alloc, text),
             Table::Parse => front::height_of(alloc, text),
             Table::Trees => front::tree(alloc, text),
             Table::Regions => regions::found(alloc, text),
             Table::Block(asked) => blocks::answer(alloc, text, asked),
             Table::Check => check::verdict(alloc, text),
-            Table::Programs => check::counts(alloc, text),
-            Table::Changes => changes::changes(alloc, text),
-            Table::Runs => runs::ran(alloc, text, &self.job),
-            Table::Trails => runs::trail_of(alloc, text, &self.job),
-            Table::Outputs => runs::output_of(alloc, text, &self.job),
+            Table::Program(asked) => check::answer(alloc, text, asked, &self.job),
         };
         self.job = untold(alloc);
         answer

@@ -1,6 +1,6 @@
 //! Letters and numbers of rows, and lines of answers.
 
-use std::alloc::AllocError;
+use std::alloc::{AllocError, Global};
 
 /// The letters of a text; none where it isn't written in letters of UTF-8.
 pub(crate) fn letters(text: &[u8]) -> &str {
@@ -45,6 +45,20 @@ pub(crate) fn put_bracketed(line: &mut String, bytes: &[u8]) -> Result<(), Alloc
     line.push('[')?;
     put_bytes(line, bytes)?;
     line.push(']')
+}
+
+/// Bytes, each as the letter with its code.
+pub(crate) fn letters_of(alloc: Global, bytes: &[u8]) -> Result<String, AllocError> {
+    let mut line = String::new(alloc);
+    put_bytes(&mut line, bytes)?;
+    Ok(line)
+}
+
+/// Bytes so, in brackets.
+pub(crate) fn bracketed(alloc: Global, bytes: &[u8]) -> Result<String, AllocError> {
+    let mut line = String::new(alloc);
+    put_bracketed(&mut line, bytes)?;
+    Ok(line)
 }
 
 /// Puts words behind a line as they are.

@@ -39,17 +39,17 @@ impl Write for Failing {
     }
 }
 
-fn called_once(
-    alloc: Global,
+fn put_called(
+    line: &mut String,
     console: &mut Streams<Failing, Failing>,
     word: &str,
-) -> Result<String, AllocError> {
+) -> Result<(), AllocError> {
     if word == "take" {
         let taken = console.take();
-        return format!(in alloc; "{taken:?} ");
+        return write!(line, "{taken:?} ");
     }
     let put = console.put(7);
-    format!(in alloc; "{put:?} ")
+    write!(line, "{put:?} ")
 }
 
 /// What a console gives at each `take` of the row, and says to each `put` of a byte 7; and how often its reader and its writer are called.
@@ -57,12 +57,9 @@ pub(crate) fn called(alloc: Global, row: &str) -> Result<String, AllocError> {
     let mut console = Streams::new(Failing { calls: 0 }, Failing { calls: 0 });
     let mut line = String::new(alloc);
     for word in row.split_whitespace() {
-        let told = called_once(alloc, &mut console, word)?;
-        line.push_str(told.as_str())?;
+        put_called(&mut line, &mut console, word)?;
     }
     let (reader, writer) = console.into_parts();
     let (reads, writes) = (reader.calls, writer.calls);
-    let told = format!(in alloc; "{reads} reads {writes} writes")?;
-    line.push_str(told.as_str())?;
-    Ok(line)
+    format!(in alloc; "{line}{reads} reads {writes} writes")
 }

@@ -1,12 +1,10 @@
 //! Homes for the temporaries of three-address code.
 
 use crate::rows::code::job::Job;
-use crate::rows::code::programs::code;
 use crate::rows::texts::{u8_of, u32_of};
 use risc_alloc::homes::{Home, PlaceRefusal, Raw};
 use risc_alloc::placement::Placement;
-use risc_alloc::placer::{EverySlot, Placer};
-use risc_alloc::scan::Scan;
+use risc_alloc::placer::Placer;
 use std::alloc::{AllocError, Global};
 use tac_code::tac::Tac;
 
@@ -30,27 +28,23 @@ fn verdict(alloc: Global, tac: &Tac, homes: &[Home]) -> Result<&'static str, All
 }
 
 /// Whether the homes that were told are taken.
-pub(crate) fn tried(alloc: Global, row: &str, job: &Job) -> Result<String, AllocError> {
-    match code(alloc, row)? {
-        Some(tac) => String::from_str(alloc, verdict(alloc, &tac, &job.homes)?),
-        None => String::from_str(alloc, "no code"),
-    }
+pub(crate) fn tried(alloc: Global, tac: &Tac, job: &Job) -> Result<String, AllocError> {
+    String::from_str(alloc, verdict(alloc, tac, &job.homes)?)
 }
 
-fn put_home(alloc: Global, line: &mut String, home: Home) -> Result<(), AllocError> {
+fn put_home(line: &mut String, home: Home) -> Result<(), AllocError> {
     let (letter, number) = match home {
         Home::Slot(slot) => ("s", slot),
         Home::Reg(register) => ("r", u32::from(register)),
     };
-    let told = format!(in alloc; "{letter}{number} ")?;
-    line.push_str(told.as_str())
+    write!(line, "{letter}{number} ")
 }
 
 // The homes of a placement, and whether a copy of them is taken.
 fn shown(alloc: Global, tac: &Tac, placement: &Placement) -> Result<String, AllocError> {
     let mut line = String::new(alloc);
     for home in &placement.raw().homes {
-        put_home(alloc, &mut line, *home)?;
+        put_home(&mut line, *home)?;
     }
     line.push_str(verdict(alloc, tac, &placement.raw().homes)?)?;
     Ok(line)
@@ -59,21 +53,8 @@ fn shown(alloc: Global, tac: &Tac, placement: &Placement) -> Result<String, Allo
 /// The homes that a placer chooses, and whether they are taken.
 pub(crate) fn placed<P: Placer>(
     alloc: Global,
-    row: &str,
+    tac: &Tac,
     placer: &P,
 ) -> Result<String, AllocError> {
-    match code(alloc, row)? {
-        Some(tac) => shown(alloc, &tac, &placer.place(alloc, &tac)?),
-        None => String::from_str(alloc, "no code"),
-    }
-}
-
-/// The homes of the placer that gives registers.
-pub(crate) fn scanned(alloc: Global, row: &str) -> Result<String, AllocError> {
-    placed(alloc, row, &Scan)
-}
-
-/// The homes of the placer that gives each temporary a slot.
-pub(crate) fn slotted(alloc: Global, row: &str) -> Result<String, AllocError> {
-    placed(alloc, row, &EverySlot)
+    shown(alloc, tac, &placer.place(alloc, tac)?)
 }

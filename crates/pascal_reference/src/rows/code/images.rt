@@ -2,7 +2,7 @@
 
 use crate::rows::code::job::Job;
 use crate::rows::code::runs::told;
-use crate::rows::texts::put_bracketed;
+use crate::rows::texts::{bracketed, put_bracketed};
 use risc_image::{CallRow, FrameRow, ImageView, Parts, write};
 use risc_load::{Budget, load};
 use std::alloc::{AllocError, Global};
@@ -20,44 +20,28 @@ pub(crate) fn read(alloc: Global, bytes: &[u8], job: &Job) -> Result<String, All
 
 fn shown(alloc: Global, image: &ImageView, job: &Job) -> Result<String, AllocError> {
     let mut line = String::new(alloc);
-    put_told(&mut line, counts(alloc, image))?;
-    put_told(&mut line, tables(alloc, image))?;
-    put_told(&mut line, rows(alloc, image, job.row as usize))?;
-    put_told(&mut line, links(alloc, image, job.row as usize))?;
-    put_told(&mut line, found(alloc, image, job.link))?;
+    put_counts(&mut line, image)?;
+    put_rows(&mut line, image, job.row as usize)?;
+    put_found(&mut line, image, job.link)?;
     put_bracketed(&mut line, image.code())?;
     Ok(line)
 }
 
-// Puts what is told behind a line, if memory was enough for it.
-fn put_told(line: &mut String, told: Result<String, AllocError>) -> Result<(), AllocError> {
-    let told = told?;
-    line.push_str(told.as_str())
-}
-
-fn counts(alloc: Global, image: &ImageView) -> Result<String, AllocError> {
+fn put_counts(line: &mut String, image: &ImageView) -> Result<(), AllocError> {
     let (global, words, frames) = (image.global(), image.words(), image.frames());
-    format!(in alloc; "{global} {words} {frames} ")
-}
-
-fn tables(alloc: Global, image: &ImageView) -> Result<String, AllocError> {
     let (objects, traps, calls) = (image.objects(), image.traps(), image.calls());
-    format!(in alloc; "{objects} {traps} {calls:?}; ")
+    write!(line, "{global} {words} {frames} {objects} {traps} {calls:?}; ")
 }
 
-fn rows(alloc: Global, image: &ImageView, row: usize) -> Result<String, AllocError> {
+fn put_rows(line: &mut String, image: &ImageView, row: usize) -> Result<(), AllocError> {
     let (word, frame, object) = (image.word(row), image.frame(row), image.object(row));
-    format!(in alloc; "{word:?} {frame:?} {object:?} ")
-}
-
-fn links(alloc: Global, image: &ImageView, row: usize) -> Result<String, AllocError> {
     let (trap, call) = (image.trap(row), image.call(row));
-    format!(in alloc; "{trap:?} {call:?}")
+    write!(line, "{word:?} {frame:?} {object:?} {trap:?} {call:?}")
 }
 
-fn found(alloc: Global, image: &ImageView, link: u32) -> Result<String, AllocError> {
+fn put_found(line: &mut String, image: &ImageView, link: u32) -> Result<(), AllocError> {
     let (trap, call) = (image.trap_of(link), image.call_of(link));
-    format!(in alloc; "; found {trap:?} {call:?}; ")
+    write!(line, "; found {trap:?} {call:?}; ")
 }
 
 // The parts of an image of two words of code, 4 bytes of globals, a frame and a call.
@@ -75,18 +59,13 @@ fn few_parts(alloc: Global) -> Result<Parts, AllocError> {
     })
 }
 
-fn few_bytes(alloc: Global) -> Result<Vec<u8>, AllocError> {
-    let parts = few_parts(alloc)?;
-    let bytes = write(alloc, &parts)?;
-    Ok(bytes)
-}
-
 /// The image of two words of code, 4 bytes of globals, a frame and a call.
 pub(crate) fn written(alloc: Global) -> Result<String, AllocError> {
-    let bytes = few_bytes(alloc)?;
-    let mut line = String::from_str(alloc, "bytes ")?;
-    put_bracketed(&mut line, &bytes)?;
-    Ok(line)
+    let parts = few_parts(alloc)?;
+    let bytes = write(alloc, &parts);
+    drop(parts);
+    let told = bracketed(alloc, &bytes?)?;
+    format!(in alloc; "bytes {told}")
 }
 
 /// What the machine of a loaded image holds, or the number of the load's refusal.
@@ -99,7 +78,11 @@ pub(crate) fn loaded(alloc: Global, bytes: &[u8], job: &Job) -> Result<String, A
         heap: job.heap,
     };
     match load(alloc, &image, budget) {
-        Ok(machine) => told(alloc, &machine),
+        Ok(machine) => {
+            let told = told(alloc, &machine);
+            drop(machine);
+            told
+        }
         Err(refusal) => {
             let number = refusal.number();
             format!(in alloc; "refused {number}")

@@ -55,39 +55,32 @@ fn letter(is_set: bool, name: char) -> char {
 
 /// Flags as a word like `N-CV`.
 fn put_flags(line: &mut String, flags: Flags) -> Result<(), AllocError> {
-    line.push(letter(flags.negative, 'N'))?;
-    line.push(letter(flags.equal, 'Z'))?;
-    line.push(letter(flags.carry, 'C'))?;
-    line.push(letter(flags.overflow, 'V'))
+    for letter in [
+        letter(flags.negative, 'N'),
+        letter(flags.equal, 'Z'),
+        letter(flags.carry, 'C'),
+        letter(flags.overflow, 'V'),
+    ] {
+        line.push(letter)?;
+    }
+    Ok(())
 }
 
-fn put_registers(
-    alloc: Global,
-    line: &mut String,
-    before: &State,
-    machine: &Machine,
-) -> Result<(), AllocError> {
+fn put_registers(line: &mut String, before: &State, machine: &Machine) -> Result<(), AllocError> {
     for number in 0..16u8 {
         let value = machine.reg(number);
         if number == 0 || before.registers[usize::from(number)] != value {
-            let told = format!(in alloc; " R{number} {value:08X}")?;
-            line.push_str(told.as_str())?;
+            write!(line, " R{number} {value:08X}")?;
         }
     }
     Ok(())
 }
 
-fn put_memory(
-    alloc: Global,
-    line: &mut String,
-    before: &State,
-    machine: &Machine,
-) -> Result<(), AllocError> {
+fn put_memory(line: &mut String, before: &State, machine: &Machine) -> Result<(), AllocError> {
     for address in 0..machine.size() {
         let byte = machine.byte(address);
         if before.memory.get(address as usize).copied().unwrap_or(0) != byte {
-            let told = format!(in alloc; " [{address}] {byte:02X}")?;
-            line.push_str(told.as_str())?;
+            write!(line, " [{address}] {byte:02X}")?;
         }
     }
     Ok(())
@@ -95,15 +88,13 @@ fn put_memory(
 
 /// Puts what a machine holds behind a line: the flags, H, R0, and the other registers and the bytes of memory that are not as before.
 pub(crate) fn put_held(
-    alloc: Global,
     line: &mut String,
     before: &State,
     machine: &Machine,
 ) -> Result<(), AllocError> {
     put_flags(line, machine.flags())?;
     let high = machine.high();
-    let told = format!(in alloc; " H {high:08X}")?;
-    line.push_str(told.as_str())?;
-    put_registers(alloc, line, before, machine)?;
-    put_memory(alloc, line, before, machine)
+    write!(line, " H {high:08X}")?;
+    put_registers(line, before, machine)?;
+    put_memory(line, before, machine)
 }

@@ -1,14 +1,19 @@
-//! Three-address code: whether it keeps its invariant, its printed form, and its runs.
+//! Three-address code: whether it keeps its invariant, its printed form, its runs, and the homes of its temporaries.
 
+use crate::rows::code::homes::{placed, tried};
 use crate::rows::code::instructions::instruction;
 use crate::rows::code::job::Job;
 use crate::rows::code::texts::word;
+use crate::rows::language::runs::end;
 use crate::rows::texts::u32_of;
+use crate::runs::ending_of;
+use risc_alloc::placer::EverySlot;
+use risc_alloc::scan::Scan;
 use std::alloc::{AllocError, Global};
 use tac_code::code::{Body, TacRaw, TacRoutine};
 use tac_code::print::print;
 use tac_code::tac::Tac;
-use tac_run::{Budget, Ending, Report, run};
+use tac_run::{Budget, Report, run};
 
 /// A routine with a frame of two words, which begins on line 3. Before a colon stand the counts of its parameters, of its temporaries and of the bytes of its scratch block; behind it
 /// its instructions, with `;` between them.
@@ -30,7 +35,7 @@ fn routine(alloc: Global, text: &str) -> Result<TacRoutine, AllocError> {
 }
 
 /// The code of these routines, with `/` between them, and of one type of objects of two words; none where they don't keep the invariant.
-pub(crate) fn code(alloc: Global, row: &str) -> Result<Option<Tac>, AllocError> {
+fn code(alloc: Global, row: &str) -> Result<Option<Tac>, AllocError> {
     let mut program = Vec::new(alloc);
     for told in row.split('/') {
         if !told.is_empty() {
@@ -44,63 +49,78 @@ pub(crate) fn code(alloc: Global, row: &str) -> Result<Option<Tac>, AllocError> 
     }))
 }
 
-/// Whether a row is code.
-pub(crate) fn is_code(alloc: Global, row: &str) -> Result<String, AllocError> {
-    let is_code = code(alloc, row)?.is_some();
-    String::from_str(alloc, if is_code { "code" } else { "no code" })
+/// What is asked of code.
+#[derive(Clone, Copy)]
+pub(crate) enum Asked {
+    /// Whether it is code at all.
+    Kept,
+    /// Its printed form.
+    Printed,
+    /// How it runs.
+    Ran,
+    /// Whether the homes that were told are taken.
+    Tried,
+    /// The homes of the placer that gives registers.
+    Scanned,
+    /// The homes of the placer that gives each temporary a slot.
+    Slotted,
 }
 
-/// The printed form of code.
-pub(crate) fn printed(alloc: Global, row: &str) -> Result<String, AllocError> {
+fn answer_of(alloc: Global, tac: &Tac, asked: Asked, job: &Job) -> Result<String, AllocError> {
+    match asked {
+        Asked::Kept => String::from_str(alloc, "code"),
+        Asked::Printed => print(alloc, tac),
+        Asked::Ran => ran(alloc, tac, job),
+        Asked::Tried => tried(alloc, tac, job),
+        Asked::Scanned => placed(alloc, tac, &Scan),
+        Asked::Slotted => placed(alloc, tac, &EverySlot),
+    }
+}
+
+/// What is asked of the code of a row.
+pub(crate) fn answer(
+    alloc: Global,
+    row: &str,
+    asked: Asked,
+    job: &Job,
+) -> Result<String, AllocError> {
     match code(alloc, row)? {
-        Some(tac) => print(alloc, &tac),
+        Some(tac) => answer_of(alloc, &tac, asked, job),
         None => String::from_str(alloc, "no code"),
     }
 }
 
-fn ending(alloc: Global, report: &Report) -> Result<String, AllocError> {
-    match report.ending {
-        Ending::More => String::from_str(alloc, "more"),
-        Ending::Normal => String::from_str(alloc, "normal"),
-        Ending::Error { number, line } => format!(in alloc; "error {number} at line {line}"),
-        Ending::OutOfStack { line } => format!(in alloc; "stack at line {line}"),
-        Ending::OutOfHeap { line } => format!(in alloc; "heap at line {line}"),
-        Ending::Stuck => String::from_str(alloc, "stuck"),
-    }
-}
-
-fn put_number(alloc: Global, line: &mut String, number: u16) -> Result<(), AllocError> {
-    let word = format!(in alloc; " {number}")?;
-    line.push_str(word.as_str())
-}
-
-fn put_numbers(alloc: Global, line: &mut String, numbers: &[u16]) -> Result<(), AllocError> {
+fn put_numbers(line: &mut String, numbers: &[u16]) -> Result<(), AllocError> {
     for number in numbers {
-        put_number(alloc, line, *number)?;
+        write!(line, " {number}")?;
     }
     Ok(())
 }
 
+fn ended(alloc: Global, report: &Report) -> Result<String, AllocError> {
+    match ending_of(report.ending) {
+        Ok(ending) => end(alloc, ending),
+        Err(_) => String::from_str(alloc, "stuck"),
+    }
+}
+
 fn told(alloc: Global, report: &Report) -> Result<String, AllocError> {
-    let mut line = ending(alloc, report)?;
+    let mut line = ended(alloc, report)?;
     line.push_str(", calls")?;
-    put_numbers(alloc, &mut line, &report.calls)?;
+    put_numbers(&mut line, &report.calls)?;
     line.push_str(", transcript")?;
-    put_numbers(alloc, &mut line, &report.transcript)?;
+    put_numbers(&mut line, &report.transcript)?;
     Ok(line)
 }
 
 /// How a run of code ends, the lines of its open calls, and its transcript, 256 a mark. Each frame costs 40 bytes, and so does each object, of which one fits.
-pub(crate) fn ran(alloc: Global, row: &str, job: &Job) -> Result<String, AllocError> {
-    let Some(tac) = code(alloc, row)? else {
-        return String::from_str(alloc, "no code");
-    };
+fn ran(alloc: Global, tac: &Tac, job: &Job) -> Result<String, AllocError> {
     let budget = Budget {
         frames: &[40, 40, 40],
         objects: &[40],
         stack: job.stack,
         heap: 40,
     };
-    let report = run(alloc, &tac, budget, &job.input, job.limit())?;
+    let report = run(alloc, tac, budget, &job.input, job.limit())?;
     told(alloc, &report)
 }

@@ -19,24 +19,30 @@ fn step_by_step(machine: &mut Machine, console: &mut Fused, limit: u64) -> Stop 
 
 // Puts where a run stopped, what the machine holds then and what was written behind a line.
 fn put_stop(
-    alloc: Global,
     line: &mut String,
     stop: Stop,
     before: &State,
     machine: &Machine,
 ) -> Result<(), AllocError> {
     let place = machine.pc();
-    let told = format!(in alloc; "{stop:?} at {place}, ")?;
-    line.push_str(told.as_str())?;
-    put_held(alloc, line, before, machine)
+    write!(line, "{stop:?} at {place}, ")?;
+    put_held(line, before, machine)
 }
 
 /// How the runs of one machine end, one behind the other, and what it has written then. The row has the words of its code.
 pub(crate) fn ran(alloc: Global, row: &str, job: &Job) -> Result<String, AllocError> {
     let mut machine = machine_told(alloc, row, job)?;
-    let before = state_of(alloc, &machine)?;
+    let told = runs_of(alloc, &mut machine, job);
+    drop(machine);
+    told
+}
+
+fn runs_of(alloc: Global, machine: &mut Machine, job: &Job) -> Result<String, AllocError> {
+    let before = state_of(alloc, machine)?;
     let mut line = String::new(alloc);
-    put_runs(alloc, &mut line, &mut machine, &before, job)?;
+    let end = put_runs(alloc, &mut line, machine, &before, job);
+    drop(before);
+    end?;
     Ok(line)
 }
 
@@ -61,7 +67,7 @@ fn put_runs(
         } else {
             run(machine, &mut console, *limit)
         };
-        put_stop(alloc, line, stop, before, machine)?;
+        put_stop(line, stop, before, machine)?;
         put_output(line, console.output())?;
     }
     Ok(())
@@ -79,8 +85,10 @@ pub(crate) fn streamed(alloc: Global, row: &str, job: &Job) -> Result<String, Al
     let input: &[u8] = &job.input;
     let mut console = Streams::new(input, Vec::new(alloc));
     let stop = run(&mut machine, &mut console, job.limit());
+    let place = machine.pc();
+    drop(machine);
     let (left, written) = console.into_parts();
-    streams_told(alloc, stop, machine.pc(), left.len(), &written)
+    streams_told(alloc, stop, place, left.len(), &written)
 }
 
 fn streams_told(
@@ -104,13 +112,18 @@ pub(crate) fn started(alloc: Global, code: &[u8], job: &Job) -> Result<String, A
         job.stack.min(1024),
     );
     let machine = Machine::start(alloc, &code[..front], globals, heap, stack)?;
-    told(alloc, &machine)
+    let told = told(alloc, &machine);
+    drop(machine);
+    told
 }
 
 /// What a machine holds, and where it is.
 pub(crate) fn told(alloc: Global, machine: &Machine) -> Result<String, AllocError> {
     let (size, place) = (machine.size(), machine.pc());
     let mut line = format!(in alloc; "{size} bytes, at {place}, ")?;
-    put_held(alloc, &mut line, &nothing(alloc), machine)?;
+    let before = nothing(alloc);
+    let end = put_held(&mut line, &before, machine);
+    drop(before);
+    end?;
     Ok(line)
 }

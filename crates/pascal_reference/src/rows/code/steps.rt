@@ -93,38 +93,48 @@ fn machine_at(alloc: Global, row: &str) -> Result<Machine, AllocError> {
     let mut console = closed(alloc)?;
     let mut machine = machine_of(alloc, &words, 0)?;
     let _ = run(&mut machine, &mut console, steps as u64);
+    drop(console);
     Ok(machine)
 }
 
-// Where a machine goes on that was at a place.
-fn place(alloc: Global, before: u32, after: u32) -> Result<String, AllocError> {
+// Puts where a machine goes on that was at a place.
+fn put_place(line: &mut String, before: u32, after: u32) -> Result<(), AllocError> {
     if after == before {
-        return String::from_str(alloc, "here");
+        return line.push_str("here ");
     }
     match after.checked_sub(before) {
-        Some(1) => String::from_str(alloc, "next"),
-        Some(words) => format!(in alloc; "{words} on"),
-        None => format!(in alloc; "at {after}"),
+        Some(1) => line.push_str("next "),
+        Some(words) => write!(line, "{words} on "),
+        None => write!(line, "at {after} "),
     }
 }
 
-// Makes a step, and tells how it ends and where the machine goes on.
-fn step(alloc: Global, machine: &mut Machine) -> Result<String, AllocError> {
+// Makes a step, and puts how it ends and where the machine goes on.
+fn put_step(alloc: Global, line: &mut String, machine: &mut Machine) -> Result<(), AllocError> {
     let at = machine.pc();
     let mut console = closed(alloc)?;
     let stop = machine.step(&mut console);
-    let place = place(alloc, at, machine.pc())?;
-    match stop {
-        None => format!(in alloc; "{place} "),
-        Some(stop) => format!(in alloc; "{stop:?} {place} "),
+    drop(console);
+    if let Some(stop) = stop {
+        write!(line, "{stop:?} ")?;
     }
+    put_place(line, at, machine.pc())
+}
+
+fn step_told(alloc: Global, machine: &mut Machine) -> Result<String, AllocError> {
+    let before = state_of(alloc, machine)?;
+    let mut line = String::new(alloc);
+    put_step(alloc, &mut line, machine)?;
+    let end = put_held(&mut line, &before, machine);
+    drop(before);
+    end?;
+    Ok(line)
 }
 
 /// What the step of a word does. The row has the word, the flags before it, and what registers hold before it; H holds 0BADCAFE, and the word at address 4 is 87654380.
 pub(crate) fn stepped(alloc: Global, row: &str) -> Result<String, AllocError> {
     let mut machine = machine_at(alloc, row)?;
-    let before = state_of(alloc, &machine)?;
-    let mut line = step(alloc, &mut machine)?;
-    put_held(alloc, &mut line, &before, &machine)?;
-    Ok(line)
+    let told = step_told(alloc, &mut machine);
+    drop(machine);
+    told
 }

@@ -21,9 +21,7 @@ fn told(alloc: Global, job: &Job<'_>) -> Result<String, AllocError> {
     let steps = job.steps;
     let mut line = String::new(alloc);
     put_parts(&mut line, &parts_of(job.task))?;
-    let numbers = format!(in alloc; ", stack {stack}, heap {heap}, steps {steps}")?;
-    line.push_str(numbers.as_str())?;
-    Ok(line)
+    format!(in alloc; "{line}, stack {stack}, heap {heap}, steps {steps}")
 }
 
 /// What words ask for. A row without words is a call without words.

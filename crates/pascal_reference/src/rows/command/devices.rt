@@ -2,35 +2,22 @@
 
 use std::io::{self, Error, ErrorKind, Read, Write};
 
-/// A reader of so many spaces, one in each turn.
+/// A reader of so many spaces, one in each turn, that fails then or is at its end.
 #[derive(Drop)]
 pub(crate) struct Drip {
     pub(crate) left: usize,
     pub(crate) turns: usize,
+    pub(crate) fails: bool,
 }
 
 impl Read for Drip {
     fn read(&mut self, buffer: &mut [u8]) -> io::Result<usize> {
         self.turns = self.turns.saturating_add(1);
+        if self.left == 0 && self.fails {
+            return Err(Error::from(ErrorKind::Other));
+        }
         if self.left == 0 || buffer.is_empty() {
             return Ok(0);
-        }
-        self.left -= 1;
-        buffer[0] = b' ';
-        Ok(1)
-    }
-}
-
-/// A reader that fails after its bytes.
-#[derive(Drop)]
-pub(crate) struct Broken {
-    pub(crate) left: usize,
-}
-
-impl Read for Broken {
-    fn read(&mut self, buffer: &mut [u8]) -> io::Result<usize> {
-        if self.left == 0 || buffer.is_empty() {
-            return Err(Error::from(ErrorKind::Other));
         }
         self.left -= 1;
         buffer[0] = b' ';

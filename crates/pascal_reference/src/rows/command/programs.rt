@@ -2,7 +2,7 @@
 
 use crate::rows::texts::{put_bracketed, u32_of, u64_of};
 use pascal_cli::message;
-use ps_build::{Budget, Outcome, Refusal, build, go, list, run_image};
+use ps_build::{Budget, Built, Outcome, Refusal, build, go, list, run_image};
 use risc_machine::{Fused, Streams};
 use std::alloc::{AllocError, Global};
 
@@ -49,14 +49,6 @@ fn told(alloc: Global, end: Result<Outcome, Refusal>, output: &[u8]) -> Result<S
     Ok(shown)
 }
 
-/// Whether a text is built, or its refusal.
-pub(crate) fn built(alloc: Global, text: &[u8]) -> Result<String, AllocError> {
-    match build(alloc, text) {
-        Ok(_) => String::from_str(alloc, "built"),
-        Err(refusal) => format!(in alloc; "{refusal:?}"),
-    }
-}
-
 /// How a text goes.
 pub(crate) fn went(alloc: Global, text: &[u8], job: Job) -> Result<String, AllocError> {
     let mut console = Fused::new(alloc, b"", 100, 0, job.failing_put)?;
@@ -78,18 +70,34 @@ pub(crate) fn reported(alloc: Global, image: &[u8], job: Job) -> Result<String, 
     message(alloc, &end)
 }
 
-/// The listing of the image that is built of a text, or the text's refusal.
-pub(crate) fn listed(alloc: Global, text: &[u8]) -> Result<String, AllocError> {
-    match build(alloc, text) {
-        Ok(built) => list(alloc, &built),
-        Err(refusal) => format!(in alloc; "{refusal:?}"),
+/// What is asked of the image that is built of a text.
+#[derive(Clone, Copy)]
+pub(crate) enum Asked {
+    /// Whether there is one.
+    Built,
+    /// Its listing.
+    Listed,
+    /// How it runs.
+    Ran,
+}
+
+fn answer_of(alloc: Global, built: &Built, asked: Asked, job: Job) -> Result<String, AllocError> {
+    match asked {
+        Asked::Built => String::from_str(alloc, "built"),
+        Asked::Listed => list(alloc, built),
+        Asked::Ran => ran(alloc, built.bytes(), job),
     }
 }
 
-/// How the image that is built of a text runs.
-pub(crate) fn ran_as_built(alloc: Global, text: &[u8], job: Job) -> Result<String, AllocError> {
+/// What is asked of the image that is built of a text, or the text's refusal.
+pub(crate) fn answer(
+    alloc: Global,
+    text: &[u8],
+    asked: Asked,
+    job: Job,
+) -> Result<String, AllocError> {
     match build(alloc, text) {
-        Ok(built) => ran(alloc, built.bytes(), job),
+        Ok(built) => answer_of(alloc, &built, asked, job),
         Err(refusal) => format!(in alloc; "{refusal:?}"),
     }
 }

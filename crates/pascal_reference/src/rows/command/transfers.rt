@@ -1,6 +1,6 @@
 //! Whole texts and images, read and written.
 
-use crate::rows::command::devices::{Broken, Drip, Narrow};
+use crate::rows::command::devices::{Drip, Narrow};
 use crate::rows::texts::{put_bracketed, u16_of, u32_of};
 use pascal_cli::{Counted, ReadFault, put_all, read_up_to};
 use ps_build::{Budget, Outcome, Refusal, go};
@@ -54,15 +54,11 @@ pub(crate) fn read(alloc: Global, row: &str) -> Result<String, AllocError> {
     let mut words = row.split(' ');
     let left = usize::from(number(words.next()));
     let limit = usize::from(number(words.next()));
-    if words.next() == Some("fails") {
-        let mut reader = Broken { left };
-        return read_told(
-            alloc,
-            read_up_to(alloc, &mut Counted::new(&mut reader), limit),
-            0,
-        );
-    }
-    let mut reader = Drip { left, turns: 0 };
+    let mut reader = Drip {
+        left,
+        turns: 0,
+        fails: words.next() == Some("fails"),
+    };
     let read = read_up_to(alloc, &mut Counted::new(&mut reader), limit);
     read_told(alloc, read, reader.turns)
 }
@@ -70,7 +66,11 @@ pub(crate) fn read(alloc: Global, row: &str) -> Result<String, AllocError> {
 /// How a text of so many spaces goes that is read byte by byte, up to one byte more than the longest text.
 pub(crate) fn went(alloc: Global, row: &str) -> Result<String, AllocError> {
     let left = u32_of(row) as usize;
-    let mut reader = Drip { left, turns: 0 };
+    let mut reader = Drip {
+        left,
+        turns: 0,
+        fails: false,
+    };
     match read_up_to(alloc, &mut Counted::new(&mut reader), 1_048_577) {
         Ok(text) => gone(alloc, &text),
         Err(_) => String::from_str(alloc, "not read"),

@@ -1,9 +1,9 @@
 //! What the layers of the checker make of the block of a program, each called by itself. Of the required names only `integer`,
 //! `char` and `Boolean` are known here.
 
-use crate::rows::language::front::program;
+use crate::front::parsed;
 use crate::rows::language::types::{fields, relation, sizes};
-use crate::rows::language::words::{or_none, put};
+use crate::rows::language::words::{or_none, put_space};
 use ps_declare::declarations::declarations;
 use ps_declare::frame::{Declared, Frame};
 use ps_declare::points::add_block;
@@ -127,17 +127,12 @@ fn form_in(site: Site<'_>, value: &Expr) -> Result<String, Fault> {
     told(String::from_str(site.alloc, form))
 }
 
-fn kind_of(statement: &Checked) -> &'static str {
-    match statement {
-        Checked::Empty => "empty",
-        _ => "other",
-    }
-}
-
 fn kinds_of(alloc: Global, statements: &[Checked]) -> Result<String, AllocError> {
     let mut shown = String::new(alloc);
     for statement in statements {
-        put(&mut shown, kind_of(statement))?;
+        let is_empty = matches!(statement, Checked::Empty);
+        put_space(&mut shown)?;
+        shown.push_str(if is_empty { "empty" } else { "other" })?;
     }
     or_none(alloc, shown)
 }
@@ -204,30 +199,6 @@ fn declare(
     )
 }
 
-/// What is asked of a block whose names and declarations are known.
-fn asked_behind(
-    reading: &Reading,
-    alloc: Global,
-    scope: &Scope,
-    declared: &Declared,
-    asked: Asked,
-    written: &[Statement],
-) -> Result<String, Fault> {
-    let behind = Reading {
-        source: reading.source,
-        lines: reading.lines,
-        domains: &declared.domains,
-        has_input: false,
-        has_output: false,
-    };
-    let site = Site {
-        alloc,
-        reading: &behind,
-        scope,
-    };
-    asked_of(asked, declared, site, written)
-}
-
 /// What is asked of a block whose names are known.
 fn asked_below(
     reading: &Reading,
@@ -250,14 +221,19 @@ fn asked_below(
         known: &declared.known,
         outer,
     };
-    asked_behind(
-        reading,
+    let behind = Reading {
+        source: reading.source,
+        lines: reading.lines,
+        domains: &declared.domains,
+        has_input: false,
+        has_output: false,
+    };
+    let site = Site {
         alloc,
-        &scope,
-        &declared,
-        asked,
-        block.statements.as_slice(),
-    )
+        reading: &behind,
+        scope: &scope,
+    };
+    asked_of(asked, &declared, site, block.statements.as_slice())
 }
 
 /// What is asked of a block within a region.
@@ -332,12 +308,12 @@ pub(crate) fn answer(alloc: Global, text: &[u8], asked: Asked) -> Result<String,
     let Ok(source) = Source::new(text) else {
         return String::from_str(alloc, "no source");
     };
-    match program(alloc, &source) {
-        Some(program) => {
+    match parsed(alloc, &source) {
+        Ok(program) => {
             let answer = answer_in(alloc, &source, &program.block, asked);
             drop(program);
             answer
         }
-        None => String::from_str(alloc, "refused"),
+        Err(_) => String::from_str(alloc, "refused"),
     }
 }

@@ -1,7 +1,6 @@
 //! What the statements of a program change.
 
-use crate::rows::language::check::checked;
-use crate::rows::language::words::{or_none, put};
+use crate::rows::language::words::put_space;
 use ps_changes::assigned::assigns;
 use ps_changes::control::control_variables;
 use ps_changes::place::Entries;
@@ -13,81 +12,66 @@ use std::alloc::{AllocError, Global};
 /// Programs of these tables have fewer entries in each block.
 const ENTRIES: u32 = 10;
 
-fn put_entry(alloc: Global, line: &mut String, entry: u32) -> Result<(), AllocError> {
-    let word = format!(in alloc; "{entry}")?;
-    put(line, word.as_str())
+/// What statements do to entries.
+#[derive(Clone, Copy)]
+enum Change {
+    Threat,
+    Assignment,
 }
 
-/// The entries, of the routine so many levels out, that the statements threaten.
-fn threatened(alloc: Global, body: &[Statement], up: u32) -> Result<String, AllocError> {
-    let mut shown = String::new(alloc);
-    for entry in 0..ENTRIES {
-        if threat(body, up, Entries::One(entry)).is_some() {
-            put_entry(alloc, &mut shown, entry)?;
-        }
-    }
-    or_none(alloc, shown)
-}
-
-/// The entries, of the routine so many levels out, that the statements assign to.
-fn assigned(alloc: Global, body: &[Statement], up: u32) -> Result<String, AllocError> {
-    let mut shown = String::new(alloc);
-    for entry in 0..ENTRIES {
-        if assigns(body, up, entry) {
-            put_entry(alloc, &mut shown, entry)?;
-        }
-    }
-    or_none(alloc, shown)
-}
-
-fn controlled(alloc: Global, body: &[Statement]) -> Result<String, AllocError> {
-    let mut shown = String::new(alloc);
-    for entry in control_variables(alloc, body)? {
-        put_entry(alloc, &mut shown, entry)?;
-    }
-    or_none(alloc, shown)
-}
-
-/// Puts what is told behind a line, if memory was enough for it.
-fn put_told(
+/// Puts a word, and the entries, of the routine so many levels out, to which statements do that, or `none`.
+fn put_changed(
     line: &mut String,
     word: &str,
-    told: Result<String, AllocError>,
+    change: Change,
+    body: &[Statement],
+    up: u32,
 ) -> Result<(), AllocError> {
-    let told = told?;
     line.push_str(word)?;
-    line.push_str(told.as_str())
-}
-
-/// What the statements of a routine change: its own entries, and those of the routine round it.
-fn of_routine(alloc: Global, body: &[Statement]) -> Result<String, AllocError> {
-    let mut line = String::new(alloc);
-    put_told(&mut line, "[threatens ", threatened(alloc, body, 0))?;
-    put_told(&mut line, ", outside ", threatened(alloc, body, 1))?;
-    put_told(&mut line, "; assigns ", assigned(alloc, body, 0))?;
-    put_told(&mut line, ", outside ", assigned(alloc, body, 1))?;
-    put_told(&mut line, "; controls ", controlled(alloc, body))?;
-    line.push(']')?;
-    Ok(line)
-}
-
-fn put_routine(alloc: Global, line: &mut String, body: &[Statement]) -> Result<(), AllocError> {
-    let told = of_routine(alloc, body)?;
-    put(line, told.as_str())
-}
-
-fn of_program(alloc: Global, program: &Checked) -> Result<String, AllocError> {
-    let mut shown = String::new(alloc);
-    for routine in program.routines() {
-        put_routine(alloc, &mut shown, routine.body.as_slice())?;
+    let mut is_none = true;
+    for entry in 0..ENTRIES {
+        let is_changed = match change {
+            Change::Threat => threat(body, up, Entries::One(entry)).is_some(),
+            Change::Assignment => assigns(body, up, entry),
+        };
+        if is_changed {
+            write!(line, " {entry}")?;
+            is_none = false;
+        }
     }
-    Ok(shown)
+    put_none(line, is_none)
+}
+
+/// Puts the variables that control `for` statements, or `none`.
+fn put_controls(alloc: Global, line: &mut String, body: &[Statement]) -> Result<(), AllocError> {
+    line.push_str("; controls")?;
+    let entries = control_variables(alloc, body)?;
+    for entry in &entries {
+        write!(line, " {entry}")?;
+    }
+    put_none(line, entries.is_empty())
+}
+
+fn put_none(line: &mut String, is_none: bool) -> Result<(), AllocError> {
+    line.push_str(if is_none { " none" } else { "" })
+}
+
+/// Puts what the statements of a routine change: its own entries, and those of the routine round it.
+fn put_routine(alloc: Global, line: &mut String, body: &[Statement]) -> Result<(), AllocError> {
+    put_changed(line, "[threatens", Change::Threat, body, 0)?;
+    put_changed(line, ", outside", Change::Threat, body, 1)?;
+    put_changed(line, "; assigns", Change::Assignment, body, 0)?;
+    put_changed(line, ", outside", Change::Assignment, body, 1)?;
+    put_controls(alloc, line, body)?;
+    line.push(']')
 }
 
 /// What the statements of each block of a program change, by the numbers of entries.
-pub(crate) fn changes(alloc: Global, text: &[u8]) -> Result<String, AllocError> {
-    match checked(alloc, text) {
-        Some(program) => of_program(alloc, &program),
-        None => String::from_str(alloc, "refused"),
+pub(crate) fn changes(alloc: Global, program: &Checked) -> Result<String, AllocError> {
+    let mut shown = String::new(alloc);
+    for routine in program.routines() {
+        put_space(&mut shown)?;
+        put_routine(alloc, &mut shown, routine.body.as_slice())?;
     }
+    Ok(shown)
 }

@@ -1,106 +1,73 @@
-//! What the checker says of program texts.
+//! What the checker says of program texts, and what is asked of the programs that it accepts.
 
-use crate::rows::language::words::put;
-use crate::rows::language::{front, tokens};
-use ps_check::check;
-use ps_parse::{ParseRefusal, parse};
-use ps_regions::refusal::CheckRefusal;
-use ps_scan::{ScanRefusal, Token, scan};
-use ps_syntax::Program;
-use ps_text::Source;
+use crate::front::checked;
+use crate::rows::language::changes::changes;
+use crate::rows::language::front::refused;
+use crate::rows::language::runs::{Job, output_of, ran, trail_of};
+use crate::rows::language::words::put_space;
 use ps_tree::program::Checked;
 use std::alloc::{AllocError, Global};
 
-fn refused(alloc: Global, refusal: CheckRefusal) -> Result<String, AllocError> {
-    let number = refusal.number();
-    let line = refusal.line().unwrap_or(0);
-    format!(in alloc; "{number} {refusal} at line {line}")
+/// What is asked of a checked program.
+#[derive(Clone, Copy)]
+pub(crate) enum Asked {
+    /// The nodes and the cells of each of its routines, and how many domain types it has.
+    Counts,
+    /// What its statements change.
+    Changes,
+    /// How its run ends, and what that shows.
+    Run,
+    /// The lines that `trail` tells of its run.
+    Trail,
+    /// The bytes that `output` makes of its run's transcript.
+    Output,
 }
 
-fn scan_refused(alloc: Global, refusal: ScanRefusal) -> Result<String, AllocError> {
-    let said = tokens::refused(alloc, refusal)?;
-    format!(in alloc; "scan: {said}")
-}
-
-fn parse_refused(alloc: Global, refusal: ParseRefusal) -> Result<String, AllocError> {
-    let said = front::refused(alloc, refusal)?;
-    format!(in alloc; "parse: {said}")
-}
-
-fn said_of_program(
-    alloc: Global,
-    source: &Source,
-    program: &Program,
-) -> Result<String, AllocError> {
-    match check(alloc, source, program) {
+/// Whether the checker accepts a text, or the refusal.
+pub(crate) fn verdict(alloc: Global, text: &[u8]) -> Result<String, AllocError> {
+    match checked(alloc, text) {
         Ok(_) => String::from_str(alloc, "accepted"),
         Err(refusal) => refused(alloc, refusal),
     }
 }
 
-fn said_of_tokens(alloc: Global, source: &Source, tokens: &[Token]) -> Result<String, AllocError> {
-    match parse(alloc, source, tokens) {
-        Ok(program) => {
-            let said = said_of_program(alloc, source, &program);
-            drop(program);
-            said
-        }
-        Err(refusal) => parse_refused(alloc, refusal),
-    }
-}
-
-/// What is said of a text. A refusal of an earlier phase than the checker's is a slip of the table, and its phase is told.
-fn said(alloc: Global, source: &Source) -> Result<String, AllocError> {
-    match scan(alloc, source) {
-        Ok(tokens) => said_of_tokens(alloc, source, &tokens),
-        Err(refusal) => scan_refused(alloc, refusal),
-    }
-}
-
-/// Whether the checker accepts a text, or its refusal.
-pub(crate) fn verdict(alloc: Global, text: &[u8]) -> Result<String, AllocError> {
-    match Source::new(text) {
-        Ok(source) => said(alloc, &source),
-        Err(_) => String::from_str(alloc, "no source"),
-    }
-}
-
-/// The checked program of a text that is known to have one; a text that has none is a slip of its table.
-pub(crate) fn checked(alloc: Global, text: &[u8]) -> Option<Checked> {
-    match Source::new(text) {
-        Ok(source) => checked_of(alloc, &source),
-        Err(_) => None,
-    }
-}
-
-fn checked_of(alloc: Global, source: &Source) -> Option<Checked> {
-    match front::program(alloc, source) {
-        Some(program) => {
-            let checked = check(alloc, source, &program).ok();
-            drop(program);
-            checked
-        }
-        None => None,
-    }
-}
-
-fn counts_of(alloc: Global, program: &Checked) -> Result<String, AllocError> {
+fn counts(alloc: Global, program: &Checked) -> Result<String, AllocError> {
     let mut shown = String::new(alloc);
     let count = u32::try_from(program.routines().len()).unwrap_or(0);
     for routine in 0..count {
         let nodes = program.nodes(routine);
         let cells = program.cells(routine);
-        let word = format!(in alloc; "{nodes}/{cells}")?;
-        put(&mut shown, word.as_str())?;
+        put_space(&mut shown)?;
+        write!(shown, "{nodes}/{cells}")?;
     }
     let domains = program.domains().len();
     format!(in alloc; "{shown}, domains {domains}")
 }
 
-/// The nodes and the cells of each routine of a program, and how many domain types it has.
-pub(crate) fn counts(alloc: Global, text: &[u8]) -> Result<String, AllocError> {
+fn answer_of(
+    alloc: Global,
+    program: &Checked,
+    asked: Asked,
+    job: &Job,
+) -> Result<String, AllocError> {
+    match asked {
+        Asked::Counts => counts(alloc, program),
+        Asked::Changes => changes(alloc, program),
+        Asked::Run => ran(alloc, program, job),
+        Asked::Trail => trail_of(alloc, program, job),
+        Asked::Output => output_of(alloc, program, job),
+    }
+}
+
+/// What is asked of the program of a text. A text that the checker refuses is a slip of its table.
+pub(crate) fn answer(
+    alloc: Global,
+    text: &[u8],
+    asked: Asked,
+    job: &Job,
+) -> Result<String, AllocError> {
     match checked(alloc, text) {
-        Some(program) => counts_of(alloc, &program),
-        None => String::from_str(alloc, "refused"),
+        Ok(program) => answer_of(alloc, &program, asked, job),
+        Err(_) => String::from_str(alloc, "refused"),
     }
 }

@@ -1,54 +1,21 @@
-//! What the scanner and the parser make of program texts.
+//! What the parser makes of program texts.
 
+use crate::front::parsed;
 use crate::rows::language::shown::Shown;
-use crate::rows::language::tokens;
-use ps_parse::{ParseRefusal, parse};
-use ps_scan::{Token, scan};
-use ps_syntax::{Program, Statement, height};
+use ps_build::Refusal;
+use ps_syntax::{Statement, height};
 use ps_text::Source;
 use std::alloc::{AllocError, Global};
 
-/// What is said of a text that is no program.
-pub(crate) fn refused(alloc: Global, refusal: ParseRefusal) -> Result<String, AllocError> {
+/// What is said of a text that is refused.
+pub(crate) fn refused(alloc: Global, refusal: Refusal) -> Result<String, AllocError> {
     let number = refusal.number();
     let line = refusal.line().unwrap_or(0);
-    let mut told = format!(in alloc; "{number} {refusal} at line {line}")?;
-    if let ParseRefusal::NotAProgram { token, .. } = refusal {
-        put_token(alloc, &mut told, token)?;
-    }
-    Ok(told)
-}
-
-fn put_token(alloc: Global, line: &mut String, token: u32) -> Result<(), AllocError> {
-    let told = format!(in alloc; ", token {token}")?;
-    line.push_str(told.as_str())
-}
-
-/// The tree of a text that is known to have one; a text that has none is a slip of its table.
-pub(crate) fn program(alloc: Global, source: &Source) -> Option<Program> {
-    match scan(alloc, source) {
-        Ok(tokens) => parse(alloc, source, &tokens).ok(),
-        Err(_) => None,
-    }
-}
-
-fn height_told(alloc: Global, program: &Program) -> Result<String, AllocError> {
-    let height = height(program);
-    format!(in alloc; "accepted, height {height}")
-}
-
-fn height_of_tokens(
-    alloc: Global,
-    source: &Source,
-    tokens: &[Token],
-) -> Result<String, AllocError> {
-    match parse(alloc, source, tokens) {
-        Ok(program) => {
-            let told = height_told(alloc, &program);
-            drop(program);
-            told
+    match refusal {
+        Refusal::NotAProgram { token, .. } => {
+            format!(in alloc; "{number} {refusal} at line {line}, token {token}")
         }
-        Err(refusal) => refused(alloc, refusal),
+        _ => format!(in alloc; "{number} {refusal} at line {line}"),
     }
 }
 
@@ -57,9 +24,13 @@ pub(crate) fn height_of(alloc: Global, text: &[u8]) -> Result<String, AllocError
     let Ok(source) = Source::new(text) else {
         return String::from_str(alloc, "no source");
     };
-    match scan(alloc, &source) {
-        Ok(tokens) => height_of_tokens(alloc, &source, &tokens),
-        Err(refusal) => tokens::refused(alloc, refusal),
+    match parsed(alloc, &source) {
+        Ok(program) => {
+            let height = height(&program);
+            drop(program);
+            format!(in alloc; "accepted, height {height}")
+        }
+        Err(refusal) => refused(alloc, refusal),
     }
 }
 
@@ -81,12 +52,12 @@ pub(crate) fn tree(alloc: Global, text: &[u8]) -> Result<String, AllocError> {
     let Ok(source) = Source::new(text) else {
         return String::from_str(alloc, "no source");
     };
-    match program(alloc, &source) {
-        Some(program) => {
+    match parsed(alloc, &source) {
+        Ok(program) => {
             let told = shown(alloc, source.bytes(), program.block.statements.as_slice());
             drop(program);
             told
         }
-        None => String::from_str(alloc, "refused"),
+        Err(_) => String::from_str(alloc, "refused"),
     }
 }

@@ -1,8 +1,7 @@
 //! What the slow runner shows of runs, and how they end.
 
-use crate::rows::language::check::checked;
-use crate::rows::language::words::{number, or_none, put};
-use crate::rows::texts::put_bracketed;
+use crate::rows::language::words::{number, or_none, put_space};
+use crate::rows::texts::bracketed;
 use ps_runner::ending::Ending;
 use ps_runner::run::{
     Budget, Ran, Refusal, output, reference, reference_to_depth, reference_within, trail,
@@ -86,8 +85,9 @@ fn run(alloc: Global, program: &Checked, job: &Job) -> Result<Ran, Refusal> {
     }
 }
 
-fn ending(alloc: Global, ran: &Ran) -> Result<String, AllocError> {
-    match ran.ending {
+/// How a run ended.
+pub(crate) fn end(alloc: Global, ending: Ending) -> Result<String, AllocError> {
+    match ending {
         Ending::Normal => String::from_str(alloc, "normal"),
         Ending::Error { number, line } => format!(in alloc; "error {number} at line {line}"),
         Ending::Stack { line } => format!(in alloc; "stack at line {line}"),
@@ -96,23 +96,20 @@ fn ending(alloc: Global, ran: &Ran) -> Result<String, AllocError> {
     }
 }
 
-fn put_line(alloc: Global, shown: &mut String, line: u32) -> Result<(), AllocError> {
-    let word = format!(in alloc; "{line}")?;
-    put(shown, word.as_str())
-}
-
-fn put_lines(alloc: Global, shown: &mut String, lines: &[u32]) -> Result<(), AllocError> {
+/// Puts the first 16 of some lines.
+fn put_lines(shown: &mut String, lines: &[u32]) -> Result<(), AllocError> {
     for line in lines.iter().take(16) {
-        put_line(alloc, shown, *line)?;
+        put_space(shown)?;
+        write!(shown, "{line}")?;
     }
     Ok(())
 }
 
 /// Puts the lines of the calls that are open at an error, up to 16.
-fn put_calls(alloc: Global, shown: &mut String, ran: &Ran) -> Result<(), AllocError> {
+fn put_calls(shown: &mut String, ran: &Ran) -> Result<(), AllocError> {
     if matches!(ran.ending, Ending::Error { .. }) && !ran.calls.is_empty() {
         shown.push_str(", called at")?;
-        put_lines(alloc, shown, &ran.calls)?;
+        put_lines(shown, &ran.calls)?;
     }
     Ok(())
 }
@@ -144,20 +141,13 @@ fn refused(alloc: Global, refusal: Refusal) -> Result<String, AllocError> {
 }
 
 fn told(alloc: Global, ran: &Ran) -> Result<String, AllocError> {
-    let mut shown = ending(alloc, ran)?;
-    put_calls(alloc, &mut shown, ran)?;
+    let mut shown = end(alloc, ran.ending)?;
+    put_calls(&mut shown, ran)?;
     shown.push(':')?;
     put_transcript(&mut shown, &ran.transcript)?;
     Ok(shown)
 }
 
-fn bracketed(alloc: Global, bytes: &[u8]) -> Result<String, AllocError> {
-    let mut shown = String::new(alloc);
-    put_bracketed(&mut shown, bytes)?;
-    Ok(shown)
-}
-
-/// The output of a run, in brackets.
 fn written(alloc: Global, ran: &Ran) -> Result<String, AllocError> {
     match output(alloc, &ran.transcript) {
         Ok(bytes) => bracketed(alloc, &bytes),
@@ -165,53 +155,32 @@ fn written(alloc: Global, ran: &Ran) -> Result<String, AllocError> {
     }
 }
 
-fn ran_of(alloc: Global, program: &Checked, job: &Job) -> Result<String, AllocError> {
+fn lines_of(alloc: Global, lines: &[u32]) -> Result<String, AllocError> {
+    let mut shown = String::new(alloc);
+    put_lines(&mut shown, lines)?;
+    or_none(alloc, shown)
+}
+
+/// How the run of a program ends, the calls that are open there, and what it shows.
+pub(crate) fn ran(alloc: Global, program: &Checked, job: &Job) -> Result<String, AllocError> {
     match run(alloc, program, job) {
         Ok(ran) => told(alloc, &ran),
         Err(refusal) => refused(alloc, refusal),
     }
 }
 
-fn lines_of(alloc: Global, lines: &[u32]) -> Result<String, AllocError> {
-    let mut shown = String::new(alloc);
-    put_lines(alloc, &mut shown, lines)?;
-    or_none(alloc, shown)
-}
-
-fn trail_in(alloc: Global, program: &Checked, job: &Job) -> Result<String, AllocError> {
+/// The lines that `trail` tells of a run.
+pub(crate) fn trail_of(alloc: Global, program: &Checked, job: &Job) -> Result<String, AllocError> {
     match trail(alloc, program, &job.input, job.fuel) {
         Ok(lines) => lines_of(alloc, &lines),
         Err(refusal) => refused(alloc, refusal),
     }
 }
 
-fn output_in(alloc: Global, program: &Checked, job: &Job) -> Result<String, AllocError> {
+/// The bytes that `output` makes of a run's transcript, in brackets.
+pub(crate) fn output_of(alloc: Global, program: &Checked, job: &Job) -> Result<String, AllocError> {
     match run(alloc, program, job) {
         Ok(ran) => written(alloc, &ran),
         Err(refusal) => refused(alloc, refusal),
-    }
-}
-
-/// How the run of a program ends, the calls that are open there, and what it shows.
-pub(crate) fn ran(alloc: Global, text: &[u8], job: &Job) -> Result<String, AllocError> {
-    match checked(alloc, text) {
-        Some(program) => ran_of(alloc, &program, job),
-        None => String::from_str(alloc, "refused"),
-    }
-}
-
-/// The lines that `trail` tells of a run.
-pub(crate) fn trail_of(alloc: Global, text: &[u8], job: &Job) -> Result<String, AllocError> {
-    match checked(alloc, text) {
-        Some(program) => trail_in(alloc, &program, job),
-        None => String::from_str(alloc, "refused"),
-    }
-}
-
-/// The bytes that `output` makes of a run's transcript.
-pub(crate) fn output_of(alloc: Global, text: &[u8], job: &Job) -> Result<String, AllocError> {
-    match checked(alloc, text) {
-        Some(program) => output_in(alloc, &program, job),
-        None => String::from_str(alloc, "refused"),
     }
 }

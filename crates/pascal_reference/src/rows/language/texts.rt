@@ -1,7 +1,7 @@
 //! Texts within the limits, their lines, and slices of them.
 
-use crate::rows::language::words::{number, put_number};
-use crate::rows::texts::{letters, put_bracketed};
+use crate::rows::language::words::number;
+use crate::rows::texts::{bracketed, letters};
 use ps_text::{LineTable, Source, Span};
 use std::alloc::{AllocError, Global};
 
@@ -26,7 +26,7 @@ pub(crate) fn lines(alloc: Global, text: &[u8]) -> Result<String, AllocError> {
         return String::from_str(alloc, "no source");
     };
     let mut line = size(alloc, &source)?;
-    put_counted(alloc, &mut line, &source)?;
+    put_counted(&mut line, &source)?;
     line.push_str(", by the table")?;
     put_found(alloc, &mut line, &source)?;
     Ok(line)
@@ -41,9 +41,10 @@ fn size(alloc: Global, source: &Source) -> Result<String, AllocError> {
 }
 
 /// Puts the lines of offsets as the text counts them.
-fn put_counted(alloc: Global, line: &mut String, source: &Source) -> Result<(), AllocError> {
+fn put_counted(line: &mut String, source: &Source) -> Result<(), AllocError> {
     for offset in 0..=source.len() {
-        put_number(alloc, line, u64::from(source.line_of(offset)))?;
+        let number = source.line_of(offset);
+        write!(line, " {number}")?;
     }
     Ok(())
 }
@@ -52,7 +53,8 @@ fn put_counted(alloc: Global, line: &mut String, source: &Source) -> Result<(), 
 fn put_found(alloc: Global, line: &mut String, source: &Source) -> Result<(), AllocError> {
     let table = LineTable::new(alloc, source)?;
     for offset in 0..=source.len() {
-        put_number(alloc, line, u64::from(table.line_of(offset)))?;
+        let number = table.line_of(offset);
+        write!(line, " {number}")?;
     }
     Ok(())
 }
@@ -63,9 +65,7 @@ pub(crate) fn slice(alloc: Global, row: &[u8]) -> Result<String, AllocError> {
     let from = u32::try_from(number(words.next())).unwrap_or(0);
     let to = u32::try_from(number(words.next())).unwrap_or(0);
     let text = words.next().unwrap_or("").as_bytes();
-    let mut shown = String::new(alloc);
-    put_bracketed(&mut shown, slice_of(text, from, to))?;
-    Ok(shown)
+    bracketed(alloc, slice_of(text, from, to))
 }
 
 /// A slice of a text, empty where there is none.

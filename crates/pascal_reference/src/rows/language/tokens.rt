@@ -1,95 +1,65 @@
 //! Tokens, and what they stand for.
 
-use crate::rows::language::words::{or_none, put, yes_or_no};
-use crate::rows::texts::{letters, put_bytes};
+use crate::rows::language::front::refused;
+use crate::rows::language::words::{or_none, put_space};
+use crate::rows::texts::{letters, letters_of};
+use ps_build::Refusal;
 use ps_regions::refusal::CheckRefusal;
 use ps_scan::{
-    ScanRefusal, Token, is_same_name, name_spelling, number_value, scan, string_length,
-    string_value,
+    Token, is_same_name, name_spelling, number_value, scan, string_length, string_value,
 };
-use ps_text::{Source, Span};
+use ps_text::Source;
 use std::alloc::{AllocError, Global};
 
-/// What is said of a text that has no tokens.
-pub(crate) fn refused(alloc: Global, refusal: ScanRefusal) -> Result<String, AllocError> {
-    let number = refusal.number();
-    let line = refusal.line();
-    format!(in alloc; "{number} {refusal} at line {line}")
+/// What is asked of tokens.
+#[derive(Clone, Copy)]
+pub(crate) enum Asked {
+    /// Their kinds.
+    Kinds,
+    /// Where they begin, and the offsets behind their ends.
+    Spans,
 }
 
-fn put_kind(alloc: Global, shown: &mut String, token: Token) -> Result<(), AllocError> {
+fn put_token(shown: &mut String, token: Token, asked: Asked) -> Result<(), AllocError> {
     let kind = token.kind;
-    let word = format!(in alloc; "{kind:?}")?;
-    put(shown, word.as_str())
+    let (from, to) = (token.span.from, token.span.to);
+    put_space(shown)?;
+    match asked {
+        Asked::Kinds => write!(shown, "{kind:?}"),
+        Asked::Spans => write!(shown, "{from}-{to}"),
+    }
 }
 
-fn kinds_of(alloc: Global, tokens: &[Token]) -> Result<String, AllocError> {
+fn told(alloc: Global, tokens: &[Token], asked: Asked) -> Result<String, AllocError> {
     let mut shown = String::new(alloc);
     for token in tokens {
-        put_kind(alloc, &mut shown, *token)?;
+        put_token(&mut shown, *token, asked)?;
     }
     or_none(alloc, shown)
 }
 
-/// The kinds of a text's tokens, or the refusal.
-pub(crate) fn kinds(alloc: Global, text: &[u8]) -> Result<String, AllocError> {
+/// What is asked of a text's tokens, or the refusal.
+pub(crate) fn tokens(alloc: Global, text: &[u8], asked: Asked) -> Result<String, AllocError> {
     let Ok(source) = Source::new(text) else {
         return String::from_str(alloc, "no source");
     };
     match scan(alloc, &source) {
-        Ok(tokens) => kinds_of(alloc, &tokens),
-        Err(refusal) => refused(alloc, refusal),
+        Ok(tokens) => told(alloc, &tokens, asked),
+        Err(refusal) => refused(alloc, Refusal::from(refusal)),
     }
-}
-
-fn put_span(alloc: Global, shown: &mut String, span: Span) -> Result<(), AllocError> {
-    let from = span.from;
-    let to = span.to;
-    let word = format!(in alloc; "{from}-{to}")?;
-    put(shown, word.as_str())
-}
-
-fn spans_of(alloc: Global, tokens: &[Token]) -> Result<String, AllocError> {
-    let mut shown = String::new(alloc);
-    for token in tokens {
-        put_span(alloc, &mut shown, token.span)?;
-    }
-    or_none(alloc, shown)
-}
-
-/// Where a text's tokens begin, and the offsets behind their ends.
-pub(crate) fn spans(alloc: Global, text: &[u8]) -> Result<String, AllocError> {
-    let Ok(source) = Source::new(text) else {
-        return String::from_str(alloc, "no source");
-    };
-    match scan(alloc, &source) {
-        Ok(tokens) => spans_of(alloc, &tokens),
-        Err(refusal) => refused(alloc, refusal),
-    }
-}
-
-fn put_string(alloc: Global, line: &mut String, literal: &[u8]) -> Result<(), AllocError> {
-    let characters = string_value(alloc, literal)?;
-    put_bytes(line, &characters)
 }
 
 /// What a string stands for, and its length.
 fn string(alloc: Global, literal: &[u8]) -> Result<String, AllocError> {
-    let mut shown = String::new(alloc);
-    put_string(alloc, &mut shown, literal)?;
+    let characters = string_value(alloc, literal)?;
+    let shown = letters_of(alloc, &characters)?;
     let length = string_length(literal);
     format!(in alloc; "{shown}, {length} characters")
 }
 
-fn put_spelling(alloc: Global, line: &mut String, name: &[u8]) -> Result<(), AllocError> {
-    let bytes = name_spelling(alloc, name)?;
-    put_bytes(line, &bytes)
-}
-
 fn spelling(alloc: Global, name: &[u8]) -> Result<String, AllocError> {
-    let mut shown = String::new(alloc);
-    put_spelling(alloc, &mut shown, name)?;
-    Ok(shown)
+    let bytes = name_spelling(alloc, name)?;
+    letters_of(alloc, &bytes)
 }
 
 fn number(alloc: Global, digits: &[u8]) -> Result<String, AllocError> {
@@ -99,7 +69,8 @@ fn number(alloc: Global, digits: &[u8]) -> Result<String, AllocError> {
 
 fn same(alloc: Global, names: &str) -> Result<String, AllocError> {
     let (a, b) = names.split_once(' ').unwrap_or(("", ""));
-    yes_or_no(alloc, is_same_name(a.as_bytes(), b.as_bytes()))
+    let is_same = is_same_name(a.as_bytes(), b.as_bytes());
+    String::from_str(alloc, if is_same { "yes" } else { "no" })
 }
 
 fn out_of_memory(alloc: Global) -> Result<String, AllocError> {

@@ -1,6 +1,6 @@
 //! Types: how two are related, their sizes, and the fields of records.
 
-use crate::rows::language::words::put;
+use crate::rows::language::words::put_space;
 use crate::rows::texts::put_parts;
 use ps_tree::types::{Fields, Ty, assignable, compatible};
 use std::alloc::{AllocError, Global};
@@ -32,18 +32,14 @@ pub(crate) fn relation(alloc: Global, value: &Ty, variable: &Ty) -> Result<Strin
     Ok(line)
 }
 
-fn put_size(alloc: Global, shown: &mut String, ty: &Ty) -> Result<(), AllocError> {
-    let cells = ty.cells();
-    let bytes = ty.bytes();
-    let word = format!(in alloc; "{cells} cells, {bytes} bytes")?;
-    put(shown, word.as_str())
-}
-
 /// The cells and bytes of types.
 pub(crate) fn sizes(alloc: Global, types: &[Ty]) -> Result<String, AllocError> {
     let mut shown = String::new(alloc);
     for ty in types {
-        put_size(alloc, &mut shown, ty)?;
+        let cells = ty.cells();
+        let bytes = ty.bytes();
+        put_space(&mut shown)?;
+        write!(shown, "{cells} cells, {bytes} bytes")?;
     }
     Ok(shown)
 }
@@ -59,13 +55,13 @@ fn form(ty: &Ty) -> &'static str {
     }
 }
 
-/// The field of a name: its place and the form of its type.
-fn field(alloc: Global, fields: &Fields, name: &str) -> Result<String, AllocError> {
+/// Puts the field of a name: its place and the form of its type.
+fn put_field(line: &mut String, fields: &Fields, name: &str) -> Result<(), AllocError> {
     match fields.find(name.as_bytes()) {
-        None => format!(in alloc; "{name}: none,"),
+        None => write!(line, "{name}: none, "),
         Some((place, ty)) => {
             let form = form(ty);
-            format!(in alloc; "{name}: {place} {form},")
+            write!(line, "{name}: {place} {form}, ")
         }
     }
 }
@@ -73,11 +69,10 @@ fn field(alloc: Global, fields: &Fields, name: &str) -> Result<String, AllocErro
 fn fields_of(alloc: Global, fields: &Fields) -> Result<String, AllocError> {
     let mut shown = String::new(alloc);
     for name in ["a", "b", "c", ""] {
-        let told = field(alloc, fields, name)?;
-        put(&mut shown, told.as_str())?;
+        put_field(&mut shown, fields, name)?;
     }
     let count = fields.types().len();
-    format!(in alloc; "{shown} {count} types")
+    format!(in alloc; "{shown}{count} types")
 }
 
 /// The fields a, b, c, and the one without a name, of the first type.

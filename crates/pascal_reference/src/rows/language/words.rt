@@ -8,18 +8,12 @@ pub(crate) fn number(word: Option<&str>) -> u64 {
     u64_of(word.unwrap_or(""))
 }
 
-/// Puts a word behind a line, with a space before it unless it is the first.
-pub(crate) fn put(line: &mut String, word: &str) -> Result<(), AllocError> {
+/// Puts a space behind a line, unless nothing stands on it.
+pub(crate) fn put_space(line: &mut String) -> Result<(), AllocError> {
     if !line.is_empty() {
         line.push(' ')?;
     }
-    line.push_str(word)
-}
-
-/// Puts a number behind a line, with a space before it.
-pub(crate) fn put_number(alloc: Global, line: &mut String, number: u64) -> Result<(), AllocError> {
-    let word = format!(in alloc; " {number}")?;
-    line.push_str(word.as_str())
+    Ok(())
 }
 
 /// A line, or `none` where nothing stands on it.
@@ -28,9 +22,4 @@ pub(crate) fn or_none(alloc: Global, line: String) -> Result<String, AllocError>
         return String::from_str(alloc, "none");
     }
     Ok(line)
-}
-
-/// `yes` or `no`.
-pub(crate) fn yes_or_no(alloc: Global, is_so: bool) -> Result<String, AllocError> {
-    String::from_str(alloc, if is_so { "yes" } else { "no" })
 }
