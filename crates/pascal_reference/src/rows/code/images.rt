@@ -30,7 +30,10 @@ fn shown(alloc: Global, image: &ImageView, job: &Job) -> Result<String, AllocErr
 fn put_counts(line: &mut String, image: &ImageView) -> Result<(), AllocError> {
     let (global, words, frames) = (image.global(), image.words(), image.frames());
     let (objects, traps, calls) = (image.objects(), image.traps(), image.calls());
-    write!(line, "{global} {words} {frames} {objects} {traps} {calls:?}; ")
+    write!(
+        line,
+        "{global} {words} {frames} {objects} {traps} {calls:?}; "
+    )
 }
 
 fn put_rows(line: &mut String, image: &ImageView, row: usize) -> Result<(), AllocError> {

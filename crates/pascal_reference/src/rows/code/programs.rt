@@ -4,9 +4,8 @@ use crate::rows::code::homes::{placed, tried};
 use crate::rows::code::instructions::instruction;
 use crate::rows::code::job::Job;
 use crate::rows::code::texts::word;
-use crate::rows::language::runs::end;
 use crate::rows::texts::u32_of;
-use crate::runs::ending_of;
+use crate::runs::{end_in_words, ending_of};
 use risc_alloc::placer::EverySlot;
 use risc_alloc::scan::Scan;
 use std::alloc::{AllocError, Global};
@@ -99,7 +98,7 @@ fn put_numbers(line: &mut String, numbers: &[u16]) -> Result<(), AllocError> {
 
 fn ended(alloc: Global, report: &Report) -> Result<String, AllocError> {
     match ending_of(report.ending) {
-        Ok(ending) => end(alloc, ending),
+        Ok(ending) => end_in_words(alloc, ending),
         Err(_) => String::from_str(alloc, "stuck"),
     }
 }

@@ -2,6 +2,7 @@
 
 use crate::rows::language::words::{number, or_none, put_space};
 use crate::rows::texts::bracketed;
+use crate::runs::end_in_words;
 use ps_runner::ending::Ending;
 use ps_runner::run::{
     Budget, Ran, Refusal, output, reference, reference_to_depth, reference_within, trail,
@@ -85,17 +86,6 @@ fn run(alloc: Global, program: &Checked, job: &Job) -> Result<Ran, Refusal> {
     }
 }
 
-/// How a run ended.
-pub(crate) fn end(alloc: Global, ending: Ending) -> Result<String, AllocError> {
-    match ending {
-        Ending::Normal => String::from_str(alloc, "normal"),
-        Ending::Error { number, line } => format!(in alloc; "error {number} at line {line}"),
-        Ending::Stack { line } => format!(in alloc; "stack at line {line}"),
-        Ending::Heap { line } => format!(in alloc; "heap at line {line}"),
-        Ending::More => String::from_str(alloc, "more"),
-    }
-}
-
 /// Puts the first 16 of some lines.
 fn put_lines(shown: &mut String, lines: &[u32]) -> Result<(), AllocError> {
     for line in lines.iter().take(16) {
@@ -141,7 +131,7 @@ fn refused(alloc: Global, refusal: Refusal) -> Result<String, AllocError> {
 }
 
 fn told(alloc: Global, ran: &Ran) -> Result<String, AllocError> {
-    let mut shown = end(alloc, ran.ending)?;
+    let mut shown = end_in_words(alloc, ran.ending)?;
     put_calls(&mut shown, ran)?;
     shown.push(':')?;
     put_transcript(&mut shown, &ran.transcript)?;
