@@ -89,7 +89,8 @@ fn put_code(words: &mut Vec<u32>, row: &str) -> Result<(), AllocError> {
 fn machine_at(alloc: Global, row: &str) -> Result<Machine, AllocError> {
     let mut words = Vec::new(alloc);
     put_code(&mut words, row)?;
-    let steps = words.len().saturating_sub(1);
+    // neither DATA nor the last word is a step on the way
+    let steps = words.len().saturating_sub(2);
     let mut console = closed(alloc)?;
     let mut machine = machine_of(alloc, &words, 0)?;
     let _ = run(&mut machine, &mut console, steps as u64);
