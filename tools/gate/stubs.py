@@ -16,6 +16,8 @@ PARTS = ("src", "specs", "proofs")
 # (what asks for lemmas, which a stub needs not)
 TACTIC = re.compile(r"^ *#\[tactic\(.*\)\]$")
 BODY = "crate::returns_never()"
+# (an answer to what a member must show before it calls another: a pair of what falls, which the search shows, and of the other's `requires`)
+FALLS = re.compile(r"(?m)( = |^ +)\(search \([^()]*\), (.*)\)$")
 # The function that never returns, by one of C that is said to keep what nothing keeps: nothing of the copy is ever built.
 NEVER = """
 unsafe extern "C" {
@@ -115,13 +117,14 @@ def has_answers(crate, sources, place):
 
 def answers_of_member(text, member):
     """Of the answers of a cycle of calls those of one member, as if it were in none: its twin calls what stands for the others, and itself. The names of a member's
-    goals begin with its own, and their answers take what is known of the cycle first."""
+    goals begin with its own, and their answers take what is known of the cycle first. In the twin nothing needs to fall from call to call."""
     head, *blocks = re.split(r"(?m)^(?=(?:--.*\n)*(?:abbrev )?pub )", text)
     own = []
     for block in blocks:
         name = re.match(rf"(?:--.*\n)*(?:abbrev )?pub ((invariant-|decreases-|){re.escape(member)}-(\S+)) :", block)
         if name:
             new = name[2] + name[3]
+            block = FALLS.sub(r"\1\2", block) if "-requires" in new else block
             own.append(re.sub(rf"(?m)^({re.escape(new)}) t\b", r"\1", re.sub(rf"(?<![\w-]){re.escape(name[1])}(?![\w-])", new, block)))
     return head + "".join(own) if own else None
 
