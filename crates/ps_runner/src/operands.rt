@@ -18,11 +18,21 @@ use std::alloc::AllocError;
 use std::rc::Rc;
 
 /// An actual parameter as it was taken.
-#[derive(Drop)]
 pub enum Actual {
     Value(Value),
     Variable(Spot),
     Routine(u32, Rc<Env>),
+}
+
+// Actual parameters and operands are let go part by part, in one call wherever one is.
+impl Drop for Actual {
+    fn drop(self) {
+        match self {
+            Actual::Value(_) => {}
+            Actual::Variable(_) => {}
+            Actual::Routine(_, _) => {}
+        }
+    }
 }
 
 /// What a call names: a routine that is declared so many frames out, or a procedural or functional parameter of the
@@ -50,10 +60,18 @@ impl Callee {
 }
 
 /// An operand of an array or record type as it was taken: a string in the text, or a variable.
-#[derive(Drop)]
 pub enum Held<'t> {
     Text(&'t [u8]),
     Place(Spot),
+}
+
+impl<'t> Drop for Held<'t> {
+    fn drop(self) {
+        match self {
+            Held::Text(_) => {}
+            Held::Place(_) => {}
+        }
+    }
 }
 
 /// The values of an array's indices.
@@ -132,11 +150,11 @@ impl<'a> World<'a> {
 
     /// The object that a pointer points to; error 6 for nil.
     #[tactic(auto, using(crate::proofs::Answers::stops), unfolding(crate::specs::View::value_of))]
-    pub fn object_of(&self, value: Value, line: u16, c: &Context) -> Result<Spot, Halt>
-        ensures { Answers spot_of (m.object_of (value_of value) line (context_of c.now) (world_of self.now)) result self.now }
+    pub fn object_of(&self, value: &Value, line: u16, c: &Context) -> Result<Spot, Halt>
+        ensures { Answers spot_of (m.object_of (value_of value.now) line (context_of c.now) (world_of self.now)) result self.now }
     {
         match value {
-            Value::Object(object) => Ok(Spot::entire(c.alloc, Root::Made(object))),
+            Value::Object(object) => Ok(Spot::entire(c.alloc, Root::Made(*object))),
             Value::Ordinal(_) | Value::Nil | Value::Set(_) | Value::Structure(_) => {
                 Err(self.fault(6, line, c))
             }
@@ -148,7 +166,7 @@ impl<'a> World<'a> {
         ensures { Answers spot_of (m.object_of (contents_in (world_of self.now) (spot_of spot.now)) line (context_of c.now) (world_of self.now)) result self.now }
     {
         let pointer = self.contents(c.alloc, spot)?;
-        self.object_of(pointer, line, c)
+        self.object_of(&pointer, line, c)
     }
 
     /// The record that a `with` opened.

@@ -11,7 +11,6 @@ use std::alloc::{AllocError, Global};
 use std::mem;
 
 /// A value. A set has the tests of its members, from 0 on.
-#[derive(Drop)]
 pub enum Value {
     Ordinal(i32),
     Nil,
@@ -28,10 +27,30 @@ pub enum Root {
 }
 
 /// A variable, or the part of it at the end of a path of component numbers.
-#[derive(Drop)]
 pub struct Spot {
     pub root: Root,
     pub path: Vec<u32>,
+}
+
+// How these are let go: part by part. Said here, it is one call wherever one is let go; were it derived, it would stand
+// written out there.
+impl Drop for Value {
+    #[cycle(letting_go)]
+    fn drop(self) {
+        match self {
+            Value::Ordinal(_) => {}
+            Value::Nil => {}
+            Value::Object(_) => {}
+            Value::Set(_) => {}
+            Value::Structure(_) => {}
+        }
+    }
+}
+
+impl Drop for Spot {
+    fn drop(self) {
+        let Spot { root: _, path: _ } = self;
+    }
 }
 
 impl Spot {
@@ -246,21 +265,25 @@ fn with_component(values: Vec<Value>, first: u32, rest: &[u32], new: Value) -> V
         return values;
     }
     let old = mem::replace(&mut values[place], Value::Nil);
-    values[place] = with_part(old, rest, new);
+    values[place] = old.with_part(rest, new);
     values
 }
 
-/// The value with another in the place of the part at the end of a path.
-#[cycle(with)]
-#[tactic(auto, using(crate::proofs::Values::value_of_Structure), unfolding(crate::specs::View::value_of))]
-pub fn with_part(value: Value, path: &[u32], new: Value) -> Value
-    ensures { value_of result ≡ with_part (value_of value) path.now (value_of new) }
-{
-    match path {
-        [] => new,
-        [first, rest @ ..] => match value {
-            Value::Structure(values) => Value::Structure(with_component(values, *first, rest, new)),
-            Value::Ordinal(_) | Value::Nil | Value::Object(_) | Value::Set(_) => value,
-        },
+impl Value {
+    /// The value with another in the place of the part at the end of a path.
+    #[cycle(with)]
+    #[tactic(auto, using(crate::proofs::Values::value_of_Structure), unfolding(crate::specs::View::value_of))]
+    pub fn with_part(self, path: &[u32], new: Value) -> Value
+        ensures { value_of result ≡ with_part (value_of self) path.now (value_of new) }
+    {
+        match path {
+            [] => new,
+            [first, rest @ ..] => match self {
+                Value::Structure(values) => {
+                    Value::Structure(with_component(values, *first, rest, new))
+                }
+                whole => whole,
+            },
+        }
     }
 }

@@ -9,7 +9,7 @@ ghost use Rattle.ps_runner.specs.Worlds.{context_of, env_of, entries_of, entry_s
 
 use crate::ending::Ending;
 use crate::stop::Halt;
-use crate::value::{Root, Spot, Value, part, with_part};
+use crate::value::{Root, Spot, Value, part};
 use ps_tree::program::Checked;
 use std::alloc::{AllocError, Global};
 use std::mem;
@@ -17,7 +17,7 @@ use std::rc::Rc;
 
 /// What a program is run with: the frame bytes of each routine, the object bytes of each pointer type, and the bytes
 /// of stack and heap.
-#[derive(Drop)]
+#[derive(Clone, Copy)]
 pub struct Job<'a> {
     pub alloc: Global,
     pub program: &'a Checked,
@@ -52,13 +52,25 @@ pub enum Numbers {
 
 /// Where an expression or a statement stands: its environment, the records that `with` opened round it, the routines
 /// whose blocks are open, and the lines of the calls that are open, each the innermost first.
-#[derive(Drop)]
 pub struct Context {
     pub alloc: Global,
     pub env: Rc<Env>,
     pub opened: Vec<Spot>,
     pub active: Rc<Numbers>,
     pub calls: Rc<Numbers>,
+}
+
+// A context is let go part by part, in one call wherever one is.
+impl Drop for Context {
+    fn drop(self) {
+        let Context {
+            alloc: _,
+            env: _,
+            opened: _,
+            active: _,
+            calls: _,
+        } = self;
+    }
 }
 
 /// Where a part of a run is done: of what job, in what context, with so much fuel and at most so many levels.
@@ -221,7 +233,7 @@ impl<'a> World<'a> {
     {
         self.reach(name)?;
         let old = mem::replace(&mut self.store[name], Value::Nil);
-        self.store[name] = with_part(old, path, value);
+        self.store[name] = old.with_part(path, value);
         Ok(())
     }
 
@@ -232,7 +244,7 @@ impl<'a> World<'a> {
     {
         if object < self.objects.len() {
             let old = mem::replace(&mut self.objects[object], Value::Nil);
-            self.objects[object] = with_part(old, path, value);
+            self.objects[object] = old.with_part(path, value);
         }
     }
 
