@@ -1,6 +1,6 @@
 // Types: what they are, when two are one, and their sizes.
 
-ghost use Rattle.std.specs.Prelude.{◌≡◌, ◌↔◌, ◌+◌, ◌*◌, ◌-◌, ◌^◌, ◌≤◌, min, IfOk, IfSome, IsTrue, option_map, ℕ, List};
+ghost use Rattle.std.specs.Prelude.{◌≡◌, ◌↔◌, ◌+◌, ◌*◌, ◌-◌, ◌^◌, ◌<◌, ◌≤◌, min, IfOk, IfSome, IsTrue, option_map, ℕ, List};
 ghost use Rattle.ps_tree.specs.Types.{Compatible, Assignable, is_same_host, are_same, is_same_ordinal, is_same_type, is_char, is_string_index, string_length, goes_with, has_variables, is_compatible, is_assignable, field_list, field_types, field_at, field_in};
 ghost use Rattle.ps_tree.specs.Sizes.{depth, depth_of_fields, value_count, fits_byte, whole_words, cells, record_cells, bytes, record_bytes, field_bytes, bytes_before, beginnings};
 ghost use Rattle.ps_tree.specs.TypeDepth.{deepest};
@@ -44,7 +44,6 @@ pub enum Packing {
 /// denoters of one form are two types. A pointer type bears its number among the pointer types, counted in the order
 /// of their denoters; its domain type, which may contain it, stands in the program's list of domains.
 #[cycle(types)]
-#[derive(Drop)]
 pub enum Ty {
     /// integer, char, Boolean, an enumerated type or a subrange
     Simple(Ordinal),
@@ -97,6 +96,76 @@ pub struct Fields {
     byte_count: u32,
 }
 
+impl Drop for Ty {
+    #[cycle(types)]
+    fn drop(self) {
+        match self {
+            Ty::Simple(_) => {}
+            Ty::Pointer { number: _ } => {}
+            Ty::Nil => {}
+            Ty::Set {
+                at: _,
+                packing: _,
+                base: _,
+            } => {}
+            Ty::EmptySet => {}
+            Ty::Text { length: _ } => {}
+            Ty::Array {
+                at: _,
+                packed: _,
+                index: _,
+                component: _,
+            } => {}
+            Ty::Record {
+                at: _,
+                packed: _,
+                fields: _,
+            } => {}
+        }
+    }
+}
+
+impl Ty {
+    /// Lets the type go but for the one with the most cells of those within that no other type has.
+    #[cycle(types)]
+    fn largest_within(self) -> Option<Ty>
+        ensures { IfSome result (λ ty. size-Ty ty < size-Ty self) }
+    {
+        match self {
+            Ty::Array {
+                at: _,
+                packed: _,
+                index: _,
+                component,
+            } => match Rc::into_inner(component) {
+                None => None,
+                Some(inner) => Some(inner.into_type()),
+            },
+            Ty::Record {
+                at: _,
+                packed: _,
+                fields,
+            } => match Rc::into_inner(fields) {
+                None => None,
+                Some(inner) => {
+                    let mut types = inner.into_types();
+                    take_largest(&mut types)
+                }
+            },
+            Ty::Simple(_) => None,
+            Ty::Pointer { number: _ } => None,
+            Ty::Nil => None,
+            Ty::Set {
+                at: _,
+                packing: _,
+                base: _,
+            } => None,
+            Ty::EmptySet => None,
+            Ty::Text { length: _ } => None,
+        }
+    }
+}
+
 impl Drop for Component {
     #[cycle(types)]
     fn drop(self) {
@@ -141,29 +210,8 @@ fn release_all(types: Vec<Ty>) {
 #[cycle(types)]
 fn release(ty: Ty) {
     let mut rest = ty;
-    loop {
-        match rest {
-            Ty::Array { component, .. } => match Rc::into_inner(component) {
-                None => return,
-                Some(inner) => rest = inner.into_type(),
-            },
-            Ty::Record { fields, .. } => match Rc::into_inner(fields) {
-                None => return,
-                Some(inner) => {
-                    let mut types = inner.into_types();
-                    match take_largest(&mut types) {
-                        None => return,
-                        Some(largest) => rest = largest,
-                    }
-                }
-            },
-            Ty::Simple(_)
-            | Ty::Pointer { .. }
-            | Ty::Nil
-            | Ty::Set { .. }
-            | Ty::EmptySet
-            | Ty::Text { .. } => return,
-        }
+    while let Some(inner) = rest.largest_within() {
+        rest = inner;
     }
 }
 
