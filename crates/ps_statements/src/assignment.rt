@@ -31,18 +31,22 @@ fn result_of(alloc: Global, heading: &Heading, levels: u32, at: u32) -> Result<T
 {
     match &heading.result {
         None => Err(wrong_kind(at)),
-        Some(ty) => Ok(TypedPlace {
-            place: Place {
+        Some(ty) => {
+            let ty = ty.copy()?;
+            let place = Place {
                 base: PlaceBase::Entry {
                     up: levels,
                     index: 0,
                 },
                 selectors: Vec::new(alloc),
                 at,
-            },
-            ty: ty.copy()?,
-            in_packed: false,
-        }),
+            };
+            Ok(TypedPlace {
+                place,
+                ty,
+                in_packed: false,
+            })
+        }
     }
 }
 
@@ -173,10 +177,13 @@ fn assigned(
     } = variable;
     match value {
         TypedValue::Simple(value, from) => {
-            if assignable(&from, &ty) {
+            let range = range_of(&ty);
+            let fits = assignable(&from, &ty);
+            drop((from, ty));
+            if fits {
                 Ok(Statement::Assign {
                     target,
-                    range: range_of(&ty),
+                    range,
                     value,
                     line,
                 })
@@ -185,9 +192,15 @@ fn assigned(
                 Err(not_assignable(at))
             }
         }
-        TypedValue::Set(value, from) => set_assigned((target, &ty), (value, &from), line, at),
+        TypedValue::Set(value, from) => {
+            let statement = set_assigned((target, &ty), (value, &from), line, at);
+            drop((from, ty));
+            statement
+        }
         TypedValue::Structure(value, from) => {
-            if assignable(&from, &ty) {
+            let fits = assignable(&from, &ty);
+            drop((from, ty));
+            if fits {
                 Ok(Statement::AssignStructure { target, value })
             } else {
                 drop((target, value));

@@ -30,10 +30,11 @@ fn case_constant(value: ConstantValue, index: Ordinal, at: u32) -> Result<i32, F
 {
     match value {
         ConstantValue::Ordinal(ordinal, number) => {
-            if !same_host(index.host, ordinal.host) {
-                return Err(wrong_type(at));
+            if same_host(index.host, ordinal.host) {
+                Ok(number)
+            } else {
+                Err(wrong_type(at))
             }
-            Ok(number)
         }
         ConstantValue::Text(_) => Err(wrong_type(at)),
     }

@@ -98,7 +98,10 @@ fn bound(value: TypedValue, ordinal: Ordinal, at: u32) -> Result<Expr, Fault>
 {
     match value {
         TypedValue::Simple(value, ty) => {
-            if compatible(&ty, &Ty::Simple(ordinal)) {
+            let control = Ty::Simple(ordinal);
+            let fits = compatible(&ty, &control);
+            drop((ty, control));
+            if fits {
                 Ok(value)
             } else {
                 drop(value);

@@ -8,12 +8,12 @@ ghost use Rattle.ps_typing.specs.View.{context_at, regions_at, variable_of};
 ghost use Rattle.ps_statements.specs.Procedures as spec;
 
 use crate::argument::{first_token, parameter_value, parameter_variable, wrong_number};
-use ps_regions::answer::paired;
+use ps_regions::answer::{boxed_answer, paired};
 use ps_regions::refusal::Fault;
 use ps_syntax::Parameter;
 use ps_text::Span;
 use ps_tree::line::Line;
-use ps_tree::tree::{Expr, Statement};
+use ps_tree::tree::{Expr, Place, Statement};
 use ps_tree::types::{Ordinal, Ty, same_host, same_type};
 use ps_typing::function::ordinal_of;
 use ps_typing::operators::wrong_type;
@@ -29,18 +29,24 @@ fn new_variable(variable: TypedPlace, line: Line, at: u32) -> Result<Statement, 
 {
     let TypedPlace { place, ty, .. } = variable;
     match ty {
-        Ty::Pointer { number } => Ok(Statement::New {
-            place,
-            pointer: number,
-            line,
-        }),
+        Ty::Pointer { number } => {
+            drop(ty);
+            Ok(Statement::New {
+                place,
+                pointer: number,
+                line,
+            })
+        }
         Ty::Simple(_)
         | Ty::Nil
         | Ty::Set { .. }
         | Ty::EmptySet
         | Ty::Text { .. }
         | Ty::Array { .. }
-        | Ty::Record { .. } => Err(wrong_type(at)),
+        | Ty::Record { .. } => {
+            drop((place, ty));
+            Err(wrong_type(at))
+        }
     }
 }
 
@@ -194,6 +200,16 @@ pub(crate) fn unpack_statement(
     }
 }
 
+/// A variable's place, on the heap, with its type.
+fn boxed_place(alloc: Global, variable: TypedPlace) -> Result<(Box<Place>, Ty), Fault>
+    ensures place { IfOk result (λ pair. variable.place ≡ pair.0.value) }
+    ensures ty { IfOk result (λ pair. variable.ty ≡ pair.1) }
+    ensures err { IfErr result (λ fault. IsFault fault → ⊥) }
+{
+    let TypedPlace { place, ty, .. } = variable;
+    paired(boxed_answer(alloc, Ok(place)), Ok(ty))
+}
+
 /// The statement of pack, with the line of its index.
 #[tactic(auto, unfolding(ps_tree::specs::View::statement_of))]
 fn packed_from(
@@ -211,13 +227,15 @@ fn packed_from(
         drop((from, index, to));
         return Err(fault);
     }
+    let places = paired(boxed_place(alloc, from), boxed_place(alloc, to));
+    let (index, ((from, from_ty), (to, to_ty))) = paired(Ok(index.0), places)?;
     Ok(Statement::Pack {
-        from: Box::new(alloc, from.place)?,
-        from_ty: from.ty,
-        index: index.0,
+        from,
+        from_ty,
+        index,
         line,
-        to: Box::new(alloc, to.place)?,
-        to_ty: to.ty,
+        to,
+        to_ty,
     })
 }
 
@@ -238,12 +256,14 @@ fn unpacked_to(
         drop((from, to, index));
         return Err(fault);
     }
+    let places = paired(boxed_place(alloc, from), boxed_place(alloc, to));
+    let (index, ((from, from_ty), (to, to_ty))) = paired(Ok(index.0), places)?;
     Ok(Statement::Unpack {
-        from: Box::new(alloc, from.place)?,
-        from_ty: from.ty,
-        to: Box::new(alloc, to.place)?,
-        to_ty: to.ty,
-        index: index.0,
+        from,
+        from_ty,
+        to,
+        to_ty,
+        index,
         line,
     })
 }

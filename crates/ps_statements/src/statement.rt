@@ -1,6 +1,6 @@
 //! Statements (ISO 7185, 6.8).
 
-ghost use Rattle.std.specs.Prelude.{◌≡◌, map, IfOk, IfErr, Some, None};
+ghost use Rattle.std.specs.Prelude.{◌≡◌, ◌++◌, ◌∷◌, [], map, IfOk, IfErr, Some, None};
 ghost use Rattle.ps_tree.specs.View.{type_of, expr_of, place_of, statement_of, statements_of};
 ghost use Rattle.ps_regions.specs.Option.{traverse};
 ghost use Rattle.ps_regions.specs.Refusal.{IsFault};
@@ -26,6 +26,7 @@ use ps_typing::function::ordinal_of;
 use ps_typing::operators::wrong_type;
 use ps_typing::site::Site;
 use ps_typing::value::{TypedPlace, TypedValue, is_boolean};
+use std::alloc::AllocError;
 
 /// A condition, which begins at `at` (6.8.3.3).
 #[tactic(auto, unfolding(crate::specs::Structured::condition, ps_typing::specs::View::value_of))]
@@ -35,7 +36,9 @@ fn condition(value: TypedValue, at: u32) -> Result<Expr, Fault>
 {
     match value {
         TypedValue::Simple(value, ty) => {
-            if is_boolean(&ty) {
+            let is_right = is_boolean(&ty);
+            drop(ty);
+            if is_right {
                 Ok(value)
             } else {
                 drop(value);
@@ -66,6 +69,14 @@ fn index_at(x: &SyntaxExpr, site: Site<'_>) -> Result<(Expr, Ordinal), Fault>
     ordinal_of(value, x.first_token())
 }
 
+fn pushed(places: Vec<Place>, place: Place) -> Result<Vec<Place>, AllocError>
+    ensures { IfOk result (λ list. list.items ≡ places.items ++ place ∷ []) }
+{
+    let mut list = places;
+    list.push(place)?;
+    Ok(list)
+}
+
 /// A record that a `with` statement is to open behind others, with its type.
 fn opened_record(
     x: &Variable,
@@ -76,9 +87,7 @@ fn opened_record(
     ensures err { IfErr result (λ fault. IsFault fault → record_at (context_at site.entry) (regions_at site.entry) (map place_of opened.items) x.now ≡ None) }
 {
     let TypedPlace { place, ty, .. } = variable_place(x, site)?;
-    let mut places = opened;
-    places.push(place)?;
-    Ok((places, ty))
+    Ok(paired(pushed(opened, place), Ok(ty))?)
 }
 
 /// A statement.

@@ -1,6 +1,7 @@
 // The parameters of read, readln, write and writeln (6.9).
 
 ghost use Rattle.std.specs.Prelude.{◌≡◌, map, IfOk, IfErr, Some, None};
+ghost use Rattle.ps_tree.specs.Types.{OrdinalType};
 ghost use Rattle.ps_tree.specs.View.{expr_of, type_of, place_of, read_of, write_of, width_of, statement_of};
 ghost use Rattle.ps_regions.specs.Option.{traverse};
 ghost use Rattle.ps_regions.specs.Refusal.{IsFault};
@@ -11,18 +12,50 @@ ghost use Rattle.ps_statements.specs.Procedures as spec;
 
 use crate::argument::{first_token, parameter_variable, wrong_number};
 use crate::file::behind_file;
-use ps_regions::answer::{paired, push_answer};
+use ps_regions::answer::paired;
 use ps_regions::meaning::File;
 use ps_regions::refusal::Fault;
 use ps_syntax::{Expr as Syntax, Parameter};
 use ps_text::Span;
 use ps_tree::line::Line;
-use ps_tree::tree::{Expr, ReadVariable, Statement, Width, WriteParameter};
+use ps_tree::tree::{Expr, Place, ReadVariable, Statement, Width, WriteParameter};
 use ps_tree::types::{Host, Ordinal, Ty};
 use ps_typing::expression::expr_value;
 use ps_typing::operators::wrong_type;
 use ps_typing::site::Site;
 use ps_typing::value::{TypedPlace, TypedValue, is_integer};
+
+/// A variable of an ordinal type that is read, which begins at `at`.
+#[tactic(auto, unfolding(crate::specs::Procedures::read_variable, ps_tree::specs::View::read_of))]
+fn ordinal_read(place: Place, ordinal: Ordinal, line: Line, at: u32) -> Result<ReadVariable, Fault>
+    ensures ok { IfOk result (λ v. spec.read_variable (place_of place) (OrdinalType ordinal) line.number ≡ Some (read_of v)) }
+    ensures err { IfErr result (λ fault. IsFault fault → spec.read_variable (place_of place) (OrdinalType ordinal) line.number ≡ None) }
+{
+    let Ordinal {
+        host,
+        low,
+        high,
+        ..
+    } = ordinal;
+    match host {
+        Host::Char => Ok(ReadVariable::Char {
+            place,
+            low,
+            high,
+            line,
+        }),
+        Host::Integer => Ok(ReadVariable::Integer {
+            place,
+            low,
+            high,
+            line,
+        }),
+        Host::Boolean | Host::Enumeration { .. } => {
+            drop(place);
+            Err(wrong_type(at))
+        }
+    }
+}
 
 /// A variable that is read, which begins at `at`.
 #[tactic(auto, unfolding(crate::specs::Procedures::read_variable, ps_tree::specs::View::type_of, ps_tree::specs::View::read_of))]
@@ -32,35 +65,20 @@ fn read_variable(variable: TypedPlace, line: Line, at: u32) -> Result<ReadVariab
 {
     let TypedPlace { place, ty, .. } = variable;
     match ty {
-        Ty::Simple(
-            Ordinal {
-                host,
-                low,
-                high,
-                ..
-            },
-        ) => match host {
-            Host::Char => Ok(ReadVariable::Char {
-                place,
-                low,
-                high,
-                line,
-            }),
-            Host::Integer => Ok(ReadVariable::Integer {
-                place,
-                low,
-                high,
-                line,
-            }),
-            Host::Boolean | Host::Enumeration { .. } => Err(wrong_type(at)),
-        },
+        Ty::Simple(ordinal) => {
+            drop(ty);
+            ordinal_read(place, ordinal, line, at)
+        }
         Ty::Pointer { .. }
         | Ty::Nil
         | Ty::Set { .. }
         | Ty::EmptySet
         | Ty::Text { .. }
         | Ty::Array { .. }
-        | Ty::Record { .. } => Err(wrong_type(at)),
+        | Ty::Record { .. } => {
+            drop((place, ty));
+            Err(wrong_type(at))
+        }
     }
 }
 
@@ -81,7 +99,8 @@ fn variables_read(parameters: &[Parameter], site: Site<'_>) -> Result<Vec<ReadVa
 {
     let mut list = Vec::new(site.alloc);
     for parameter in parameters {
-        push_answer(&mut list, read_parameter(parameter, site))?;
+        let variable = read_parameter(parameter, site)?;
+        list.push(variable)?;
     }
     Ok(list)
 }
@@ -157,7 +176,10 @@ fn written(value: TypedValue, width: Width, at: u32) -> Result<WriteParameter, F
 {
     match value {
         TypedValue::Simple(value, ty) => match ty {
-            Ty::Simple(ordinal) => ordinal_written(value, ordinal, width, at),
+            Ty::Simple(ordinal) => {
+                drop(ty);
+                ordinal_written(value, ordinal, width, at)
+            }
             Ty::Pointer { .. }
             | Ty::Nil
             | Ty::Set { .. }
@@ -165,12 +187,14 @@ fn written(value: TypedValue, width: Width, at: u32) -> Result<WriteParameter, F
             | Ty::Text { .. }
             | Ty::Array { .. }
             | Ty::Record { .. } => {
-                drop((value, width));
+                drop((value, width, ty));
                 Err(wrong_type(at))
             }
         },
         TypedValue::Structure(value, ty) => {
-            if ty.string_length().is_some() {
+            let is_string = ty.string_length().is_some();
+            drop(ty);
+            if is_string {
                 Ok(WriteParameter::Text { value, width })
             } else {
                 drop((value, width));
@@ -192,7 +216,9 @@ fn width_of(value: TypedValue, line: Line, at: u32) -> Result<Width, Fault>
 {
     match value {
         TypedValue::Simple(value, ty) => {
-            if is_integer(&ty) {
+            let is_right = is_integer(&ty);
+            drop(ty);
+            if is_right {
                 Ok(Width::Given { value, line })
             } else {
                 drop(value);
@@ -241,7 +267,8 @@ fn values_written(parameters: &[Parameter], site: Site<'_>) -> Result<Vec<WriteP
 {
     let mut list = Vec::new(site.alloc);
     for parameter in parameters {
-        push_answer(&mut list, write_parameter(parameter, site))?;
+        let value = write_parameter(parameter, site)?;
+        list.push(value)?;
     }
     Ok(list)
 }
