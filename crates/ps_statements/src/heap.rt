@@ -28,25 +28,19 @@ fn new_variable(variable: TypedPlace, line: Line, at: u32) -> Result<Statement, 
     ensures err { IfErr result (λ fault. IsFault fault → spec.new_variable (place_of variable.place) (type_of variable.ty) line.number ≡ None) }
 {
     let TypedPlace { place, ty, .. } = variable;
-    match ty {
-        Ty::Pointer { number } => {
-            drop(ty);
-            Ok(Statement::New {
-                place,
-                pointer: number,
-                line,
-            })
-        }
+    match &ty {
+        Ty::Pointer { number } => Ok(Statement::New {
+            place,
+            pointer: *number,
+            line,
+        }),
         Ty::Simple(_)
         | Ty::Nil
         | Ty::Set { .. }
         | Ty::EmptySet
         | Ty::Text { .. }
         | Ty::Array { .. }
-        | Ty::Record { .. } => {
-            drop((place, ty));
-            Err(wrong_type(at))
-        }
+        | Ty::Record { .. } => Err(wrong_type(at)),
     }
 }
 

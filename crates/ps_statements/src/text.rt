@@ -64,21 +64,15 @@ fn read_variable(variable: TypedPlace, line: Line, at: u32) -> Result<ReadVariab
     ensures err { IfErr result (λ fault. IsFault fault → spec.read_variable (place_of variable.place) (type_of variable.ty) line.number ≡ None) }
 {
     let TypedPlace { place, ty, .. } = variable;
-    match ty {
-        Ty::Simple(ordinal) => {
-            drop(ty);
-            ordinal_read(place, ordinal, line, at)
-        }
+    match &ty {
+        Ty::Simple(ordinal) => ordinal_read(place, *ordinal, line, at),
         Ty::Pointer { .. }
         | Ty::Nil
         | Ty::Set { .. }
         | Ty::EmptySet
         | Ty::Text { .. }
         | Ty::Array { .. }
-        | Ty::Record { .. } => {
-            drop((place, ty));
-            Err(wrong_type(at))
-        }
+        | Ty::Record { .. } => Err(wrong_type(at)),
     }
 }
 
@@ -175,11 +169,8 @@ fn written(value: TypedValue, width: Width, at: u32) -> Result<WriteParameter, F
     ensures err { IfErr result (λ fault. IsFault fault → spec.written (value_of value) (width_of width) ≡ None) }
 {
     match value {
-        TypedValue::Simple(value, ty) => match ty {
-            Ty::Simple(ordinal) => {
-                drop(ty);
-                ordinal_written(value, ordinal, width, at)
-            }
+        TypedValue::Simple(value, ty) => match &ty {
+            Ty::Simple(ordinal) => ordinal_written(value, *ordinal, width, at),
             Ty::Pointer { .. }
             | Ty::Nil
             | Ty::Set { .. }
@@ -187,7 +178,7 @@ fn written(value: TypedValue, width: Width, at: u32) -> Result<WriteParameter, F
             | Ty::Text { .. }
             | Ty::Array { .. }
             | Ty::Record { .. } => {
-                drop((value, width, ty));
+                drop((value, width));
                 Err(wrong_type(at))
             }
         },

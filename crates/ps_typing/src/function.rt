@@ -77,8 +77,8 @@ fn ordinal_or(value: TypedValue, wrong: Fault) -> Result<(Expr, Ordinal), Fault>
     ensures told { IfErr result (λ fault. fault ≡ wrong) }
 {
     match value {
-        TypedValue::Simple(value, ty) => match ty {
-            Ty::Simple(ordinal) => Ok((value, ordinal)),
+        TypedValue::Simple(value, ty) => match &ty {
+            Ty::Simple(ordinal) => Ok((value, *ordinal)),
             Ty::Pointer { .. }
             | Ty::Nil
             | Ty::Set { .. }

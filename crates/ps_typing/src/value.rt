@@ -170,14 +170,14 @@ pub(crate) fn loaded(alloc: Global, variable: TypedPlace, at: u32) -> Result<Typ
     let TypedPlace { place, ty, .. } = variable;
     let place = Box::new(alloc, place)?;
     match ty {
-        Ty::Simple(_) | Ty::Pointer { .. } => Ok(TypedValue::Simple(Expr::Load(place), ty)),
+        Ty::Simple(..) | Ty::Pointer { .. } => Ok(TypedValue::Simple(Expr::Load(place), ty)),
         Ty::Set { .. } => Ok(TypedValue::Set(SetExpr::Load(place), ty)),
         Ty::Array { .. } | Ty::Record { .. } => {
             let copy = ty.copy()?;
             let contents = Structure::Contents { place, ty: copy };
             Ok(TypedValue::Structure(contents, ty))
         }
-        Ty::Nil | Ty::EmptySet | Ty::Text { .. } => Err(Fault::Broken {
+        Ty::Nil { .. } | Ty::EmptySet { .. } | Ty::Text { .. } => Err(Fault::Broken {
             rule: Rule::WrongType,
             at,
         }),
