@@ -1,10 +1,12 @@
 // The printed form of an instruction.
 
 ghost use Rattle.std.specs.Prelude.{◌≡◌, IfOk, Some};
+ghost use Rattle.std.specs.Fmt.{DisplaysOnOk, signed_decimal};
 ghost use Rattle.std.specs.String.{string_bytes};
-ghost use Rattle.risc_word.specs.Printed.{printed, printed_register, printed_operand, printed_target, operation_name, condition_name, load_name, store_name, branch_name};
+ghost use Rattle.risc_word.specs.declared.instr.Instr.TheVariants as instr;
+ghost use Rattle.risc_word.specs.Printed.{printed, printed_register, printed_operand, printed_target, with_three, operation_name, condition_name, load_name, store_name, branch_name};
 
-use crate::field::Register;
+use crate::field::{Offset, Register};
 use crate::instr::{Condition, Instr, Operand, Operation, Target, Width};
 use std::alloc::{AllocError, Global};
 use std::fmt;
@@ -70,41 +72,66 @@ impl fmt::Display for Instr {
                 to,
                 left,
                 right,
-            } => {
-                let name = name_of_operation(operation);
-                write!(f, "{name} {to}, {left}, {right}")
-            }
+            } => write_operation(f, operation, to, left, right),
             Instr::Load {
                 width,
                 to,
                 base,
                 offset,
-            } => {
-                let name = name_of_load(width);
-                let distance = offset.value();
-                write!(f, "{name} {to}, {base}, {distance}")
-            }
+            } => write_access(f, name_of_load(width), to, base, offset),
             Instr::Store {
                 width,
                 from,
                 base,
                 offset,
-            } => {
-                let name = name_of_store(width);
-                let distance = offset.value();
-                write!(f, "{name} {from}, {base}, {distance}")
-            }
+            } => write_access(f, name_of_store(width), from, base, offset),
             Instr::Branch {
                 condition,
                 link,
                 target,
-            } => {
-                let name = if link { "BL" } else { "B" };
-                let when = name_of_condition(condition);
-                write!(f, "{name} {when}, {target}")
-            }
+            } => write_branch(f, condition, link, target),
         }
     }
+}
+
+fn write_operation<W: fmt::Write>(
+    f: &mut fmt::Formatter<W>,
+    operation: Operation,
+    to: Register,
+    left: Register,
+    right: Operand,
+) -> fmt::Result
+    ensures { DisplaysOnOk W.write_str_gives f.old result (Some (printed (instr.Operate operation to left right))) f.new }
+{
+    let name = name_of_operation(operation);
+    write!(f, "{name} {to}, {left}, {right}")
+}
+
+// A load or a store.
+fn write_access<W: fmt::Write>(
+    f: &mut fmt::Formatter<W>,
+    name: &str,
+    register: Register,
+    base: Register,
+    offset: Offset,
+) -> fmt::Result
+    ensures { DisplaysOnOk W.write_str_gives f.old result (Some (with_three name.now (printed_register register) (printed_register base) (signed_decimal offset))) f.new }
+{
+    let distance = offset.value();
+    write!(f, "{name} {register}, {base}, {distance}")
+}
+
+fn write_branch<W: fmt::Write>(
+    f: &mut fmt::Formatter<W>,
+    condition: Condition,
+    link: bool,
+    target: Target,
+) -> fmt::Result
+    ensures { DisplaysOnOk W.write_str_gives f.old result (Some (printed (instr.Branch condition link target))) f.new }
+{
+    let name = if link { "BL" } else { "B" };
+    let when = name_of_condition(condition);
+    write!(f, "{name} {when}, {target}")
 }
 
 fn name_of_operation(operation: Operation) -> &'static str
