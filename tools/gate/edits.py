@@ -323,14 +323,21 @@ def named(stubbed, work, edit):
         return None
     texts = stubbed.texts(edited)
     ran = work.checked(stubbed, texts, names)
-    lines = ran.stdout.split("\n")
     # (which counts what the function calls, too)
     told = re.match(r"only=(\d+) proved=(\d+)", last_line(ran))
-    if ran.returncode != 1 or not told or told[1] == told[2] or any(kit.rt().unread(it, texts) for it in lines):
+    if not told or told[1] == told[2]:
+        return None
+    return refused_for(ran, texts, [it for it in (unproved(ran, work.crate, name) for name in names) if it])
+
+
+def refused_for(ran, texts, otherwise):
+    """Why a check refuses these texts, by its errors, or by these lines where it tells none; None where it can't read them, tells nothing, or refuses only what names
+    what an edit took away."""
+    lines = ran.stdout.split("\n")
+    if ran.returncode != 1 or any(kit.rt().unread(it, texts) for it in lines):
         return None
     errors = [it for it in lines if re.match(r"(note: )?(\./)?(src|specs|proofs)/\S+:\d+:\d+: (error|it is not proved)", it)]
-    of = [it for it in (unproved(ran, work.crate, name) for name in names) if it]
-    return next((it for it in errors or of if not re.search(TAKEN_AWAY, it)), None)
+    return next((it for it in errors or otherwise if not re.search(TAKEN_AWAY, it)), None)
 
 
 def key_of(crate, edit):
@@ -394,13 +401,35 @@ def try_anew(crate, edits, flags):
     """Tries edits of which the store knows nothing, and keeps there those that are refused."""
     told, spent = {}, Spent()
     for it, why in refused_by_name(Work(crate, flags), edits, spent):
-        told[it.path] = keep(crate, it, (True, f"must-fail {crate.name}/{it.name}: refused, as it must be: {why[:160]}"))
-    for it in edits:
-        if it.path not in told:
-            told[it.path] = keep(crate, it, tried(crate, it, flags))
-            spent.part(f"{it.name} alone, from nothing")
+        told[it.path] = keep(crate, it, refused(crate, it, why))
+    for it, came in tried_whole(Work(crate, flags), [it for it in edits if it.path not in told], spent):
+        told[it.path] = keep(crate, it, came)
     spent.tell()
     return told
+
+
+def refused(crate, edit, why):
+    """What came of an edit that is refused."""
+    return True, f"must-fail {crate.name}/{edit.name}: refused, as it must be: {why[:160]}"
+
+
+def tried_whole(work, edits, spent):
+    """Yields edits with what came of each where the whole crate is checked: several over what the crate as it stands left, if that is proved; one alone, and each that
+    is not refused there, from nothing."""
+    is_held = len(edits) > 1 and not work.checked(work, {}, []).returncode
+    spent.part("the crate as it stands")
+    for it in edits:
+        why = is_held and refused_whole(work, it)
+        yield it, refused(work.crate, it, why) if why else tried(work.crate, it, work.flags)
+        spent.part(f"{it.name} with the whole crate{'' if why else ', from nothing'}")
+    work.remove()
+
+
+def refused_whole(work, edit):
+    """Why the whole crate is not proved with an edit, over what earlier trials left, or None where that is not told."""
+    texts = edit.apply({}, work.crate)
+    ran = work.checked(work, texts, []) if texts else None
+    return refused_for(ran, texts, []) if ran and last_line(ran).startswith("logic=not-proved") else None
 
 
 def refused_by_name(work, edits, spent):
