@@ -246,9 +246,7 @@ fn declare_variables(
 {
     let hidden = Hidden::Variables(declaration.names.as_slice());
     let ty = denoter(&declaration.ty, frame, alloc, &hidden, declared)?;
-    let done = declare_names(first, &ty, declared, declaration.names.as_slice());
-    drop(ty);
-    done
+    declare_names(first, &ty, declared, declaration.names.as_slice())
 }
 
 #[tactic(auto, using(ps_regions::proofs::Lists::stepped_next, ps_regions::proofs::Lists::stepped_fault, ps_regions::proofs::Lists::stepped_end))]

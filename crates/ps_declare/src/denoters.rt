@@ -328,9 +328,7 @@ fn ordinal(
     match denoter {
         OrdinalDenoter::Name(at) => {
             let ty = type_in(frame, alloc, hidden, declared.known.as_slice(), *at)?;
-            let ordinal = ordinal_at(&ty, at.from);
-            drop(ty);
-            ordinal
+            ordinal_at(&ty, at.from)
         }
         OrdinalDenoter::Enumeration(at, names) => enumeration(at.from, names.as_slice(), declared),
         OrdinalDenoter::Subrange(low, high) => {
@@ -397,7 +395,6 @@ fn small(ty: Ty, at: u32) -> Result<Ty, Fault>
     if ty.cells() <= 100_000 {
         Ok(ty)
     } else {
-        drop(ty);
         Err(broken(Rule::Limit, at))
     }
 }
@@ -691,9 +688,7 @@ fn add_fields(
     ensures err { IfErr result (λ fault. IsFault fault → add_fields (frame_of frame.now) (hidden_of hidden.now) (map type_of done.old.items, declared_of declared.old) (fields (frame_of frame.now) section.now) ≡ None) }
 {
     let ty = denoter(&section.ty, frame, alloc, hidden, declared)?;
-    let added = fields_of_type(done, &ty, section.names.as_slice());
-    drop(ty);
-    added
+    fields_of_type(done, &ty, section.names.as_slice())
 }
 
 /// The fields of a record, within whose denoter their names hide others.

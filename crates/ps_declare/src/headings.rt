@@ -76,7 +76,6 @@ fn result_type(
     if is_result(&ty) {
         Ok(ty)
     } else {
-        drop(ty);
         Err(broken(Rule::WrongType, name.from))
     }
 }

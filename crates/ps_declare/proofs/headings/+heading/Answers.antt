@@ -4,7 +4,7 @@ use Rattle.ps_regions.specs.Views.{meaning_of, section_of}
 use Rattle.ps_regions.proofs.Lists.{stepped_next_map, stepped_fault_map, stepped_end_map}
 use Rattle.ps_declare.specs.Headings.{add_section, section}
 use Rattle.ps_declare.specs.Views.{frame_of, hidden_of}
-use Rattle.ps_declare.proofs.HeadingLemmas.{section_Routine, routine_made}
+use Rattle.ps_declare.proofs.HeadingLemmas.{section_Routine, routine_made, heading_Procedure, heading_Function, section_Value, section_Variable}
 use Rattle.ps_declare.proofs.headings.+heading.Goals as goal
 
 pub all_sections-returns-in_err-add_section-clause-err : goal.all_sections-returns-in_err-add_section-clause-err
@@ -25,3 +25,41 @@ pub all_sections-returns-clause-ok : goal.all_sections-returns-clause-ok
 all_sections-returns-clause-ok t c =
     let over : length c.args.list.now ≤ c.loop-written.written-index = omega (arith, c.loop-written-test.false) in
     stepped_end_map _ _ _ _ _ _ over c.loop-written.invariant
+
+pub heading-returns-in_err-sections-in-Procedure-clause-err : goal.heading-returns-in_err-sections-in-Procedure-clause-err
+heading-returns-in_err-sections-in-Procedure-clause-err t c = grind (arith, heading_Procedure)
+
+pub heading-returns-in_ok-sections-in-Procedure-clause-ok : goal.heading-returns-in_ok-sections-in-Procedure-clause-ok
+heading-returns-in_ok-sections-in-Procedure-clause-ok t c = grind (arith, heading_Procedure)
+
+pub heading-returns-in_err-sections-in-Function-clause-err : goal.heading-returns-in_err-sections-in-Function-clause-err
+heading-returns-in_err-sections-in-Function-clause-err t c = grind (arith, heading_Function)
+
+pub heading-returns-in_err-ty-in-Function-clause-err : goal.heading-returns-in_err-ty-in-Function-clause-err
+heading-returns-in_err-ty-in-Function-clause-err t c = grind (arith, heading_Function)
+
+pub heading-returns-in_ok-ty-in-Function-clause-ok : goal.heading-returns-in_ok-ty-in-Function-clause-ok
+heading-returns-in_ok-ty-in-Function-clause-ok t c = grind (arith, heading_Function)
+
+pub section-returns-in_err-count-in-Value-clause-err : goal.section-returns-in_err-count-in-Value-clause-err
+section-returns-in_err-count-in-Value-clause-err t c = grind (arith, section_Value)
+
+pub section-returns-in_err-ty-in-Value-clause-err : goal.section-returns-in_err-ty-in-Value-clause-err
+section-returns-in_err-ty-in-Value-clause-err t c = grind (arith, section_Value)
+
+pub section-returns-in_ok-ty-in-Value-clause-ok : goal.section-returns-in_ok-ty-in-Value-clause-ok
+unfolding section_of
+section-returns-in_ok-ty-in-Value-clause-ok t c = grind (arith, section_Value)
+
+pub section-returns-in_err-count-in-Variable-clause-err : goal.section-returns-in_err-count-in-Variable-clause-err
+section-returns-in_err-count-in-Variable-clause-err t c = grind (arith, section_Variable)
+
+pub section-returns-in_err-ty-in-Variable-clause-err : goal.section-returns-in_err-ty-in-Variable-clause-err
+section-returns-in_err-ty-in-Variable-clause-err t c = grind (arith, section_Variable)
+
+pub section-returns-in_ok-ty-in-Variable-clause-ok : goal.section-returns-in_ok-ty-in-Variable-clause-ok
+unfolding section_of
+section-returns-in_ok-ty-in-Variable-clause-ok t c = grind (arith, section_Variable)
+
+pub section-returns-in_err-sections-in-Routine-clause-err : goal.section-returns-in_err-sections-in-Routine-clause-err
+section-returns-in_err-sections-in-Routine-clause-err t c = grind (arith, section_Routine)
