@@ -23,12 +23,16 @@ fn widened(word: u32) -> i64
 pub(crate) fn sum_overflows(left: u32, right: u32, carry: bool) -> bool
     ensures { result ≡ overflows (signed left +ℤ signed right +ℤ pos (from_bool carry)) }
 {
-    leaves_word(widened(left) + widened(right) + carry as i64)
+    let sum = widened(left) + widened(right);
+    let carried = sum + carry as i64;
+    leaves_word(carried)
 }
 
 // Whether the signed difference with a borrow leaves 32 bits.
 pub(crate) fn difference_overflows(left: u32, right: u32, borrow: bool) -> bool
     ensures { result ≡ overflows (signed left -ℤ signed right -ℤ pos (from_bool borrow)) }
 {
-    leaves_word(widened(left) - widened(right) - borrow as i64)
+    let difference = widened(left) - widened(right);
+    let borrowed = difference - borrow as i64;
+    leaves_word(borrowed)
 }
