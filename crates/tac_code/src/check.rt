@@ -29,6 +29,13 @@ fn is_line(line: u16) -> bool
     1 <= line
 }
 
+// The number of an error, and the line where it is met.
+fn is_error(error: u8, line: u16) -> bool
+    ensures { IsTrue result ↔ (IsErrorNumber error × IsLine line) }
+{
+    is_error_number(error) && is_line(line)
+}
+
 // Every number of this type is one, which what is proved of the code wants to know.
 fn is_integer(number: i32) -> bool
     ensures { IsTrue result ↔ IsInteger number }
@@ -37,11 +44,11 @@ fn is_integer(number: i32) -> bool
     true
 }
 
-// The same of both ends of a range.
-fn are_integers(low: i32, high: i32) -> bool
-    ensures { IsTrue result ↔ (IsInteger low × IsInteger high) }
+// A range, and the error of what lies outside.
+fn is_range(low: i32, high: i32, error: u8, line: u16) -> bool
+    ensures { IsTrue result ↔ (IsInteger low × IsInteger high × IsErrorNumber error × IsLine line) }
 {
-    is_integer(low) && is_integer(high)
+    is_integer(low) && is_integer(high) && is_error(error, line)
 }
 
 fn are_operands(temporaries: u32, operands: &Operands) -> bool
@@ -51,6 +58,13 @@ fn are_operands(temporaries: u32, operands: &Operands) -> bool
     list.len() <= 65 && list.iter().all(|t| *t < temporaries)
 }
 
+// The operands of a call, and its line.
+fn are_passed(temporaries: u32, operands: &Operands, line: u16) -> bool
+    ensures { IsTrue result ↔ (AreOperands temporaries operands.now × IsLine line) }
+{
+    are_operands(temporaries, operands) && is_line(line)
+}
+
 fn is_operand(temporaries: u32, operand: Operand) -> bool
     ensures { IsTrue result ↔ IsOperand temporaries operand }
 {
@@ -58,6 +72,13 @@ fn is_operand(temporaries: u32, operand: Operand) -> bool
         Operand::Temporary(t) => t < temporaries,
         Operand::Number(_) => true,
     }
+}
+
+// Both operands of an operation or a comparison.
+fn are_compared(temporaries: u32, left: u32, right: Operand) -> bool
+    ensures { IsTrue result ↔ ((left < temporaries) × IsOperand temporaries right) }
+{
+    left < temporaries && is_operand(temporaries, right)
 }
 
 // A base, of which so many bytes are meant from an offset on.
@@ -101,40 +122,33 @@ fn is_sound_at(l: Limits, place: usize, instruction: &Instruction) -> bool
             line,
         } => {
             *to < l.temporaries
-                && *left < l.temporaries
-                && is_operand(l.temporaries, *right)
-                && is_error_number(*error)
-                && is_line(*line)
+                && are_compared(l.temporaries, *left, *right)
+                && is_error(*error, *line)
         }
         Instruction::Bits {
             operator: _,
             to,
             left,
             right,
-        } => { *to < l.temporaries && *left < l.temporaries && is_operand(l.temporaries, *right) }
+        } => { *to < l.temporaries && are_compared(l.temporaries, *left, *right) }
         Instruction::Compare {
             relation: _,
             to,
             left,
             right,
-        } => { *to < l.temporaries && *left < l.temporaries && is_operand(l.temporaries, *right) }
+        } => { *to < l.temporaries && are_compared(l.temporaries, *left, *right) }
         Instruction::CheckRange {
             value,
             low,
             high,
             error,
             line,
-        } => {
-            *value < l.temporaries
-                && are_integers(*low, *high)
-                && is_error_number(*error)
-                && is_line(*line)
-        }
+        } => { *value < l.temporaries && is_range(*low, *high, *error, *line) }
         Instruction::CheckPointer {
             pointer,
             error,
             line,
-        } => { *pointer < l.temporaries && is_error_number(*error) && is_line(*line) }
+        } => { *pointer < l.temporaries && is_error(*error, *line) }
         Instruction::Text { to, bytes } => {
             *to < l.temporaries && bytes.as_slice().len() % 4 == 0
         }
@@ -157,9 +171,7 @@ fn is_sound_at(l: Limits, place: usize, instruction: &Instruction) -> bool
             *to < l.temporaries
                 && is_base(l, *base, 0, 0)
                 && *index < l.temporaries
-                && are_integers(*low, *high)
-                && is_error_number(*error)
-                && is_line(*line)
+                && is_range(*low, *high, *error, *line)
         }
         Instruction::RoutineValue { to, routine } => {
             *to < l.temporaries && (*routine as usize) < l.routines
@@ -183,17 +195,13 @@ fn is_sound_at(l: Limits, place: usize, instruction: &Instruction) -> bool
             left,
             right,
             forward,
-        } => {
-            *left < l.temporaries
-                && is_operand(l.temporaries, *right)
-                && is_forward(l, place, *forward)
-        }
+        } => { are_compared(l.temporaries, *left, *right) && is_forward(l, place, *forward) }
         Instruction::BranchBack {
             relation: _,
             left,
             right,
             back,
-        } => { *left < l.temporaries && is_operand(l.temporaries, *right) && is_back(place, *back) }
+        } => { are_compared(l.temporaries, *left, *right) && is_back(place, *back) }
         Instruction::Call {
             to,
             routine,
@@ -202,8 +210,7 @@ fn is_sound_at(l: Limits, place: usize, instruction: &Instruction) -> bool
         } => {
             *to < l.temporaries
                 && (*routine as usize) < l.routines
-                && are_operands(l.temporaries, operands)
-                && is_line(*line)
+                && are_passed(l.temporaries, operands, *line)
         }
         Instruction::CallValue {
             to,
@@ -213,11 +220,10 @@ fn is_sound_at(l: Limits, place: usize, instruction: &Instruction) -> bool
         } => {
             *to < l.temporaries
                 && *callee < l.temporaries
-                && are_operands(l.temporaries, operands)
-                && is_line(*line)
+                && are_passed(l.temporaries, operands, *line)
         }
         Instruction::Return { from } => *from < l.temporaries,
-        Instruction::Trap { error, line } => is_error_number(*error) && is_line(*line),
+        Instruction::Trap { error, line } => is_error(*error, *line),
         Instruction::Take { to } => *to < l.temporaries,
         Instruction::Put { from } => *from < l.temporaries,
         Instruction::New {

@@ -1,7 +1,9 @@
 // The printed form of the code, for people and tests.
 
-ghost use Rattle.std.specs.Prelude.{◌≡◌, ◌+◌, ◌<◌, ◌^◌, ◌++◌, length, Some, IfOk, OnOk};
+ghost use Rattle.std.specs.Prelude.{◌≡◌, ◌+◌, ◌<◌, ◌^◌, ◌++◌, length, Some, IfOk, OnOk, codes, decimal};
+ghost use Rattle.std.specs.Fmt.{DisplaysOnOk};
 ghost use Rattle.std.specs.String.{string_bytes};
+ghost use Rattle.tac_code.specs.declared.code.Instruction.TheVariants as instruction;
 ghost use Rattle.tac_code.specs.Printed.{operator_sign, bit_operator_sign, relation_sign, printed_operand, printed_base, printed_operands, printed_bytes, or_error, printed, numbered, instruction_line, count_line, printed_routine, type_line, printed_code};
 
 use crate::code::{
@@ -26,17 +28,38 @@ impl fmt::Display for Operator {
     }
 }
 
+// How a bit operator is written.
+fn sign_of_bits(operator: BitOperator) -> &'static str
+    ensures { result.now ≡ bit_operator_sign operator }
+{
+    match operator {
+        BitOperator::And => "and",
+        BitOperator::Or => "or",
+        BitOperator::AndNot => "and not",
+        BitOperator::ShiftLeft => "shift left",
+        BitOperator::Plus => "plus",
+    }
+}
+
 impl fmt::Display for BitOperator {
     ghost output = { λ a. Some (bit_operator_sign a) };
 
     fn fmt<W: fmt::Write>(&self, f: &mut fmt::Formatter<W>) -> fmt::Result {
-        f.write_str(match self {
-            BitOperator::And => "and",
-            BitOperator::Or => "or",
-            BitOperator::AndNot => "and not",
-            BitOperator::ShiftLeft => "shift left",
-            BitOperator::Plus => "plus",
-        })
+        f.write_str(sign_of_bits(*self))
+    }
+}
+
+// How a relation is written.
+fn sign_of_relation(relation: Relation) -> &'static str
+    ensures { result.now ≡ relation_sign relation }
+{
+    match relation {
+        Relation::Equal => "=",
+        Relation::NotEqual => "<>",
+        Relation::Less => "<",
+        Relation::LessEqual => "<=",
+        Relation::Greater => ">",
+        Relation::GreaterEqual => ">=",
     }
 }
 
@@ -44,14 +67,7 @@ impl fmt::Display for Relation {
     ghost output = { λ a. Some (relation_sign a) };
 
     fn fmt<W: fmt::Write>(&self, f: &mut fmt::Formatter<W>) -> fmt::Result {
-        f.write_str(match self {
-            Relation::Equal => "=",
-            Relation::NotEqual => "<>",
-            Relation::Less => "<",
-            Relation::LessEqual => "<=",
-            Relation::Greater => ">",
-            Relation::GreaterEqual => ">=",
-        })
+        f.write_str(sign_of_relation(*self))
     }
 }
 
@@ -124,13 +140,178 @@ fn error_at(error: u8, line: u16) -> Otherwise
     Otherwise { error, line }
 }
 
+// A number behind what names it.
+fn write_named<W: fmt::Write>(f: &mut fmt::Formatter<W>, name: &str, number: u64) -> fmt::Result
+    ensures { DisplaysOnOk W.write_str_gives f.old result (Some (name.now ++ decimal number)) f.new }
+{
+    write!(f, "{name}{number}")
+}
+
+// The same, into a temporary.
+fn write_copied<W: fmt::Write>(
+    f: &mut fmt::Formatter<W>,
+    name: &str,
+    number: u32,
+    to: u32,
+) -> fmt::Result
+    ensures { DisplaysOnOk W.write_str_gives f.old result (Some (name.now ++ decimal number ++ codes " -> t" ++ decimal to)) f.new }
+{
+    write!(f, "{name}{number} -> t{to}")
+}
+
+fn write_literal<W: fmt::Write>(f: &mut fmt::Formatter<W>, to: u32, value: i32) -> fmt::Result
+    ensures { DisplaysOnOk W.write_str_gives f.old result (Some (printed (instruction.Literal to value))) f.new }
+{
+    write!(f, "{value} -> t{to}")
+}
+
+fn write_text<W: fmt::Write>(f: &mut fmt::Formatter<W>, to: u32, bytes: &Constant) -> fmt::Result
+    ensures { DisplaysOnOk W.write_str_gives f.old result (Some (printed (instruction.Text to bytes.now))) f.new }
+{
+    write!(f, "text{bytes} -> t{to}")
+}
+
+fn write_trap<W: fmt::Write>(f: &mut fmt::Formatter<W>, error: u8, line: u16) -> fmt::Result
+    ensures { DisplaysOnOk W.write_str_gives f.old result (Some (printed (instruction.Trap error line))) f.new }
+{
+    write!(f, "error {error} at line {line}")
+}
+
+// What an operation on two operands gives, into a temporary.
+fn write_operation<W: fmt::Write>(
+    f: &mut fmt::Formatter<W>,
+    left: u32,
+    sign: &str,
+    right: Operand,
+    to: u32,
+) -> fmt::Result
+    ensures { DisplaysOnOk W.write_str_gives f.old result (Some (codes "t" ++ decimal left ++ codes " " ++ sign.now ++ codes " " ++ printed_operand right ++ codes " -> t" ++ decimal to)) f.new }
+{
+    write!(f, "t{left} {sign} {right} -> t{to}")
+}
+
+fn write_arithmetic<W: fmt::Write>(
+    f: &mut fmt::Formatter<W>,
+    operator: Operator,
+    to: u32,
+    left: u32,
+    right: Operand,
+    or_error: Otherwise,
+) -> fmt::Result
+    ensures { DisplaysOnOk W.write_str_gives f.old result (Some (printed (instruction.Arithmetic operator to left right or_error.error or_error.line))) f.new }
+{
+    write!(f, "t{left} {operator} {right} -> t{to}{or_error}")
+}
+
+fn write_range_check<W: fmt::Write>(
+    f: &mut fmt::Formatter<W>,
+    value: u32,
+    low: i32,
+    high: i32,
+    or_error: Otherwise,
+) -> fmt::Result
+    ensures { DisplaysOnOk W.write_str_gives f.old result (Some (printed (instruction.CheckRange value low high or_error.error or_error.line))) f.new }
+{
+    write!(f, "check t{value} in {low}..{high}{or_error}")
+}
+
+fn write_pointer_check<W: fmt::Write>(
+    f: &mut fmt::Formatter<W>,
+    pointer: u32,
+    or_error: Otherwise,
+) -> fmt::Result
+    ensures { DisplaysOnOk W.write_str_gives f.old result (Some (printed (instruction.CheckPointer pointer or_error.error or_error.line))) f.new }
+{
+    write!(f, "check t{pointer} <> nil{or_error}")
+}
+
+fn write_offset<W: fmt::Write>(
+    f: &mut fmt::Formatter<W>,
+    to: u32,
+    base: Base,
+    bytes: u32,
+    extent: u32,
+) -> fmt::Result
+    ensures { DisplaysOnOk W.write_str_gives f.old result (Some (printed (instruction.Offset to base bytes extent))) f.new }
+{
+    write!(f, "{base} + {bytes} -> t{to}, {extent} bytes")
+}
+
+// A load of a word or of a byte, as it is named.
+fn write_load<W: fmt::Write>(
+    f: &mut fmt::Formatter<W>,
+    width: &str,
+    to: u32,
+    base: Base,
+    offset: u32,
+) -> fmt::Result
+    ensures { DisplaysOnOk W.write_str_gives f.old result (Some (width.now ++ codes " " ++ printed_base base ++ codes " + " ++ decimal offset ++ codes " -> t" ++ decimal to)) f.new }
+{
+    write!(f, "{width} {base} + {offset} -> t{to}")
+}
+
+// A store of a word or of a byte.
+fn write_store<W: fmt::Write>(
+    f: &mut fmt::Formatter<W>,
+    width: &str,
+    base: Base,
+    offset: u32,
+    from: u32,
+) -> fmt::Result
+    ensures { DisplaysOnOk W.write_str_gives f.old result (Some (codes "t" ++ decimal from ++ codes " -> " ++ width.now ++ codes " " ++ printed_base base ++ codes " + " ++ decimal offset)) f.new }
+{
+    write!(f, "t{from} -> {width} {base} + {offset}")
+}
+
+// A branch so far, behind what names its way.
+fn write_branch<W: fmt::Write>(
+    f: &mut fmt::Formatter<W>,
+    name: &str,
+    distance: u64,
+    relation: Relation,
+    left: u32,
+    right: Operand,
+) -> fmt::Result
+    ensures { DisplaysOnOk W.write_str_gives f.old result (Some (name.now ++ decimal distance ++ codes " if t" ++ decimal left ++ codes " " ++ relation_sign relation ++ codes " " ++ printed_operand right)) f.new }
+{
+    write!(f, "{name}{distance} if t{left} {relation} {right}")
+}
+
+// A call of a routine by its number, or by the temporary that holds it, with a t before.
+fn write_call<W: fmt::Write>(
+    f: &mut fmt::Formatter<W>,
+    before: &str,
+    callee: u32,
+    line: u16,
+    operands: &Operands,
+    to: u32,
+) -> fmt::Result
+    ensures { DisplaysOnOk W.write_str_gives f.old result (Some (codes "call " ++ before.now ++ decimal callee ++ codes " at line " ++ decimal line ++ codes " (" ++ printed_operands operands.now ++ codes " ) -> t" ++ decimal to)) f.new }
+{
+    write!(
+        f,
+        "call {before}{callee} at line {line} ({operands} ) -> t{to}"
+    )
+}
+
+fn write_new<W: fmt::Write>(
+    f: &mut fmt::Formatter<W>,
+    to: u32,
+    object_type: u32,
+    line: u16,
+) -> fmt::Result
+    ensures { DisplaysOnOk W.write_str_gives f.old result (Some (printed (instruction.New to object_type line))) f.new }
+{
+    write!(f, "new {object_type} at line {line} -> t{to}")
+}
+
 impl fmt::Display for Instruction {
     ghost output = { λ a. Some (printed a) };
 
     fn fmt<W: fmt::Write>(&self, f: &mut fmt::Formatter<W>) -> fmt::Result {
         match self {
-            Instruction::Literal { to, value } => write!(f, "{value} -> t{to}"),
-            Instruction::Copy { to, from } => write!(f, "t{from} -> t{to}"),
+            Instruction::Literal { to, value } => write_literal(f, *to, *value),
+            Instruction::Copy { to, from } => write_copied(f, "t", *from, *to),
             Instruction::Arithmetic {
                 operator,
                 to,
@@ -138,47 +319,38 @@ impl fmt::Display for Instruction {
                 right,
                 error,
                 line,
-            } => {
-                let or_error = error_at(*error, *line);
-                write!(f, "t{left} {operator} {right} -> t{to}{or_error}")
-            }
+            } => write_arithmetic(f, *operator, *to, *left, *right, error_at(*error, *line)),
             Instruction::Bits {
                 operator,
                 to,
                 left,
                 right,
-            } => { write!(f, "t{left} {operator} {right} -> t{to}") }
+            } => write_operation(f, *left, sign_of_bits(*operator), *right, *to),
             Instruction::Compare {
                 relation,
                 to,
                 left,
                 right,
-            } => { write!(f, "t{left} {relation} {right} -> t{to}") }
+            } => write_operation(f, *left, sign_of_relation(*relation), *right, *to),
             Instruction::CheckRange {
                 value,
                 low,
                 high,
                 error,
                 line,
-            } => {
-                let or_error = error_at(*error, *line);
-                write!(f, "check t{value} in {low}..{high}{or_error}")
-            }
+            } => write_range_check(f, *value, *low, *high, error_at(*error, *line)),
             Instruction::CheckPointer {
                 pointer,
                 error,
                 line,
-            } => {
-                let or_error = error_at(*error, *line);
-                write!(f, "check t{pointer} <> nil{or_error}")
-            }
-            Instruction::Text { to, bytes } => write!(f, "text{bytes} -> t{to}"),
+            } => write_pointer_check(f, *pointer, error_at(*error, *line)),
+            Instruction::Text { to, bytes } => write_text(f, *to, bytes),
             Instruction::Offset {
                 to,
                 base,
                 bytes,
                 extent,
-            } => write!(f, "{base} + {bytes} -> t{to}, {extent} bytes"),
+            } => write_offset(f, *to, *base, *bytes, *extent),
             Instruction::Index {
                 to,
                 base,
@@ -195,52 +367,52 @@ impl fmt::Display for Instruction {
                     "{base} + (t{index} in {low}..{high}) * {width} -> t{to}{or_error}"
                 )
             }
-            Instruction::RoutineValue { to, routine } => write!(f, "routine {routine} -> t{to}"),
-            Instruction::Load { to, base, offset } => write!(f, "word {base} + {offset} -> t{to}"),
-            Instruction::Store { base, offset, from } => {
-                write!(f, "t{from} -> word {base} + {offset}")
-            }
-            Instruction::LoadByte { to, base, offset } => {
-                write!(f, "byte {base} + {offset} -> t{to}")
-            }
-            Instruction::StoreByte { base, offset, from } => {
-                write!(f, "t{from} -> byte {base} + {offset}")
-            }
-            Instruction::Jump { forward } => write!(f, "jump forward {forward}"),
-            Instruction::JumpBack { back } => write!(f, "jump back {back}"),
+            Instruction::RoutineValue { to, routine } => write_copied(f, "routine ", *routine, *to),
+            Instruction::Load { to, base, offset } => write_load(f, "word", *to, *base, *offset),
+            Instruction::Store { base, offset, from } => write_store(
+                f, "word", *base, *offset, *from,
+            ),
+            Instruction::LoadByte { to, base, offset } => write_load(
+                f, "byte", *to, *base, *offset,
+            ),
+            Instruction::StoreByte { base, offset, from } => write_store(
+                f, "byte", *base, *offset, *from,
+            ),
+            Instruction::Jump { forward } => write_named(f, "jump forward ", *forward),
+            Instruction::JumpBack { back } => write_named(f, "jump back ", *back),
             Instruction::Branch {
                 relation,
                 left,
                 right,
                 forward,
-            } => { write!(f, "jump forward {forward} if t{left} {relation} {right}") }
+            } => write_branch(f, "jump forward ", *forward, *relation, *left, *right),
             Instruction::BranchBack {
                 relation,
                 left,
                 right,
                 back,
-            } => { write!(f, "jump back {back} if t{left} {relation} {right}") }
+            } => write_branch(f, "jump back ", *back, *relation, *left, *right),
             Instruction::Call {
                 to,
                 routine,
                 operands,
                 line,
-            } => { write!(f, "call {routine} at line {line} ({operands} ) -> t{to}") }
+            } => write_call(f, "", *routine, *line, operands, *to),
             Instruction::CallValue {
                 to,
                 callee,
                 operands,
                 line,
-            } => { write!(f, "call t{callee} at line {line} ({operands} ) -> t{to}") }
-            Instruction::Return { from } => write!(f, "return t{from}"),
-            Instruction::Trap { error, line } => write!(f, "error {error} at line {line}"),
-            Instruction::Take { to } => write!(f, "take -> t{to}"),
-            Instruction::Put { from } => write!(f, "put t{from}"),
+            } => write_call(f, "t", *callee, *line, operands, *to),
+            Instruction::Return { from } => write_named(f, "return t", u64::from(*from)),
+            Instruction::Trap { error, line } => write_trap(f, *error, *line),
+            Instruction::Take { to } => write_named(f, "take -> t", u64::from(*to)),
+            Instruction::Put { from } => write_named(f, "put t", u64::from(*from)),
             Instruction::New {
                 to,
                 object_type,
                 line,
-            } => { write!(f, "new {object_type} at line {line} -> t{to}") }
+            } => write_new(f, *to, *object_type, *line),
             Instruction::End => f.write_str("end"),
         }
     }
