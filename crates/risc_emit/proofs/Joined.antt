@@ -1,7 +1,12 @@
 -- Parts appended one after the other, of which the second hangs on the register that the first tells.
 use Rattle.std.proofs.Common.{◌≡◌, ℕ, ℤ, List, ◌++◌, Result, Ok, Err, OnOk, ap, ◌∙◌}
-use Rattle.std.proofs.lemmas.List.{append_assoc}
+use Rattle.std.proofs.lemmas.List.{append_assoc, map-append}
 use Rattle.risc_steps.specs.Pieces.{Piece}
+use Rattle.risc_emit.specs.declared.pieces.Piece.{Piece as Word}
+use Rattle.risc_emit.specs.Meant.{meant, all_meant}
+
+pub meant_more : (xs ys : List Word) → all_meant (xs ++ ys) ≡ all_meant xs ++ all_meant ys
+meant_more xs ys = map-append meant xs ys
 
 pub both_put : (t q : ℕ) (first second : ℕ → List Piece) (told : ℕ → ℕ) (p0 p1 p2 : List Piece) → t ≡ 12 → q ≡ told t → p1 ≡ p0 ++ first t → p2 ≡ p1 ++ second q → p2 ≡ p0 ++ (first 12 ++ second (told 12))
 both_put t q first second told p0 p1 p2 is tells e1 e2 =

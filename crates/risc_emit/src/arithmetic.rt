@@ -115,8 +115,10 @@ fn is_own(frame: &Frame<'_>, told: Option<u32>, to: u32, left: u32, operand: Ope
 fn put_one(frame: &Frame<'_>, pieces: &mut Pieces, to: u32) -> Result<(), OutOfMemory>
     ensures { OnOk result (pieces.new ≡ pieces.old ++ form.unlike (context_of frame.now) frame.now.number to) }
 {
-    pieces.plain(skip(Condition::Equal, 1))?;
-    pieces.plain(set(target(frame, to), 1))?;
+    pieces.all(&[
+        Piece::Plain(skip(Condition::Equal, 1)),
+        Piece::Plain(set(target(frame, to), 1)),
+    ])?;
     save(frame, pieces, to)
 }
 
@@ -150,10 +152,12 @@ fn put_truth(
 {
     let register = target(frame, to);
     put_difference(frame, pieces, left, operand)?;
-    pieces.plain(skip(condition_of(relation), 2))?;
-    pieces.plain(set(register, 0))?;
-    pieces.plain(skip(Condition::Always, 1))?;
-    pieces.plain(set(register, 1))?;
+    pieces.all(&[
+        Piece::Plain(skip(condition_of(relation), 2)),
+        Piece::Plain(set(register, 0)),
+        Piece::Plain(skip(Condition::Always, 1)),
+        Piece::Plain(set(register, 1)),
+    ])?;
     save(frame, pieces, to)
 }
 
@@ -200,11 +204,13 @@ fn put_sum(
 fn put_beyond(pieces: &mut Pieces) -> Result<(), OutOfMemory>
     ensures { OnOk result (pieces.new ≡ pieces.old ++ form.beyond) }
 {
-    pieces.plain(skip(Condition::Plus, 3))?;
-    pieces.plain(Instr::MoveHigh { to: r15() })?;
-    pieces.plain(computed(Operation::Add, r15(), r15(), constant(1)))?;
-    pieces.plain(skip(Condition::Always, 1))?;
-    pieces.plain(Instr::MoveHigh { to: r15() })
+    pieces.all(&[
+        Piece::Plain(skip(Condition::Plus, 3)),
+        Piece::Plain(Instr::MoveHigh { to: r15() }),
+        Piece::Plain(computed(Operation::Add, r15(), r15(), constant(1))),
+        Piece::Plain(skip(Condition::Always, 1)),
+        Piece::Plain(Instr::MoveHigh { to: r15() }),
+    ])
 }
 
 fn put_product(
@@ -228,10 +234,12 @@ fn put_product(
 fn put_rounded(pieces: &mut Pieces, register: Register) -> Result<(), OutOfMemory>
     ensures { OnOk result (pieces.new ≡ pieces.old ++ form.rounded register) }
 {
-    pieces.plain(skip(Condition::Plus, 3))?;
-    pieces.plain(Instr::MoveHigh { to: r15() })?;
-    pieces.plain(skip(Condition::Equal, 1))?;
-    pieces.plain(computed(Operation::Add, register, register, constant(1)))
+    pieces.all(&[
+        Piece::Plain(skip(Condition::Plus, 3)),
+        Piece::Plain(Instr::MoveHigh { to: r15() }),
+        Piece::Plain(skip(Condition::Equal, 1)),
+        Piece::Plain(computed(Operation::Add, register, register, constant(1))),
+    ])
 }
 
 // The quotient by R15.
@@ -252,11 +260,13 @@ fn put_quotient_by_least(
     ensures { OnOk result (pieces.new ≡ pieces.old ++ form.quotient_by_least (context_of frame.now) frame.now.number left) }
 {
     let dividend = fetch(frame, pieces, r12(), left)?;
-    pieces.plain(computed(Operation::Sub, r12(), dividend, Right::Content(r15())))?;
-    pieces.plain(skip(Condition::Equal, 2))?;
-    pieces.plain(set(r12(), 0))?;
-    pieces.plain(skip(Condition::Always, 1))?;
-    pieces.plain(set(r12(), 1))
+    pieces.all(&[
+        Piece::Plain(computed(Operation::Sub, r12(), dividend, Right::Content(r15()))),
+        Piece::Plain(skip(Condition::Equal, 2)),
+        Piece::Plain(set(r12(), 0)),
+        Piece::Plain(skip(Condition::Always, 1)),
+        Piece::Plain(set(r12(), 1)),
+    ])
 }
 
 // How many words a quotient takes, and the two that a divisor below 0 asks for.
@@ -289,9 +299,11 @@ fn negative_length(frame: &Frame<'_>, left: u32, error: u8, line: u16) -> i32
 fn put_negated(frame: &Frame<'_>, pieces: &mut Pieces, left: u32) -> Result<(), OutOfMemory>
     ensures { OnOk result (pieces.new ≡ pieces.old ++ (piece.Plain (word.Move 12 (Constant (pos 0))) ∷ piece.Plain (word.Operate op.Sub 15 12 (Content 15)) ∷ form.skip on.OverflowSet (length (form.quotient (context_of frame.now) frame.now.number left) + 4) ∷ form.quotient (context_of frame.now) frame.now.number left)) }
 {
-    pieces.plain(set(r12(), 0))?;
-    pieces.plain(computed(Operation::Sub, r15(), r12(), Right::Content(r15())))?;
-    pieces.plain(skip(Condition::OverflowSet, quotient_length(frame, left) + 4))?;
+    pieces.all(&[
+        Piece::Plain(set(r12(), 0)),
+        Piece::Plain(computed(Operation::Sub, r15(), r12(), Right::Content(r15()))),
+        Piece::Plain(skip(Condition::OverflowSet, quotient_length(frame, left) + 4)),
+    ])?;
     put_quotient(frame, pieces, left)
 }
 
@@ -305,10 +317,12 @@ fn put_negated_back(
 ) -> Result<(), OutOfMemory>
     ensures { OnOk result (pieces.new ≡ pieces.old ++ (piece.Plain (word.Move 15 (Constant (pos 0))) ∷ piece.Plain (word.Operate op.Sub 12 15 (Content 12)) ∷ piece.Fails on.OverflowSet error line ∷ form.skip on.Always (length (form.quotient_by_least (context_of frame.now) frame.now.number left)) ∷ form.quotient_by_least (context_of frame.now) frame.now.number left)) }
 {
-    pieces.plain(set(r15(), 0))?;
-    pieces.plain(computed(Operation::Sub, r12(), r15(), Right::Content(r12())))?;
-    pieces.push(Piece::Fails(Condition::OverflowSet, error, line))?;
-    pieces.plain(skip(Condition::Always, least_length(frame, left)))?;
+    pieces.all(&[
+        Piece::Plain(set(r15(), 0)),
+        Piece::Plain(computed(Operation::Sub, r12(), r15(), Right::Content(r12()))),
+        Piece::Fails(Condition::OverflowSet, error, line),
+        Piece::Plain(skip(Condition::Always, least_length(frame, left))),
+    ])?;
     put_quotient_by_least(frame, pieces, left)
 }
 
@@ -355,8 +369,10 @@ fn put_divide_by_any(
     ensures { OnOk result (pieces.new ≡ pieces.old ++ form.divide_form (context_of frame.now) frame.now.number to left operand error line) }
 {
     put_divisor(frame, pieces, operand)?;
-    pieces.push(Piece::Fails(Condition::Equal, 2, line))?;
-    pieces.plain(skip(Condition::Minus, quotient_length(frame, left) + 1))?;
+    pieces.all(&[
+        Piece::Fails(Condition::Equal, 2, line),
+        Piece::Plain(skip(Condition::Minus, quotient_length(frame, left) + 1)),
+    ])?;
     put_quotient(frame, pieces, left)?;
     pieces.plain(skip(Condition::Always, negative_length(frame, left, error, line)))?;
     put_quotient_by_negative(frame, pieces, left, error, line)?;
@@ -395,13 +411,17 @@ fn put_modulo_by_any(
     ensures { OnOk result (pieces.new ≡ pieces.old ++ form.modulo_form (context_of frame.now) frame.now.number to left operand line) }
 {
     let modulus = put_modulus(frame, pieces, operand)?;
-    pieces.plain(computed(Operation::Sub, r12(), modulus, constant(1)))?;
-    pieces.push(Piece::Fails(Condition::Less, 3, line))?;
+    pieces.all(&[
+        Piece::Plain(computed(Operation::Sub, r12(), modulus, constant(1))),
+        Piece::Fails(Condition::Less, 3, line),
+    ])?;
     let dividend = fetch(frame, pieces, r12(), left)?;
-    pieces.plain(computed(Operation::Div, r12(), dividend, Right::Content(modulus)))?;
-    pieces.plain(Instr::MoveHigh {
-        to: target(frame, to),
-    })?;
+    pieces.all(&[
+        Piece::Plain(computed(Operation::Div, r12(), dividend, Right::Content(modulus))),
+        Piece::Plain(Instr::MoveHigh {
+            to: target(frame, to),
+        }),
+    ])?;
     save(frame, pieces, to)
 }
 

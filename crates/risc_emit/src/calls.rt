@@ -188,33 +188,35 @@ pub(crate) fn put_return(
 {
     put_into(frame, pieces, r0(), from)?;
     if frame.is_of_program() {
-        pieces.plain(loaded(Width::Word, r15(), r14(), 0))?;
-        pieces.plain(loaded(Width::Word, r14(), r14(), 4))?;
-    } else {
-        pieces.plain(loaded(Width::Word, r15(), r14(), frame.link_at()))?;
+        return pieces.all(&[
+            Piece::Plain(loaded(Width::Word, r15(), r14(), 0)),
+            Piece::Plain(loaded(Width::Word, r14(), r14(), 4)),
+            Piece::Plain(goes_to(r15())),
+        ]);
     }
-    pieces.plain(goes_to(r15()))
-}
-
-fn put_device(pieces: &mut Pieces, register: Register) -> Result<(), OutOfMemory>
-    ensures { OnOk result (pieces.new ≡ pieces.old ++ form.device register ∷ []) }
-{
-    pieces.plain(set(register, DEVICE))
+    pieces.all(&[
+        Piece::Plain(loaded(Width::Word, r15(), r14(), frame.link_at())),
+        Piece::Plain(goes_to(r15())),
+    ])
 }
 
 pub(crate) fn put_put(frame: &Frame<'_>, pieces: &mut Pieces, from: u32) -> Result<(), OutOfMemory>
     ensures { OnOk result (pieces.new ≡ pieces.old ++ form.put_form (context_of frame.now) frame.now.number from) }
 {
     let register = fetch(frame, pieces, r12(), from)?;
-    put_device(pieces, r15())?;
-    pieces.plain(stored(Width::Word, register, r15(), PORT))
+    pieces.all(&[
+        Piece::Plain(set(r15(), DEVICE)),
+        Piece::Plain(stored(Width::Word, register, r15(), PORT)),
+    ])
 }
 
 pub(crate) fn put_take(frame: &Frame<'_>, pieces: &mut Pieces, to: u32) -> Result<(), OutOfMemory>
     ensures { OnOk result (pieces.new ≡ pieces.old ++ form.take_form (context_of frame.now) frame.now.number to) }
 {
-    put_device(pieces, r15())?;
-    pieces.plain(loaded(Width::Word, target(frame, to), r15(), PORT))?;
+    pieces.all(&[
+        Piece::Plain(set(r15(), DEVICE)),
+        Piece::Plain(loaded(Width::Word, target(frame, to), r15(), PORT)),
+    ])?;
     save(frame, pieces, to)
 }
 
@@ -222,18 +224,22 @@ pub(crate) fn put_end(frame: &Frame<'_>, pieces: &mut Pieces) -> Result<(), OutO
     ensures { OnOk result (pieces.new ≡ pieces.old ++ form.end_form (context_of frame.now) frame.now.number) }
 {
     let _ = frame;
-    put_device(pieces, r12())?;
-    pieces.plain(set(r15(), 0))?;
-    pieces.plain(stored(Width::Word, r15(), r12(), STOP))
+    pieces.all(&[
+        Piece::Plain(set(r12(), DEVICE)),
+        Piece::Plain(set(r15(), 0)),
+        Piece::Plain(stored(Width::Word, r15(), r12(), STOP)),
+    ])
 }
 
 // R12 takes the bytes, and what is left of the room between the heap's next address and the stack's limit sets the flags.
 fn put_room(pieces: &mut Pieces, bytes: u32) -> Result<(), OutOfMemory>
     ensures { OnOk result (pieces.new ≡ pieces.old ++ (piece.Plain (word.Load Word 15 13 (pos 268)) ∷ piece.Plain (word.Load Word 12 13 (pos 272)) ∷ piece.Plain (word.Operate op.Sub 15 15 (Content 12)) ∷ (form.number 12 (pos bytes) ++ piece.Plain (word.Operate op.Sub 15 15 (Content 12)) ∷ []))) }
 {
-    pieces.plain(loaded(Width::Word, r15(), r13(), LIMIT_AT))?;
-    pieces.plain(loaded(Width::Word, r12(), r13(), NEXT_AT))?;
-    pieces.plain(computed(Operation::Sub, r15(), r15(), Right::Content(r12())))?;
+    pieces.all(&[
+        Piece::Plain(loaded(Width::Word, r15(), r13(), LIMIT_AT)),
+        Piece::Plain(loaded(Width::Word, r12(), r13(), NEXT_AT)),
+        Piece::Plain(computed(Operation::Sub, r15(), r15(), Right::Content(r12()))),
+    ])?;
     put_natural(pieces, r12(), u64::from(bytes))?;
     pieces.plain(computed(Operation::Sub, r15(), r15(), Right::Content(r12())))
 }
@@ -242,10 +248,12 @@ fn put_room(pieces: &mut Pieces, bytes: u32) -> Result<(), OutOfMemory>
 fn put_taken(pieces: &mut Pieces) -> Result<(), OutOfMemory>
     ensures { OnOk result (pieces.new ≡ pieces.old ++ (piece.Plain (word.Load Word 15 13 (pos 272)) ∷ piece.Plain (word.Operate op.Add 12 12 (Content 15)) ∷ piece.Plain (word.Store Word 12 13 (pos 272)) ∷ piece.Plain (word.Move 12 (Content 15)) ∷ [])) }
 {
-    pieces.plain(loaded(Width::Word, r15(), r13(), NEXT_AT))?;
-    pieces.plain(computed(Operation::Add, r12(), r12(), Right::Content(r15())))?;
-    pieces.plain(stored(Width::Word, r12(), r13(), NEXT_AT))?;
-    pieces.plain(copied(r12(), r15()))
+    pieces.all(&[
+        Piece::Plain(loaded(Width::Word, r15(), r13(), NEXT_AT)),
+        Piece::Plain(computed(Operation::Add, r12(), r12(), Right::Content(r15()))),
+        Piece::Plain(stored(Width::Word, r12(), r13(), NEXT_AT)),
+        Piece::Plain(copied(r12(), r15())),
+    ])
 }
 
 /// The heap's next address, where there is room up to the stack's limit.

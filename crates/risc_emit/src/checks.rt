@@ -47,12 +47,16 @@ fn put_at_most(
 {
     let _ = frame;
     if most < 65535 {
-        pieces.plain(computed(Operation::Sub, r15(), register, constant(most as i32 + 1)))?;
-        return pieces.push(Piece::Fails(Condition::CarryClear, error, line));
+        return pieces.all(&[
+            Piece::Plain(computed(Operation::Sub, r15(), register, constant(most as i32 + 1))),
+            Piece::Fails(Condition::CarryClear, error, line),
+        ]);
     }
     put_exact(pieces, r15(), most)?;
-    pieces.plain(computed(Operation::Sub, r15(), r15(), Right::Content(register)))?;
-    pieces.push(Piece::Fails(Condition::CarrySet, error, line))
+    pieces.all(&[
+        Piece::Plain(computed(Operation::Sub, r15(), r15(), Right::Content(register))),
+        Piece::Fails(Condition::CarrySet, error, line),
+    ])
 }
 
 // A number in its range, which may be empty: gives the register that holds how far it lies above the lowest one.

@@ -28,7 +28,7 @@ use tac_code::tac::Tac;
 const LIMIT: usize = 1048576;
 
 /// Why there is no image.
-#[derive(Clone, Copy, PartialEq, Eq, Debug)]
+#[derive(Clone, Copy)]
 pub enum EmitRefusal {
     /// The code would have more words than an image holds.
     CodeTooLarge,

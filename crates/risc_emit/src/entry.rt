@@ -232,9 +232,11 @@ pub(crate) fn put_entry(
 fn put_stub(pieces: &mut Pieces) -> Result<(), OutOfMemory>
     ensures { OnOk result (pieces.new ≡ pieces.old ++ form.skip on.Always 2 ∷ piece.Plain (word.Move 12 (Constant (negsuc 63))) ∷ piece.Plain (word.Store Word 15 12 (pos 4)) ∷ []) }
 {
-    pieces.plain(skip(Condition::Always, 2))?;
-    pieces.plain(set(r12(), -64))?;
-    pieces.plain(stored(Width::Word, r15(), r12(), 4))
+    pieces.all(&[
+        Piece::Plain(skip(Condition::Always, 2)),
+        Piece::Plain(set(r12(), -64)),
+        Piece::Plain(stored(Width::Word, r15(), r12(), 4)),
+    ])
 }
 
 /// The first words: the stub, and the test of the stack for the program block.

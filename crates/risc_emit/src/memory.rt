@@ -202,7 +202,6 @@ pub(crate) fn put_label(
     ensures { OnOk result (pieces.new ≡ pieces.old ++ form.label_form (context_of frame.now) frame.now.number to (label_of label)) }
 {
     let register = target(frame, to);
-    pieces.push(Piece::High(register, label))?;
-    pieces.push(Piece::Low(register, label))?;
+    pieces.all(&[Piece::High(register, label), Piece::Low(register, label)])?;
     save(frame, pieces, to)
 }

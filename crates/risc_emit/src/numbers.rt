@@ -3,7 +3,7 @@
 ghost use Rattle.std.specs.Prelude.{◌≡◌, ◌++◌, pos, OnOk};
 ghost use Rattle.risc_steps.specs.Forms as form;
 
-use crate::pieces::Pieces;
+use crate::pieces::{Piece, Pieces};
 use crate::words::{computed, constant, loaded, r15, set, stored};
 use risc_word::{Instr, Operand, Operation, Register, Width};
 use tac_code::code::OutOfMemory;
@@ -26,22 +26,26 @@ pub(crate) fn is_small(value: i32) -> bool
 pub(crate) fn put_constant(pieces: &mut Pieces, to: Register, word: u64) -> Result<(), OutOfMemory>
     ensures { OnOk result (pieces.new ≡ pieces.old ++ form.constant to word) }
 {
-    pieces.plain(Instr::MoveTop {
-        to,
-        top: (word / 65536 % 65536) as u16,
-    })?;
-    pieces.plain(computed(Operation::Add, to, to, constant((word % 65536) as i32)))
+    pieces.all(&[
+        Piece::Plain(Instr::MoveTop {
+            to,
+            top: (word / 65536 % 65536) as u16,
+        }),
+        Piece::Plain(computed(Operation::Add, to, to, constant((word % 65536) as i32))),
+    ])
 }
 
 /// A register takes a word.
 pub(crate) fn put_exact(pieces: &mut Pieces, to: Register, word: u32) -> Result<(), OutOfMemory>
     ensures { OnOk result (pieces.new ≡ pieces.old ++ form.exact to word) }
 {
-    pieces.plain(Instr::MoveTop {
-        to,
-        top: (word / 65536) as u16,
-    })?;
-    pieces.plain(computed(Operation::Add, to, to, constant((word % 65536) as i32)))
+    pieces.all(&[
+        Piece::Plain(Instr::MoveTop {
+            to,
+            top: (word / 65536) as u16,
+        }),
+        Piece::Plain(computed(Operation::Add, to, to, constant((word % 65536) as i32))),
+    ])
 }
 
 /// A register takes a number.
@@ -79,8 +83,10 @@ pub(crate) fn put_load(
         return pieces.plain(loaded(Width::Word, to, base, bytes as i32));
     }
     put_constant(pieces, to, bytes)?;
-    pieces.plain(computed(Operation::Add, to, to, Operand::Content(base)))?;
-    pieces.plain(loaded(Width::Word, to, to, 0))
+    pieces.all(&[
+        Piece::Plain(computed(Operation::Add, to, to, Operand::Content(base))),
+        Piece::Plain(loaded(Width::Word, to, to, 0)),
+    ])
 }
 
 /// The word there takes what a register holds.
@@ -96,6 +102,8 @@ pub(crate) fn put_store(
         return pieces.plain(stored(Width::Word, from, base, bytes as i32));
     }
     put_constant(pieces, r15(), bytes)?;
-    pieces.plain(computed(Operation::Add, r15(), r15(), Operand::Content(base)))?;
-    pieces.plain(stored(Width::Word, from, r15(), 0))
+    pieces.all(&[
+        Piece::Plain(computed(Operation::Add, r15(), r15(), Operand::Content(base))),
+        Piece::Plain(stored(Width::Word, from, r15(), 0)),
+    ])
 }

@@ -84,6 +84,14 @@ impl Pieces {
         Ok(())
     }
 
+    /// Some words, one behind the other.
+    #[tactic(auto, using(crate::proofs::Joined::meant_more))]
+    pub(crate) fn all(&mut self, pieces: &[Piece]) -> Result<(), OutOfMemory>
+        ensures { OnOk result (self.new ≡ self.old ++ all_meant pieces.now) }
+    {
+        self.list.extend_from_slice(pieces)
+    }
+
     /// An instruction of the machine.
     pub(crate) fn plain(&mut self, instr: Instr) -> Result<(), OutOfMemory>
         ensures { OnOk result (self.new ≡ self.old ++ piece.Plain instr ∷ []) }
