@@ -1,8 +1,8 @@
-use Rattle.std.proofs.Common.{rules, ◌≡◌, ◌++◌}
+use Rattle.std.proofs.Common.{arith, rules, ◌≡◌, ◌++◌}
 use Rattle.std.proofs.lemmas.Result.{on_ok_weaker}
 use Rattle.ps_points.specs.Points.{heading, heading_points, routine_points, within, whole_form}
-use Rattle.ps_points.proofs.Equations.{whole_added}
-use Rattle.ps_points.proofs.Lists.{gained_start, gained_next, gained_end}
+use Rattle.ps_points.proofs.Equations.{block_added, whole_added, routine_Forward, routine_Completion}
+use Rattle.ps_points.proofs.Lists.{one_added, gained_start, gained_next, gained_end}
 use Rattle.ps_points.proofs.blocks.+block.Goals as goal
 
 pub add_routine-returns-in_ok-add_heading-in-Whole : goal.add_routine-returns-in_ok-add_heading-in-Whole
@@ -21,3 +21,15 @@ add_routines-loop-written-preserved t c = gained_next (λ x. routine_points x c.
 
 pub add_routines-returns : goal.add_routines-returns
 add_routines-returns t c = gained_end (λ x. routine_points x c.args.region) _ _ _ _ c.loop-written-test.false c.loop-written.invariant
+
+pub add_block-returns : goal.add_block-returns
+add_block-returns t c = grind (arith, block_added)
+
+pub add_routine-returns-in-Forward : goal.add_routine-returns-in-Forward
+add_routine-returns-in-Forward t c = grind (arith, routine_Forward)
+
+pub add_routine-returns-in-Completion : goal.add_routine-returns-in-Completion
+add_routine-returns-in-Completion t c = grind (arith, routine_Completion)
+
+pub add_completion-returns : goal.add_completion-returns
+add_completion-returns t c = grind (arith, one_added)

@@ -1,0 +1,11 @@
+use Rattle.ps_points.specs.Levels.{own_level, levels_of}
+use Rattle.ps_points.proofs.KindLemmas.{formal_here}
+use Rattle.ps_points.proofs.kinds.+formal_in.Goals as goal
+
+pub returns-in-Outside : goal.returns-in-Outside
+unfolding levels_of
+returns-in-Outside t c = rw c.in-Outside.is c.required_formal.ensures
+
+pub returns-then-is_some : goal.returns-then-is_some
+unfolding levels_of
+returns-then-is_some t c = rw c.in-Within.is (formal_here c.args.reading.now.source.now c.args.points.now (own_level c.in-Within.region c.in-Within.block.now) (levels_of c.in-Within.outer.now) c.args.routine c.args.index c.formal_of-found.result c.formal_of-found.ensures)
