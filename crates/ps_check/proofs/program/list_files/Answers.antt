@@ -1,4 +1,5 @@
-use Rattle.ps_regions.proofs.Lists.{stepped_next, stepped_end}
+use Rattle.std.proofs.Common.{arith}
+use Rattle.ps_regions.proofs.Lists.{stepped_next, stepped_fault, stepped_end}
 use Rattle.ps_check.proofs.program.list_files.Goals as goal
 
 pub loop-at-preserved : goal.loop-at-preserved
@@ -6,3 +7,6 @@ loop-at-preserved c = stepped_next _ _ _ _ _ _ _ c.loop-at-test.true c.loop-at.i
 
 pub returns-clause-ok : goal.returns-clause-ok
 returns-clause-ok c = stepped_end _ _ _ _ _ c.loop-at-test.false c.loop-at.invariant
+
+pub returns-in_err-list_file-clause-err : goal.returns-in_err-list_file-clause-err
+returns-in_err-list_file-clause-err c = grind (arith, stepped_fault)
