@@ -1,6 +1,6 @@
 //! Expressions.
 
-ghost use Rattle.std.specs.Prelude.{◌≡◌, Ok, Some, drop};
+ghost use Rattle.std.specs.Prelude.{◌≡◌, ◌≤◌, Ok, Some, drop};
 ghost use Rattle.ps_scan.specs.declared.token.Kind.TheVariants as k;
 ghost use Rattle.ps_parse.specs.Steps.{Reads, separated, many};
 ghost use Rattle.ps_parse.specs.ReadExpressions as read;
@@ -389,6 +389,7 @@ impl<'a> Parser<'a> {
     /// Goes past the parentheses that come next, at most so many, and answers how many they are.
     fn opened(&mut self, most: u32) -> u32
         ensures count { result ≡ read.parentheses most self.old.rest.now }
+        ensures most { result ≤ most }
         ensures after { self.new.rest.now ≡ drop result self.old.rest.now }
         ensures kept { self.new.left_out ≡ self.old.left_out }
     {

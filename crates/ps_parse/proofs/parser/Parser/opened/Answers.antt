@@ -8,7 +8,7 @@ loop-count-init c = (nothing_taken c.args.most c.args.self.now.rest.now, refl)
 pub returns-then-not-eat : goal.returns-then-not-eat
 returns-then-not-eat c =
     let taken = last_taken c.args.most c.loop-count.count c.args.self.now.rest.now c.loop-count.self.rest.now c.loop-count.invariant.0 (sym c.eat.ensures.found ∙ c.if-not-eat.true) in
-    record { count = taken.0; after = c.eat.ensures.after ∙ taken.1; kept = c.eat.ensures.kept ∙ c.loop-count.invariant.1 }
+    record { count = taken.0; most = omega (arith, c.loop-count-test.true); after = c.eat.ensures.after ∙ taken.1; kept = c.eat.ensures.kept ∙ c.loop-count.invariant.1 }
 
 pub loop-count-preserved : goal.loop-count-preserved
 loop-count-preserved c =
@@ -19,4 +19,4 @@ pub returns : goal.returns
 returns c =
     let done : c.loop-count.count ≡ c.args.most = omega (arith, c.loop-count-test.false, c.loop-count.auto.count-end) in
     let taken = all_taken c.args.most c.args.self.now.rest.now c.loop-count.self.rest.now (subst (λ n. Taken c.args.most c.args.self.now.rest.now n c.loop-count.self.rest.now) done c.loop-count.invariant.0) in
-    record { count = taken.0; after = taken.1; kept = c.loop-count.invariant.1 }
+    record { count = taken.0; most = omega arith; after = taken.1; kept = c.loop-count.invariant.1 }
