@@ -31,18 +31,18 @@ pub fn used_up(world: &World, c: &Context) -> Halt
 
 /// Does a block of the program.
 #[cycle(run)]
-pub fn do_block(world: &mut World, body: &[Statement], here: &Here) -> Result<(), Halt>
-    requires { statements_height (statements_of body.now) ≤ highest (program_of here.now.job.now) }
-    ensures { Runs done_of (next here.now.job.now here.now.fuel (Block (statements_of body.now)) (context_of here.now.context.now) (world_of world.old)) here.now.depth (levels here.now.job.now here.now.fuel 0) result world.new }
+pub fn do_block(world: &mut World, body: &[Statement], here: Here) -> Result<(), Halt>
+    requires { statements_height (statements_of body.now) ≤ highest (program_of here.job.now) }
+    ensures { Runs done_of (next here.entry.job.now here.entry.fuel (Block (statements_of body.now)) (context_of here.entry.context.now) (world_of world.old)) here.entry.depth (levels here.entry.job.now here.entry.fuel 0) result world.new }
 {
     if here.fuel == 0 {
         Err(used_up(world, here.context))
     } else {
         let inside = Here {
             fuel: here.fuel - 1,
-            ..*here
+            ..here
         };
-        act_all(world, body, &inside)
+        act_all(world, body, inside)
     }
 }
 
@@ -54,17 +54,17 @@ pub fn call_procedure(
     callee: Callee,
     arguments: &[Argument],
     line: u16,
-    here: &Here,
+    here: Here,
 ) -> Result<(), Halt>
-    ensures { Runs done_of (called here.now.job.now here.now.fuel callee (arguments_of arguments.now) line (context_of here.now.context.now) (world_of world.old)) here.now.depth (levels here.now.job.now here.now.fuel (arguments_height (arguments_of arguments.now))) result world.new }
+    ensures { Runs done_of (called here.entry.job.now here.entry.fuel callee (arguments_of arguments.now) line (context_of here.entry.context.now) (world_of world.old)) here.entry.depth (levels here.entry.job.now here.entry.fuel (arguments_height (arguments_of arguments.now))) result world.new }
 {
     let actuals = take_actuals(world, arguments, here)?;
     let (body, inner) = world.enter(callee, actuals.as_slice(), line, here.context, here.job)?;
     let inside = Here {
         context: &inner,
-        ..*here
+        ..here
     };
-    do_block(world, body, &inside)
+    do_block(world, body, inside)
 }
 
 /// The value of a function, or of a functional parameter: its result is the first variable that the call declares.
@@ -75,18 +75,18 @@ pub fn call_value(
     callee: Callee,
     arguments: &[Argument],
     line: u16,
-    here: &Here,
+    here: Here,
 ) -> Result<Value, Halt>
-    ensures { Runs value_of (called_value here.now.job.now here.now.fuel callee (arguments_of arguments.now) line (context_of here.now.context.now) (world_of world.old)) here.now.depth (levels here.now.job.now here.now.fuel (arguments_height (arguments_of arguments.now))) result world.new }
+    ensures { Runs value_of (called_value here.entry.job.now here.entry.fuel callee (arguments_of arguments.now) line (context_of here.entry.context.now) (world_of world.old)) here.entry.depth (levels here.entry.job.now here.entry.fuel (arguments_height (arguments_of arguments.now))) result world.new }
 {
     let actuals = take_actuals(world, arguments, here)?;
     let name = world.next;
     let (body, inner) = world.enter(callee, actuals.as_slice(), line, here.context, here.job)?;
     let inside = Here {
         context: &inner,
-        ..*here
+        ..here
     };
-    do_block(world, body, &inside)?;
+    do_block(world, body, inside)?;
     world.result_at(name, here.context.alloc)
 }
 

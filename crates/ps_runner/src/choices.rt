@@ -21,13 +21,8 @@ use ps_tree::tree::{CaseElement, Expr, Statement};
 /// An if statement.
 #[cycle(run)]
 #[tactic(auto, using(crate::proofs::Answers::halted_then, crate::proofs::Answers::runs_deeper))]
-pub fn act_if(
-    world: &mut World,
-    condition: &Expr,
-    body: &Statement,
-    here: &Here,
-) -> Result<(), Halt>
-    ensures { Runs done_of (acting here.now.job.now here.now.fuel (Tree.If (expr_of condition.now) (statement_of body.now)) (context_of here.now.context.now) (world_of world.old)) here.now.depth (levels here.now.job.now here.now.fuel (max (expr_height (expr_of condition.now)) (statement_height (statement_of body.now)))) result world.new }
+pub fn act_if(world: &mut World, condition: &Expr, body: &Statement, here: Here) -> Result<(), Halt>
+    ensures { Runs done_of (acting here.entry.job.now here.entry.fuel (Tree.If (expr_of condition.now) (statement_of body.now)) (context_of here.entry.context.now) (world_of world.old)) here.entry.depth (levels here.entry.job.now here.entry.fuel (max (expr_height (expr_of condition.now)) (statement_height (statement_of body.now)))) result world.new }
 {
     let x = evaluate(world, condition, here)?;
     if is_true(x.number()) {
@@ -45,9 +40,9 @@ pub fn act_if_else(
     condition: &Expr,
     body: &Statement,
     otherwise: &Statement,
-    here: &Here,
+    here: Here,
 ) -> Result<(), Halt>
-    ensures { Runs done_of (acting here.now.job.now here.now.fuel (Tree.IfElse (expr_of condition.now) (statement_of body.now) (statement_of otherwise.now)) (context_of here.now.context.now) (world_of world.old)) here.now.depth (levels here.now.job.now here.now.fuel (max (expr_height (expr_of condition.now)) (max (statement_height (statement_of body.now)) (statement_height (statement_of otherwise.now))))) result world.new }
+    ensures { Runs done_of (acting here.entry.job.now here.entry.fuel (Tree.IfElse (expr_of condition.now) (statement_of body.now) (statement_of otherwise.now)) (context_of here.entry.context.now) (world_of world.old)) here.entry.depth (levels here.entry.job.now here.entry.fuel (max (expr_height (expr_of condition.now)) (max (statement_height (statement_of body.now)) (statement_height (statement_of otherwise.now))))) result world.new }
 {
     let x = evaluate(world, condition, here)?;
     if is_true(x.number()) {
@@ -65,9 +60,9 @@ pub fn choose(
     index: &Expr,
     elements: &[CaseElement],
     line: u16,
-    here: &Here,
+    here: Here,
 ) -> Result<(), Halt>
-    ensures { Runs done_of (acting here.now.job.now here.now.fuel (Tree.Case (expr_of index.now) (elements_of elements.now) line) (context_of here.now.context.now) (world_of world.old)) here.now.depth (levels here.now.job.now here.now.fuel (max (expr_height (expr_of index.now)) (elements_height (elements_of elements.now)))) result world.new }
+    ensures { Runs done_of (acting here.entry.job.now here.entry.fuel (Tree.Case (expr_of index.now) (elements_of elements.now) line) (context_of here.entry.context.now) (world_of world.old)) here.entry.depth (levels here.entry.job.now here.entry.fuel (max (expr_height (expr_of index.now)) (elements_height (elements_of elements.now)))) result world.new }
 {
     let x = evaluate(world, index, here)?;
     match selected(elements, &x) {

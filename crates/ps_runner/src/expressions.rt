@@ -26,8 +26,8 @@ use std::alloc::AllocError;
 /// Accesses a variable: what its name denotes, then its selectors.
 #[cycle(run)]
 #[tactic(auto, using(crate::proofs::Answers::runs_deeper))]
-pub fn access(world: &mut World, place: &Place, here: &Here) -> Result<Spot, Halt>
-    ensures { Runs spot_of (m.access (caller here.now.job.now here.now.fuel) (place_of place.now) (context_of here.now.context.now) (world_of world.old)) here.now.depth (levels here.now.job.now here.now.fuel (place_height (place_of place.now))) result world.new }
+pub fn access(world: &mut World, place: &Place, here: Here) -> Result<Spot, Halt>
+    ensures { Runs spot_of (m.access (caller here.entry.job.now here.entry.fuel) (place_of place.now) (context_of here.entry.context.now) (world_of world.old)) here.entry.depth (levels here.entry.job.now here.entry.fuel (place_height (place_of place.now))) result world.new }
 {
     if here.depth == 0 {
         return Err(Halt::TooDeep);
@@ -35,9 +35,9 @@ pub fn access(world: &mut World, place: &Place, here: &Here) -> Result<Spot, Hal
     let spot = world.denoted(&place.base, here.context)?;
     let below = Here {
         depth: here.depth - 1,
-        ..*here
+        ..here
     };
-    select_all(world, &place.selectors, spot, &below)
+    select_all(world, &place.selectors, spot, below)
 }
 
 /// Goes on from a variable by its selectors, one after another.
@@ -47,9 +47,9 @@ fn select_all(
     world: &mut World,
     selectors: &[Selector],
     base: Spot,
-    here: &Here,
+    here: Here,
 ) -> Result<Spot, Halt>
-    ensures { Runs spot_of (m.accesses (caller here.now.job.now here.now.fuel) (selectors_of selectors.now) (spot_of base) (context_of here.now.context.now) (world_of world.old)) here.now.depth (levels here.now.job.now here.now.fuel (selectors_height (selectors_of selectors.now))) result world.new }
+    ensures { Runs spot_of (m.accesses (caller here.entry.job.now here.entry.fuel) (selectors_of selectors.now) (spot_of base) (context_of here.entry.context.now) (world_of world.old)) here.entry.depth (levels here.entry.job.now here.entry.fuel (selectors_height (selectors_of selectors.now))) result world.new }
 {
     let mut spot = base;
     for selector in selectors {
@@ -61,8 +61,8 @@ fn select_all(
 /// Goes on from a variable by a selector.
 #[cycle(run)]
 #[tactic(auto, using(crate::proofs::Answers::halted_then, crate::proofs::Answers::answers_run), unfolding(ps_tree::specs::View::selector_of))]
-fn select(world: &mut World, selector: &Selector, spot: Spot, here: &Here) -> Result<Spot, Halt>
-    ensures { Runs spot_of (m.at_selector (caller here.now.job.now here.now.fuel) (selector_of selector.now) (spot_of spot) (context_of here.now.context.now) (world_of world.old)) here.now.depth (levels here.now.job.now here.now.fuel (selector_height (selector_of selector.now))) result world.new }
+fn select(world: &mut World, selector: &Selector, spot: Spot, here: Here) -> Result<Spot, Halt>
+    ensures { Runs spot_of (m.at_selector (caller here.entry.job.now here.entry.fuel) (selector_of selector.now) (spot_of spot) (context_of here.entry.context.now) (world_of world.old)) here.entry.depth (levels here.entry.job.now here.entry.fuel (selector_height (selector_of selector.now))) result world.new }
 {
     match selector {
         Selector::Element { ty, index, line } => {
@@ -77,45 +77,45 @@ fn select(world: &mut World, selector: &Selector, spot: Spot, here: &Here) -> Re
 /// Evaluates an expression of an ordinal or pointer type.
 #[cycle(run)]
 #[tactic(auto, using(crate::proofs::Answers::halted_then, crate::proofs::Answers::answers_run, ps_tree::proofs::TreeLemmas::expr_of_Load), unfolding(ps_tree::specs::View::expr_of, crate::specs::View::value_of, crate::specs::View::integer_of))]
-pub fn evaluate(world: &mut World, e: &Expr, here: &Here) -> Result<Value, Halt>
-    ensures { Runs value_of (m.value (caller here.now.job.now here.now.fuel) (expr_of e.now) (context_of here.now.context.now) (world_of world.old)) here.now.depth (levels here.now.job.now here.now.fuel (expr_height (expr_of e.now))) result world.new }
+pub fn evaluate(world: &mut World, e: &Expr, here: Here) -> Result<Value, Halt>
+    ensures { Runs value_of (m.value (caller here.entry.job.now here.entry.fuel) (expr_of e.now) (context_of here.entry.context.now) (world_of world.old)) here.entry.depth (levels here.entry.job.now here.entry.fuel (expr_height (expr_of e.now))) result world.new }
 {
     if here.depth == 0 {
         return Err(Halt::TooDeep);
     }
     let below = Here {
         depth: here.depth - 1,
-        ..*here
+        ..here
     };
     match e {
         Expr::Number(number) => Ok(Value::Ordinal(*number)),
         Expr::Nil => Ok(Value::Nil),
         Expr::Load(place) => {
-            let spot = access(world, place, &below)?;
+            let spot = access(world, place, below)?;
             Ok(world.contents(here.context.alloc, &spot)?)
         }
-        Expr::Plus(operand) => evaluate(world, operand, &below),
+        Expr::Plus(operand) => evaluate(world, operand, below),
         Expr::Minus { operand, line } => {
-            let x = evaluate(world, operand, &below)?.number();
+            let x = evaluate(world, operand, below)?.number();
             world.settled(negated(x), line.number, here.context)
         }
         Expr::Not(operand) => {
-            let x = evaluate(world, operand, &below)?.number();
+            let x = evaluate(world, operand, below)?.number();
             Ok(Value::truth(!is_true(x)))
         }
-        Expr::Arithmetic { first, steps } => calculate(world, first, steps, &below),
+        Expr::Arithmetic { first, steps } => calculate(world, first, steps, below),
         Expr::Logic {
             operator,
             first,
             rest,
-        } => combine(world, *operator, first, rest, &below),
+        } => combine(world, *operator, first, rest, below),
         Expr::Compare {
             relation,
             left,
             right,
         } => {
             let comparison = Comparison::Ordinals(*relation);
-            compare(world, comparison, left, right, &below)
+            compare(world, comparison, left, right, below)
         }
         Expr::ComparePointers {
             relation,
@@ -123,25 +123,25 @@ pub fn evaluate(world: &mut World, e: &Expr, here: &Here) -> Result<Value, Halt>
             right,
         } => {
             let comparison = Comparison::Pointers(*relation);
-            compare(world, comparison, left, right, &below)
+            compare(world, comparison, left, right, below)
         }
         Expr::CompareSets {
             relation,
             left,
             right,
-        } => compare_sets(world, *relation, left, right, &below),
+        } => compare_sets(world, *relation, left, right, below),
         Expr::CompareStrings {
             relation,
             left,
             right,
-        } => compare_strings(world, *relation, left, right, &below),
-        Expr::In { left, right } => test_member(world, left, right, &below),
+        } => compare_strings(world, *relation, left, right, below),
+        Expr::In { left, right } => test_member(world, left, right, below),
         Expr::Apply {
             function,
             operand,
             line,
         } => {
-            let x = evaluate(world, operand, &below)?.number();
+            let x = evaluate(world, operand, below)?.number();
             world.settled(apply(*function, x), line.number, here.context)
         }
         Expr::Eof => world.eof(),
@@ -156,7 +156,7 @@ pub fn evaluate(world: &mut World, e: &Expr, here: &Here) -> Result<Value, Halt>
                 routine: *routine,
                 up: *up,
             };
-            call_value(world, callee, arguments, line.number, &below)
+            call_value(world, callee, arguments, line.number, below)
         }
         Expr::CallFormal {
             up,
@@ -168,7 +168,7 @@ pub fn evaluate(world: &mut World, e: &Expr, here: &Here) -> Result<Value, Halt>
                 up: *up,
                 index: *index,
             };
-            call_value(world, callee, arguments, line.number, &below)
+            call_value(world, callee, arguments, line.number, below)
         }
     }
 }
@@ -176,8 +176,8 @@ pub fn evaluate(world: &mut World, e: &Expr, here: &Here) -> Result<Value, Halt>
 /// The truth of a condition.
 #[cycle(run)]
 #[tactic(auto, using(crate::proofs::Answers::halted_then))]
-pub fn evaluate_truth(world: &mut World, e: &Expr, here: &Here) -> Result<bool, Halt>
-    ensures { Runs truth_of (truth_in here.now.job.now here.now.fuel (expr_of e.now) (context_of here.now.context.now) (world_of world.old)) here.now.depth (levels here.now.job.now here.now.fuel (expr_height (expr_of e.now))) result world.new }
+pub fn evaluate_truth(world: &mut World, e: &Expr, here: Here) -> Result<bool, Halt>
+    ensures { Runs truth_of (truth_in here.entry.job.now here.entry.fuel (expr_of e.now) (context_of here.entry.context.now) (world_of world.old)) here.entry.depth (levels here.entry.job.now here.entry.fuel (expr_height (expr_of e.now))) result world.new }
 {
     let x = evaluate(world, e, here)?;
     Ok(is_true(x.number()))
@@ -196,23 +196,23 @@ impl<'a> World<'a> {
 /// Evaluates an expression of a set type.
 #[cycle(run)]
 #[tactic(auto, using(crate::proofs::Answers::halted_then, crate::proofs::Answers::runs_deeper, crate::proofs::Trees::set_of_Constructor, ps_tree::proofs::TreeLemmas::set_of_Load), unfolding(ps_tree::specs::View::set_of))]
-pub fn evaluate_set(world: &mut World, e: &SetExpr, here: &Here) -> Result<Vec<bool>, Halt>
-    ensures { Runs members_of_set (m.set_value (caller here.now.job.now here.now.fuel) (set_of e.now) (context_of here.now.context.now) (world_of world.old)) here.now.depth (levels here.now.job.now here.now.fuel (set_height (set_of e.now))) result world.new }
+pub fn evaluate_set(world: &mut World, e: &SetExpr, here: Here) -> Result<Vec<bool>, Halt>
+    ensures { Runs members_of_set (m.set_value (caller here.entry.job.now here.entry.fuel) (set_of e.now) (context_of here.entry.context.now) (world_of world.old)) here.entry.depth (levels here.entry.job.now here.entry.fuel (set_height (set_of e.now))) result world.new }
 {
     if here.depth == 0 {
         return Err(Halt::TooDeep);
     }
     let below = Here {
         depth: here.depth - 1,
-        ..*here
+        ..here
     };
     match e {
         SetExpr::Load(place) => {
-            let spot = access(world, place, &below)?;
+            let spot = access(world, place, below)?;
             Ok(world.set_at(&spot, here.context)?)
         }
-        SetExpr::Constructor(members) => evaluate_members(world, members, &below),
-        SetExpr::Combine { first, steps } => { combine_all(world, first, steps, &below) }
+        SetExpr::Constructor(members) => evaluate_members(world, members, below),
+        SetExpr::Combine { first, steps } => { combine_all(world, first, steps, below) }
     }
 }
 
@@ -223,9 +223,9 @@ fn combine_all(
     world: &mut World,
     first: &SetExpr,
     steps: &[SetStep],
-    here: &Here,
+    here: Here,
 ) -> Result<Vec<bool>, Halt>
-    ensures { Runs members_of_set (m.set_value (caller here.now.job.now here.now.fuel) (Tree.Combine (set_of first.now) (set_steps_of steps.now)) (context_of here.now.context.now) (world_of world.old)) here.now.depth (levels here.now.job.now here.now.fuel (max (set_height (set_of first.now)) (set_steps_height (set_steps_of steps.now)))) result world.new }
+    ensures { Runs members_of_set (m.set_value (caller here.entry.job.now here.entry.fuel) (Tree.Combine (set_of first.now) (set_steps_of steps.now)) (context_of here.entry.context.now) (world_of world.old)) here.entry.depth (levels here.entry.job.now here.entry.fuel (max (set_height (set_of first.now)) (set_steps_height (set_steps_of steps.now)))) result world.new }
 {
     let mut tests = evaluate_set(world, first, here)?;
     for step in steps {
@@ -243,8 +243,8 @@ fn combine_all(
 /// Evaluates a member of a set constructor, and checks it.
 #[cycle(run)]
 #[tactic(auto, using(crate::proofs::Answers::halted_then, crate::proofs::Answers::answers_run), unfolding(ps_tree::specs::View::member_of))]
-fn evaluate_member(world: &mut World, member: &Member, here: &Here) -> Result<Vec<bool>, Halt>
-    ensures { Runs members_of_set (m.member_value (caller here.now.job.now here.now.fuel) (member_of member.now) (context_of here.now.context.now) (world_of world.old)) here.now.depth (levels here.now.job.now here.now.fuel (member_height (member_of member.now))) result world.new }
+fn evaluate_member(world: &mut World, member: &Member, here: Here) -> Result<Vec<bool>, Halt>
+    ensures { Runs members_of_set (m.member_value (caller here.entry.job.now here.entry.fuel) (member_of member.now) (context_of here.entry.context.now) (world_of world.old)) here.entry.depth (levels here.entry.job.now here.entry.fuel (member_height (member_of member.now))) result world.new }
 {
     match member {
         Member::One { value, line } => {
@@ -262,8 +262,8 @@ fn evaluate_member(world: &mut World, member: &Member, here: &Here) -> Result<Ve
 /// Evaluates the members of a set constructor.
 #[cycle(run)]
 #[tactic(auto, using(crate::proofs::Answers::members_start, crate::proofs::Answers::members_next, crate::proofs::Answers::members_end))]
-fn evaluate_members(world: &mut World, members: &[Member], here: &Here) -> Result<Vec<bool>, Halt>
-    ensures { Runs members_of_set (m.members_value (caller here.now.job.now here.now.fuel) (members_of members.now) (context_of here.now.context.now) (world_of world.old)) here.now.depth (levels here.now.job.now here.now.fuel (members_height (members_of members.now))) result world.new }
+fn evaluate_members(world: &mut World, members: &[Member], here: Here) -> Result<Vec<bool>, Halt>
+    ensures { Runs members_of_set (m.members_value (caller here.entry.job.now here.entry.fuel) (members_of members.now) (context_of here.entry.context.now) (world_of world.old)) here.entry.depth (levels here.entry.job.now here.entry.fuel (members_height (members_of members.now))) result world.new }
 {
     let mut tests = Vec::new(here.context.alloc);
     for member in members {
@@ -281,8 +281,8 @@ fn evaluate_members(world: &mut World, members: &[Member], here: &Here) -> Resul
 /// Accesses an operand of an array or record type.
 #[cycle(run)]
 #[tactic(auto, unfolding(ps_tree::specs::View::structure_of, crate::specs::Worlds::held_of))]
-pub fn take_operand<'t>(world: &mut World, e: &'t Structure, here: &Here) -> Result<Held<'t>, Halt>
-    ensures { Runs held_of (m.operand (caller here.now.job.now here.now.fuel) (structure_of e.now) (context_of here.now.context.now) (world_of world.old)) here.now.depth (levels here.now.job.now here.now.fuel (structure_height (structure_of e.now))) result world.new }
+pub fn take_operand<'t>(world: &mut World, e: &'t Structure, here: Here) -> Result<Held<'t>, Halt>
+    ensures { Runs held_of (m.operand (caller here.entry.job.now here.entry.fuel) (structure_of e.now) (context_of here.entry.context.now) (world_of world.old)) here.entry.depth (levels here.entry.job.now here.entry.fuel (structure_height (structure_of e.now))) result world.new }
 {
     match e {
         Structure::Literal(characters) => Ok(Held::Text(characters.as_slice())),
@@ -293,8 +293,8 @@ pub fn take_operand<'t>(world: &mut World, e: &'t Structure, here: &Here) -> Res
 /// Takes an actual parameter.
 #[cycle(run)]
 #[tactic(auto, using(crate::proofs::Answers::halted_then, crate::proofs::Answers::stopped_halts_then, crate::proofs::Answers::answers_run, ps_tree::proofs::TreeLemmas::argument_of_Variable), unfolding(ps_tree::specs::View::argument_of, crate::specs::Worlds::actual_of))]
-fn take_actual(world: &mut World, argument: &Argument, here: &Here) -> Result<Actual, Halt>
-    ensures { Runs actual_of (m.actual_of (caller here.now.job.now here.now.fuel) (argument_of argument.now) (context_of here.now.context.now) (world_of world.old)) here.now.depth (levels here.now.job.now here.now.fuel (argument_height (argument_of argument.now))) result world.new }
+fn take_actual(world: &mut World, argument: &Argument, here: Here) -> Result<Actual, Halt>
+    ensures { Runs actual_of (m.actual_of (caller here.entry.job.now here.entry.fuel) (argument_of argument.now) (context_of here.entry.context.now) (world_of world.old)) here.entry.depth (levels here.entry.job.now here.entry.fuel (argument_height (argument_of argument.now))) result world.new }
 {
     match argument {
         Argument::Value { value, range, line } => {
@@ -338,9 +338,9 @@ fn take_actual(world: &mut World, argument: &Argument, here: &Here) -> Result<Ac
 pub fn take_actuals(
     world: &mut World,
     arguments: &[Argument],
-    here: &Here,
+    here: Here,
 ) -> Result<Vec<Actual>, Halt>
-    ensures { Runs actuals_in (m.actuals_of (caller here.now.job.now here.now.fuel) (arguments_of arguments.now) (context_of here.now.context.now) (world_of world.old)) here.now.depth (levels here.now.job.now here.now.fuel (arguments_height (arguments_of arguments.now))) result world.new }
+    ensures { Runs actuals_in (m.actuals_of (caller here.entry.job.now here.entry.fuel) (arguments_of arguments.now) (context_of here.entry.context.now) (world_of world.old)) here.entry.depth (levels here.entry.job.now here.entry.fuel (arguments_height (arguments_of arguments.now))) result world.new }
 {
     let mut actuals = Vec::new(here.context.alloc);
     for argument in arguments {

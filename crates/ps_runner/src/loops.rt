@@ -50,20 +50,17 @@ pub fn repeat_while(
     world: &mut World,
     condition: &Expr,
     body: &Statement,
-    here: &Here,
+    here: Here,
 ) -> Result<(), Halt>
-    ensures { Runs done_of (acting here.now.job.now here.now.fuel (Tree.While (expr_of condition.now) (statement_of body.now)) (context_of here.now.context.now) (world_of world.old)) here.now.depth (levels here.now.job.now here.now.fuel (max (expr_height (expr_of condition.now)) (statement_height (statement_of body.now)))) result world.new }
+    ensures { Runs done_of (acting here.entry.job.now here.entry.fuel (Tree.While (expr_of condition.now) (statement_of body.now)) (context_of here.entry.context.now) (world_of world.old)) here.entry.depth (levels here.entry.job.now here.entry.fuel (max (expr_height (expr_of condition.now)) (statement_height (statement_of body.now)))) result world.new }
 {
     let mut left = here.fuel;
     loop {
-        let turn = Here {
-            fuel: left,
-            ..*here
-        };
-        if !evaluate_truth(world, condition, &turn)? {
+        let turn = Here { fuel: left, ..here };
+        if !evaluate_truth(world, condition, turn)? {
             return Ok(());
         }
-        act(world, body, &turn)?;
+        act(world, body, turn)?;
         if left == 0 {
             return Err(used_up(world, here.context));
         }
@@ -77,18 +74,15 @@ pub fn repeat_until(
     world: &mut World,
     body: &[Statement],
     condition: &Expr,
-    here: &Here,
+    here: Here,
 ) -> Result<(), Halt>
-    ensures { Runs done_of (acting here.now.job.now here.now.fuel (Tree.Repeat (statements_of body.now) (expr_of condition.now)) (context_of here.now.context.now) (world_of world.old)) here.now.depth (levels here.now.job.now here.now.fuel (max (statements_height (statements_of body.now)) (expr_height (expr_of condition.now)))) result world.new }
+    ensures { Runs done_of (acting here.entry.job.now here.entry.fuel (Tree.Repeat (statements_of body.now) (expr_of condition.now)) (context_of here.entry.context.now) (world_of world.old)) here.entry.depth (levels here.entry.job.now here.entry.fuel (max (statements_height (statements_of body.now)) (expr_height (expr_of condition.now)))) result world.new }
 {
     let mut left = here.fuel;
     loop {
-        let turn = Here {
-            fuel: left,
-            ..*here
-        };
-        act_all(world, body, &turn)?;
-        if evaluate_truth(world, condition, &turn)? {
+        let turn = Here { fuel: left, ..here };
+        act_all(world, body, turn)?;
+        if evaluate_truth(world, condition, turn)? {
             return Ok(());
         }
         if left == 0 {
@@ -111,9 +105,9 @@ pub fn count(
     to: &Expr,
     to_line: u16,
     body: &Statement,
-    here: &Here,
+    here: Here,
 ) -> Result<(), Halt>
-    ensures { Runs done_of (acting here.now.job.now here.now.fuel (Tree.For variable low high (expr_of from.now) from_line direction (expr_of to.now) to_line (statement_of body.now)) (context_of here.now.context.now) (world_of world.old)) here.now.depth (levels here.now.job.now here.now.fuel (max (expr_height (expr_of from.now)) (max (expr_height (expr_of to.now)) (statement_height (statement_of body.now))))) result world.new }
+    ensures { Runs done_of (acting here.entry.job.now here.entry.fuel (Tree.For variable low high (expr_of from.now) from_line direction (expr_of to.now) to_line (statement_of body.now)) (context_of here.entry.context.now) (world_of world.old)) here.entry.depth (levels here.entry.job.now here.entry.fuel (max (expr_height (expr_of from.now)) (max (expr_height (expr_of to.now)) (statement_height (statement_of body.now))))) result world.new }
 {
     let x = evaluate(world, from, here)?;
     let y = evaluate(world, to, here)?;
@@ -188,18 +182,15 @@ fn turns(
     direction: Direction,
     last: &Value,
     body: &Statement,
-    here: &Here,
+    here: Here,
 ) -> Result<(), Halt>
-    ensures { Runs done_of (turning here.now.job.now here.now.fuel variable direction (number_of (value_of last.now)) (statement_of body.now) (context_of here.now.context.now) (world_of world.old)) here.now.depth (levels here.now.job.now here.now.fuel (statement_height (statement_of body.now))) result world.new }
+    ensures { Runs done_of (turning here.entry.job.now here.entry.fuel variable direction (number_of (value_of last.now)) (statement_of body.now) (context_of here.entry.context.now) (world_of world.old)) here.entry.depth (levels here.entry.job.now here.entry.fuel (statement_height (statement_of body.now))) result world.new }
 {
     let spot = spot_in(here.context.alloc, &here.context.env, variable)?;
     let mut left = here.fuel;
     loop {
-        let turn = Here {
-            fuel: left,
-            ..*here
-        };
-        act(world, body, &turn)?;
+        let turn = Here { fuel: left, ..here };
+        act(world, body, turn)?;
         if left == 0 {
             return Err(used_up(world, here.context));
         }

@@ -46,9 +46,9 @@ pub fn calculate(
     world: &mut World,
     first: &Expr,
     steps: &[ArithmeticStep],
-    here: &Here,
+    here: Here,
 ) -> Result<Value, Halt>
-    ensures { Runs value_of (m.value (caller here.now.job.now here.now.fuel) (Tree.Arithmetic (expr_of first.now) (arithmetic_of steps.now)) (context_of here.now.context.now) (world_of world.old)) here.now.depth (levels here.now.job.now here.now.fuel (max (expr_height (expr_of first.now)) (steps_height (arithmetic_of steps.now)))) result world.new }
+    ensures { Runs value_of (m.value (caller here.entry.job.now here.entry.fuel) (Tree.Arithmetic (expr_of first.now) (arithmetic_of steps.now)) (context_of here.entry.context.now) (world_of world.old)) here.entry.depth (levels here.entry.job.now here.entry.fuel (max (expr_height (expr_of first.now)) (steps_height (arithmetic_of steps.now)))) result world.new }
 {
     let mut x = evaluate(world, first, here)?;
     for step in steps {
@@ -80,9 +80,9 @@ pub fn combine(
     operator: BooleanOperator,
     first: &Expr,
     rest: &[Expr],
-    here: &Here,
+    here: Here,
 ) -> Result<Value, Halt>
-    ensures { Runs value_of (m.value (caller here.now.job.now here.now.fuel) (Tree.Logic operator (expr_of first.now) (operands_of rest.now)) (context_of here.now.context.now) (world_of world.old)) here.now.depth (levels here.now.job.now here.now.fuel (max (expr_height (expr_of first.now)) (operands_height (operands_of rest.now)))) result world.new }
+    ensures { Runs value_of (m.value (caller here.entry.job.now here.entry.fuel) (Tree.Logic operator (expr_of first.now) (operands_of rest.now)) (context_of here.entry.context.now) (world_of world.old)) here.entry.depth (levels here.entry.job.now here.entry.fuel (max (expr_height (expr_of first.now)) (operands_height (operands_of rest.now)))) result world.new }
 {
     let mut x = evaluate_truth(world, first, here)?;
     for operand in rest {
@@ -100,9 +100,9 @@ pub fn compare(
     comparison: Comparison,
     left: &Expr,
     right: &Expr,
-    here: &Here,
+    here: Here,
 ) -> Result<Value, Halt>
-    ensures { Runs value_of (comparing here.now.job.now here.now.fuel comparison (expr_of left.now) (expr_of right.now) (context_of here.now.context.now) (world_of world.old)) here.now.depth (levels here.now.job.now here.now.fuel (max (expr_height (expr_of left.now)) (expr_height (expr_of right.now)))) result world.new }
+    ensures { Runs value_of (comparing here.entry.job.now here.entry.fuel comparison (expr_of left.now) (expr_of right.now) (context_of here.entry.context.now) (world_of world.old)) here.entry.depth (levels here.entry.job.now here.entry.fuel (max (expr_height (expr_of left.now)) (expr_height (expr_of right.now)))) result world.new }
 {
     let x = evaluate(world, left, here)?;
     let y = evaluate(world, right, here)?;
@@ -117,9 +117,9 @@ pub fn compare_sets(
     relation: SetRelation,
     left: &SetExpr,
     right: &SetExpr,
-    here: &Here,
+    here: Here,
 ) -> Result<Value, Halt>
-    ensures { Runs value_of (m.value (caller here.now.job.now here.now.fuel) (Tree.CompareSets relation (set_of left.now) (set_of right.now)) (context_of here.now.context.now) (world_of world.old)) here.now.depth (levels here.now.job.now here.now.fuel (max (set_height (set_of left.now)) (set_height (set_of right.now)))) result world.new }
+    ensures { Runs value_of (m.value (caller here.entry.job.now here.entry.fuel) (Tree.CompareSets relation (set_of left.now) (set_of right.now)) (context_of here.entry.context.now) (world_of world.old)) here.entry.depth (levels here.entry.job.now here.entry.fuel (max (set_height (set_of left.now)) (set_height (set_of right.now)))) result world.new }
 {
     let x = evaluate_set(world, left, here)?;
     let y = evaluate_set(world, right, here)?;
@@ -134,9 +134,9 @@ pub fn compare_strings(
     relation: Relation,
     left: &Structure,
     right: &Structure,
-    here: &Here,
+    here: Here,
 ) -> Result<Value, Halt>
-    ensures { Runs value_of (m.value (caller here.now.job.now here.now.fuel) (Tree.CompareStrings relation (structure_of left.now) (structure_of right.now)) (context_of here.now.context.now) (world_of world.old)) here.now.depth (levels here.now.job.now here.now.fuel (max (structure_height (structure_of left.now)) (structure_height (structure_of right.now)))) result world.new }
+    ensures { Runs value_of (m.value (caller here.entry.job.now here.entry.fuel) (Tree.CompareStrings relation (structure_of left.now) (structure_of right.now)) (context_of here.entry.context.now) (world_of world.old)) here.entry.depth (levels here.entry.job.now here.entry.fuel (max (structure_height (structure_of left.now)) (structure_height (structure_of right.now)))) result world.new }
 {
     let x = take_operand(world, left, here)?;
     let y = take_operand(world, right, here)?;
@@ -150,9 +150,9 @@ pub fn test_member(
     world: &mut World,
     left: &Expr,
     right: &SetExpr,
-    here: &Here,
+    here: Here,
 ) -> Result<Value, Halt>
-    ensures { Runs value_of (m.value (caller here.now.job.now here.now.fuel) (Tree.In (expr_of left.now) (set_of right.now)) (context_of here.now.context.now) (world_of world.old)) here.now.depth (levels here.now.job.now here.now.fuel (max (expr_height (expr_of left.now)) (set_height (set_of right.now)))) result world.new }
+    ensures { Runs value_of (m.value (caller here.entry.job.now here.entry.fuel) (Tree.In (expr_of left.now) (set_of right.now)) (context_of here.entry.context.now) (world_of world.old)) here.entry.depth (levels here.entry.job.now here.entry.fuel (max (expr_height (expr_of left.now)) (set_height (set_of right.now)))) result world.new }
 {
     let x = evaluate(world, left, here)?.number();
     let s = evaluate_set(world, right, here)?;

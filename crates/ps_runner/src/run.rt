@@ -107,7 +107,7 @@ fn run_job(world: &mut World, job: &Job, fuel: u64, depth: u32) -> Result<(), Ha
         fuel,
         depth,
     };
-    do_block(world, body, &here)
+    do_block(world, body, here)
 }
 
 /// How a run on an input went.

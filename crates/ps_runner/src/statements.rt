@@ -21,15 +21,15 @@ use ps_tree::types::Ty;
 /// Does a statement.
 #[cycle(run)]
 #[tactic(auto, using(crate::proofs::Answers::runs_deeper, crate::proofs::Answers::halted_then, crate::proofs::Answers::answers_run, crate::proofs::Trees::statement_of_Compound, crate::proofs::Trees::statement_of_Repeat, crate::proofs::Trees::statement_of_Case), unfolding(ps_tree::specs::View::statement_of, crate::specs::View::value_of))]
-pub fn act(world: &mut World, statement: &Statement, here: &Here) -> Result<(), Halt>
-    ensures { Runs done_of (acting here.now.job.now here.now.fuel (statement_of statement.now) (context_of here.now.context.now) (world_of world.old)) here.now.depth (levels here.now.job.now here.now.fuel (statement_height (statement_of statement.now))) result world.new }
+pub fn act(world: &mut World, statement: &Statement, here: Here) -> Result<(), Halt>
+    ensures { Runs done_of (acting here.entry.job.now here.entry.fuel (statement_of statement.now) (context_of here.entry.context.now) (world_of world.old)) here.entry.depth (levels here.entry.job.now here.entry.fuel (statement_height (statement_of statement.now))) result world.new }
 {
     if here.depth == 0 {
         return Err(Halt::TooDeep);
     }
     let below = Here {
         depth: here.depth - 1,
-        ..*here
+        ..here
     };
     match statement {
         Statement::Empty => Ok(()),
@@ -38,16 +38,16 @@ pub fn act(world: &mut World, statement: &Statement, here: &Here) -> Result<(), 
             range,
             value,
             line,
-        } => assign(world, target, *range, value, line.number, &below),
+        } => assign(world, target, *range, value, line.number, below),
         Statement::AssignSet {
             target,
             low,
             high,
             value,
             line,
-        } => assign_set(world, target, *low, *high, value, line.number, &below),
+        } => assign_set(world, target, *low, *high, value, line.number, below),
         Statement::AssignStructure { target, value } => {
-            assign_structure(world, target, value, &below)
+            assign_structure(world, target, value, below)
         }
         Statement::Call {
             routine,
@@ -59,7 +59,7 @@ pub fn act(world: &mut World, statement: &Statement, here: &Here) -> Result<(), 
                 routine: *routine,
                 up: *up,
             };
-            call_procedure(world, callee, arguments, line.number, &below)
+            call_procedure(world, callee, arguments, line.number, below)
         }
         Statement::CallFormal {
             up,
@@ -71,22 +71,22 @@ pub fn act(world: &mut World, statement: &Statement, here: &Here) -> Result<(), 
                 up: *up,
                 index: *index,
             };
-            call_procedure(world, callee, arguments, line.number, &below)
+            call_procedure(world, callee, arguments, line.number, below)
         }
-        Statement::Compound(body) => act_all(world, body, &below),
-        Statement::If { condition, body } => act_if(world, condition, body, &below),
+        Statement::Compound(body) => act_all(world, body, below),
+        Statement::If { condition, body } => act_if(world, condition, body, below),
         Statement::IfElse {
             condition,
             body,
             otherwise,
-        } => act_if_else(world, condition, body, otherwise, &below),
+        } => act_if_else(world, condition, body, otherwise, below),
         Statement::Case {
             index,
             elements,
             line,
-        } => choose(world, index, elements, line.number, &below),
-        Statement::While { condition, body } => { repeat_while(world, condition, body, &below) }
-        Statement::Repeat { body, condition } => { repeat_until(world, body, condition, &below) }
+        } => choose(world, index, elements, line.number, below),
+        Statement::While { condition, body } => { repeat_while(world, condition, body, below) }
+        Statement::Repeat { body, condition } => { repeat_until(world, body, condition, below) }
         Statement::For {
             variable,
             low,
@@ -110,15 +110,15 @@ pub fn act(world: &mut World, statement: &Statement, here: &Here) -> Result<(), 
                 to,
                 to_line.number,
                 body,
-                &below,
+                below,
             )
         }
-        Statement::With { places, body } => { act_with(world, places, body, &below) }
+        Statement::With { places, body } => { act_with(world, places, body, below) }
         Statement::New {
             place,
             pointer,
             line,
-        } => make(world, place, *pointer, line.number, &below),
+        } => make(world, place, *pointer, line.number, below),
         Statement::Pack {
             from,
             from_ty,
@@ -126,7 +126,7 @@ pub fn act(world: &mut World, statement: &Statement, here: &Here) -> Result<(), 
             line,
             to,
             to_ty,
-        } => pack(world, from, from_ty, index, line.number, to, to_ty, &below),
+        } => pack(world, from, from_ty, index, line.number, to, to_ty, below),
         Statement::Unpack {
             from,
             from_ty,
@@ -134,15 +134,15 @@ pub fn act(world: &mut World, statement: &Statement, here: &Here) -> Result<(), 
             to_ty,
             index,
             line,
-        } => unpack(world, from, from_ty, to, to_ty, index, line.number, &below),
-        Statement::Read { variables } => read_all(world, variables, &below),
+        } => unpack(world, from, from_ty, to, to_ty, index, line.number, below),
+        Statement::Read { variables } => read_all(world, variables, below),
         Statement::Readln { variables, line } => {
-            read_all(world, variables, &below)?;
+            read_all(world, variables, below)?;
             world.line_taken(line.number, here.context)
         }
-        Statement::Write { parameters } => write_all(world, parameters, &below),
+        Statement::Write { parameters } => write_all(world, parameters, below),
         Statement::Writeln { parameters } => {
-            write_all(world, parameters, &below)?;
+            write_all(world, parameters, below)?;
             world.write(&[10])
         }
     }
@@ -151,8 +151,8 @@ pub fn act(world: &mut World, statement: &Statement, here: &Here) -> Result<(), 
 /// Does statements, one after another.
 #[cycle(run)]
 #[tactic(auto, using(crate::proofs::Acts::acts_next, crate::proofs::Acts::acts_end))]
-pub fn act_all(world: &mut World, statements: &[Statement], here: &Here) -> Result<(), Halt>
-    ensures { Runs done_of (acting_all here.now.job.now here.now.fuel (statements_of statements.now) (context_of here.now.context.now) (world_of world.old)) here.now.depth (levels here.now.job.now here.now.fuel (statements_height (statements_of statements.now))) result world.new }
+pub fn act_all(world: &mut World, statements: &[Statement], here: Here) -> Result<(), Halt>
+    ensures { Runs done_of (acting_all here.entry.job.now here.entry.fuel (statements_of statements.now) (context_of here.entry.context.now) (world_of world.old)) here.entry.depth (levels here.entry.job.now here.entry.fuel (statements_height (statements_of statements.now))) result world.new }
 {
     for statement in statements {
         act(world, statement, here)?;
@@ -169,9 +169,9 @@ fn assign(
     range: Range,
     value: &Expr,
     line: u16,
-    here: &Here,
+    here: Here,
 ) -> Result<(), Halt>
-    ensures { Runs done_of (acting here.now.job.now here.now.fuel (Tree.Assign (place_of target.now) range (expr_of value.now) line) (context_of here.now.context.now) (world_of world.old)) here.now.depth (levels here.now.job.now here.now.fuel (max (place_height (place_of target.now)) (expr_height (expr_of value.now)))) result world.new }
+    ensures { Runs done_of (acting here.entry.job.now here.entry.fuel (Tree.Assign (place_of target.now) range (expr_of value.now) line) (context_of here.entry.context.now) (world_of world.old)) here.entry.depth (levels here.entry.job.now here.entry.fuel (max (place_height (place_of target.now)) (expr_height (expr_of value.now)))) result world.new }
 {
     let spot = access(world, target, here)?;
     let x = evaluate(world, value, here)?;
@@ -188,9 +188,9 @@ fn assign_set(
     high: i32,
     value: &SetExpr,
     line: u16,
-    here: &Here,
+    here: Here,
 ) -> Result<(), Halt>
-    ensures { Runs done_of (acting here.now.job.now here.now.fuel (Tree.AssignSet (place_of target.now) low high (set_of value.now) line) (context_of here.now.context.now) (world_of world.old)) here.now.depth (levels here.now.job.now here.now.fuel (max (place_height (place_of target.now)) (set_height (set_of value.now)))) result world.new }
+    ensures { Runs done_of (acting here.entry.job.now here.entry.fuel (Tree.AssignSet (place_of target.now) low high (set_of value.now) line) (context_of here.entry.context.now) (world_of world.old)) here.entry.depth (levels here.entry.job.now here.entry.fuel (max (place_height (place_of target.now)) (set_height (set_of value.now)))) result world.new }
 {
     let spot = access(world, target, here)?;
     let x = evaluate_set(world, value, here)?;
@@ -204,9 +204,9 @@ fn assign_structure(
     world: &mut World,
     target: &Place,
     value: &Structure,
-    here: &Here,
+    here: Here,
 ) -> Result<(), Halt>
-    ensures { Runs done_of (acting here.now.job.now here.now.fuel (Tree.AssignStructure (place_of target.now) (structure_of value.now)) (context_of here.now.context.now) (world_of world.old)) here.now.depth (levels here.now.job.now here.now.fuel (max (place_height (place_of target.now)) (structure_height (structure_of value.now)))) result world.new }
+    ensures { Runs done_of (acting here.entry.job.now here.entry.fuel (Tree.AssignStructure (place_of target.now) (structure_of value.now)) (context_of here.entry.context.now) (world_of world.old)) here.entry.depth (levels here.entry.job.now here.entry.fuel (max (place_height (place_of target.now)) (structure_height (structure_of value.now)))) result world.new }
 {
     let spot = access(world, target, here)?;
     let held = take_operand(world, value, here)?;
@@ -215,30 +215,30 @@ fn assign_structure(
 
 /// A with statement: each record is opened in the context of those before it.
 #[cycle(run)]
-fn act_with(world: &mut World, places: &[Place], body: &Statement, here: &Here) -> Result<(), Halt>
-    ensures { Runs done_of (acting here.now.job.now here.now.fuel (Tree.With (map place_of places.now) (statement_of body.now)) (context_of here.now.context.now) (world_of world.old)) here.now.depth (levels here.now.job.now here.now.fuel (max (places_height (map place_of places.now)) (statement_height (statement_of body.now)))) result world.new }
+fn act_with(world: &mut World, places: &[Place], body: &Statement, here: Here) -> Result<(), Halt>
+    ensures { Runs done_of (acting here.entry.job.now here.entry.fuel (Tree.With (map place_of places.now) (statement_of body.now)) (context_of here.entry.context.now) (world_of world.old)) here.entry.depth (levels here.entry.job.now here.entry.fuel (max (places_height (map place_of places.now)) (statement_height (statement_of body.now)))) result world.new }
 {
     let mut inner = here.context.copy()?;
     for place in places {
         let inside = Here {
             context: &inner,
-            ..*here
+            ..here
         };
-        let spot = access(world, place, &inside)?;
+        let spot = access(world, place, inside)?;
         inner.open(spot)?;
     }
     let inside = Here {
         context: &inner,
-        ..*here
+        ..here
     };
-    act(world, body, &inside)
+    act(world, body, inside)
 }
 
 /// new.
 #[cycle(run)]
 #[tactic(auto, using(crate::proofs::Answers::halted_then))]
-fn make(world: &mut World, place: &Place, pointer: u32, line: u16, here: &Here) -> Result<(), Halt>
-    ensures { Runs done_of (acting here.now.job.now here.now.fuel (Tree.New (place_of place.now) pointer line) (context_of here.now.context.now) (world_of world.old)) here.now.depth (levels here.now.job.now here.now.fuel (place_height (place_of place.now))) result world.new }
+fn make(world: &mut World, place: &Place, pointer: u32, line: u16, here: Here) -> Result<(), Halt>
+    ensures { Runs done_of (acting here.entry.job.now here.entry.fuel (Tree.New (place_of place.now) pointer line) (context_of here.entry.context.now) (world_of world.old)) here.entry.depth (levels here.entry.job.now here.entry.fuel (place_height (place_of place.now))) result world.new }
 {
     let spot = access(world, place, here)?;
     world.put_object(&spot, pointer, line, here.context, here.job)
@@ -255,9 +255,9 @@ fn pack(
     line: u16,
     to: &Place,
     to_ty: &Ty,
-    here: &Here,
+    here: Here,
 ) -> Result<(), Halt>
-    ensures { Runs done_of (acting here.now.job.now here.now.fuel (Tree.Pack (place_of from.now) (type_of from_ty.now) (expr_of index.now) line (place_of to.now) (type_of to_ty.now)) (context_of here.now.context.now) (world_of world.old)) here.now.depth (levels here.now.job.now here.now.fuel (max (place_height (place_of from.now)) (max (expr_height (expr_of index.now)) (place_height (place_of to.now))))) result world.new }
+    ensures { Runs done_of (acting here.entry.job.now here.entry.fuel (Tree.Pack (place_of from.now) (type_of from_ty.now) (expr_of index.now) line (place_of to.now) (type_of to_ty.now)) (context_of here.entry.context.now) (world_of world.old)) here.entry.depth (levels here.entry.job.now here.entry.fuel (max (place_height (place_of from.now)) (max (expr_height (expr_of index.now)) (place_height (place_of to.now))))) result world.new }
 {
     let a = access(world, from, here)?;
     let x = evaluate(world, index, here)?.number();
@@ -285,9 +285,9 @@ fn unpack(
     to_ty: &Ty,
     index: &Expr,
     line: u16,
-    here: &Here,
+    here: Here,
 ) -> Result<(), Halt>
-    ensures { Runs done_of (acting here.now.job.now here.now.fuel (Tree.Unpack (place_of from.now) (type_of from_ty.now) (place_of to.now) (type_of to_ty.now) (expr_of index.now) line) (context_of here.now.context.now) (world_of world.old)) here.now.depth (levels here.now.job.now here.now.fuel (max (place_height (place_of from.now)) (max (place_height (place_of to.now)) (expr_height (expr_of index.now))))) result world.new }
+    ensures { Runs done_of (acting here.entry.job.now here.entry.fuel (Tree.Unpack (place_of from.now) (type_of from_ty.now) (place_of to.now) (type_of to_ty.now) (expr_of index.now) line) (context_of here.entry.context.now) (world_of world.old)) here.entry.depth (levels here.entry.job.now here.entry.fuel (max (place_height (place_of from.now)) (max (place_height (place_of to.now)) (expr_height (expr_of index.now))))) result world.new }
 {
     let z = access(world, from, here)?;
     let a = access(world, to, here)?;

@@ -23,8 +23,8 @@ use std::alloc::{AllocError, Global};
 
 /// Reads variables.
 #[cycle(run)]
-pub fn read_all(world: &mut World, variables: &[ReadVariable], here: &Here) -> Result<(), Halt>
-    ensures { Runs done_of (reading_all here.now.job.now here.now.fuel (map read_of variables.now) (context_of here.now.context.now) (world_of world.old)) here.now.depth (levels here.now.job.now here.now.fuel (reads_height (map read_of variables.now))) result world.new }
+pub fn read_all(world: &mut World, variables: &[ReadVariable], here: Here) -> Result<(), Halt>
+    ensures { Runs done_of (reading_all here.entry.job.now here.entry.fuel (map read_of variables.now) (context_of here.entry.context.now) (world_of world.old)) here.entry.depth (levels here.entry.job.now here.entry.fuel (reads_height (map read_of variables.now))) result world.new }
 {
     for variable in variables {
         let spot = access(world, place_read(variable), here)?;
@@ -83,8 +83,8 @@ impl<'a> World<'a> {
 /// The width of a parameter of write; error 11 for one below 1.
 #[cycle(run)]
 #[tactic(auto, using(crate::proofs::Answers::halted_then, crate::proofs::Answers::answers_run), unfolding(ps_tree::specs::View::width_of))]
-fn evaluate_width(world: &mut World, width: &Width, here: &Here) -> Result<Option<u32>, Halt>
-    ensures { Runs r.width_of (width_in here.now.job.now here.now.fuel (width_of width.now) (context_of here.now.context.now) (world_of world.old)) here.now.depth (levels here.now.job.now here.now.fuel (width_height (width_of width.now))) result world.new }
+fn evaluate_width(world: &mut World, width: &Width, here: Here) -> Result<Option<u32>, Halt>
+    ensures { Runs r.width_of (width_in here.entry.job.now here.entry.fuel (width_of width.now) (context_of here.entry.context.now) (world_of world.old)) here.entry.depth (levels here.entry.job.now here.entry.fuel (width_height (width_of width.now))) result world.new }
 {
     match width {
         Width::Default => Ok(None),
@@ -97,8 +97,8 @@ fn evaluate_width(world: &mut World, width: &Width, here: &Here) -> Result<Optio
 
 /// Writes parameters.
 #[cycle(run)]
-pub fn write_all(world: &mut World, parameters: &[WriteParameter], here: &Here) -> Result<(), Halt>
-    ensures { Runs done_of (writing_all here.now.job.now here.now.fuel (map write_of parameters.now) (context_of here.now.context.now) (world_of world.old)) here.now.depth (levels here.now.job.now here.now.fuel (writes_height (map write_of parameters.now))) result world.new }
+pub fn write_all(world: &mut World, parameters: &[WriteParameter], here: Here) -> Result<(), Halt>
+    ensures { Runs done_of (writing_all here.entry.job.now here.entry.fuel (map write_of parameters.now) (context_of here.entry.context.now) (world_of world.old)) here.entry.depth (levels here.entry.job.now here.entry.fuel (writes_height (map write_of parameters.now))) result world.new }
 {
     for parameter in parameters {
         write_one(world, parameter, here)?;
@@ -117,8 +117,8 @@ enum Form {
 /// Writes a parameter.
 #[cycle(run)]
 #[tactic(auto, using(crate::proofs::Answers::runs_deeper), unfolding(ps_tree::specs::View::write_of))]
-fn write_one(world: &mut World, parameter: &WriteParameter, here: &Here) -> Result<(), Halt>
-    ensures { Runs done_of (writing here.now.job.now here.now.fuel (write_of parameter.now) (context_of here.now.context.now) (world_of world.old)) here.now.depth (levels here.now.job.now here.now.fuel (write_height (write_of parameter.now))) result world.new }
+fn write_one(world: &mut World, parameter: &WriteParameter, here: Here) -> Result<(), Halt>
+    ensures { Runs done_of (writing here.entry.job.now here.entry.fuel (write_of parameter.now) (context_of here.entry.context.now) (world_of world.old)) here.entry.depth (levels here.entry.job.now here.entry.fuel (write_height (write_of parameter.now))) result world.new }
 {
     match parameter {
         WriteParameter::Integer { value, width } => {
@@ -142,9 +142,9 @@ fn write_evaluated(
     form: Form,
     value: &Expr,
     width: &Width,
-    here: &Here,
+    here: Here,
 ) -> Result<(), Halt>
-    ensures { Runs done_of (r.writing_form here.now.job.now here.now.fuel form (expr_of value.now) (width_of width.now) (context_of here.now.context.now) (world_of world.old)) here.now.depth (levels here.now.job.now here.now.fuel (max (expr_height (expr_of value.now)) (width_height (width_of width.now)))) result world.new }
+    ensures { Runs done_of (r.writing_form here.entry.job.now here.entry.fuel form (expr_of value.now) (width_of width.now) (context_of here.entry.context.now) (world_of world.old)) here.entry.depth (levels here.entry.job.now here.entry.fuel (max (expr_height (expr_of value.now)) (width_height (width_of width.now)))) result world.new }
 {
     let x = evaluate(world, value, here)?;
     let n = evaluate_width(world, width, here)?;
@@ -158,9 +158,9 @@ fn write_contents(
     world: &mut World,
     value: &Structure,
     width: &Width,
-    here: &Here,
+    here: Here,
 ) -> Result<(), Halt>
-    ensures { Runs done_of (writing here.now.job.now here.now.fuel (Tree.WriteText (structure_of value.now) (width_of width.now)) (context_of here.now.context.now) (world_of world.old)) here.now.depth (levels here.now.job.now here.now.fuel (max (structure_height (structure_of value.now)) (width_height (width_of width.now)))) result world.new }
+    ensures { Runs done_of (writing here.entry.job.now here.entry.fuel (Tree.WriteText (structure_of value.now) (width_of width.now)) (context_of here.entry.context.now) (world_of world.old)) here.entry.depth (levels here.entry.job.now here.entry.fuel (max (structure_height (structure_of value.now)) (width_height (width_of width.now)))) result world.new }
 {
     let held = take_operand(world, value, here)?;
     let n = evaluate_width(world, width, here)?;

@@ -10,28 +10,28 @@ use Rattle.ps_meaning.specs.Values.{number_of}
 use Rattle.ps_runner.specs.View.{listed, value_of, spot_of}
 
 abbrev pub decreases-expressions::access : goal.decreases-expressions::access
-decreases-expressions::access l = 16 * l.here.now.depth
+decreases-expressions::access l = 16 * l.here.depth
 
 abbrev pub decreases-expressions::evaluate : goal.decreases-expressions::evaluate
-decreases-expressions::evaluate l = 16 * l.here.now.depth
+decreases-expressions::evaluate l = 16 * l.here.depth
 
 abbrev pub decreases-expressions::evaluate_set : goal.decreases-expressions::evaluate_set
-decreases-expressions::evaluate_set l = 16 * l.here.now.depth
+decreases-expressions::evaluate_set l = 16 * l.here.depth
 
 abbrev pub decreases-expressions::take_operand : goal.decreases-expressions::take_operand
-decreases-expressions::take_operand l = 16 * l.here.now.depth + 1
+decreases-expressions::take_operand l = 16 * l.here.depth + 1
 
 abbrev pub decreases-expressions::evaluate_member : goal.decreases-expressions::evaluate_member
-decreases-expressions::evaluate_member l = 16 * l.here.now.depth + 1
+decreases-expressions::evaluate_member l = 16 * l.here.depth + 1
 
 abbrev pub decreases-expressions::evaluate_members : goal.decreases-expressions::evaluate_members
-decreases-expressions::evaluate_members l = 16 * l.here.now.depth + 2
+decreases-expressions::evaluate_members l = 16 * l.here.depth + 2
 
 abbrev pub decreases-expressions::take_actual : goal.decreases-expressions::take_actual
-decreases-expressions::take_actual l = 16 * l.here.now.depth + 3
+decreases-expressions::take_actual l = 16 * l.here.depth + 3
 
 abbrev pub decreases-expressions::take_actuals : goal.decreases-expressions::take_actuals
-decreases-expressions::take_actuals l = 16 * l.here.now.depth + 4
+decreases-expressions::take_actuals l = 16 * l.here.depth + 4
 
 abbrev pub invariant-expressions::evaluate_members-loop-member : goal.invariant-expressions::evaluate_members-loop-member
 invariant-expressions::evaluate_members-loop-member l = members_left (caller l.here.job.now l.here.fuel) (context_of l.here.context.now) l.members l.member-index l.tests.items (world_of l.world) ≡ e.members_value (caller l.here.job.now l.here.fuel) (members_of l.members) (context_of l.here.context.now) (world_of l.fn.world)
@@ -40,25 +40,25 @@ abbrev pub invariant-expressions::take_actuals-loop-argument : goal.invariant-ex
 invariant-expressions::take_actuals-loop-argument l = actuals_left (caller l.here.job.now l.here.fuel) (context_of l.here.context.now) l.arguments l.argument-index (map actual_of l.actuals.items) (world_of l.world) ≡ e.actuals_of (caller l.here.job.now l.here.fuel) (arguments_of l.arguments) (context_of l.here.context.now) (world_of l.fn.world)
 
 abbrev pub decreases-calls::call_value : goal.decreases-calls::call_value
-decreases-calls::call_value l = 16 * l.here.now.depth + 5
+decreases-calls::call_value l = 16 * l.here.depth + 5
 
 abbrev pub decreases-statements::act : goal.decreases-statements::act
-decreases-statements::act l = 16 * l.here.now.depth + 0
+decreases-statements::act l = 16 * l.here.depth + 0
 
 abbrev pub decreases-statements::act_all : goal.decreases-statements::act_all
-decreases-statements::act_all l = 16 * l.here.now.depth + 1
+decreases-statements::act_all l = 16 * l.here.depth + 1
 
 abbrev pub decreases-choices::choose : goal.decreases-choices::choose
-decreases-choices::choose l = 16 * l.here.now.depth + 3
+decreases-choices::choose l = 16 * l.here.depth + 3
 
 abbrev pub decreases-loops::repeat_while : goal.decreases-loops::repeat_while
-decreases-loops::repeat_while l = 16 * l.here.now.depth + 2
+decreases-loops::repeat_while l = 16 * l.here.depth + 2
 
 abbrev pub decreases-loops::repeat_until : goal.decreases-loops::repeat_until
-decreases-loops::repeat_until l = 16 * l.here.now.depth + 2
+decreases-loops::repeat_until l = 16 * l.here.depth + 2
 
 abbrev pub decreases-loops::turns : goal.decreases-loops::turns
-decreases-loops::turns l = 16 * l.here.now.depth + 1
+decreases-loops::turns l = 16 * l.here.depth + 1
 
 abbrev pub invariant-statements::act_all-loop-statement : goal.invariant-statements::act_all-loop-statement
 invariant-statements::act_all-loop-statement l = acting_all l.here.job.now l.here.fuel (statements_of (drop l.statement-index l.statements)) (context_of l.here.context.now) (world_of l.world) ≡ acting_all l.here.job.now l.here.fuel (statements_of l.statements) (context_of l.here.context.now) (world_of l.fn.world)
@@ -91,25 +91,25 @@ abbrev pub decreases-loops::turns-loop-spot : goal.decreases-loops::turns-loop-s
 decreases-loops::turns-loop-spot l = l.left
 
 abbrev pub decreases-loops::count : goal.decreases-loops::count
-decreases-loops::count l = 16 * l.here.now.depth + 3
+decreases-loops::count l = 16 * l.here.depth + 3
 
 abbrev pub decreases-transfers::read_all : goal.decreases-transfers::read_all
-decreases-transfers::read_all l = 16 * l.here.now.depth + 2
+decreases-transfers::read_all l = 16 * l.here.depth + 2
 
 abbrev pub decreases-transfers::evaluate_width : goal.decreases-transfers::evaluate_width
-decreases-transfers::evaluate_width l = 16 * l.here.now.depth + 1
+decreases-transfers::evaluate_width l = 16 * l.here.depth + 1
 
 abbrev pub decreases-transfers::write_all : goal.decreases-transfers::write_all
-decreases-transfers::write_all l = 16 * l.here.now.depth + 4
+decreases-transfers::write_all l = 16 * l.here.depth + 4
 
 abbrev pub decreases-transfers::write_evaluated : goal.decreases-transfers::write_evaluated
-decreases-transfers::write_evaluated l = 16 * l.here.now.depth + 2
+decreases-transfers::write_evaluated l = 16 * l.here.depth + 2
 
 abbrev pub decreases-transfers::write_one : goal.decreases-transfers::write_one
-decreases-transfers::write_one l = 16 * l.here.now.depth + 3
+decreases-transfers::write_one l = 16 * l.here.depth + 3
 
 abbrev pub decreases-calls::do_block : goal.decreases-calls::do_block
-decreases-calls::do_block l = 16 * l.here.now.depth + 2
+decreases-calls::do_block l = 16 * l.here.depth + 2
 
 abbrev pub invariant-transfers::read_all-loop-variable : goal.invariant-transfers::read_all-loop-variable
 invariant-transfers::read_all-loop-variable l = reading_all l.here.job.now l.here.fuel (map read_of (drop l.variable-index l.variables)) (context_of l.here.context.now) (world_of l.world) ≡ reading_all l.here.job.now l.here.fuel (map read_of l.variables) (context_of l.here.context.now) (world_of l.fn.world)
@@ -124,67 +124,67 @@ invariant-statements::act_with-loop-place l = record {
 }
 
 abbrev pub decreases-statements::make : goal.decreases-statements::make
-decreases-statements::make l = 16 * l.here.now.depth + 1
+decreases-statements::make l = 16 * l.here.depth + 1
 
 abbrev pub decreases-statements::pack : goal.decreases-statements::pack
-decreases-statements::pack l = 16 * l.here.now.depth + 1
+decreases-statements::pack l = 16 * l.here.depth + 1
 
 abbrev pub decreases-statements::unpack : goal.decreases-statements::unpack
-decreases-statements::unpack l = 16 * l.here.now.depth + 1
+decreases-statements::unpack l = 16 * l.here.depth + 1
 
 abbrev pub decreases-expressions::evaluate_truth : goal.decreases-expressions::evaluate_truth
-decreases-expressions::evaluate_truth l = 16 * l.here.now.depth + 1
+decreases-expressions::evaluate_truth l = 16 * l.here.depth + 1
 
 abbrev pub decreases-operations::calculate : goal.decreases-operations::calculate
-decreases-operations::calculate l = 16 * l.here.now.depth + 2
+decreases-operations::calculate l = 16 * l.here.depth + 2
 
 abbrev pub decreases-operations::combine : goal.decreases-operations::combine
-decreases-operations::combine l = 16 * l.here.now.depth + 2
+decreases-operations::combine l = 16 * l.here.depth + 2
 
 abbrev pub decreases-operations::compare : goal.decreases-operations::compare
-decreases-operations::compare l = 16 * l.here.now.depth + 2
+decreases-operations::compare l = 16 * l.here.depth + 2
 
 abbrev pub decreases-operations::compare_sets : goal.decreases-operations::compare_sets
-decreases-operations::compare_sets l = 16 * l.here.now.depth + 2
+decreases-operations::compare_sets l = 16 * l.here.depth + 2
 
 abbrev pub decreases-operations::compare_strings : goal.decreases-operations::compare_strings
-decreases-operations::compare_strings l = 16 * l.here.now.depth + 2
+decreases-operations::compare_strings l = 16 * l.here.depth + 2
 
 abbrev pub decreases-operations::test_member : goal.decreases-operations::test_member
-decreases-operations::test_member l = 16 * l.here.now.depth + 2
+decreases-operations::test_member l = 16 * l.here.depth + 2
 
 abbrev pub decreases-statements::assign : goal.decreases-statements::assign
-decreases-statements::assign l = 16 * l.here.now.depth + 1
+decreases-statements::assign l = 16 * l.here.depth + 1
 
 abbrev pub decreases-statements::assign_set : goal.decreases-statements::assign_set
-decreases-statements::assign_set l = 16 * l.here.now.depth + 1
+decreases-statements::assign_set l = 16 * l.here.depth + 1
 
 abbrev pub decreases-statements::assign_structure : goal.decreases-statements::assign_structure
-decreases-statements::assign_structure l = 16 * l.here.now.depth + 2
+decreases-statements::assign_structure l = 16 * l.here.depth + 2
 
 abbrev pub decreases-statements::act_with : goal.decreases-statements::act_with
-decreases-statements::act_with l = 16 * l.here.now.depth + 2
+decreases-statements::act_with l = 16 * l.here.depth + 2
 
 abbrev pub decreases-calls::call_procedure : goal.decreases-calls::call_procedure
-decreases-calls::call_procedure l = 16 * l.here.now.depth + 5
+decreases-calls::call_procedure l = 16 * l.here.depth + 5
 
 abbrev pub decreases-choices::act_if : goal.decreases-choices::act_if
-decreases-choices::act_if l = 16 * l.here.now.depth + 2
+decreases-choices::act_if l = 16 * l.here.depth + 2
 
 abbrev pub decreases-choices::act_if_else : goal.decreases-choices::act_if_else
-decreases-choices::act_if_else l = 16 * l.here.now.depth + 2
+decreases-choices::act_if_else l = 16 * l.here.depth + 2
 
 abbrev pub decreases-transfers::write_contents : goal.decreases-transfers::write_contents
-decreases-transfers::write_contents l = 16 * l.here.now.depth + 2
+decreases-transfers::write_contents l = 16 * l.here.depth + 2
 
 abbrev pub decreases-expressions::select_all : goal.decreases-expressions::select_all
-decreases-expressions::select_all l = 16 * l.here.now.depth + 2
+decreases-expressions::select_all l = 16 * l.here.depth + 2
 
 abbrev pub decreases-expressions::select : goal.decreases-expressions::select
-decreases-expressions::select l = 16 * l.here.now.depth + 1
+decreases-expressions::select l = 16 * l.here.depth + 1
 
 abbrev pub decreases-expressions::combine_all : goal.decreases-expressions::combine_all
-decreases-expressions::combine_all l = 16 * l.here.now.depth + 1
+decreases-expressions::combine_all l = 16 * l.here.depth + 1
 
 abbrev pub invariant-expressions::select_all-loop-selector : goal.invariant-expressions::select_all-loop-selector
 invariant-expressions::select_all-loop-selector l = e.accesses (caller l.here.job.now l.here.fuel) (selectors_of (drop l.selector-index l.selectors)) (spot_of l.spot) (context_of l.here.context.now) (world_of l.world) ≡ e.accesses (caller l.here.job.now l.here.fuel) (selectors_of l.selectors) (spot_of l.fn.base) (context_of l.here.context.now) (world_of l.fn.world)
