@@ -2,3 +2,5 @@ pub mod Equations
 pub mod CaseConstants
 pub mod Opening
 pub mod Judgement
+pub mod Loops
+pub mod Paired

@@ -7,6 +7,7 @@ ghost use Rattle.ps_regions.specs.Views.{section_of, sections_of};
 ghost use Rattle.ps_typing.specs.View.{context_at, regions_at, value_of, variable_of};
 ghost use Rattle.ps_statements.specs.Procedures.{first_of_parameter, actual_parameter, actual_parameters, parameter_value, parameter_variable};
 
+use ps_regions::answer::push_answer;
 use ps_regions::meaning::Section;
 use ps_regions::refusal::{Fault, Rule};
 use ps_syntax::Parameter;
@@ -93,8 +94,10 @@ pub(crate) fn actual_parameters(
     }
     let mut arguments = Vec::new(site.alloc);
     for i in 0..list.len() {
-        let argument = actual_parameter(&list[i], site, formals[i])?;
-        arguments.push(argument)?;
+        push_answer(
+            &mut arguments,
+            actual_parameter(&list[i], site, formals[i]),
+        )?;
     }
     Ok(arguments)
 }

@@ -145,15 +145,18 @@ pub(crate) fn for_head(
 {
     let found = site.denoted(name)?;
     let (variable, ordinal) = control_found(found, name.from)?;
+    let first_line = site.reading.line(x.first_token());
+    let last_line = site.reading.line(y.first_token());
+    let direction = direction_of(way);
     let (first, last) = paired(bound_at(x, site, ordinal), bound_at(y, site, ordinal))?;
     Ok(Head {
         variable,
         ordinal,
         first,
-        first_line: site.reading.line(x.first_token()),
-        direction: direction_of(way),
+        first_line,
+        direction,
         last,
-        last_line: site.reading.line(y.first_token()),
+        last_line,
     })
 }
 

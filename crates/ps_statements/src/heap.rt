@@ -134,15 +134,16 @@ fn pack(a: &Parameter, i: &Parameter, z: &Parameter, site: Site<'_>) -> Result<S
     ensures ok { IfOk result (λ s. spec.pack (context_at site.entry) (regions_at site.entry) a.now i.now z.now ≡ Some (statement_of s)) }
     ensures err { IfErr result (λ fault. IsFault fault → spec.pack (context_at site.entry) (regions_at site.entry) a.now i.now z.now ≡ None) }
 {
-    let from = parameter_variable(a, site);
-    let rest = paired(index_at(i, site), parameter_variable(z, site));
-    let (from, (index, to)) = paired(from, rest)?;
     let at = Places {
         unpacked: first_token(a),
         packed: first_token(z),
         index: first_token(i),
     };
-    packed_from(site.alloc, from, index, to, site.reading.line(at.index), at)
+    let line = site.reading.line(at.index);
+    let from = parameter_variable(a, site);
+    let rest = paired(index_at(i, site), parameter_variable(z, site));
+    let (from, (index, to)) = paired(from, rest)?;
+    packed_from(site.alloc, from, index, to, line, at)
 }
 
 /// The statement of pack, which has three parameters.
@@ -167,15 +168,16 @@ fn unpack(z: &Parameter, a: &Parameter, i: &Parameter, site: Site<'_>) -> Result
     ensures ok { IfOk result (λ s. spec.unpack (context_at site.entry) (regions_at site.entry) z.now a.now i.now ≡ Some (statement_of s)) }
     ensures err { IfErr result (λ fault. IsFault fault → spec.unpack (context_at site.entry) (regions_at site.entry) z.now a.now i.now ≡ None) }
 {
-    let from = parameter_variable(z, site);
-    let rest = paired(parameter_variable(a, site), index_at(i, site));
-    let (from, (to, index)) = paired(from, rest)?;
     let at = Places {
         unpacked: first_token(a),
         packed: first_token(z),
         index: first_token(i),
     };
-    unpacked_to(site.alloc, from, to, index, site.reading.line(at.index), at)
+    let line = site.reading.line(at.index);
+    let from = parameter_variable(z, site);
+    let rest = paired(parameter_variable(a, site), index_at(i, site));
+    let (from, (to, index)) = paired(from, rest)?;
+    unpacked_to(site.alloc, from, to, index, line, at)
 }
 
 /// The statement of unpack, which has three parameters.

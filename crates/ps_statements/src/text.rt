@@ -12,7 +12,7 @@ ghost use Rattle.ps_statements.specs.Procedures as spec;
 
 use crate::argument::{first_token, parameter_variable, wrong_number};
 use crate::file::behind_file;
-use ps_regions::answer::paired;
+use ps_regions::answer::{paired, push_answer};
 use ps_regions::meaning::File;
 use ps_regions::refusal::Fault;
 use ps_syntax::{Expr as Syntax, Parameter};
@@ -93,8 +93,7 @@ fn variables_read(parameters: &[Parameter], site: Site<'_>) -> Result<Vec<ReadVa
 {
     let mut list = Vec::new(site.alloc);
     for parameter in parameters {
-        let variable = read_parameter(parameter, site)?;
-        list.push(variable)?;
+        push_answer(&mut list, read_parameter(parameter, site))?;
     }
     Ok(list)
 }
@@ -258,8 +257,7 @@ fn values_written(parameters: &[Parameter], site: Site<'_>) -> Result<Vec<WriteP
 {
     let mut list = Vec::new(site.alloc);
     for parameter in parameters {
-        let value = write_parameter(parameter, site)?;
-        list.push(value)?;
+        push_answer(&mut list, write_parameter(parameter, site))?;
     }
     Ok(list)
 }

@@ -1,0 +1,50 @@
+use Rattle.ps_statements.specs.Procedures as spec
+use Rattle.ps_statements.proofs.procedure.required_procedure.Goals as goal
+
+pub returns-in-Read-clause-ok : goal.returns-in-Read-clause-ok
+returns-in-Read-clause-ok c = rw c.in-Read.is c.read.ensures.ok
+
+pub returns-in-Read-clause-err : goal.returns-in-Read-clause-err
+returns-in-Read-clause-err c = rw c.in-Read.is c.read.ensures.err
+
+pub returns-in-Readln-clause-ok : goal.returns-in-Readln-clause-ok
+returns-in-Readln-clause-ok c = rw c.in-Readln.is c.readln.ensures.ok
+
+pub returns-in-Readln-clause-err : goal.returns-in-Readln-clause-err
+returns-in-Readln-clause-err c = rw c.in-Readln.is c.readln.ensures.err
+
+pub returns-in-Write-clause-ok : goal.returns-in-Write-clause-ok
+returns-in-Write-clause-ok c = rw c.in-Write.is c.write.ensures.ok
+
+pub returns-in-Write-clause-err : goal.returns-in-Write-clause-err
+returns-in-Write-clause-err c = rw c.in-Write.is c.write.ensures.err
+
+pub returns-in-Writeln-clause-ok : goal.returns-in-Writeln-clause-ok
+returns-in-Writeln-clause-ok c = rw c.in-Writeln.is c.writeln.ensures.ok
+
+pub returns-in-Writeln-clause-err : goal.returns-in-Writeln-clause-err
+returns-in-Writeln-clause-err c = rw c.in-Writeln.is c.writeln.ensures.err
+
+pub returns-in-New-clause-ok : goal.returns-in-New-clause-ok
+unfolding spec.required_procedure
+returns-in-New-clause-ok c = rw c.in-New.is c.new_statement.ensures.ok
+
+pub returns-in-New-clause-err : goal.returns-in-New-clause-err
+unfolding spec.required_procedure
+returns-in-New-clause-err c = rw c.in-New.is c.new_statement.ensures.err
+
+pub returns-in-Pack-clause-ok : goal.returns-in-Pack-clause-ok
+unfolding spec.required_procedure
+returns-in-Pack-clause-ok c = rw c.in-Pack.is c.pack_statement.ensures.ok
+
+pub returns-in-Pack-clause-err : goal.returns-in-Pack-clause-err
+unfolding spec.required_procedure
+returns-in-Pack-clause-err c = rw c.in-Pack.is c.pack_statement.ensures.err
+
+pub returns-in-Unpack-clause-ok : goal.returns-in-Unpack-clause-ok
+unfolding spec.required_procedure
+returns-in-Unpack-clause-ok c = rw c.in-Unpack.is c.unpack_statement.ensures.ok
+
+pub returns-in-Unpack-clause-err : goal.returns-in-Unpack-clause-err
+unfolding spec.required_procedure
+returns-in-Unpack-clause-err c = rw c.in-Unpack.is c.unpack_statement.ensures.err
