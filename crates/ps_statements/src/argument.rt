@@ -94,10 +94,7 @@ pub(crate) fn actual_parameters(
     }
     let mut arguments = Vec::new(site.alloc);
     for i in 0..list.len() {
-        push_answer(
-            &mut arguments,
-            actual_parameter(&list[i], site, formals[i]),
-        )?;
+        push_answer(&mut arguments, actual_parameter(&list[i], site, formals[i]))?;
     }
     Ok(arguments)
 }
