@@ -1,23 +1,23 @@
 //! Statements (ISO 7185, 6.8).
 
-ghost use Rattle.std.specs.Prelude.{◌≡◌, ◌++◌, ◌∷◌, [], map, IfOk, IfErr, Some, None};
+ghost use Rattle.std.specs.Prelude.{◌≡◌, ◌++◌, ◌∷◌, [], map, option_and_then, IfOk, IfErr, Some, None};
 ghost use Rattle.ps_tree.specs.View.{type_of, expr_of, place_of, statement_of, statements_of};
 ghost use Rattle.ps_regions.specs.Option.{traverse};
 ghost use Rattle.ps_regions.specs.Refusal.{IsFault};
 ghost use Rattle.ps_typing.specs.View.{context_at, regions_at, value_of};
 ghost use Rattle.ps_statements.specs.Structured.{condition, record_at};
 ghost use Rattle.ps_statements.specs.Statements as spec;
-ghost use Rattle.ps_statements.specs.View.{element_of, head_of};
+ghost use Rattle.ps_statements.specs.View.{element_of};
 
 use crate::answer::beside;
 use crate::assignment::assignment;
 use crate::case_constants::{case_behind, case_labels};
-use crate::for_statements::{Head, for_head, repeated};
+use crate::for_statements::{for_head, repeated};
 use crate::procedure::procedure_statement;
 use ps_regions::answer::{boxed_answer, paired, push_answer};
 use ps_regions::refusal::Fault;
 use ps_regions::scope::Scope;
-use ps_syntax::{Element, Expr as SyntaxExpr, Statement as Syntax, Variable};
+use ps_syntax::{Direction as Way, Element, Expr as SyntaxExpr, Statement as Syntax, Variable};
 use ps_text::Span;
 use ps_tree::tree::{CaseElement, Expr, Place, Statement};
 use ps_tree::types::{Ordinal, Ty};
@@ -92,7 +92,6 @@ fn opened_record(
 
 /// A statement.
 #[cycle(statement)]
-#[tactic(auto, using(crate::proofs::Equations::statement_empty, crate::proofs::Equations::statement_assign, crate::proofs::Equations::statement_call, crate::proofs::Equations::statement_compound, crate::proofs::Equations::statement_if, crate::proofs::Equations::statement_if_else, crate::proofs::Equations::statement_case, crate::proofs::Equations::statement_while, crate::proofs::Equations::statement_repeat, crate::proofs::Equations::statement_for, crate::proofs::Equations::statement_with), unfolding(ps_tree::specs::View::statement_of))]
 fn statement(x: &Syntax, site: Site<'_>) -> Result<Statement, Fault>
     ensures ok { IfOk result (λ s. spec.statement (context_at site.entry) x.now (regions_at site.entry) ≡ Some (statement_of s)) }
     ensures err { IfErr result (λ fault. IsFault fault → spec.statement (context_at site.entry) x.now (regions_at site.entry) ≡ None) }
@@ -115,10 +114,14 @@ fn statement(x: &Syntax, site: Site<'_>) -> Result<Statement, Fault>
             direction,
             last,
             body,
-        } => {
-            let head = for_head(site, *variable, first.get(), *direction, last.get())?;
-            for_statement(body.get(), site, head, *variable)
-        }
+        } => for_statement(
+            body.get(),
+            site,
+            *variable,
+            first.get(),
+            *direction,
+            last.get(),
+        ),
         Syntax::With(records, body) => {
             with_statement(body.get(), site, records.as_slice(), Vec::new(site.alloc))
         }
@@ -246,13 +249,21 @@ fn element(x: &Element, site: Site<'_>, index: Ordinal) -> Result<CaseElement, F
     Ok(CaseElement { constants, body })
 }
 
-/// A `for` statement (6.8.3.9) with its head, and the control variable's name.
+/// A `for` statement (6.8.3.9), with its control variable's name, its bounds and which way it counts.
 #[cycle(statement)]
-fn for_statement(x: &Syntax, site: Site<'_>, head: Head, name: Span) -> Result<Statement, Fault>
-    ensures ok { IfOk result (λ s. spec.for_behind (context_at site.entry) (regions_at site.entry) (spec.statement (context_at site.entry) x.now) (head_of head) ≡ Some (statement_of s)) }
-    ensures err { IfErr result (λ fault. IsFault fault → spec.for_behind (context_at site.entry) (regions_at site.entry) (spec.statement (context_at site.entry) x.now) (head_of head) ≡ None) }
+fn for_statement(
+    x: &Syntax,
+    site: Site<'_>,
+    name: Span,
+    first: &SyntaxExpr,
+    way: Way,
+    last: &SyntaxExpr,
+) -> Result<Statement, Fault>
+    ensures ok { IfOk result (λ s. option_and_then (spec.for_behind (context_at site.entry) (regions_at site.entry) (spec.statement (context_at site.entry) x.now)) (spec.for_head (context_at site.entry) (regions_at site.entry) name first.now way last.now) ≡ Some (statement_of s)) }
+    ensures err { IfErr result (λ fault. IsFault fault → option_and_then (spec.for_behind (context_at site.entry) (regions_at site.entry) (spec.statement (context_at site.entry) x.now)) (spec.for_head (context_at site.entry) (regions_at site.entry) name first.now way last.now) ≡ None) }
 {
-    let (head, body) = beside(head, boxed(x, site))?;
+    let head = for_head(site, name, first, way, last);
+    let (head, body) = paired(head, boxed(x, site))?;
     repeated(head, body, name.from)
 }
 
