@@ -1,5 +1,5 @@
 -- Answers put together, of which each may be a fault.
-use Rattle.std.proofs.Common.{◌≡◌, ◌⊎◌, inl, inr, Option, Some, None, refl, ap, ◌∙◌}
+use Rattle.std.proofs.Common.{◌≡◌, ◌⊎◌, inl, inr, Option, Some, None, refl, ap}
 use Rattle.std.specs.Prelude.{Err, Result, IfErr}
 use Rattle.std.proofs.lemmas.Result.{IfErr-at_err}
 use Rattle.ps_regions.specs.declared.refusal.Fault.{Fault}
