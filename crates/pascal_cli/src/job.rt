@@ -23,7 +23,7 @@ const DEFAULT_HEAP: u32 = 1_048_576;
 const DEFAULT_STEPS: u64 = 1_000_000_000;
 
 /// What is asked for, with its paths.
-#[derive(Clone, Copy, PartialEq, Eq, Debug)]
+#[derive(Clone, Copy)]
 pub enum Task<'a> {
     /// Compiles a source and writes its image.
     Compile { source: &'a str, image: &'a str },
@@ -38,7 +38,7 @@ pub enum Task<'a> {
 }
 
 /// What the words of the command line ask for.
-#[derive(Clone, Copy, PartialEq, Eq, Debug)]
+#[derive(Clone, Copy)]
 pub struct Job<'a> {
     pub task: Task<'a>,
     /// The bytes of the stack, given or default.
