@@ -1,16 +1,17 @@
 use Rattle.std.proofs.Common.{rules, ◌≡◌, ◌∙◌, ap, map, None, arith}
 use Rattle.std.proofs.lemmas.Result.{err_from_is_err_and}
-use Rattle.ps_tree.specs.View.{argument_of}
+use Rattle.ps_tree.specs.View.{argument_of, member_of}
 use Rattle.ps_regions.specs.Option.{traverse_both}
 use Rattle.ps_regions.specs.Refusal.{IsFault}
 use Rattle.ps_regions.specs.Spelling.{line_in}
-use Rattle.ps_regions.specs.Views.{point_of, section_of, sections_of}
+use Rattle.ps_regions.specs.Views.{constant_of, point_of, section_of, sections_of}
 use Rattle.ps_regions.proofs.Lists.{both_next_of, stepped_next_map, stepped_fault_map}
 use Rattle.ps_typing.specs.Calls.{actual, called, parameters}
 use Rattle.ps_typing.specs.Expressions.{operand}
 use Rattle.ps_typing.specs.View.{context_at, regions_at}
 use Rattle.ps_typing.proofs.CallLemmas.{actual_routine, uneven_listed, fault_listed, routine_gives, routine_refuses, formal_gives, formal_refuses, gathered_next}
-use Rattle.ps_typing.proofs.Judgement.{simple_value, term_value, variable_variable}
+use Rattle.ps_typing.proofs.Equations.{operand_simple, operand_compare, factor_variable, factor_call, factor_number, factor_text, factor_set, factor_group, factor_not, select_index, select_field, select_content, add_term_is, multiply_factor_is, operand_first}
+use Rattle.ps_typing.proofs.Judgement.{simple_value, term_value, variable_variable, value_alone, value_selected, member_one, member_range, term_variable, term_no_variable, simple_variable, simple_no_variable, signed_no_variable}
 use Rattle.ps_typing.proofs.expression.+expression.Goals as goal
 
 pub argument_all-returns-then-len-operands-clause-err : goal.argument_all-returns-then-len-operands-clause-err
@@ -88,3 +89,198 @@ term_value-returns-clause-ok t c = rw (term_value, c.in_ok-first.ensures.ok, ←
 
 pub variable_place-returns-clause-ok : goal.variable_place-returns-clause-ok
 variable_place-returns-clause-ok t c = rw (variable_variable, c.in_ok-found.ensures.ok, c.in_ok-entire.ensures.ok, ← c.as_slice.ensures) c.select_all.ensures.ok
+
+pub expr_value-returns-else-is_one_factor-clause-ok : goal.expr_value-returns-else-is_one_factor-clause-ok
+expr_value-returns-else-is_one_factor-clause-ok t c = grind (arith, operand_simple)
+
+pub expr_value-returns-else-is_one_factor-clause-err : goal.expr_value-returns-else-is_one_factor-clause-err
+expr_value-returns-else-is_one_factor-clause-err t c = grind (arith, operand_simple)
+
+pub expr_value-returns-then-is_one_factor-clause-ok : goal.expr_value-returns-then-is_one_factor-clause-ok
+expr_value-returns-then-is_one_factor-clause-ok t c = grind (arith, operand_simple)
+
+pub expr_value-returns-then-is_one_factor-clause-err : goal.expr_value-returns-then-is_one_factor-clause-err
+expr_value-returns-then-is_one_factor-clause-err t c = grind (arith, operand_simple)
+
+pub compared_value-returns-in-Simple-clause-ok : goal.compared_value-returns-in-Simple-clause-ok
+compared_value-returns-in-Simple-clause-ok t c = grind (arith, operand_simple)
+
+pub compared_value-returns-in-Simple-clause-err : goal.compared_value-returns-in-Simple-clause-err
+compared_value-returns-in-Simple-clause-err t c = grind (arith, operand_simple)
+
+pub compared_value-returns-in_ok-left-in-Compare-clause-ok : goal.compared_value-returns-in_ok-left-in-Compare-clause-ok
+compared_value-returns-in_ok-left-in-Compare-clause-ok t c = grind (arith, operand_compare)
+
+pub compared_value-returns-in_ok-left-in-Compare-clause-err : goal.compared_value-returns-in_ok-left-in-Compare-clause-err
+compared_value-returns-in_ok-left-in-Compare-clause-err t c = grind (arith, operand_compare)
+
+pub compared_value-returns-in_err-left-in-Compare-clause-err : goal.compared_value-returns-in_err-left-in-Compare-clause-err
+compared_value-returns-in_err-left-in-Compare-clause-err t c = grind (arith, operand_compare)
+
+pub simple_value-returns-in_err-first-clause-err : goal.simple_value-returns-in_err-first-clause-err
+simple_value-returns-in_err-first-clause-err t c = grind (arith, simple_value)
+
+pub simple_value-returns-in_err-term-clause-err : goal.simple_value-returns-in_err-term-clause-err
+simple_value-returns-in_err-term-clause-err t c = grind (arith, simple_value)
+
+pub add_term-returns-clause-ok : goal.add_term-returns-clause-ok
+add_term-returns-clause-ok t c = grind (arith, add_term_is)
+
+pub add_term-returns-clause-err : goal.add_term-returns-clause-err
+add_term-returns-clause-err t c = grind (arith, add_term_is)
+
+pub add_term-returns-in_err-right-clause-err : goal.add_term-returns-in_err-right-clause-err
+add_term-returns-in_err-right-clause-err t c = grind (arith, add_term_is)
+
+pub term_value-returns-in_err-first-clause-err : goal.term_value-returns-in_err-first-clause-err
+term_value-returns-in_err-first-clause-err t c = grind (arith, term_value)
+
+pub multiply_factor-returns-clause-ok : goal.multiply_factor-returns-clause-ok
+multiply_factor-returns-clause-ok t c = grind (arith, multiply_factor_is)
+
+pub multiply_factor-returns-clause-err : goal.multiply_factor-returns-clause-err
+multiply_factor-returns-clause-err t c = grind (arith, multiply_factor_is)
+
+pub multiply_factor-returns-in_err-right-clause-err : goal.multiply_factor-returns-in_err-right-clause-err
+multiply_factor-returns-in_err-right-clause-err t c = grind (arith, multiply_factor_is)
+
+pub factor_value-returns-in-Group-clause-ok : goal.factor_value-returns-in-Group-clause-ok
+factor_value-returns-in-Group-clause-ok t c = grind (arith, factor_group)
+
+pub factor_value-returns-in-Group-clause-err : goal.factor_value-returns-in-Group-clause-err
+factor_value-returns-in-Group-clause-err t c = grind (arith, factor_group)
+
+pub factor_value-returns-in-Not-clause-ok : goal.factor_value-returns-in-Not-clause-ok
+factor_value-returns-in-Not-clause-ok t c = grind (arith, factor_not)
+
+pub factor_value-returns-in-Not-clause-err : goal.factor_value-returns-in-Not-clause-err
+factor_value-returns-in-Not-clause-err t c = grind (arith, factor_not)
+
+pub factor_value-returns-in-Set-clause-ok : goal.factor_value-returns-in-Set-clause-ok
+factor_value-returns-in-Set-clause-ok t c = grind (arith, factor_set)
+
+pub factor_value-returns-in-Set-clause-err : goal.factor_value-returns-in-Set-clause-err
+factor_value-returns-in-Set-clause-err t c = grind (arith, factor_set)
+
+pub factor_value-returns-in-Variable-clause-ok : goal.factor_value-returns-in-Variable-clause-ok
+factor_value-returns-in-Variable-clause-ok t c = grind (arith, factor_variable)
+
+pub factor_value-returns-in-Variable-clause-err : goal.factor_value-returns-in-Variable-clause-err
+factor_value-returns-in-Variable-clause-err t c = grind (arith, factor_variable)
+
+pub factor_value-returns-in_err-found-in-Call-clause-err : goal.factor_value-returns-in_err-found-in-Call-clause-err
+factor_value-returns-in_err-found-in-Call-clause-err t c = grind (arith, factor_call)
+
+pub factor_value-returns-in_ok-found-in-Call-clause-ok : goal.factor_value-returns-in_ok-found-in-Call-clause-ok
+factor_value-returns-in_ok-found-in-Call-clause-ok t c = grind (arith, factor_call)
+
+pub factor_value-returns-in_ok-found-in-Call-clause-err : goal.factor_value-returns-in_ok-found-in-Call-clause-err
+factor_value-returns-in_ok-found-in-Call-clause-err t c = grind (arith, factor_call)
+
+pub factor_value-returns-in_ok-text_at-in-Text-clause-ok : goal.factor_value-returns-in_ok-text_at-in-Text-clause-ok
+factor_value-returns-in_ok-text_at-in-Text-clause-ok t c = grind (arith, factor_text)
+
+pub factor_value-returns-in_ok-text_at-in-Text-clause-err : goal.factor_value-returns-in_ok-text_at-in-Text-clause-err
+factor_value-returns-in_ok-text_at-in-Text-clause-err t c = grind (arith, factor_text)
+
+pub factor_value-returns-in-Number-clause-ok : goal.factor_value-returns-in-Number-clause-ok
+unfolding constant_of
+factor_value-returns-in-Number-clause-ok t c = grind (arith, factor_number)
+
+pub factor_value-returns-in-Number-clause-err : goal.factor_value-returns-in-Number-clause-err
+unfolding constant_of
+factor_value-returns-in-Number-clause-err t c = grind (arith, factor_number)
+
+pub member_value-returns-in_err-expr_value-in-One-clause-err : goal.member_value-returns-in_err-expr_value-in-One-clause-err
+member_value-returns-in_err-expr_value-in-One-clause-err t c = grind (arith, member_one)
+
+pub member_value-returns-in_err-value-in-One-clause-err : goal.member_value-returns-in_err-value-in-One-clause-err
+member_value-returns-in_err-value-in-One-clause-err t c = grind (arith, member_one)
+
+pub member_value-returns-in_ok-value-in-One-clause-ok : goal.member_value-returns-in_ok-value-in-One-clause-ok
+unfolding member_of
+member_value-returns-in_ok-value-in-One-clause-ok t c = grind (arith, member_one)
+
+pub member_value-returns-in_err-from-in-Range-clause-err : goal.member_value-returns-in_err-from-in-Range-clause-err
+member_value-returns-in_err-from-in-Range-clause-err t c = grind (arith, member_range)
+
+pub member_value-returns-in_err-from-in-Range-2-clause-err : goal.member_value-returns-in_err-from-in-Range-2-clause-err
+member_value-returns-in_err-from-in-Range-2-clause-err t c = grind (arith, member_range)
+
+pub member_value-returns-in_ok-from-in-Range-2-clause-ok : goal.member_value-returns-in_ok-from-in-Range-2-clause-ok
+member_value-returns-in_ok-from-in-Range-2-clause-ok t c = grind (arith, member_range)
+
+pub member_value-returns-in_ok-from-in-Range-2-clause-err : goal.member_value-returns-in_ok-from-in-Range-2-clause-err
+member_value-returns-in_ok-from-in-Range-2-clause-err t c = grind (arith, member_range)
+
+pub variable_value-returns-in_err-found-clause-err : goal.variable_value-returns-in_err-found-clause-err
+variable_value-returns-in_err-found-clause-err t c = grind (arith, value_alone)
+
+pub variable_value-returns-in_ok-found-clause-ok : goal.variable_value-returns-in_ok-found-clause-ok
+variable_value-returns-in_ok-found-clause-ok t c = grind (arith, value_alone)
+
+pub variable_value-returns-in_ok-found-clause-err : goal.variable_value-returns-in_ok-found-clause-err
+variable_value-returns-in_ok-found-clause-err t c = grind (arith, value_alone)
+
+pub variable_value-returns-in_err-variable-clause-err : goal.variable_value-returns-in_err-variable-clause-err
+variable_value-returns-in_err-variable-clause-err t c = grind (arith, value_selected)
+
+pub variable_value-returns-in_ok-variable-clause-ok : goal.variable_value-returns-in_ok-variable-clause-ok
+variable_value-returns-in_ok-variable-clause-ok t c = grind (arith, value_selected)
+
+pub variable_value-returns-in_ok-variable-clause-err : goal.variable_value-returns-in_ok-variable-clause-err
+variable_value-returns-in_ok-variable-clause-err t c = grind (arith, value_selected)
+
+pub variable_place-returns-in_err-entire-clause-err : goal.variable_place-returns-in_err-entire-clause-err
+variable_place-returns-in_err-entire-clause-err t c = grind (arith, variable_variable)
+
+pub variable_place-returns-in_err-found-clause-err : goal.variable_place-returns-in_err-found-clause-err
+variable_place-returns-in_err-found-clause-err t c = grind (arith, variable_variable)
+
+pub select-returns-in-Content-clause-ok : goal.select-returns-in-Content-clause-ok
+select-returns-in-Content-clause-ok t c = grind (arith, select_content)
+
+pub select-returns-in-Content-clause-err : goal.select-returns-in-Content-clause-err
+select-returns-in-Content-clause-err t c = grind (arith, select_content)
+
+pub select-returns-in-Index-clause-ok : goal.select-returns-in-Index-clause-ok
+select-returns-in-Index-clause-ok t c = grind (arith, select_index)
+
+pub select-returns-in-Index-clause-err : goal.select-returns-in-Index-clause-err
+select-returns-in-Index-clause-err t c = grind (arith, select_index)
+
+pub select-returns-in_ok-spelling-in-Field-clause-ok : goal.select-returns-in_ok-spelling-in-Field-clause-ok
+select-returns-in_ok-spelling-in-Field-clause-ok t c = grind (arith, select_field)
+
+pub select-returns-in_ok-spelling-in-Field-clause-err : goal.select-returns-in_ok-spelling-in-Field-clause-err
+select-returns-in_ok-spelling-in-Field-clause-err t c = grind (arith, select_field)
+
+pub index_one-returns-clause-ok : goal.index_one-returns-clause-ok
+index_one-returns-clause-ok t c = grind (arith, operand_first)
+
+pub index_one-returns-clause-err : goal.index_one-returns-clause-err
+index_one-returns-clause-err t c = grind (arith, operand_first)
+
+pub referent-returns-else-is_empty-clause-err : goal.referent-returns-else-is_empty-clause-err
+referent-returns-else-is_empty-clause-err t c = grind (arith, operand_simple, simple_no_variable)
+
+pub referent-returns-in-Compare-clause-err : goal.referent-returns-in-Compare-clause-err
+referent-returns-in-Compare-clause-err t c = grind (arith, operand_compare)
+
+pub referent-returns-in-Some-clause-err : goal.referent-returns-in-Some-clause-err
+referent-returns-in-Some-clause-err t c = grind (arith, operand_simple, signed_no_variable)
+
+pub referent-returns-then-is_empty-clause-ok : goal.referent-returns-then-is_empty-clause-ok
+referent-returns-then-is_empty-clause-ok t c = grind (arith, operand_simple, simple_variable)
+
+pub referent-returns-then-is_empty-clause-err : goal.referent-returns-then-is_empty-clause-err
+referent-returns-then-is_empty-clause-err t c = grind (arith, operand_simple, simple_variable)
+
+pub term_referent-returns-in-Variable-clause-ok : goal.term_referent-returns-in-Variable-clause-ok
+term_referent-returns-in-Variable-clause-ok t c = grind (arith, term_variable, factor_variable)
+
+pub term_referent-returns-in-Variable-clause-err : goal.term_referent-returns-in-Variable-clause-err
+term_referent-returns-in-Variable-clause-err t c = grind (arith, term_variable, factor_variable)
+
+pub term_referent-returns-then-not-is_empty-clause-err : goal.term_referent-returns-then-not-is_empty-clause-err
+term_referent-returns-then-not-is_empty-clause-err t c = grind (arith, term_no_variable)
