@@ -2,6 +2,7 @@ pub mod Places
 pub mod Temps
 pub mod Performs
 pub mod Jumps
-pub mod Widened
+pub mod Computed
+pub mod Bytes
 pub mod Constants
 pub mod Callers

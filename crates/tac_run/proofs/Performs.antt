@@ -15,7 +15,7 @@ use Rattle.tac_run.specs.declared.effect.Effect.{Effect}
 use Rattle.tac_run.specs.declared.effect.Effect.TheVariants.{Stop, Proceed, GoTo, Give, Enter}
 use Rattle.tac_code.specs.Numbers.{Computed, Gives, Fails, computed, is_in_range, steps_above}
 use Rattle.tac_code.specs.Memory.{load, load_byte}
-use Rattle.tac_code.specs.Meaning.{Code, Tape, State, Step, Goes, Over, with_some, with_number, with_address, with_routine, with_byte_value, text_at, pointer_of, related, operand_value, base_value, is_nil, gives_address, gives_computed, gives_component, gives, checks, fails, goes_on, goes_to, routines, is_full, values_of, onward, entered, enter, calls, open_calls, fetch, act, step}
+use Rattle.tac_code.specs.Meaning.{Code, Tape, Activation, State, Step, Goes, Over, with_some, with_number, with_address, with_routine, with_byte_value, text_at, pointer_of, related, operand_value, base_value, is_nil, gives_address, gives_computed, gives_component, gives, checks, fails, goes_on, goes_to, routines, is_full, values_of, onward, entered, enter, calls, open_calls, fetch, act, step}
 use Rattle.tac_code.specs.Run.{after, run}
 use Rattle.tac_run.specs.Effect.{ending_of, ended_by, if_some, if_number, if_address, if_routine, if_byte, given_address, given_computed, given_component, checked_by, operands_in, effect_of, perform, values_after, with_activation, KeepsShown, ended_at}
 
@@ -128,33 +128,39 @@ module _ (code : Code) (F G : ℕ → ℕ) (S H : ℕ) where
 
 -- ---- a call
 
-module _ (code : Code) (F G : ℕ → ℕ) (S H : ℕ) (t r : ℕ) (operands : List ℕ) (line : ℕ) (s : State) (values : List Value) (routine : TacRoutine) where
+module _ (code : Code) (F G : ℕ → ℕ) (S H : ℕ) (t r line : ℕ) (s : State) (values : List Value) (routine : TacRoutine) where
+  abbrev callers : List Activation
+  callers = onward s.current ∷ s.callers
+
   abbrev full : Bool
-  full = is_full code F G S H r (onward s.current ∷ s.callers)
+  full = is_full code F G S H r callers
 
-  decided : (b : Bool) → nat_eq (length values) routine.parameters ≡ true → full ≡ b → (if not (nat_eq (length values) routine.parameters) then Over ending.Stuck else if full then Over (ending.Stack routine.line) else Goes (entered code F G S H routine r values t line (onward s.current ∷ s.callers) s)) ≡ (if b then Over (ending.Stack routine.line) else Goes (entered code F G S H routine r values t line (onward s.current ∷ s.callers) s))
+  decided : (b : Bool) → nat_eq (length values) routine.parameters ≡ true → full ≡ b → (if not (nat_eq (length values) routine.parameters) then Over ending.Stuck else if full then Over (ending.Stack routine.line) else Goes (entered code F G S H routine r values t line callers s)) ≡ (if b then Over (ending.Stack routine.line) else Goes (entered code F G S H routine r values t line callers s))
   decided b same e =
-      ap (λ (x : Bool). if not x then Over ending.Stuck else if full then Over (ending.Stack routine.line) else Goes (entered code F G S H routine r values t line (onward s.current ∷ s.callers) s)) same
-      ∙ ap (λ (x : Bool). if x then Over (ending.Stack routine.line) else Goes (entered code F G S H routine r values t line (onward s.current ∷ s.callers) s)) e
+      ap (λ (x : Bool). if not x then Over ending.Stuck else if full then Over (ending.Stack routine.line) else Goes (entered code F G S H routine r values t line callers s)) same
+      ∙ ap (λ (x : Bool). if x then Over (ending.Stack routine.line) else Goes (entered code F G S H routine r values t line callers s)) e
 
-  pub call_decided : (b : Bool) → values_of s.current.temporaries operands ≡ Some values → slice_get (routines code) r ≡ Some routine → length values ≡ routine.parameters → full ≡ b → calls code F G S H t r operands line s ≡ (if b then Over (ending.Stack routine.line) else Goes (with_activation routine r values t line s))
-  call_decided b given found same e =
-      ap (λ (o : Option (List Value)). with_some o (λ vs. enter code F G S H r vs t line (onward s.current ∷ s.callers) s)) given
-      ∙ (ap (λ (o : Option TacRoutine). with_some o (λ x. if not (nat_eq (length values) x.parameters) then Over ending.Stuck else if full then Over (ending.Stack x.line) else Goes (entered code F G S H x r values t line (onward s.current ∷ s.callers) s))) found
-      ∙ decided b (eq-eqb (length values) routine.parameters same) e)
+  pub enter_decided : (b : Bool) → slice_get (routines code) r ≡ Some routine → length values ≡ routine.parameters → full ≡ b → enter code F G S H r values t line callers s ≡ (if b then Over (ending.Stack routine.line) else Goes (with_activation routine r values t line s))
+  enter_decided b found same e =
+      ap (λ (o : Option TacRoutine). with_some o (λ x. if not (nat_eq (length values) x.parameters) then Over ending.Stuck else if full then Over (ending.Stack x.line) else Goes (entered code F G S H x r values t line callers s))) found
+      ∙ decided b (eq-eqb (length values) routine.parameters same) e
 
--- ---- a call that nothing comes of
+  pub enter_mismatched : slice_get (routines code) r ≡ Some routine → length values ≢ routine.parameters → enter code F G S H r values t line callers s ≡ Over ending.Stuck
+  enter_mismatched found other =
+      ap (λ (o : Option TacRoutine). with_some o (λ x. if not (nat_eq (length values) x.parameters) then Over ending.Stuck else if full then Over (ending.Stack x.line) else Goes (entered code F G S H x r values t line callers s))) found
+      ∙ ap (λ (x : Bool). if not x then Over ending.Stuck else if full then Over (ending.Stack routine.line) else Goes (entered code F G S H routine r values t line callers s)) (ne_eqb (length values) routine.parameters other)
+
+-- ---- the values of a call
 
 module _ (code : Code) (F G : ℕ → ℕ) (S H : ℕ) (t r : ℕ) (operands : List ℕ) (line : ℕ) (s : State) where
   pub call_unwritten : values_of s.current.temporaries operands ≡ None → calls code F G S H t r operands line s ≡ Over ending.Stuck
   call_unwritten none =
       ap (λ (o : Option (List Value)). with_some o (λ vs. enter code F G S H r vs t line (onward s.current ∷ s.callers) s)) none
 
-  pub call_mismatched : (values : List Value) (routine : TacRoutine) → values_of s.current.temporaries operands ≡ Some values → slice_get (routines code) r ≡ Some routine → length values ≢ routine.parameters → calls code F G S H t r operands line s ≡ Over ending.Stuck
-  call_mismatched values routine given found other =
-      ap (λ (o : Option (List Value)). with_some o (λ vs. enter code F G S H r vs t line (onward s.current ∷ s.callers) s)) given
-      ∙ (ap (λ (o : Option TacRoutine). with_some o (λ x. if not (nat_eq (length values) x.parameters) then Over ending.Stuck else if is_full code F G S H r (onward s.current ∷ s.callers) then Over (ending.Stack x.line) else Goes (entered code F G S H x r values t line (onward s.current ∷ s.callers) s))) found
-      ∙ ap (λ (x : Bool). if not x then Over ending.Stuck else if is_full code F G S H r (onward s.current ∷ s.callers) then Over (ending.Stack routine.line) else Goes (entered code F G S H routine r values t line (onward s.current ∷ s.callers) s)) (ne_eqb (length values) routine.parameters other))
+  pub call_entered : (values seen : List Value) → values_of s.current.temporaries operands ≡ Some values → seen ≡ values → enter code F G S H r seen t line (onward s.current ∷ s.callers) s ≡ calls code F G S H t r operands line s
+  call_entered values seen given same =
+      ap (λ (vs : List Value). enter code F G S H r vs t line (onward s.current ∷ s.callers) s) same
+      ∙ sym (ap (λ (o : Option (List Value)). with_some o (λ vs. enter code F G S H r vs t line (onward s.current ∷ s.callers) s)) given)
 
 pub values_after_none : (o : Option (List Value)) → values_after [] o ≡ o
 values_after_none None = refl

@@ -37,7 +37,7 @@ impl Model for Blocks {
 
 ghost use Rattle.std.specs.Prelude.{◌≡◌, ◌<◌, if◌then◌else◌, [], ◌∷◌, length, Some, None, IfSome, OnOk};
 ghost use Rattle.tac_code.specs.Memory.{with_word, with_byte_at, living, changed, value_in, byte_value_in};
-ghost use Rattle.tac_code.specs.Meaning.{without_first};
+ghost use Rattle.tac_code.specs.Meaning.{unwritten, without_first};
 ghost use Rattle.tac_run.specs.Runner.{place_of_block};
 
 impl Living {
@@ -82,10 +82,11 @@ impl Blocks {
         }
     }
 
-    /// Adds the block of a new activation.
-    pub fn enter(&mut self, number: u64, words: Words) -> Result<(), OutOfMemory>
-        ensures { OnOk result (self.new ≡ record { number = number; words = words } ∷ self.old) }
+    /// Adds the block of a new activation, of so many bytes of unwritten words.
+    pub fn enter(&mut self, alloc: Global, number: u64, bytes: u32) -> Result<(), OutOfMemory>
+        ensures { OnOk result (self.new ≡ record { number = number; words = unwritten bytes } ∷ self.old) }
     {
+        let words = Words::unwritten(alloc, bytes)?;
         self.list.insert(0, Living { number, words })?;
         Ok(())
     }

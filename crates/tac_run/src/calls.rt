@@ -4,7 +4,7 @@ use crate::effect::Ending;
 use crate::machine::{Activation, Call, Machine};
 use crate::temporaries::gather;
 use std::alloc::Global;
-use tac_code::code::OutOfMemory;
+use tac_code::code::{OutOfMemory, Value};
 use tac_code::tac::Tac;
 
 /// What a run may use: the frame bytes of each routine, the bytes of an object of each type, and the sums.
@@ -17,7 +17,7 @@ pub struct Budget<'b> {
 }
 
 ghost use Rattle.std.specs.Prelude.{◌≡◌, ◌+◌, ◌<◌, ◌≤◌, ◌^◌, ◌∷◌, map, length, nat_le, slice_index, IfOk, OnSome};
-ghost use Rattle.tac_code.specs.Meaning.{onward, is_full, calls, frame_cost, open_bytes};
+ghost use Rattle.tac_code.specs.Meaning.{onward, is_full, enter, calls, frame_cost, open_bytes};
 ghost use Rattle.tac_run.specs.Effect.{state_of, activation_of, led, KeepsShown};
 
 // The frame bytes that a routine counts.
@@ -87,12 +87,31 @@ impl<'a> Machine<'a> {
         if !gather(&mut values, &self.current.temporaries, operands)? {
             return Ok(Some(Ending::Stuck));
         }
+        self.call_with(alloc, tac, budget, call, values.as_slice())
+    }
+
+    // Enters a routine with these values, if it takes so many of them and the stack has room for it.
+    fn call_with(
+        &mut self,
+        alloc: Global,
+        tac: &Tac,
+        budget: Budget,
+        call: Call,
+        values: &[Value],
+    ) -> Result<Option<Ending>, OutOfMemory>
+        requires place { self.old.current.place + 1 < 2 ^ 64 }
+        requires count { self.old.count + 1 < 2 ^ 64 }
+        ensures led { IfOk result (λ over. enter tac.now (λ r. slice_index budget.entry.frames.now r) (λ t. slice_index budget.entry.objects.now t) budget.entry.stack budget.entry.heap call.routine values.now call.to call.line (onward (activation_of self.old.current) ∷ map activation_of self.old.callers.items) (state_of self.old) ≡ led (length tac.now.program) over (state_of self.new)) }
+        ensures kept { IfOk result (λ over. OnSome over (KeepsShown (state_of self.old) (state_of self.new))) }
+        ensures count { IfOk result (λ over. self.new.count ≤ self.old.count + 1) }
+        ensures heap { IfOk result (λ over. self.new.heap ≡ self.old.heap) }
+    {
         let number = call.routine as usize;
         if number >= tac.program().len() + tac.run_time().len() {
             return Ok(Some(Ending::Stuck));
         }
         let called = tac.routine(number);
-        if values.as_slice().len() != called.parameters as usize {
+        if values.len() != called.parameters as usize {
             return Ok(Some(Ending::Stuck));
         }
         if is_full(
@@ -104,7 +123,7 @@ impl<'a> Machine<'a> {
         ) {
             return Ok(Some(Ending::OutOfStack { line: called.line }));
         }
-        self.enter(alloc, called, call, values.as_slice())?;
+        self.enter(alloc, called, call, values)?;
         Ok(None)
     }
 }

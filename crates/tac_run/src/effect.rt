@@ -37,8 +37,8 @@ pub enum Effect {
     },
 }
 
-ghost use Rattle.std.specs.Prelude.{◌≡◌, ◌<◌, MatchResult, MatchOption, MatchBool, IsTrue, ◌↔◌, ◌≤◌, if◌then◌else◌, FitsSigned, unsigned_abs, Some, None, ℤ, pos, ◌-ℤ◌, ◌+◌, ◌*◌, nat_lt, int_lt, false, not, ◌&&◌, ◌||◌, length, List, ℕ};
-ghost use Rattle.tac_code.specs.Numbers.{computed, within, Gives, Fails, bits, compared, truth, is_in_range, steps_above};
+ghost use Rattle.std.specs.Prelude.{◌≡◌, ◌<◌, MatchResult, MatchOption, MatchBool, IsTrue, ◌↔◌, if◌then◌else◌, FitsSigned, Some, None, ℤ, pos, ◌-ℤ◌, ◌+◌, ◌*◌, nat_lt, int_lt, false, not, ◌&&◌, ◌||◌, length, List, ℕ};
+ghost use Rattle.tac_code.specs.Numbers.{computed, Gives, Fails, bits, compared, truth, is_in_range, steps_above};
 ghost use Rattle.tac_code.specs.Meaning.{pointer_of, same_pointer, pointers_related, related, is_nil};
 ghost use Rattle.tac_run.specs.Effect.{ended_by, if_some, if_number, if_address, if_routine, if_byte, checked_by, given_address, given_component, given_computed};
 
@@ -53,39 +53,24 @@ pub(crate) fn ending_by_number(number: u8, line: u16) -> Ending
     }
 }
 
-fn fitting(z: i64, error: u8) -> Result<i32, u8>
-    ensures { MatchResult result (λ y. within error z ≡ Gives y) (λ e. within error z ≡ Fails e) }
+// ISO 7185 6.7.2.2: the quotient is cut off toward zero.
+fn quotient(error: u8, x: i32, y: i32) -> Result<i32, u8>
+    ensures { MatchResult result (λ z. computed Operator.Divide error x y ≡ Gives z) (λ e. computed Operator.Divide error x y ≡ Fails e) }
 {
-    if -2147483648 <= z && z <= 2147483647 {
-        Ok(z as i32)
-    } else {
-        Err(error)
+    if y == 0 {
+        return Err(2);
     }
-}
-
-// A number in 64 bits, where sums and products of two such numbers fit.
-fn widened(number: i32) -> i64
-    ensures value { result ≡ number }
-    ensures small { unsigned_abs result ≤ 2147483648 }
-{
-    i64::from(number)
+    x.checked_div(y).ok_or(error)
 }
 
 fn compute(operator: Operator, error: u8, x: i32, y: i32) -> Result<i32, u8>
     ensures { MatchResult result (λ z. computed operator error x y ≡ Gives z) (λ e. computed operator error x y ≡ Fails e) }
 {
-    let (left, right) = (widened(x), widened(y));
     match operator {
-        Operator::Add => fitting(left + right, error),
-        Operator::Subtract => fitting(left - right, error),
-        Operator::Multiply => fitting(left * right, error),
-        Operator::Divide => {
-            if y == 0 {
-                Err(2)
-            } else {
-                fitting(left / right, error)
-            }
-        }
+        Operator::Add => x.checked_add(y).ok_or(error),
+        Operator::Subtract => x.checked_sub(y).ok_or(error),
+        Operator::Multiply => x.checked_mul(y).ok_or(error),
+        Operator::Divide => quotient(error, x, y),
         Operator::Modulo => { if 0 < y { Ok(x.rem_euclid(y)) } else { Err(3) } }
     }
 }
@@ -273,8 +258,11 @@ fn steps_above(low: i32, x: i32) -> u64
     ensures value { result ≡ steps_above low x }
     ensures small { result < 4294967296 }
 {
-    let above = widened(x) - widened(low);
-    if above < 0 { 0 } else { above as u64 }
+    if x < low {
+        0
+    } else {
+        u64::from(x.abs_diff(low))
+    }
 }
 
 fn component(to: u32, block: Block, offset: u32, above: u64, width: u32) -> Effect

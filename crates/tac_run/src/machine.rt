@@ -3,7 +3,6 @@
 use crate::effect::Ending;
 use crate::memory::Memory;
 use crate::temporaries::Temporaries;
-use crate::words::Words;
 use std::alloc::Global;
 use std::mem;
 use tac_code::code::{Block, OutOfMemory, TacRoutine, Value};
@@ -215,7 +214,7 @@ impl<'a> Machine<'a> {
             return Ok(Some(Ending::OutOfHeap { line }));
         }
         let number = self.memory.object_count() as u64;
-        self.memory.make(Words::unwritten(alloc, bytes)?)?;
+        self.memory.make(alloc, bytes)?;
         self.heap = heap;
         self.give(to, Value::Address(Block::Object(number), 0))?;
         Ok(None)
@@ -247,12 +246,8 @@ impl<'a> Machine<'a> {
         ensures heap { OnOk result (self.new.heap ≡ self.old.heap) }
     {
         let number = self.count;
-        let (frame, scratch) = (called.frame, called.scratch);
-        self.memory.enter(
-            number,
-            Words::unwritten(alloc, frame)?,
-            Words::unwritten(alloc, scratch)?,
-        )?;
+        self.memory
+            .enter(alloc, number, called.frame, called.scratch)?;
         self.count = number + 1;
         Ok(())
     }

@@ -43,7 +43,7 @@ ghost use Rattle.std.specs.Prelude.{◌≡◌, ◌+◌, ◌*◌, ◌/◌, if◌t
 ghost use Rattle.tac_code.specs.Numbers.{number_of};
 ghost use Rattle.tac_code.specs.Memory.{known, with_word, with_byte_at, constant_words, changed_object, value_in, byte_value_in, constant_at};
 ghost use Rattle.tac_code.specs.Memory.{load, load_byte, store, store_byte};
-ghost use Rattle.tac_code.specs.Meaning.{text_at, without_first};
+ghost use Rattle.tac_code.specs.Meaning.{text_at, unwritten, without_first};
 
 // The number whose word four bytes make, the lowest first.
 fn number_of_bytes(a: u8, b: u8, c: u8, d: u8) -> Value
@@ -81,10 +81,11 @@ impl Objects {
         self.list.as_slice().len()
     }
 
-    /// Adds an object of these words.
-    pub fn make(&mut self, words: Words) -> Result<(), OutOfMemory>
-        ensures { OnOk result (self.new ≡ self.old ++ words ∷ []) }
+    /// Adds an object of so many bytes of unwritten words.
+    pub fn make(&mut self, alloc: Global, bytes: u32) -> Result<(), OutOfMemory>
+        ensures { OnOk result (self.new ≡ self.old ++ unwritten bytes ∷ []) }
     {
+        let words = Words::unwritten(alloc, bytes)?;
         self.list.push(words)?;
         Ok(())
     }
@@ -171,12 +172,18 @@ impl Memory {
         }
     }
 
-    /// Adds the blocks of a new activation.
-    pub fn enter(&mut self, number: u64, frame: Words, scratch: Words) -> Result<(), OutOfMemory>
-        ensures { OnOk result (self.new ≡ record self.old { frames = record { number = number; words = frame } ∷ self.old.frames; scratch = record { number = number; words = scratch } ∷ self.old.scratch }) }
+    /// Adds the blocks of a new activation, of so many bytes each.
+    pub fn enter(
+        &mut self,
+        alloc: Global,
+        number: u64,
+        frame: u32,
+        scratch: u32,
+    ) -> Result<(), OutOfMemory>
+        ensures { OnOk result (self.new ≡ record self.old { frames = record { number = number; words = unwritten frame } ∷ self.old.frames; scratch = record { number = number; words = unwritten scratch } ∷ self.old.scratch }) }
     {
-        self.frames.enter(number, frame)?;
-        self.scratch.enter(number, scratch)
+        self.frames.enter(alloc, number, frame)?;
+        self.scratch.enter(alloc, number, scratch)
     }
 
     /// Drops the innermost activation's blocks.
@@ -194,11 +201,11 @@ impl Memory {
         self.objects.len()
     }
 
-    /// Adds an object of these words.
-    pub fn make(&mut self, words: Words) -> Result<(), OutOfMemory>
-        ensures { OnOk result (self.new ≡ record self.old { objects = self.old.objects ++ words ∷ [] }) }
+    /// Adds an object of so many bytes.
+    pub fn make(&mut self, alloc: Global, bytes: u32) -> Result<(), OutOfMemory>
+        ensures { OnOk result (self.new ≡ record self.old { objects = self.old.objects ++ unwritten bytes ∷ [] }) }
     {
-        self.objects.make(words)
+        self.objects.make(alloc, bytes)
     }
 
     /// The value at an address, if one was written there.

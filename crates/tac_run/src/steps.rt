@@ -55,9 +55,9 @@ impl<'a> Machine<'a> {
         ensures { result ≡ effect_of tac.now instruction.now (state_of self.now) }
     {
         let next = self.current.place + 1;
-        match instruction {
-            Instruction::Literal { to, value } => Effect::Give(*to, Value::Number(*value)),
-            Instruction::Copy { to, from } => give_value(*to, self.value(*from)),
+        match *instruction {
+            Instruction::Literal { to, value } => Effect::Give(to, Value::Number(value)),
+            Instruction::Copy { to, from } => give_value(to, self.value(from)),
             Instruction::Arithmetic {
                 operator,
                 to,
@@ -67,12 +67,12 @@ impl<'a> Machine<'a> {
                 line,
             } => {
                 arithmetic(
-                    *operator,
-                    *to,
-                    self.value(*left),
-                    self.operand(*right),
-                    *error,
-                    *line,
+                    operator,
+                    to,
+                    self.value(left),
+                    self.operand(right),
+                    error,
+                    line,
                 )
             }
             Instruction::Bits {
@@ -80,32 +80,32 @@ impl<'a> Machine<'a> {
                 to,
                 left,
                 right,
-            } => { bitwise(*operator, *to, self.value(*left), self.operand(*right)) }
+            } => { bitwise(operator, to, self.value(left), self.operand(right)) }
             Instruction::Compare {
                 relation,
                 to,
                 left,
                 right,
-            } => { comparison(*to, self.related(*relation, *left, *right)) }
+            } => { comparison(to, self.related(relation, left, right)) }
             Instruction::CheckRange {
                 value,
                 low,
                 high,
                 error,
                 line,
-            } => { range_check(self.value(*value), *low, *high, *error, *line) }
+            } => { range_check(self.value(value), low, high, error, line) }
             Instruction::CheckPointer {
                 pointer,
                 error,
                 line,
-            } => { pointer_check(self.value(*pointer), *error, *line) }
-            Instruction::Text { to, bytes: _ } => self.text_address(*to),
+            } => { pointer_check(self.value(pointer), error, line) }
+            Instruction::Text { to, bytes: _ } => self.text_address(to),
             Instruction::Offset {
                 to,
                 base,
                 bytes,
                 extent: _,
-            } => { offset_address(*to, self.base(*base), *bytes) }
+            } => { offset_address(to, self.base(base), bytes) }
             Instruction::Index {
                 to,
                 base,
@@ -117,79 +117,63 @@ impl<'a> Machine<'a> {
                 line,
             } => {
                 index_address(
-                    *to,
-                    self.base(*base),
-                    self.value(*index),
-                    (*low, *high),
-                    *width,
-                    *error,
-                    *line,
+                    to,
+                    self.base(base),
+                    self.value(index),
+                    (low, high),
+                    width,
+                    error,
+                    line,
                 )
             }
-            Instruction::RoutineValue { to, routine } => Effect::Give(
-                *to,
-                Value::Routine(*routine),
-            ),
-            Instruction::Load { to, base, offset } => self.loaded(tac, *to, *base, *offset),
+            Instruction::RoutineValue { to, routine } => Effect::Give(to, Value::Routine(routine)),
+            Instruction::Load { to, base, offset } => self.loaded(tac, to, base, offset),
             Instruction::Store { base, offset, from } => {
-                word_write(self.base(*base), *offset, self.value(*from))
+                word_write(self.base(base), offset, self.value(from))
             }
-            Instruction::LoadByte { to, base, offset } => self.loaded_byte(
-                tac, *to, *base, *offset,
-            ),
+            Instruction::LoadByte { to, base, offset } => self.loaded_byte(tac, to, base, offset),
             Instruction::StoreByte { base, offset, from } => {
-                byte_write(self.base(*base), *offset, self.value(*from))
+                byte_write(self.base(base), offset, self.value(from))
             }
-            Instruction::Jump { forward } => Effect::GoTo(next + *forward as usize),
-            Instruction::JumpBack { back } => { Effect::GoTo(self.back(*back)) }
+            Instruction::Jump { forward } => Effect::GoTo(next + forward as usize),
+            Instruction::JumpBack { back } => { Effect::GoTo(self.back(back)) }
             Instruction::Branch {
                 relation,
                 left,
                 right,
                 forward,
-            } => {
-                branch(
-                    self.related(*relation, *left, *right),
-                    next + *forward as usize,
-                )
-            }
+            } => { branch(self.related(relation, left, right), next + forward as usize) }
             Instruction::BranchBack {
                 relation,
                 left,
                 right,
                 back,
-            } => { branch(self.related(*relation, *left, *right), self.back(*back)) }
+            } => { branch(self.related(relation, left, right), self.back(back)) }
             Instruction::Call {
                 to,
                 routine,
                 operands: _,
                 line,
-            } => {
-                Effect::Enter {
-                    to: *to,
-                    routine: *routine,
-                    line: *line,
-                }
-            }
+            } => { Effect::Enter { to, routine, line } }
             Instruction::CallValue {
                 to,
                 callee,
                 operands: _,
                 line,
-            } => { enter_value(tac, *to, self.value(*callee), *line) }
-            Instruction::Return { from } => leave_with(self.value(*from)),
-            Instruction::Trap { error, line } => Effect::Stop(ending_by_number(*error, *line)),
-            Instruction::Take { to } => Effect::TakeByte(*to),
-            Instruction::Put { from } => output(self.value(*from)),
+            } => { enter_value(tac, to, self.value(callee), line) }
+            Instruction::Return { from } => leave_with(self.value(from)),
+            Instruction::Trap { error, line } => Effect::Stop(ending_by_number(error, line)),
+            Instruction::Take { to } => Effect::TakeByte(to),
+            Instruction::Put { from } => output(self.value(from)),
             Instruction::New {
                 to,
                 object_type,
                 line,
             } => {
                 Effect::Make {
-                    to: *to,
-                    object_type: *object_type,
-                    line: *line,
+                    to,
+                    object_type,
+                    line,
                 }
             }
             Instruction::End => Effect::Stop(Ending::Normal),

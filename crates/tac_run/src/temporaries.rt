@@ -19,20 +19,11 @@ impl Model for Temporaries {
     ghost view = { λ t. t.list.items };
 }
 
-ghost use Rattle.std.specs.Prelude.{◌≡◌, ◌<◌, if◌then◌else◌, [], length, slice_get, Some, None, IfOk, OnOk};
+ghost use Rattle.std.specs.Prelude.{◌≡◌, ◌<◌, if◌then◌else◌, length, slice_get, Some, None, IfOk, OnOk};
 ghost use Rattle.tac_code.specs.Meaning.{put, values_of};
 ghost use Rattle.tac_run.specs.Effect.{reads, values_after};
 
 impl Temporaries {
-    /// No temporary was written.
-    pub fn new(alloc: Global) -> Temporaries
-        ensures { result ≡ [] }
-    {
-        Temporaries {
-            list: Vec::new(alloc),
-        }
-    }
-
     /// What a temporary holds: none where it was never written.
     pub fn get(&self, temporary: u32) -> Option<Value>
         ensures { result ≡ reads self.now temporary }
@@ -49,7 +40,10 @@ impl Temporaries {
     pub fn holding(alloc: Global, values: &[Value]) -> Result<Temporaries, OutOfMemory>
         ensures { IfOk result (λ t. reads t ≡ (λ i. slice_get values.now i)) }
     {
-        let list = values.iter().map(|v| Some(*v)).collect(alloc)?;
+        let mut list = Vec::new(alloc);
+        for value in values {
+            list.push(Some(*value))?;
+        }
         Ok(Temporaries { list })
     }
 

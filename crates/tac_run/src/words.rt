@@ -19,7 +19,7 @@ impl Model for Words {
     ghost view = { λ w. w.list.items };
 }
 
-ghost use Rattle.std.specs.Prelude.{◌≡◌, ◌<◌, if◌then◌else◌, slice_get, Some, None, IfOk};
+ghost use Rattle.std.specs.Prelude.{◌≡◌, ◌*◌, ◌^◌, ◌<◌, if◌then◌else◌, slice_get, Some, None, IfOk};
 ghost use Rattle.tac_code.specs.Numbers.{byte_of, with_byte};
 ghost use Rattle.tac_code.specs.Memory.{known, word_at, with_word, byte_at, with_byte_at};
 ghost use Rattle.tac_code.specs.Meaning.{unwritten};
@@ -38,20 +38,31 @@ pub(crate) fn byte_of_number(number: i32, k: usize) -> u8
     }
 }
 
+// What a byte counts as byte k of a word.
+fn scaled(byte: u8, k: usize) -> u32
+    requires { k < 4 }
+    ensures { result ≡ byte * 256 ^ k }
+{
+    let lowest = u32::from(byte);
+    match k {
+        0 => lowest,
+        1 => lowest * 256,
+        2 => lowest * 65536,
+        _ => lowest * 16777216,
+    }
+}
+
 /// The number with that byte changed.
 pub(crate) fn with_byte_of_number(number: i32, k: usize, byte: u8) -> i32
     requires { k < 4 }
     ensures { result ≡ with_byte number k byte }
 {
     let word = number.cast_unsigned();
-    let scale: u32 = match k {
-        0 => 1,
-        1 => 256,
-        2 => 65536,
-        _ => 16777216,
-    };
-    let old = u32::from(byte_of_number(number, k));
-    (word - old * scale + u32::from(byte) * scale).cast_signed()
+    let old = scaled(byte_of_number(number, k), k);
+    let new = scaled(byte, k);
+    let rest = word - old;
+    let changed = rest + new;
+    changed.cast_signed()
 }
 
 impl Words {
