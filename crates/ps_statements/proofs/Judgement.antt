@@ -32,3 +32,6 @@ module _ (c : Context) (Γ : List Region) where
 
   pub case_fault : (at : Span) (x : Expr) (es : List Element) (e : Tree.Expr) (o : Ordinal) → index_at c Γ x ≡ Some (e, o) → traverse (λ y. element c y Γ o) es ≡ None → case_statement c Γ at x (map (element c) es) ≡ None
   case_fault at x es e o h k = case_from at x es e o None h k
+
+  pub case_no_index : (at : Span) (x : Expr) (rs : List ElementReading) → index_at c Γ x ≡ None → case_statement c Γ at x rs ≡ None
+  case_no_index at x rs h = ap (λ (p : Option (Tree.Expr × Ordinal)). p >>= (λ index. traverse (λ (r : ElementReading). r Γ index.1) rs >>= (λ ts. case_behind c index.0 ts at))) h

@@ -1,5 +1,5 @@
 -- The records that a `with` opens, one after the other.
-use Rattle.std.proofs.Common.{◌≡◌, ◌-◌, ◌≤◌, List, [], ◌∷◌, length, take, drop, get_or, Option, Some, None, refl, sym, ap, ◌∙◌, arith}
+use Rattle.std.proofs.Common.{◌≡◌, ◌-◌, ◌<◌, ◌≤◌, List, [], ◌∷◌, length, take, drop, get_or, Option, Some, None, refl, sym, ap, ◌∙◌, arith}
 use Rattle.std.proofs.lemmas.List.{take_all}
 use Rattle.ps_syntax.specs.declared.expression.Variable as syntax
 use Rattle.ps_tree.specs.Types.{DataType}
@@ -20,6 +20,10 @@ first_and_others (a ∷ rest) x h e = ap (λ b. b ∷ rest) (sym e) ∙ ap (λ l
 module _ (c : Context) (Γ : List Region) (ps : List Tree.Place) (s : Reading) where
   pub with_none : (xs : List syntax.Variable) → xs ≡ [] → with_behind c (ps, Γ) xs s ≡ (s Γ >>= (λ body. Some (Tree.With ps body)))
   with_none xs e = ap (λ l. with_behind c (ps, Γ) l s) e
+
+  pub with_empty : (xs : List syntax.Variable) → length xs < 1 → with_behind c (ps, Γ) xs s ≡ (s Γ >>= (λ body. Some (Tree.With ps body)))
+  with_empty [] h = refl
+  with_empty (x ∷ xs) h = absurd (let k : ⊥ = omega (arith, h) in k)
 
   opened_all : (o : Option Opening) (xs : List syntax.Variable) → Option Tree.Statement
   opened_all o xs = o >>= (λ p. steps (open_next c) p xs) >>= (λ p. s p.1 >>= (λ body. Some (Tree.With p.0 body)))

@@ -1,3 +1,4 @@
+use Rattle.std.proofs.Common.{refl}
 use Rattle.ps_regions.specs.Views.{meaning_of}
 use Rattle.ps_statements.specs.Procedures as spec
 use Rattle.ps_statements.proofs.procedure.procedure_called.Goals as goal
@@ -17,3 +18,7 @@ returns-in-Required-clause-ok c = rw (c.in-Name.is, c.in-Required.is) c.required
 pub returns-in-Required-clause-err : goal.returns-in-Required-clause-err
 unfolding spec.procedure_called meaning_of
 returns-in-Required-clause-err c = rw (c.in-Name.is, c.in-Required.is) c.required_procedure.ensures.err
+
+pub returns-in-Field-clause-err : goal.returns-in-Field-clause-err
+unfolding spec.procedure_called
+returns-in-Field-clause-err c = λ told. rw c.in-Field.is refl

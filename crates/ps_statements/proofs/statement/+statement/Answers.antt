@@ -2,20 +2,22 @@ use Rattle.std.proofs.Common.{◌≡◌, List, Option, Some, None, map, refl, sy
 use Rattle.std.proofs.lemmas.Result.{err_from_is_err_and}
 use Rattle.ps_syntax.specs.declared.statement.Element.{out-Element}
 use Rattle.ps_tree.specs.Tree as Tree
-use Rattle.ps_tree.specs.View.{type_of, expr_of, place_of, statement_of}
-use Rattle.ps_tree.proofs.StatementLemmas.{statement_of_Repeat}
+use Rattle.ps_tree.specs.TypeView.{type_of}
+use Rattle.ps_tree.specs.View.{expr_of, place_of, statement_of}
+use Rattle.ps_tree.proofs.StatementLemmas.{statement_of_Compound, statement_of_Repeat}
 use Rattle.ps_regions.specs.Option.{◌>>=◌, traverse}
 use Rattle.ps_regions.specs.Refusal.{IsFault}
+use Rattle.ps_regions.specs.Views.{scope_of}
 use Rattle.ps_typing.specs.View.{context_at, regions_at}
 use Rattle.ps_regions.proofs.Lists.{reached_start, reached_end}
 use Rattle.ps_statements.specs.Statements as spec
-use Rattle.ps_statements.specs.Structured.{case_label, repeated}
+use Rattle.ps_statements.specs.Structured.{case_label, record_region, repeated}
 use Rattle.ps_statements.specs.View.{element_of}
 use Rattle.ps_statements.proofs.Equations.{statement_empty, statement_assign, statement_call, statement_compound, statement_if, statement_if_else, statement_case, statement_while, statement_repeat, statement_for, statement_with, element_is}
 use Rattle.ps_statements.proofs.Loops.{added_next, added_fault}
-use Rattle.ps_statements.proofs.Paired.{two_none, three_none}
-use Rattle.ps_statements.proofs.Judgement.{statements_end, case_at, case_fault}
-use Rattle.ps_statements.proofs.Opening.{with_next, with_fault}
+use Rattle.ps_statements.proofs.Paired.{two_none, three_none, put_is, put_none}
+use Rattle.ps_statements.proofs.Judgement.{statements_end, case_at, case_fault, case_no_index}
+use Rattle.ps_statements.proofs.Opening.{with_empty, with_next, with_fault}
 use Rattle.ps_statements.proofs.statement.+statement.Goals as goal
 
 pub statements-loop-x-init : goal.statements-loop-x-init
@@ -245,3 +247,58 @@ for_statement-returns-clause-err t c =
     let h = rw c.in_ok-head.ensures.first at c.for_head-head.ensures.ok in
     let k = rw c.in_ok-head.ensures.second at c.boxed.ensures.ok in
     rw (h, k) c.repeated.ensures.err
+
+-- ---- what is known of one part alone
+
+pub boxed-returns-clause-ok : goal.boxed-returns-clause-ok
+boxed-returns-clause-ok t c = put_is (spec.statement (context_at c.args.site) c.args.x.now (regions_at c.args.site)) statement_of _ c.statement.result c.boxed_answer.result c.boxed_answer.ensures.ok c.statement.ensures.ok
+
+pub boxed-returns-clause-err : goal.boxed-returns-clause-err
+boxed-returns-clause-err t c = put_none (spec.statement (context_at c.args.site) c.args.x.now (regions_at c.args.site)) c.statement.result c.boxed_answer.result c.boxed_answer.ensures.err c.statement.ensures.err
+
+pub compound-returns-in_err-body-clause-err : goal.compound-returns-in_err-body-clause-err
+compound-returns-in_err-body-clause-err t c =
+    let p = err_from_is_err_and c.from_residual.result c.from_residual.ensures.1 in
+    let parts : IsFault c.in_err-body.field-0.0 → spec.compound_statement (spec.statements (context_at c.args.site) (regions_at c.args.site) c.args.list.now) ≡ None =
+    λ told. ap spec.compound_statement (c.in_err-body.ensures.err told) in
+    rw (p.1, p.2) parts
+
+pub compound-returns-clause-ok : goal.compound-returns-clause-ok
+compound-returns-clause-ok t c = rw c.in_ok-body.ensures.ok (ap Some (sym (statement_of_Compound c.in_ok-body.body)))
+
+pub case_statement-returns-in_err-index-clause-err : goal.case_statement-returns-in_err-index-clause-err
+case_statement-returns-in_err-index-clause-err t c =
+    let p = err_from_is_err_and c.from_residual.result c.from_residual.ensures.1 in
+    let parts : IsFault c.in_err-index.field-0.0 → spec.case_statement (context_at c.args.site) (regions_at c.args.site) c.args.at c.args.x.now (map (spec.element (context_at c.args.site)) c.args.list.now) ≡ None =
+    λ told. case_no_index (context_at c.args.site) (regions_at c.args.site) c.args.at c.args.x.now (map (spec.element (context_at c.args.site)) c.args.list.now) (c.in_err-index.ensures.err told) in
+    rw (p.1, p.2) parts
+
+pub element-returns-clause-ok : goal.element-returns-clause-ok
+element-returns-clause-ok t c =
+    let h = rw c.as_slice.ensures at c.case_labels-constants.ensures.ok in
+    let k = rw c.in_ok-constants.ensures.first at h in
+    let l = rw c.in_ok-constants.ensures.second at c.statement.ensures.ok in
+    rw (element_is (context_at c.args.site) (regions_at c.args.site) c.args.x.now c.args.index, k, l) refl
+
+pub with_statement-returns-in_ok-body-in-empty-clause-ok : goal.with_statement-returns-in_ok-body-in-empty-clause-ok
+unfolding statement_of
+with_statement-returns-in_ok-body-in-empty-clause-ok t c = rw (with_empty (context_at c.args.site) (regions_at c.args.site) (map place_of c.args.opened.items) (spec.statement (context_at c.args.site) c.args.x.now) c.args.records.now c.in-empty.len_below, c.in_ok-body-in-empty.ensures.ok) refl
+
+pub with_statement-returns-in_err-body-in-empty-clause-err : goal.with_statement-returns-in_err-body-in-empty-clause-err
+with_statement-returns-in_err-body-in-empty-clause-err t c =
+    let p = err_from_is_err_and c.from_residual.result c.from_residual.ensures.1 in
+    let parts : IsFault c.in_err-body-in-empty.field-0.0 → spec.with_behind (context_at c.args.site) (map place_of c.args.opened.items, regions_at c.args.site) c.args.records.now (spec.statement (context_at c.args.site) c.args.x.now) ≡ None =
+    λ told. rw (with_empty (context_at c.args.site) (regions_at c.args.site) (map place_of c.args.opened.items) (spec.statement (context_at c.args.site) c.args.x.now) c.args.records.now c.in-empty.len_below, c.in_err-body-in-empty.ensures.err told) refl in
+    rw (p.1, p.2) parts
+
+pub with_record-returns-in-Record-clause-ok : goal.with_record-returns-in-Record-clause-ok
+unfolding record_region scope_of type_of
+with_record-returns-in-Record-clause-ok t c =
+    let h = rw (c.in-Record.is, c.deref.ensures) at c.with_statement.ensures.ok in
+    rw c.in-Record.is h
+
+pub with_record-returns-in-Record-clause-err : goal.with_record-returns-in-Record-clause-err
+unfolding record_region scope_of type_of
+with_record-returns-in-Record-clause-err t c =
+    let h = rw (c.in-Record.is, c.deref.ensures) at c.with_statement.ensures.err in
+    rw c.in-Record.is h
