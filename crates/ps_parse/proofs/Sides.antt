@@ -1,5 +1,5 @@
 -- How far an expression is read once its sign and its first factor are.
-use Rattle.std.proofs.Common.{◌≡◌, ℕ, suc, Bool, true, false, ◌||◌, [], ◌∷◌, Option, Some, None, Ok, refl}
+use Rattle.std.proofs.Common.{◌≡◌, ℕ, suc, Bool, true, false, ◌||◌, [], ◌∷◌, Option, Some, None, Ok, Err, refl}
 use Rattle.std.specs.Option.{is_some}
 use Rattle.ps_text.specs.declared.Span.{Span}
 use Rattle.ps_syntax.specs.declared.expression.Sign.{Sign}
@@ -31,3 +31,7 @@ lone_factor factor sign x (t ∷ ts) is_last =
 pub first_read : (n : ℕ) (ts l m : Tokens) (sign : Option (Sign × Span)) (x : Factor) → eat_operator sign_of ts ≡ Ok (sign, l) → read_factor n l ≡ Ok (x, m) → read_expr (suc n) ts ≡ expr_after (read_factor n) sign x m
 unfolding read_expr compared simple term
 first_read n ts l m sign x is_sign is_first = rw (is_sign, is_first) refl
+
+pub first_refused : (n : ℕ) (ts l : Tokens) (sign : Option (Sign × Span)) (e : ℕ) → eat_operator sign_of ts ≡ Ok (sign, l) → read_factor n l ≡ Err e → read_expr (suc n) ts ≡ Err e
+unfolding read_expr compared simple term
+first_refused n ts l sign e is_sign is_first = rw (is_sign, is_first) refl

@@ -114,25 +114,17 @@ impl<'a> Parser<'a> {
     }
 
     #[cycle(heading)]
-    #[tactic(auto, using(crate::proofs::Closed::closed), unfolding(crate::specs::ReadPrograms::formal_list))]
-    fn formal_list(&mut self, depth: u32) -> Result<Items<Section>, Fault>
-        ensures { Reads (read.formal_list (read.read_formals depth) self.old.rest.now) result self.new.rest.now }
-    {
-        self.expect(Kind::LeftParen)?;
-        let sections = self.sections(depth)?;
-        let end = self.expect(Kind::RightParen);
-        end.and(Ok(sections))
-    }
-
-    #[cycle(heading)]
-    #[tactic(auto, unfolding(crate::specs::ReadPrograms::read_formals))]
+    #[tactic(auto, unfolding(crate::specs::ReadPrograms::read_formals, crate::specs::ReadPrograms::formal_list))]
     fn formals(&mut self, depth: u32) -> Result<Items<Section>, Fault>
         ensures { Reads (read.read_formals depth self.old.rest.now) result self.new.rest.now }
     {
         if depth == 0 {
             return Err(Fault::TooDeep(self.left()));
         }
-        self.formal_list(depth - 1)
+        self.expect(Kind::LeftParen)?;
+        let sections = self.sections(depth - 1)?;
+        let end = self.expect(Kind::RightParen);
+        end.and(Ok(sections))
     }
 
     #[tactic(auto, using(crate::proofs::Closed::closed), unfolding(crate::specs::ReadPrograms::constant_definition))]

@@ -161,14 +161,23 @@ impl<'a> Parser<'a> {
     }
 
     #[cycle(statement)]
-    #[tactic(auto, unfolding(crate::specs::ReadStatements::read_statement))]
+    #[tactic(auto, unfolding(crate::specs::ReadStatements::read_statement, crate::specs::ReadStatements::any_statement))]
     pub fn statement(&mut self, depth: u32) -> Result<Statement, Fault>
         ensures { Reads (read.read_statement depth self.old.rest.now) result self.new.rest.now }
     {
         if depth == 0 {
             return Err(Fault::TooDeep(self.left()));
         }
-        self.any_statement(depth - 1)
+        let Some(token) = self.peek() else {
+            return Ok(Statement::Empty);
+        };
+        match token.kind {
+            Kind::Name => {
+                self.skip();
+                self.after_name(depth - 1, token.span)
+            }
+            _ => self.unnamed_statement(depth - 1, token),
+        }
     }
 
     /// As `statement`, where the value goes to the heap.
@@ -177,23 +186,6 @@ impl<'a> Parser<'a> {
         ensures { Reads (read.read_statement depth self.old.rest.now) result self.new.rest.now }
     {
         boxed_answer(self.alloc, self.statement(depth))
-    }
-
-    #[cycle(statement)]
-    #[tactic(auto, unfolding(crate::specs::ReadStatements::any_statement))]
-    fn any_statement(&mut self, depth: u32) -> Result<Statement, Fault>
-        ensures { Reads (read.any_statement (expression.read_expr depth) (read.read_statement depth) self.old.rest.now) result self.new.rest.now }
-    {
-        let Some(token) = self.peek() else {
-            return Ok(Statement::Empty);
-        };
-        match token.kind {
-            Kind::Name => {
-                self.skip();
-                self.after_name(depth, token.span)
-            }
-            _ => self.unnamed_statement(depth, token),
-        }
     }
 
     #[cycle(statement)]

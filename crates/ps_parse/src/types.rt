@@ -10,7 +10,7 @@ use crate::answer::{boxed_answer, push_answer};
 use crate::error::Fault;
 use crate::parser::Parser;
 use ps_scan::{Kind, Token};
-use ps_syntax::{Boxed, Constant, Fields, Items, Ordinal, Structure, TypeDenoter};
+use ps_syntax::{Constant, Fields, Items, Ordinal, Structure, TypeDenoter};
 use ps_text::Span;
 
 impl<'a> Parser<'a> {
@@ -137,14 +137,6 @@ impl<'a> Parser<'a> {
         self.any_type(depth - 1)
     }
 
-    /// As `type_denoter`, where the value goes to the heap.
-    #[cycle(ty)]
-    fn boxed_type(&mut self, depth: u32) -> Result<Boxed<TypeDenoter>, Fault>
-        ensures { Reads (read.read_type depth self.old.rest.now) result self.new.rest.now }
-    {
-        boxed_answer(self.alloc, self.type_denoter(depth))
-    }
-
     #[cycle(ty)]
     #[tactic(auto, unfolding(crate::specs::ReadPrograms::any_type))]
     fn any_type(&mut self, depth: u32) -> Result<TypeDenoter, Fault>
@@ -203,7 +195,8 @@ impl<'a> Parser<'a> {
         let indices = self.indices(depth)?;
         self.expect(Kind::RightBracket)?;
         self.expect(Kind::Of)?;
-        Ok(Structure::Array(at, indices, self.boxed_type(depth)?))
+        let item = boxed_answer(self.alloc, self.type_denoter(depth))?;
+        Ok(Structure::Array(at, indices, item))
     }
 
     #[cycle(ty)]
