@@ -1,7 +1,7 @@
 use Rattle.std.proofs.Common.{◌≡◌, ◌≤◌, ◌-◌, max, ◌+◌, ◌∙◌, refl, ap, sym, subst, map, drop, true, false, List, ◌∷◌, rules, arith}
 use Rattle.std.proofs.Math.Facts.{to_z-of_z}
 use Rattle.ps_tree.specs.Tree as Tree
-use Rattle.ps_tree.specs.View.{structure_of, selectors_of, arithmetic_of, operands_of, set_steps_of, expr_of, set_of, members_of, arguments_of, elements_of, statements_of, statement_of, read_of, write_of, place_of}
+use Rattle.ps_tree.specs.View.{structure_of, selectors_of, arithmetic_of, operands_of, set_steps_of, expr_of, set_of, members_of, arguments_of, elements_of, statements_of, statement_of, read_of, write_of, place_of, selector_of, member_of, argument_of, width_of}
 use Rattle.ps_meaning.specs.Expressions.{operand, accesses, value, combined, set_value, members_value, actuals_of, calling}
 use Rattle.ps_meaning.specs.Statements.{Block, own_spot, with_opened}
 use Rattle.ps_meaning.specs.Values.{number_of}
@@ -13,9 +13,12 @@ use Rattle.ps_runner.proofs.Heights.{place_is_high, expr_is_high, set_is_high, s
 use Rattle.ps_runner.proofs.Acts as a
 use Rattle.ps_runner.proofs.Chains as chain
 use Rattle.ps_runner.proofs.Arms as arm
-use Rattle.ps_runner.specs.View.{listed, value_of, spot_of}
+use Rattle.ps_runner.specs.View.{listed, value_of, spot_of, integer_of}
 use Rattle.ps_runner.specs.Worlds.{Stopped, caller, next, context_of, world_of, actual_of, actuals_in, callee_env, callee_routine, called, called_value, acting, acting_all, turning, reading_all, writing_all, opening_all, opened_in, done_of}
-use Rattle.ps_runner.proofs.Answers.{members_halt, actuals_halt, call_runs, call_formal_runs, stopped_halts}
+use Rattle.ps_runner.proofs.Answers.{members_halt, actuals_halt, call_runs, call_formal_runs, stopped_halts, halted_then, answers_run, runs_deeper, stopped_halts_then, members_start, members_next, members_end, actuals_start, actuals_next, actuals_end}
+use Rattle.ps_runner.proofs.Acts.{acts_next, acts_end}
+use Rattle.ps_runner.proofs.Trees.{set_of_Constructor}
+use Rattle.ps_tree.proofs.TreeLemmas.{expr_of_Load, set_of_Load, argument_of_Variable}
 use Rattle.ps_runner.proofs.+run.Goals as goal
 
 pub expressions::access-returns-then-here-eq0 : goal.expressions::access-returns-then-here-eq0
@@ -403,3 +406,306 @@ expressions::take_operand-returns-in_err-access-in-Contents t c =
 pub expressions::take_operand-returns-in_ok-access-in-Contents : goal.expressions::take_operand-returns-in_ok-access-in-Contents
 expressions::take_operand-returns-in_ok-access-in-Contents t c =
     chain.contents_gives c.args.here.job.now c.args.here.fuel (context_of c.args.here.context.now) (world_of c.args.world.now) (world_of c.access.new.world) c.args.e.now _ _ _ c.in_ok-access-in-Contents.field-0 c.in-Contents.is c.deref.ensures c.in_ok-access-in-Contents.ensures
+
+pub calls::call_procedure-returns-in_err-actuals : goal.calls::call_procedure-returns-in_err-actuals
+calls::call_procedure-returns-in_err-actuals t c = grind (arith, halted_then)
+
+pub calls::call_value-returns-in_err-actuals : goal.calls::call_value-returns-in_err-actuals
+calls::call_value-returns-in_err-actuals t c = grind (arith, halted_then)
+
+pub choices::act_if-returns-in_err-x : goal.choices::act_if-returns-in_err-x
+choices::act_if-returns-in_err-x t c = grind (arith, halted_then)
+
+pub choices::act_if-returns-then-is_true : goal.choices::act_if-returns-then-is_true
+choices::act_if-returns-then-is_true t c = grind (arith, runs_deeper)
+
+pub choices::act_if_else-returns-in_err-x : goal.choices::act_if_else-returns-in_err-x
+choices::act_if_else-returns-in_err-x t c = grind (arith, halted_then)
+
+pub choices::act_if_else-returns-then-is_true : goal.choices::act_if_else-returns-then-is_true
+choices::act_if_else-returns-then-is_true t c = grind (arith, runs_deeper)
+
+pub choices::act_if_else-returns : goal.choices::act_if_else-returns
+choices::act_if_else-returns t c = grind (arith, runs_deeper)
+
+pub choices::choose-returns-in_err-x : goal.choices::choose-returns-in_err-x
+choices::choose-returns-in_err-x t c = grind (arith, halted_then)
+
+pub expressions::access-returns : goal.expressions::access-returns
+expressions::access-returns t c = grind (arith, runs_deeper)
+
+pub expressions::evaluate-returns-in-Eof : goal.expressions::evaluate-returns-in-Eof
+unfolding expr_of value_of integer_of
+expressions::evaluate-returns-in-Eof t c = grind (arith, answers_run)
+
+pub expressions::evaluate-returns-in-Eoln : goal.expressions::evaluate-returns-in-Eoln
+unfolding expr_of value_of integer_of
+expressions::evaluate-returns-in-Eoln t c = grind (arith, answers_run)
+
+pub expressions::evaluate-returns-in_ok-evaluate-in-Apply : goal.expressions::evaluate-returns-in_ok-evaluate-in-Apply
+unfolding expr_of value_of integer_of
+expressions::evaluate-returns-in_ok-evaluate-in-Apply t c = grind (arith, answers_run)
+
+pub expressions::evaluate-returns-in_ok-evaluate-in-Minus : goal.expressions::evaluate-returns-in_ok-evaluate-in-Minus
+unfolding expr_of value_of integer_of
+expressions::evaluate-returns-in_ok-evaluate-in-Minus t c = grind (arith, answers_run)
+
+pub expressions::evaluate-returns-in_err-evaluate-in-Apply : goal.expressions::evaluate-returns-in_err-evaluate-in-Apply
+unfolding expr_of value_of integer_of
+expressions::evaluate-returns-in_err-evaluate-in-Apply t c = grind (arith, halted_then)
+
+pub expressions::evaluate-returns-in_err-evaluate-in-Minus : goal.expressions::evaluate-returns-in_err-evaluate-in-Minus
+unfolding expr_of value_of integer_of
+expressions::evaluate-returns-in_err-evaluate-in-Minus t c = grind (arith, halted_then)
+
+pub expressions::evaluate-returns-in_err-evaluate-in-Not : goal.expressions::evaluate-returns-in_err-evaluate-in-Not
+unfolding expr_of value_of integer_of
+expressions::evaluate-returns-in_err-evaluate-in-Not t c = grind (arith, halted_then)
+
+pub expressions::evaluate-returns-in_err-spot-in-Load : goal.expressions::evaluate-returns-in_err-spot-in-Load
+unfolding expr_of value_of integer_of
+expressions::evaluate-returns-in_err-spot-in-Load t c = grind (arith, halted_then, expr_of_Load)
+
+pub expressions::evaluate-returns-in_ok-contents-in-Load : goal.expressions::evaluate-returns-in_ok-contents-in-Load
+unfolding expr_of value_of integer_of
+expressions::evaluate-returns-in_ok-contents-in-Load t c = grind (arith, expr_of_Load)
+
+pub expressions::evaluate_member-returns-in_err-evaluate-in-One : goal.expressions::evaluate_member-returns-in_err-evaluate-in-One
+unfolding member_of
+expressions::evaluate_member-returns-in_err-evaluate-in-One t c = grind (arith, halted_then)
+
+pub expressions::evaluate_member-returns-in_err-evaluate-in-Range : goal.expressions::evaluate_member-returns-in_err-evaluate-in-Range
+unfolding member_of
+expressions::evaluate_member-returns-in_err-evaluate-in-Range t c = grind (arith, halted_then)
+
+pub expressions::evaluate_member-returns-in_err-evaluate-in-Range-2 : goal.expressions::evaluate_member-returns-in_err-evaluate-in-Range-2
+unfolding member_of
+expressions::evaluate_member-returns-in_err-evaluate-in-Range-2 t c = grind (arith, halted_then)
+
+pub expressions::evaluate_member-returns-in_ok-evaluate-in-One : goal.expressions::evaluate_member-returns-in_ok-evaluate-in-One
+unfolding member_of
+expressions::evaluate_member-returns-in_ok-evaluate-in-One t c = grind (arith, answers_run)
+
+pub expressions::evaluate_members-loop-member-init : goal.expressions::evaluate_members-loop-member-init
+expressions::evaluate_members-loop-member-init t c = grind (arith, members_start)
+
+pub expressions::evaluate_members-loop-member-preserved : goal.expressions::evaluate_members-loop-member-preserved
+expressions::evaluate_members-loop-member-preserved t c = grind (arith, members_next)
+
+pub expressions::evaluate_members-returns : goal.expressions::evaluate_members-returns
+expressions::evaluate_members-returns t c = grind (arith, members_end)
+
+pub expressions::evaluate_set-returns-in-Constructor : goal.expressions::evaluate_set-returns-in-Constructor
+unfolding set_of
+expressions::evaluate_set-returns-in-Constructor t c = grind (arith, runs_deeper, set_of_Constructor)
+
+pub expressions::evaluate_set-returns-in_err-spot-in-Load : goal.expressions::evaluate_set-returns-in_err-spot-in-Load
+unfolding set_of
+expressions::evaluate_set-returns-in_err-spot-in-Load t c = grind (arith, halted_then, set_of_Load)
+
+pub expressions::evaluate_set-returns-in_ok-set_at-in-Load : goal.expressions::evaluate_set-returns-in_ok-set_at-in-Load
+unfolding set_of
+expressions::evaluate_set-returns-in_ok-set_at-in-Load t c = grind (arith, set_of_Load)
+
+pub expressions::evaluate_truth-returns-in_err-x : goal.expressions::evaluate_truth-returns-in_err-x
+expressions::evaluate_truth-returns-in_err-x t c = grind (arith, halted_then)
+
+pub expressions::select-returns-in_err-evaluate-in-Element : goal.expressions::select-returns-in_err-evaluate-in-Element
+unfolding selector_of
+expressions::select-returns-in_err-evaluate-in-Element t c = grind (arith, halted_then)
+
+pub expressions::select-returns-in-Target : goal.expressions::select-returns-in-Target
+unfolding selector_of
+expressions::select-returns-in-Target t c = grind (arith, answers_run)
+
+pub expressions::take_actual-returns-in-Formal : goal.expressions::take_actual-returns-in-Formal
+unfolding argument_of actual_of
+expressions::take_actual-returns-in-Formal t c = grind (arith, answers_run)
+
+pub expressions::take_actual-returns-in-Routine : goal.expressions::take_actual-returns-in-Routine
+unfolding argument_of actual_of
+expressions::take_actual-returns-in-Routine t c = grind (arith, answers_run)
+
+pub expressions::take_actual-returns-in_err-access-in-Variable : goal.expressions::take_actual-returns-in_err-access-in-Variable
+unfolding argument_of actual_of
+expressions::take_actual-returns-in_err-access-in-Variable t c = grind (arith, halted_then, argument_of_Variable)
+
+pub expressions::take_actual-returns-in_ok-access-in-Variable : goal.expressions::take_actual-returns-in_ok-access-in-Variable
+unfolding argument_of actual_of
+expressions::take_actual-returns-in_ok-access-in-Variable t c = grind (arith, argument_of_Variable)
+
+pub expressions::take_actual-returns-in_err-contents_of-in-Copy : goal.expressions::take_actual-returns-in_err-contents_of-in-Copy
+unfolding argument_of actual_of
+expressions::take_actual-returns-in_err-contents_of-in-Copy t c = grind (arith, stopped_halts_then)
+
+pub expressions::take_actual-returns-in_err-fitting-in-Value : goal.expressions::take_actual-returns-in_err-fitting-in-Value
+unfolding argument_of actual_of
+expressions::take_actual-returns-in_err-fitting-in-Value t c = grind (arith, stopped_halts_then)
+
+pub expressions::take_actual-returns-in_err-fitting_set-in-Set : goal.expressions::take_actual-returns-in_err-fitting_set-in-Set
+unfolding argument_of actual_of
+expressions::take_actual-returns-in_err-fitting_set-in-Set t c = grind (arith, stopped_halts_then)
+
+pub expressions::take_actual-returns-in_err-held-in-Copy : goal.expressions::take_actual-returns-in_err-held-in-Copy
+unfolding argument_of actual_of
+expressions::take_actual-returns-in_err-held-in-Copy t c = grind (arith, halted_then)
+
+pub expressions::take_actual-returns-in_err-s-in-Set : goal.expressions::take_actual-returns-in_err-s-in-Set
+unfolding argument_of actual_of
+expressions::take_actual-returns-in_err-s-in-Set t c = grind (arith, halted_then)
+
+pub expressions::take_actual-returns-in_err-x-in-Value : goal.expressions::take_actual-returns-in_err-x-in-Value
+unfolding argument_of actual_of
+expressions::take_actual-returns-in_err-x-in-Value t c = grind (arith, halted_then)
+
+pub expressions::take_actuals-loop-argument-init : goal.expressions::take_actuals-loop-argument-init
+expressions::take_actuals-loop-argument-init t c = grind (arith, actuals_start)
+
+pub expressions::take_actuals-loop-argument-preserved : goal.expressions::take_actuals-loop-argument-preserved
+expressions::take_actuals-loop-argument-preserved t c = grind (arith, actuals_next)
+
+pub expressions::take_actuals-returns : goal.expressions::take_actuals-returns
+expressions::take_actuals-returns t c = grind (arith, actuals_end)
+
+pub operations::compare-returns-in_err-x : goal.operations::compare-returns-in_err-x
+operations::compare-returns-in_err-x t c = grind (arith, halted_then)
+
+pub operations::compare-returns-in_err-y : goal.operations::compare-returns-in_err-y
+operations::compare-returns-in_err-y t c = grind (arith, halted_then)
+
+pub operations::compare_sets-returns-in_err-x : goal.operations::compare_sets-returns-in_err-x
+operations::compare_sets-returns-in_err-x t c = grind (arith, halted_then)
+
+pub operations::compare_sets-returns-in_err-y : goal.operations::compare_sets-returns-in_err-y
+operations::compare_sets-returns-in_err-y t c = grind (arith, halted_then)
+
+pub operations::compare_strings-returns-in_err-x : goal.operations::compare_strings-returns-in_err-x
+operations::compare_strings-returns-in_err-x t c = grind (arith, halted_then)
+
+pub operations::compare_strings-returns-in_err-y : goal.operations::compare_strings-returns-in_err-y
+operations::compare_strings-returns-in_err-y t c = grind (arith, halted_then)
+
+pub operations::compare_strings-returns : goal.operations::compare_strings-returns
+operations::compare_strings-returns t c = grind (arith, answers_run)
+
+pub operations::test_member-returns-in_err-evaluate : goal.operations::test_member-returns-in_err-evaluate
+operations::test_member-returns-in_err-evaluate t c = grind (arith, halted_then)
+
+pub operations::test_member-returns-in_err-s : goal.operations::test_member-returns-in_err-s
+operations::test_member-returns-in_err-s t c = grind (arith, halted_then)
+
+pub statements::act-returns-in-AssignSet : goal.statements::act-returns-in-AssignSet
+unfolding statement_of
+statements::act-returns-in-AssignSet t c = grind (arith, runs_deeper)
+
+pub statements::act-returns-in_err-read_all-in-Readln : goal.statements::act-returns-in_err-read_all-in-Readln
+unfolding statement_of
+statements::act-returns-in_err-read_all-in-Readln t c = grind (arith, halted_then)
+
+pub statements::act-returns-in_err-write_all-in-Writeln : goal.statements::act-returns-in_err-write_all-in-Writeln
+unfolding statement_of
+statements::act-returns-in_err-write_all-in-Writeln t c = grind (arith, halted_then)
+
+pub statements::act-returns-in_ok-read_all-in-Readln : goal.statements::act-returns-in_ok-read_all-in-Readln
+unfolding statement_of
+statements::act-returns-in_ok-read_all-in-Readln t c = grind (arith, answers_run)
+
+pub statements::act-returns-in_ok-write_all-in-Writeln : goal.statements::act-returns-in_ok-write_all-in-Writeln
+unfolding statement_of
+statements::act-returns-in_ok-write_all-in-Writeln t c = grind (arith, answers_run)
+
+pub statements::act_all-loop-statement-preserved : goal.statements::act_all-loop-statement-preserved
+statements::act_all-loop-statement-preserved t c = grind (arith, acts_next)
+
+pub statements::act_all-returns : goal.statements::act_all-returns
+statements::act_all-returns t c = grind (arith, acts_end)
+
+pub statements::assign-returns-in_err-spot : goal.statements::assign-returns-in_err-spot
+statements::assign-returns-in_err-spot t c = grind (arith, halted_then)
+
+pub statements::assign-returns-in_err-x : goal.statements::assign-returns-in_err-x
+statements::assign-returns-in_err-x t c = grind (arith, halted_then)
+
+pub statements::assign-returns : goal.statements::assign-returns
+statements::assign-returns t c = grind (arith, answers_run)
+
+pub statements::assign_set-returns-in_err-spot : goal.statements::assign_set-returns-in_err-spot
+statements::assign_set-returns-in_err-spot t c = grind (arith, halted_then)
+
+pub statements::assign_set-returns-in_err-x : goal.statements::assign_set-returns-in_err-x
+statements::assign_set-returns-in_err-x t c = grind (arith, halted_then)
+
+pub statements::assign_set-returns : goal.statements::assign_set-returns
+statements::assign_set-returns t c = grind (arith, answers_run)
+
+pub statements::assign_structure-returns-in_err-spot : goal.statements::assign_structure-returns-in_err-spot
+statements::assign_structure-returns-in_err-spot t c = grind (arith, halted_then)
+
+pub statements::assign_structure-returns-in_err-held : goal.statements::assign_structure-returns-in_err-held
+statements::assign_structure-returns-in_err-held t c = grind (arith, halted_then)
+
+pub statements::assign_structure-returns : goal.statements::assign_structure-returns
+statements::assign_structure-returns t c = grind (arith, answers_run)
+
+pub statements::make-returns-in_err-spot : goal.statements::make-returns-in_err-spot
+statements::make-returns-in_err-spot t c = grind (arith, halted_then)
+
+pub statements::pack-returns-in_err-a : goal.statements::pack-returns-in_err-a
+statements::pack-returns-in_err-a t c = grind (arith, halted_then)
+
+pub statements::pack-returns-in_err-evaluate : goal.statements::pack-returns-in_err-evaluate
+statements::pack-returns-in_err-evaluate t c = grind (arith, halted_then)
+
+pub statements::pack-returns-in_err-z : goal.statements::pack-returns-in_err-z
+statements::pack-returns-in_err-z t c = grind (arith, halted_then)
+
+pub statements::unpack-returns-in_err-z : goal.statements::unpack-returns-in_err-z
+statements::unpack-returns-in_err-z t c = grind (arith, halted_then)
+
+pub statements::unpack-returns-in_err-a : goal.statements::unpack-returns-in_err-a
+statements::unpack-returns-in_err-a t c = grind (arith, halted_then)
+
+pub statements::unpack-returns-in_err-evaluate : goal.statements::unpack-returns-in_err-evaluate
+statements::unpack-returns-in_err-evaluate t c = grind (arith, halted_then)
+
+pub transfers::evaluate_width-returns-in_err-evaluate-in-Given : goal.transfers::evaluate_width-returns-in_err-evaluate-in-Given
+unfolding width_of
+transfers::evaluate_width-returns-in_err-evaluate-in-Given t c = grind (arith, halted_then)
+
+pub transfers::evaluate_width-returns-in_ok-evaluate-in-Given : goal.transfers::evaluate_width-returns-in_ok-evaluate-in-Given
+unfolding width_of
+transfers::evaluate_width-returns-in_ok-evaluate-in-Given t c = grind (arith, answers_run)
+
+pub transfers::write_contents-returns-in_err-held : goal.transfers::write_contents-returns-in_err-held
+transfers::write_contents-returns-in_err-held t c = grind (arith, halted_then)
+
+pub transfers::write_contents-returns-in_err-n : goal.transfers::write_contents-returns-in_err-n
+transfers::write_contents-returns-in_err-n t c = grind (arith, halted_then)
+
+pub transfers::write_contents-returns : goal.transfers::write_contents-returns
+transfers::write_contents-returns t c = grind (arith, answers_run)
+
+pub transfers::write_evaluated-returns-in_err-x : goal.transfers::write_evaluated-returns-in_err-x
+transfers::write_evaluated-returns-in_err-x t c = grind (arith, halted_then)
+
+pub transfers::write_evaluated-returns-in_err-n : goal.transfers::write_evaluated-returns-in_err-n
+transfers::write_evaluated-returns-in_err-n t c = grind (arith, halted_then)
+
+pub transfers::write_evaluated-returns : goal.transfers::write_evaluated-returns
+transfers::write_evaluated-returns t c = grind (arith, answers_run)
+
+pub transfers::write_one-returns-in-Integer : goal.transfers::write_one-returns-in-Integer
+unfolding write_of
+transfers::write_one-returns-in-Integer t c = grind (arith, runs_deeper)
+
+pub transfers::write_one-returns-in-Char : goal.transfers::write_one-returns-in-Char
+unfolding write_of
+transfers::write_one-returns-in-Char t c = grind (arith, runs_deeper)
+
+pub transfers::write_one-returns-in-Boolean : goal.transfers::write_one-returns-in-Boolean
+unfolding write_of
+transfers::write_one-returns-in-Boolean t c = grind (arith, runs_deeper)
+
+pub transfers::write_one-returns-in-Text : goal.transfers::write_one-returns-in-Text
+unfolding write_of
+transfers::write_one-returns-in-Text t c = grind (arith, runs_deeper)
