@@ -42,16 +42,14 @@ fn phase_named(word: &str) -> Phase {
     }
 }
 
-fn take_tokens(alloc: Global, text: &[u8]) -> Result<(), Refusal> {
+// The phases before the checker: the text, its tokens and its tree.
+fn take_before_checker(alloc: Global, text: &[u8], last: Phase) -> Result<(), Refusal> {
     let source = Source::new(text)?;
-    scan(alloc, &source)?;
-    Ok(())
-}
-
-fn take_tree(alloc: Global, text: &[u8]) -> Result<(), Refusal> {
-    let source = Source::new(text)?;
-    let program = parsed(alloc, &source)?;
-    drop(program);
+    match last {
+        Phase::Scan => drop(scan(alloc, &source)?),
+        Phase::Parse => drop(parsed(alloc, &source)?),
+        _ => {}
+    }
     Ok(())
 }
 
@@ -80,14 +78,8 @@ fn take_parts(alloc: Global, parts: &Parts, last: Phase) -> Result<(), Refusal> 
 
 fn take(alloc: Global, text: &[u8], last: Phase) -> Result<(), Refusal> {
     match last {
-        Phase::Read => {
-            Source::new(text)?;
-        }
-        Phase::Scan => take_tokens(alloc, text)?,
-        Phase::Parse => take_tree(alloc, text)?,
-        Phase::Check => {
-            checked(alloc, text)?;
-        }
+        Phase::Read | Phase::Scan | Phase::Parse => take_before_checker(alloc, text, last)?,
+        Phase::Check => drop(checked(alloc, text)?),
         Phase::Lower | Phase::Place | Phase::Emit | Phase::Write => {
             take_past_checker(alloc, text, last)?
         }

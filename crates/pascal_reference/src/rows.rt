@@ -5,48 +5,142 @@ mod command;
 mod language;
 mod texts;
 
-use code::CodeRows;
-use command::CommandRows;
-use language::LanguageRows;
+use code::Table as Code;
+use code::programs::Asked as OfCode;
+use command::Table as Command;
+use command::programs::Asked as OfBuilt;
+use language::Table as Language;
+use language::blocks::Asked as OfBlock;
+use language::check::Asked as OfProgram;
+use language::front::Asked as OfTree;
+use language::tokens::Asked as OfTokens;
 use std::alloc::{AllocError, Global};
 use std::io;
 use tables::{Answers, answer_rows};
 
-/// What a table is of.
+/// What is asked of a row, by the name of its table.
 #[derive(Clone, Copy)]
-enum Group {
-    Language,
-    Code,
-    Command,
+enum Table {
+    Unknown,
+    Language(Language),
+    Code(Code),
+    Command(Command),
 }
 
-/// What is told of the rows of each group, and the group of the table that is read.
+// The tables by their names.
+const TABLES: &[(&str, Table)] = &[
+    ("lengths", Table::Language(Language::Lengths)),
+    ("lines", Table::Language(Language::Lines)),
+    ("slices", Table::Language(Language::Slices)),
+    ("kinds", Table::Language(Language::Tokens(OfTokens::Kinds))),
+    ("spans", Table::Language(Language::Tokens(OfTokens::Spans))),
+    ("values", Table::Language(Language::Values)),
+    ("parse", Table::Language(Language::Tree(OfTree::Height))),
+    ("trees", Table::Language(Language::Tree(OfTree::Statements))),
+    ("regions", Table::Language(Language::Regions)),
+    (
+        "declarations",
+        Table::Language(Language::Tree(OfTree::Block(OfBlock::Declarations))),
+    ),
+    (
+        "sizes",
+        Table::Language(Language::Tree(OfTree::Block(OfBlock::Sizes))),
+    ),
+    (
+        "fields",
+        Table::Language(Language::Tree(OfTree::Block(OfBlock::Fields))),
+    ),
+    (
+        "types",
+        Table::Language(Language::Tree(OfTree::Block(OfBlock::Types))),
+    ),
+    (
+        "expressions",
+        Table::Language(Language::Tree(OfTree::Block(OfBlock::Expressions))),
+    ),
+    (
+        "statements",
+        Table::Language(Language::Tree(OfTree::Block(OfBlock::Statements))),
+    ),
+    (
+        "check",
+        Table::Language(Language::Program(OfProgram::Verdict)),
+    ),
+    (
+        "programs",
+        Table::Language(Language::Program(OfProgram::Counts)),
+    ),
+    (
+        "changes",
+        Table::Language(Language::Program(OfProgram::Changes)),
+    ),
+    ("runs", Table::Language(Language::Program(OfProgram::Run))),
+    (
+        "trails",
+        Table::Language(Language::Program(OfProgram::Trail)),
+    ),
+    (
+        "outputs",
+        Table::Language(Language::Program(OfProgram::Output)),
+    ),
+    ("code", Table::Code(Code::Programs(OfCode::Kept))),
+    ("printed", Table::Code(Code::Programs(OfCode::Printed))),
+    ("runs of code", Table::Code(Code::Programs(OfCode::Ran))),
+    ("homes", Table::Code(Code::Programs(OfCode::Tried))),
+    ("registers", Table::Code(Code::Programs(OfCode::Scanned))),
+    ("slots", Table::Code(Code::Programs(OfCode::Slotted))),
+    ("instructions", Table::Code(Code::Words)),
+    ("steps", Table::Code(Code::Steps)),
+    ("machines", Table::Code(Code::Runs)),
+    ("streams", Table::Code(Code::Streamed)),
+    ("devices", Table::Code(Code::Devices)),
+    ("starts", Table::Code(Code::Started)),
+    ("views", Table::Code(Code::Images)),
+    ("written", Table::Code(Code::Written)),
+    ("loads", Table::Code(Code::Loaded)),
+    ("build", Table::Command(Command::Built(OfBuilt::Built))),
+    ("go", Table::Command(Command::Go)),
+    ("built", Table::Command(Command::Built(OfBuilt::Ran))),
+    ("writers", Table::Command(Command::Writers)),
+    ("images", Table::Command(Command::Images)),
+    ("calls", Table::Command(Command::Calls)),
+    ("listings", Table::Command(Command::Built(OfBuilt::Listed))),
+    ("reports", Table::Command(Command::Reports)),
+    ("words", Table::Command(Command::Words)),
+    ("puts", Table::Command(Command::Puts)),
+    ("reads", Table::Command(Command::Reads)),
+    ("texts", Table::Command(Command::Texts)),
+];
+
+fn table_named(name: &str) -> Table {
+    for (known, table) in TABLES {
+        if *known == name {
+            return *table;
+        }
+    }
+    Table::Unknown
+}
+
+/// The table that is read, and what is told of its next row, by the group of the table.
 #[derive(Drop)]
 struct Rows {
-    group: Group,
-    language: LanguageRows,
-    code: CodeRows,
-    command: CommandRows,
+    table: Table,
+    language: language::Job,
+    code: code::Job,
+    command: command::Job,
 }
 
 impl Answers for Rows {
     fn begin(&mut self, table: &str) {
-        self.group = if self.language.begin(table) {
-            Group::Language
-        } else if self.code.begin(table) {
-            Group::Code
-        } else {
-            // of a table that no group knows, each row is answered so
-            let _is_known = self.command.begin(table);
-            Group::Command
-        };
+        self.table = table_named(table);
     }
 
     fn tell(&mut self, word: &str, rest: &str, text: Vec<u8>) -> Result<(), AllocError> {
-        match self.group {
-            Group::Language => self.language.tell(word, rest, text),
-            Group::Code => self.code.tell(word, rest, text),
-            Group::Command => {
+        match self.table {
+            Table::Unknown => Ok(()),
+            Table::Language(_) => self.language.tell(word, rest, text),
+            Table::Code(_) => self.code.tell(word, rest, text),
+            Table::Command(_) => {
                 self.command.tell(word, rest);
                 Ok(())
             }
@@ -54,11 +148,16 @@ impl Answers for Rows {
     }
 
     fn answer(&mut self, alloc: Global, text: &[u8]) -> Result<String, AllocError> {
-        match self.group {
-            Group::Language => self.language.answer(alloc, text),
-            Group::Code => self.code.answer(alloc, text),
-            Group::Command => self.command.answer(alloc, text),
-        }
+        let answer = match self.table {
+            Table::Unknown => String::from_str(alloc, "no such table"),
+            Table::Language(table) => language::answer(alloc, table, text, &self.language),
+            Table::Code(table) => code::answer(alloc, table, text, &self.code),
+            Table::Command(table) => command::answer(alloc, table, text, self.command),
+        };
+        self.language = language::untold(alloc);
+        self.code = code::untold(alloc);
+        self.command = command::untold();
+        answer
     }
 }
 
@@ -66,10 +165,10 @@ impl Answers for Rows {
 pub fn answer_all<R: Input + Print + AllocGlobal>(rt: &R) -> io::Result<()> {
     let alloc = rt.alloc();
     let mut rows = Rows {
-        group: Group::Command,
-        language: LanguageRows::new(alloc),
-        code: CodeRows::new(alloc),
-        command: CommandRows::new(),
+        table: Table::Unknown,
+        language: language::untold(alloc),
+        code: code::untold(alloc),
+        command: command::untold(),
     };
     answer_rows(rt, &mut rows)
 }

@@ -4,8 +4,7 @@ use crate::phases::take_standard_input;
 use crate::rows::answer_all;
 use crate::runs::{Fault, Limits, Runner, Shown, run_text};
 use pascal_cli::{
-    Counted, Job, TEXT_LIMIT, Task, asked, put_all, read_file, read_standard_input, tell, texts,
-    words,
+    Counted, TEXT_LIMIT, Task, asked, put_all, read_file, read_standard_input, tell, texts, words,
 };
 use ps_build::Outcome;
 use std::io;
@@ -37,16 +36,11 @@ fn run_texts<R: Files + Print + Eprint + Input + AllocGlobal>(rt: &R, texts: &[&
         ["code", others @ ..] => run_job(rt, Runner::Code, others),
         ["slots", others @ ..] => run_job(rt, Runner::Slots, others),
         ["phases", last] => take_standard_input(rt, last),
-        ["tables"] => take_rows(rt),
+        ["tables"] => match answer_all(rt) {
+            Ok(()) => 0,
+            Err(_) => FAILED,
+        },
         _ => run_job(rt, Runner::Meaning, texts),
-    }
-}
-
-// Answers rows to their end, or to a fault of either stream.
-fn take_rows<R: Print + Input + AllocGlobal>(rt: &R) -> u8 {
-    match answer_all(rt) {
-        Ok(()) => 0,
-        Err(_) => FAILED,
     }
 }
 
@@ -59,17 +53,14 @@ fn run_job<R: Files + Print + Eprint + Input + AllocGlobal>(
         Ok(job) => job,
         Err(status) => return status,
     };
-    match read_task(rt, job.task) {
-        Ok(given) => go(rt, runner, &given, limits_of(&job)),
-        Err(status) => status,
-    }
-}
-
-fn limits_of(job: &Job<'_>) -> Limits {
-    Limits {
+    let limits = Limits {
         stack: job.stack,
         heap: job.heap,
         steps: job.steps,
+    };
+    match read_task(rt, job.task) {
+        Ok(given) => go(rt, runner, &given, limits),
+        Err(status) => status,
     }
 }
 
@@ -83,7 +74,10 @@ struct Given {
 // What a job gives a run. Where there is none, that is told, and the status is given.
 fn read_task<R: Files + Eprint + Input + AllocGlobal>(rt: &R, task: Task<'_>) -> Result<Given, u8> {
     match task {
-        Task::Go { source } => read_source(rt, source),
+        Task::Go { source } => Ok(Given {
+            text: read_file(rt, source, TEXT_LIMIT)?,
+            input: read_standard_input(rt, INPUT_LIMIT)?,
+        }),
         Task::GoStandardInput => Ok(Given {
             text: read_standard_input(rt, TEXT_LIMIT)?,
             input: Vec::new(rt.alloc()),
@@ -93,12 +87,6 @@ fn read_task<R: Files + Eprint + Input + AllocGlobal>(rt: &R, task: Task<'_>) ->
             Err(FAILED)
         }
     }
-}
-
-fn read_source<R: Files + Eprint + Input + AllocGlobal>(rt: &R, source: &str) -> Result<Given, u8> {
-    let text = read_file(rt, source, TEXT_LIMIT)?;
-    let input = read_standard_input(rt, INPUT_LIMIT)?;
-    Ok(Given { text, input })
 }
 
 // Runs a text on its input, writes what the run writes, and tells how it ended.

@@ -17,6 +17,11 @@ pub(crate) fn u32_of(word: &str) -> u32 {
     u32::try_from(u64_of(word)).unwrap_or(0)
 }
 
+/// The number that a word is, 0 where there is none of 32 bits.
+pub(crate) fn number(word: Option<&str>) -> u32 {
+    u32_of(word.unwrap_or(""))
+}
+
 /// The number that a word is, 0 where it is none of 16 bits.
 pub(crate) fn u16_of(word: &str) -> u16 {
     u16::try_from(u64_of(word)).unwrap_or(0)
@@ -54,11 +59,19 @@ pub(crate) fn letters_of(alloc: Global, bytes: &[u8]) -> Result<String, AllocErr
     Ok(line)
 }
 
-/// Bytes so, in brackets.
-pub(crate) fn bracketed(alloc: Global, bytes: &[u8]) -> Result<String, AllocError> {
-    let mut line = String::new(alloc);
+/// A line with bytes so behind it, in brackets.
+pub(crate) fn followed(
+    line: Result<String, AllocError>,
+    bytes: &[u8],
+) -> Result<String, AllocError> {
+    let mut line = line?;
     put_bracketed(&mut line, bytes)?;
     Ok(line)
+}
+
+/// Bytes so, in brackets.
+pub(crate) fn bracketed(alloc: Global, bytes: &[u8]) -> Result<String, AllocError> {
+    followed(Ok(String::new(alloc)), bytes)
 }
 
 /// Puts words behind a line as they are.

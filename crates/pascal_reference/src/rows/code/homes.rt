@@ -1,10 +1,8 @@
 //! Homes for the temporaries of three-address code.
 
-use crate::rows::code::job::Job;
 use crate::rows::texts::{u8_of, u32_of};
 use risc_alloc::homes::{Home, PlaceRefusal, Raw};
 use risc_alloc::placement::Placement;
-use risc_alloc::placer::Placer;
 use std::alloc::{AllocError, Global};
 use tac_code::tac::Tac;
 
@@ -16,7 +14,12 @@ pub(crate) fn home_of(word: &str) -> Home {
     }
 }
 
-fn verdict(alloc: Global, tac: &Tac, homes: &[Home]) -> Result<&'static str, AllocError> {
+/// Whether homes are taken.
+pub(crate) fn verdict(
+    alloc: Global,
+    tac: &Tac,
+    homes: &[Home],
+) -> Result<&'static str, AllocError> {
     let raw = Raw {
         homes: Vec::from_slice(alloc, homes)?,
     };
@@ -27,11 +30,6 @@ fn verdict(alloc: Global, tac: &Tac, homes: &[Home]) -> Result<&'static str, All
     })
 }
 
-/// Whether the homes that were told are taken.
-pub(crate) fn tried(alloc: Global, tac: &Tac, job: &Job) -> Result<String, AllocError> {
-    String::from_str(alloc, verdict(alloc, tac, &job.homes)?)
-}
-
 fn put_home(line: &mut String, home: Home) -> Result<(), AllocError> {
     let (letter, number) = match home {
         Home::Slot(slot) => ("s", slot),
@@ -40,21 +38,13 @@ fn put_home(line: &mut String, home: Home) -> Result<(), AllocError> {
     write!(line, "{letter}{number} ")
 }
 
-// The homes of a placement, and whether a copy of them is taken.
-fn shown(alloc: Global, tac: &Tac, placement: &Placement) -> Result<String, AllocError> {
+/// The homes of a placement, and whether a copy of them is taken.
+pub(crate) fn shown(alloc: Global, tac: &Tac, placement: &Placement) -> Result<String, AllocError> {
+    let homes = &placement.raw().homes;
     let mut line = String::new(alloc);
-    for home in &placement.raw().homes {
+    for home in homes {
         put_home(&mut line, *home)?;
     }
-    line.push_str(verdict(alloc, tac, &placement.raw().homes)?)?;
+    line.push_str(verdict(alloc, tac, homes)?)?;
     Ok(line)
-}
-
-/// The homes that a placer chooses, and whether they are taken.
-pub(crate) fn placed<P: Placer>(
-    alloc: Global,
-    tac: &Tac,
-    placer: &P,
-) -> Result<String, AllocError> {
-    shown(alloc, tac, &placer.place(alloc, tac)?)
 }

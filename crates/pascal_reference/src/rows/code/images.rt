@@ -21,8 +21,7 @@ pub(crate) fn read(alloc: Global, bytes: &[u8], job: &Job) -> Result<String, All
 fn shown(alloc: Global, image: &ImageView, job: &Job) -> Result<String, AllocError> {
     let mut line = String::new(alloc);
     put_counts(&mut line, image)?;
-    put_rows(&mut line, image, job.row as usize)?;
-    put_found(&mut line, image, job.link)?;
+    put_rows(&mut line, image, job)?;
     put_bracketed(&mut line, image.code())?;
     Ok(line)
 }
@@ -36,14 +35,12 @@ fn put_counts(line: &mut String, image: &ImageView) -> Result<(), AllocError> {
     )
 }
 
-fn put_rows(line: &mut String, image: &ImageView, row: usize) -> Result<(), AllocError> {
+fn put_rows(line: &mut String, image: &ImageView, job: &Job) -> Result<(), AllocError> {
+    let row = job.row as usize;
     let (word, frame, object) = (image.word(row), image.frame(row), image.object(row));
     let (trap, call) = (image.trap(row), image.call(row));
-    write!(line, "{word:?} {frame:?} {object:?} {trap:?} {call:?}")
-}
-
-fn put_found(line: &mut String, image: &ImageView, link: u32) -> Result<(), AllocError> {
-    let (trap, call) = (image.trap_of(link), image.call_of(link));
+    write!(line, "{word:?} {frame:?} {object:?} {trap:?} {call:?}")?;
+    let (trap, call) = (image.trap_of(job.link), image.call_of(job.link));
     write!(line, "; found {trap:?} {call:?}; ")
 }
 

@@ -15,38 +15,38 @@ pub(crate) fn instruction(
     words: &mut SplitWhitespace,
 ) -> Result<Instruction, AllocError> {
     match word(words) {
-        "text" => text(alloc, words),
-        "call" => call(alloc, words),
-        "callvalue" => call_value(alloc, words),
+        "text" => Ok(Instruction::Text {
+            to: natural(words),
+            bytes: bytes(alloc, words)?,
+        }),
+        "call" => call(alloc, words, false),
+        "callvalue" => call(alloc, words, true),
         name => Ok(computation(name, words)),
     }
 }
 
-fn text(alloc: Global, words: &mut SplitWhitespace) -> Result<Instruction, AllocError> {
-    let to = natural(words);
-    Ok(Instruction::Text {
-        to,
-        bytes: bytes(alloc, words)?,
-    })
-}
-
-fn call(alloc: Global, words: &mut SplitWhitespace) -> Result<Instruction, AllocError> {
-    let (to, routine, line) = (natural(words), natural(words), line(words));
-    Ok(Instruction::Call {
-        to,
-        routine,
-        operands: operands(alloc, words)?,
-        line,
-    })
-}
-
-fn call_value(alloc: Global, words: &mut SplitWhitespace) -> Result<Instruction, AllocError> {
+/// The call of a routine, or of a value.
+fn call(
+    alloc: Global,
+    words: &mut SplitWhitespace,
+    is_value: bool,
+) -> Result<Instruction, AllocError> {
     let (to, callee, line) = (natural(words), natural(words), line(words));
-    Ok(Instruction::CallValue {
-        to,
-        callee,
-        operands: operands(alloc, words)?,
-        line,
+    let operands = operands(alloc, words)?;
+    Ok(if is_value {
+        Instruction::CallValue {
+            to,
+            callee,
+            operands,
+            line,
+        }
+    } else {
+        Instruction::Call {
+            to,
+            routine: callee,
+            operands,
+            line,
+        }
     })
 }
 
@@ -183,12 +183,6 @@ fn branch(name: &str, words: &mut SplitWhitespace) -> Instruction {
             right: operand(words),
             back: distance(words),
         },
-        _ => transfer(name, words),
-    }
-}
-
-fn transfer(name: &str, words: &mut SplitWhitespace) -> Instruction {
-    match name {
         "return" => Instruction::Return {
             from: natural(words),
         },

@@ -49,19 +49,15 @@ pub(crate) fn state_of(alloc: Global, machine: &Machine) -> Result<State, OutOfM
     Ok(held)
 }
 
-fn letter(is_set: bool, name: char) -> char {
-    if is_set { name } else { '-' }
-}
-
 /// Flags as a word like `N-CV`.
 fn put_flags(line: &mut String, flags: Flags) -> Result<(), AllocError> {
-    for letter in [
-        letter(flags.negative, 'N'),
-        letter(flags.equal, 'Z'),
-        letter(flags.carry, 'C'),
-        letter(flags.overflow, 'V'),
+    for (is_set, letter) in [
+        (flags.negative, 'N'),
+        (flags.equal, 'Z'),
+        (flags.carry, 'C'),
+        (flags.overflow, 'V'),
     ] {
-        line.push(letter)?;
+        line.push(if is_set { letter } else { '-' })?;
     }
     Ok(())
 }

@@ -1,12 +1,12 @@
 //! Three-address code: whether it keeps its invariant, its printed form, its runs, and the homes of its temporaries.
 
-use crate::rows::code::homes::{placed, tried};
+use crate::rows::code::homes::{shown, verdict};
 use crate::rows::code::instructions::instruction;
 use crate::rows::code::job::Job;
 use crate::rows::code::texts::word;
 use crate::rows::texts::u32_of;
 use crate::runs::{end_in_words, ending_of};
-use risc_alloc::placer::EverySlot;
+use risc_alloc::placer::{EverySlot, Placer};
 use risc_alloc::scan::Scan;
 use std::alloc::{AllocError, Global};
 use tac_code::code::{Body, TacRaw, TacRoutine};
@@ -70,9 +70,9 @@ fn answer_of(alloc: Global, tac: &Tac, asked: Asked, job: &Job) -> Result<String
         Asked::Kept => String::from_str(alloc, "code"),
         Asked::Printed => print(alloc, tac),
         Asked::Ran => ran(alloc, tac, job),
-        Asked::Tried => tried(alloc, tac, job),
-        Asked::Scanned => placed(alloc, tac, &Scan),
-        Asked::Slotted => placed(alloc, tac, &EverySlot),
+        Asked::Tried => String::from_str(alloc, verdict(alloc, tac, &job.homes)?),
+        Asked::Scanned => shown(alloc, tac, &Scan.place(alloc, tac)?),
+        Asked::Slotted => shown(alloc, tac, &EverySlot.place(alloc, tac)?),
     }
 }
 
@@ -96,15 +96,11 @@ fn put_numbers(line: &mut String, numbers: &[u16]) -> Result<(), AllocError> {
     Ok(())
 }
 
-fn ended(alloc: Global, report: &Report) -> Result<String, AllocError> {
-    match ending_of(report.ending) {
-        Ok(ending) => end_in_words(alloc, ending),
-        Err(_) => String::from_str(alloc, "stuck"),
-    }
-}
-
 fn told(alloc: Global, report: &Report) -> Result<String, AllocError> {
-    let mut line = ended(alloc, report)?;
+    let mut line = match ending_of(report.ending) {
+        Ok(ending) => end_in_words(alloc, ending)?,
+        Err(_) => String::from_str(alloc, "stuck")?,
+    };
     line.push_str(", calls")?;
     put_numbers(&mut line, &report.calls)?;
     line.push_str(", transcript")?;

@@ -3,7 +3,7 @@
 use crate::rows::code::job::Job;
 use crate::rows::code::machines::{State, machine_of, nothing, put_held, state_of};
 use crate::rows::code::texts::hexadecimals;
-use crate::rows::texts::put_bracketed;
+use crate::rows::texts::{followed, put_bracketed};
 use risc_machine::{Fused, Machine, Stop, Streams, run};
 use std::alloc::{AllocError, Global};
 
@@ -23,10 +23,14 @@ fn put_stop(
     stop: Stop,
     before: &State,
     machine: &Machine,
+    output: &[u8],
 ) -> Result<(), AllocError> {
     let place = machine.pc();
     write!(line, "{stop:?} at {place}, ")?;
-    put_held(line, before, machine)
+    put_held(line, before, machine)?;
+    line.push(' ')?;
+    put_bracketed(line, output)?;
+    line.push(';')
 }
 
 /// How the runs of one machine end, one behind the other, and what it has written then. The row has the words of its code.
@@ -67,16 +71,9 @@ fn put_runs(
         } else {
             run(machine, &mut console, *limit)
         };
-        put_stop(line, stop, before, machine)?;
-        put_output(line, console.output())?;
+        put_stop(line, stop, before, machine, console.output())?;
     }
     Ok(())
-}
-
-fn put_output(line: &mut String, output: &[u8]) -> Result<(), AllocError> {
-    line.push(' ')?;
-    put_bracketed(line, output)?;
-    line.push(';')
 }
 
 /// How the run of code ends over a reader and a writer, how much of the input is left, and what is written.
@@ -87,20 +84,12 @@ pub(crate) fn streamed(alloc: Global, row: &str, job: &Job) -> Result<String, Al
     let stop = run(&mut machine, &mut console, job.limit());
     let place = machine.pc();
     drop(machine);
-    let (left, written) = console.into_parts();
-    streams_told(alloc, stop, place, left.len(), &written)
-}
-
-fn streams_told(
-    alloc: Global,
-    stop: Stop,
-    place: u32,
-    left: usize,
-    written: &[u8],
-) -> Result<String, AllocError> {
-    let mut line = format!(in alloc; "{stop:?} at {place}, {left} left ")?;
-    put_bracketed(&mut line, written)?;
-    Ok(line)
+    let (rest, written) = console.into_parts();
+    let left = rest.len();
+    followed(
+        format!(in alloc; "{stop:?} at {place}, {left} left "),
+        &written,
+    )
 }
 
 /// What a machine holds when it starts. The row is its code.

@@ -1,6 +1,6 @@
 //! Programs that are built and run, and images that are run.
 
-use crate::rows::texts::{put_bracketed, u32_of, u64_of};
+use crate::rows::texts::{followed, u32_of, u64_of};
 use pascal_cli::message;
 use ps_build::{Budget, Built, Outcome, Refusal, build, go, list, run_image};
 use risc_machine::{Fused, Streams};
@@ -41,12 +41,11 @@ impl Job {
 
 /// How a run ended, and what it wrote, in brackets.
 fn told(alloc: Global, end: Result<Outcome, Refusal>, output: &[u8]) -> Result<String, AllocError> {
-    let mut shown = match end {
-        Ok(outcome) => format!(in alloc; "{outcome:?} ")?,
-        Err(refusal) => format!(in alloc; "refused: {refusal:?} ")?,
+    let shown = match end {
+        Ok(outcome) => format!(in alloc; "{outcome:?} "),
+        Err(refusal) => format!(in alloc; "refused: {refusal:?} "),
     };
-    put_bracketed(&mut shown, output)?;
-    Ok(shown)
+    followed(shown, output)
 }
 
 /// How a text goes.

@@ -1,13 +1,9 @@
 //! Statuses and messages.
 
-use crate::rows::texts::u32_of;
+use crate::rows::texts::number;
 use pascal_cli::{message, status};
 use ps_build::{FaultKind, Outcome, Refusal, Rule, Trail};
 use std::alloc::{AllocError, Global};
-
-fn number(word: Option<&str>) -> u32 {
-    u32_of(word.unwrap_or(""))
-}
 
 fn refusal(name: &str, line: u32) -> Refusal {
     match name {

@@ -1,36 +1,27 @@
 //! Whole texts and images, read and written.
 
 use crate::rows::command::devices::{Drip, Narrow};
-use crate::rows::texts::{put_bracketed, u16_of, u32_of};
+use crate::rows::texts::{followed, number, u32_of};
 use pascal_cli::{Counted, ReadFault, put_all, read_up_to};
-use ps_build::{Budget, Outcome, Refusal, go};
+use ps_build::{Budget, go};
 use risc_machine::Streams;
 use std::alloc::{AllocError, Global};
 use std::io;
-
-fn number(word: Option<&str>) -> u16 {
-    u16_of(word.unwrap_or(""))
-}
 
 /// What a writer takes of ten digits. The row has the room that it has, and whether it fails then or takes no byte.
 pub(crate) fn put(alloc: Global, row: &str) -> Result<String, AllocError> {
     let mut words = row.split(' ');
     let mut writer = Narrow {
         taken: Vec::new(alloc),
-        room: usize::from(number(words.next())),
+        room: number(words.next()) as usize,
         fails: words.next() == Some("fails"),
     };
     let end = put_all(&mut Counted::new(&mut writer), b"0123456789");
-    put_told(alloc, end, &writer.taken)
-}
-
-fn put_told(alloc: Global, end: Result<(), usize>, taken: &[u8]) -> Result<String, AllocError> {
-    let mut shown = match end {
-        Ok(()) => String::from_str(alloc, "all ")?,
-        Err(count) => format!(in alloc; "{count} ")?,
+    let shown = match end {
+        Ok(()) => String::from_str(alloc, "all "),
+        Err(count) => format!(in alloc; "{count} "),
     };
-    put_bracketed(&mut shown, taken)?;
-    Ok(shown)
+    followed(shown, &writer.taken)
 }
 
 fn read_told(
@@ -52,8 +43,8 @@ fn read_told(
 /// reader fails then or is at its end.
 pub(crate) fn read(alloc: Global, row: &str) -> Result<String, AllocError> {
     let mut words = row.split(' ');
-    let left = usize::from(number(words.next()));
-    let limit = usize::from(number(words.next()));
+    let left = number(words.next()) as usize;
+    let limit = number(words.next()) as usize;
     let mut reader = Drip {
         left,
         turns: 0,
@@ -86,10 +77,8 @@ fn gone(alloc: Global, text: &[u8]) -> Result<String, AllocError> {
     let mut streams = Streams::new(io::empty(), writer);
     let budget = Budget { stack: 0, heap: 0 };
     let end = go(alloc, text, budget, &mut streams, 1);
-    told(alloc, text.len(), end)
-}
-
-fn told(alloc: Global, count: usize, end: Result<Outcome, Refusal>) -> Result<String, AllocError> {
+    drop(streams);
+    let count = text.len();
     match end {
         Ok(outcome) => format!(in alloc; "{count} bytes: {outcome:?}"),
         Err(refusal) => format!(in alloc; "{count} bytes: refused: {refusal:?}"),

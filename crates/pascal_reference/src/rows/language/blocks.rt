@@ -1,7 +1,6 @@
 //! What the layers of the checker make of the block of a program, each called by itself. Of the required names only `integer`,
 //! `char` and `Boolean` are known here.
 
-use crate::front::parsed;
 use crate::rows::language::types::{fields, relation, sizes};
 use crate::rows::language::words::{or_none, put_space};
 use ps_declare::declarations::declarations;
@@ -10,7 +9,7 @@ use ps_declare::points::add_block;
 use ps_regions::constants::{BOOLEAN, CHAR, INTEGER};
 use ps_regions::meaning::Meaning;
 use ps_regions::reading::Reading;
-use ps_regions::refusal::{Fault, Rule};
+use ps_regions::refusal::Fault;
 use ps_regions::scope::Scope;
 use ps_statements::statement::statements;
 use ps_syntax::{Block, Expr, Statement, Variable};
@@ -40,6 +39,9 @@ pub(crate) enum Asked {
     Statements,
 }
 
+// The names of the required types that are known.
+const REQUIRED: &[(&str, Ordinal)] = &[("integer", INTEGER), ("char", CHAR), ("boolean", BOOLEAN)];
+
 /// Names, and what they stand for.
 #[derive(Drop)]
 struct Known {
@@ -47,23 +49,13 @@ struct Known {
     meanings: Vec<Meaning>,
 }
 
-/// Adds a name that stands for an ordinal type.
-fn add_ordinal(
-    alloc: Global,
-    known: &mut Known,
-    name: &str,
-    ordinal: Ordinal,
-) -> Result<(), AllocError> {
-    known.names.add(Vec::from_slice(alloc, name.as_bytes())?)?;
-    known.meanings.push(Meaning::Type(Ty::Simple(ordinal)))?;
-    Ok(())
-}
-
-/// The required types.
+/// Adds the required types.
 fn add_required(alloc: Global, known: &mut Known) -> Result<(), AllocError> {
-    add_ordinal(alloc, known, "integer", INTEGER)?;
-    add_ordinal(alloc, known, "char", CHAR)?;
-    add_ordinal(alloc, known, "boolean", BOOLEAN)
+    for (name, ordinal) in REQUIRED {
+        known.names.add(Vec::from_slice(alloc, name.as_bytes())?)?;
+        known.meanings.push(Meaning::Type(Ty::Simple(*ordinal)))?;
+    }
+    Ok(())
 }
 
 fn counts(alloc: Global, declared: &Declared) -> Result<String, AllocError> {
@@ -276,13 +268,8 @@ fn asked_in(
     asked_within(reading, alloc, block, &outer, asked)
 }
 
-fn refused(alloc: Global, rule: Rule, at: u32) -> Result<String, AllocError> {
-    let number = rule.number();
-    format!(in alloc; "{number} {rule} at byte {at}")
-}
-
-/// What is asked of the block of a text.
-fn answer_in(
+/// What is asked of the block of a text, or the rule that it breaks.
+pub(crate) fn answer(
     alloc: Global,
     source: &Source,
     block: &Block,
@@ -299,21 +286,9 @@ fn answer_in(
     match asked_in(&reading, alloc, block, asked) {
         Ok(answer) => Ok(answer),
         Err(Fault::OutOfMemory) => Err(AllocError),
-        Err(Fault::Broken { rule, at }) => refused(alloc, rule, at),
-    }
-}
-
-/// What is asked of a program's block, or the rule that it breaks.
-pub(crate) fn answer(alloc: Global, text: &[u8], asked: Asked) -> Result<String, AllocError> {
-    let Ok(source) = Source::new(text) else {
-        return String::from_str(alloc, "no source");
-    };
-    match parsed(alloc, &source) {
-        Ok(program) => {
-            let answer = answer_in(alloc, &source, &program.block, asked);
-            drop(program);
-            answer
+        Err(Fault::Broken { rule, at }) => {
+            let number = rule.number();
+            format!(in alloc; "{number} {rule} at byte {at}")
         }
-        Err(_) => String::from_str(alloc, "refused"),
     }
 }

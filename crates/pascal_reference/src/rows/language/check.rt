@@ -3,7 +3,7 @@
 use crate::front::checked;
 use crate::rows::language::changes::changes;
 use crate::rows::language::front::refused;
-use crate::rows::language::runs::{Job, output_of, ran, trail_of};
+use crate::rows::language::runs::{Job, shown_of, trail_of};
 use crate::rows::language::words::put_space;
 use ps_tree::program::Checked;
 use std::alloc::{AllocError, Global};
@@ -11,6 +11,8 @@ use std::alloc::{AllocError, Global};
 /// What is asked of a checked program.
 #[derive(Clone, Copy)]
 pub(crate) enum Asked {
+    /// Whether there is one.
+    Verdict,
     /// The nodes and the cells of each of its routines, and how many domain types it has.
     Counts,
     /// What its statements change.
@@ -21,14 +23,6 @@ pub(crate) enum Asked {
     Trail,
     /// The bytes that `output` makes of its run's transcript.
     Output,
-}
-
-/// Whether the checker accepts a text, or the refusal.
-pub(crate) fn verdict(alloc: Global, text: &[u8]) -> Result<String, AllocError> {
-    match checked(alloc, text) {
-        Ok(_) => String::from_str(alloc, "accepted"),
-        Err(refusal) => refused(alloc, refusal),
-    }
 }
 
 fn counts(alloc: Global, program: &Checked) -> Result<String, AllocError> {
@@ -51,15 +45,16 @@ fn answer_of(
     job: &Job,
 ) -> Result<String, AllocError> {
     match asked {
+        Asked::Verdict => String::from_str(alloc, "accepted"),
         Asked::Counts => counts(alloc, program),
         Asked::Changes => changes(alloc, program),
-        Asked::Run => ran(alloc, program, job),
+        Asked::Run => shown_of(alloc, program, job, false),
+        Asked::Output => shown_of(alloc, program, job, true),
         Asked::Trail => trail_of(alloc, program, job),
-        Asked::Output => output_of(alloc, program, job),
     }
 }
 
-/// What is asked of the program of a text. A text that the checker refuses is a slip of its table.
+/// What is asked of the program of a text, or the text's refusal.
 pub(crate) fn answer(
     alloc: Global,
     text: &[u8],
@@ -68,6 +63,6 @@ pub(crate) fn answer(
 ) -> Result<String, AllocError> {
     match checked(alloc, text) {
         Ok(program) => answer_of(alloc, &program, asked, job),
-        Err(_) => String::from_str(alloc, "refused"),
+        Err(refusal) => refused(alloc, refusal),
     }
 }

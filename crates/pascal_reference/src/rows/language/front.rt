@@ -1,9 +1,10 @@
 //! What the parser makes of program texts.
 
 use crate::front::parsed;
+use crate::rows::language::blocks;
 use crate::rows::language::shown::Shown;
 use ps_build::Refusal;
-use ps_syntax::{Statement, height};
+use ps_syntax::{Program, Statement, height};
 use ps_text::Source;
 use std::alloc::{AllocError, Global};
 
@@ -19,19 +20,15 @@ pub(crate) fn refused(alloc: Global, refusal: Refusal) -> Result<String, AllocEr
     }
 }
 
-/// The height of a text's tree, or the refusal.
-pub(crate) fn height_of(alloc: Global, text: &[u8]) -> Result<String, AllocError> {
-    let Ok(source) = Source::new(text) else {
-        return String::from_str(alloc, "no source");
-    };
-    match parsed(alloc, &source) {
-        Ok(program) => {
-            let height = height(&program);
-            drop(program);
-            format!(in alloc; "accepted, height {height}")
-        }
-        Err(refusal) => refused(alloc, refusal),
-    }
+/// What is asked of a text's tree.
+#[derive(Clone, Copy)]
+pub(crate) enum Asked {
+    /// Its height.
+    Height,
+    /// Its statements.
+    Statements,
+    /// What the layers of the checker make of its block.
+    Block(blocks::Asked),
 }
 
 fn shown(alloc: Global, text: &[u8], statements: &[Statement]) -> Result<String, AllocError> {
@@ -47,17 +44,33 @@ fn shown(alloc: Global, text: &[u8], statements: &[Statement]) -> Result<String,
     String::from_str(alloc, shown.line.as_str().trim_start())
 }
 
-/// The statements of a text's tree.
-pub(crate) fn tree(alloc: Global, text: &[u8]) -> Result<String, AllocError> {
+fn told(
+    alloc: Global,
+    source: &Source,
+    program: &Program,
+    asked: Asked,
+) -> Result<String, AllocError> {
+    match asked {
+        Asked::Height => {
+            let height = height(program);
+            format!(in alloc; "accepted, height {height}")
+        }
+        Asked::Statements => shown(alloc, source.bytes(), program.block.statements.as_slice()),
+        Asked::Block(asked) => blocks::answer(alloc, source, &program.block, asked),
+    }
+}
+
+/// What is asked of a text's tree, or the refusal.
+pub(crate) fn answer(alloc: Global, text: &[u8], asked: Asked) -> Result<String, AllocError> {
     let Ok(source) = Source::new(text) else {
         return String::from_str(alloc, "no source");
     };
     match parsed(alloc, &source) {
         Ok(program) => {
-            let told = shown(alloc, source.bytes(), program.block.statements.as_slice());
+            let told = told(alloc, &source, &program, asked);
             drop(program);
             told
         }
-        Err(_) => String::from_str(alloc, "refused"),
+        Err(refusal) => refused(alloc, refusal),
     }
 }

@@ -1,7 +1,7 @@
 //! What the slow runner shows of runs, and how they end.
 
-use crate::rows::language::words::{number, or_none, put_space};
-use crate::rows::texts::bracketed;
+use crate::rows::language::words::{or_none, put_space};
+use crate::rows::texts::{bracketed, number, u64_of};
 use crate::runs::end_in_words;
 use ps_runner::ending::Ending;
 use ps_runner::run::{
@@ -52,7 +52,7 @@ impl Job {
     pub(crate) fn tell(&mut self, word: &str, rest: &str, text: Vec<u8>) -> Result<(), AllocError> {
         match word {
             "input" => self.input = text,
-            "fuel" => self.fuel = number(Some(rest)),
+            "fuel" => self.fuel = u64_of(rest),
             "levels" => self.levels = rest.parse::<u32>().ok(),
             "within" => return self.tell_budget(rest),
             _ => {}
@@ -63,8 +63,8 @@ impl Job {
     fn tell_budget(&mut self, rest: &str) -> Result<(), AllocError> {
         let mut words = rest.split(' ');
         self.is_within = true;
-        self.stack = number(words.next());
-        self.heap = number(words.next());
+        self.stack = u64::from(number(words.next()));
+        self.heap = u64::from(number(words.next()));
         add_costs(&mut self.frames, words.next())?;
         add_costs(&mut self.objects, words.next())
     }
@@ -104,21 +104,16 @@ fn put_calls(shown: &mut String, ran: &Ran) -> Result<(), AllocError> {
     Ok(())
 }
 
-/// The letter of an item of a transcript: `^` for a mark at a first look at a byte of the input, or at its end.
-fn letter_of(item: u16) -> char {
-    match item {
-        256 => '^',
-        byte => char::from((byte % 256) as u8),
-    }
-}
-
-/// Puts a transcript, with a space before it if there is any.
+/// Puts a transcript, with a space before it if there is any. A mark at a first look at a byte of the input, or at its end, is `^`.
 fn put_transcript(shown: &mut String, transcript: &[u16]) -> Result<(), AllocError> {
     if !transcript.is_empty() {
         shown.push(' ')?;
     }
     for item in transcript {
-        shown.push(letter_of(*item))?;
+        shown.push(match *item {
+            256 => '^',
+            byte => char::from((byte % 256) as u8),
+        })?;
     }
     Ok(())
 }
@@ -151,10 +146,23 @@ fn lines_of(alloc: Global, lines: &[u32]) -> Result<String, AllocError> {
     or_none(alloc, shown)
 }
 
-/// How the run of a program ends, the calls that are open there, and what it shows.
-pub(crate) fn ran(alloc: Global, program: &Checked, job: &Job) -> Result<String, AllocError> {
+/// How the run of a program ends, the calls that are open there, and what it shows; or the bytes that `output` makes of its transcript, in brackets.
+pub(crate) fn shown_of(
+    alloc: Global,
+    program: &Checked,
+    job: &Job,
+    is_output: bool,
+) -> Result<String, AllocError> {
     match run(alloc, program, job) {
-        Ok(ran) => told(alloc, &ran),
+        Ok(ran) => {
+            let shown = if is_output {
+                written(alloc, &ran)
+            } else {
+                told(alloc, &ran)
+            };
+            drop(ran);
+            shown
+        }
         Err(refusal) => refused(alloc, refusal),
     }
 }
@@ -163,14 +171,6 @@ pub(crate) fn ran(alloc: Global, program: &Checked, job: &Job) -> Result<String,
 pub(crate) fn trail_of(alloc: Global, program: &Checked, job: &Job) -> Result<String, AllocError> {
     match trail(alloc, program, &job.input, job.fuel) {
         Ok(lines) => lines_of(alloc, &lines),
-        Err(refusal) => refused(alloc, refusal),
-    }
-}
-
-/// The bytes that `output` makes of a run's transcript, in brackets.
-pub(crate) fn output_of(alloc: Global, program: &Checked, job: &Job) -> Result<String, AllocError> {
-    match run(alloc, program, job) {
-        Ok(ran) => written(alloc, &ran),
         Err(refusal) => refused(alloc, refusal),
     }
 }

@@ -1,7 +1,6 @@
 //! Texts within the limits, their lines, and slices of them.
 
-use crate::rows::language::words::number;
-use crate::rows::texts::{bracketed, letters};
+use crate::rows::texts::{bracketed, letters, number};
 use ps_text::{LineTable, Source, Span};
 use std::alloc::{AllocError, Global};
 
@@ -9,7 +8,7 @@ use std::alloc::{AllocError, Global};
 pub(crate) fn length(alloc: Global, row: &[u8]) -> Result<String, AllocError> {
     let mut words = letters(row).split(' ');
     let byte = u8::try_from(number(words.next())).unwrap_or(0);
-    let count = usize::try_from(number(words.next())).unwrap_or(0);
+    let count = number(words.next()) as usize;
     let bytes = vec![in alloc; byte; count]?;
     match Source::new(&bytes) {
         Ok(_) => String::from_str(alloc, "accepted"),
@@ -62,8 +61,7 @@ fn put_found(alloc: Global, line: &mut String, source: &Source) -> Result<(), Al
 /// A slice of a text, in brackets. The row has where it begins, where it ends, and the text.
 pub(crate) fn slice(alloc: Global, row: &[u8]) -> Result<String, AllocError> {
     let mut words = letters(row).splitn(3, ' ');
-    let from = u32::try_from(number(words.next())).unwrap_or(0);
-    let to = u32::try_from(number(words.next())).unwrap_or(0);
+    let (from, to) = (number(words.next()), number(words.next()));
     let text = words.next().unwrap_or("").as_bytes();
     bracketed(alloc, slice_of(text, from, to))
 }

@@ -57,16 +57,6 @@ fn string(alloc: Global, literal: &[u8]) -> Result<String, AllocError> {
     format!(in alloc; "{shown}, {length} characters")
 }
 
-fn spelling(alloc: Global, name: &[u8]) -> Result<String, AllocError> {
-    let bytes = name_spelling(alloc, name)?;
-    letters_of(alloc, &bytes)
-}
-
-fn number(alloc: Global, digits: &[u8]) -> Result<String, AllocError> {
-    let value = number_value(digits);
-    format!(in alloc; "{value}")
-}
-
 fn same(alloc: Global, names: &str) -> Result<String, AllocError> {
     let (a, b) = names.split_once(' ').unwrap_or(("", ""));
     let is_same = is_same_name(a.as_bytes(), b.as_bytes());
@@ -84,9 +74,12 @@ fn out_of_memory(alloc: Global) -> Result<String, AllocError> {
 pub(crate) fn value(alloc: Global, row: &[u8]) -> Result<String, AllocError> {
     let (what, rest) = letters(row).split_once(' ').unwrap_or(("", ""));
     match what {
-        "number" => number(alloc, rest.as_bytes()),
+        "number" => {
+            let value = number_value(rest.as_bytes());
+            format!(in alloc; "{value}")
+        }
         "string" => string(alloc, rest.as_bytes()),
-        "name" => spelling(alloc, rest.as_bytes()),
+        "name" => letters_of(alloc, &name_spelling(alloc, rest.as_bytes())?),
         "same" => same(alloc, rest),
         "refusal" => out_of_memory(alloc),
         _ => String::from_str(alloc, "no such word"),

@@ -1,12 +1,6 @@
-//! Words of rows, and lines of answers.
+//! Lines of answers.
 
-use crate::rows::texts::u64_of;
 use std::alloc::{AllocError, Global};
-
-/// The number that a word is, 0 where it is none.
-pub(crate) fn number(word: Option<&str>) -> u64 {
-    u64_of(word.unwrap_or(""))
-}
 
 /// Puts a space behind a line, unless nothing stands on it.
 pub(crate) fn put_space(line: &mut String) -> Result<(), AllocError> {
