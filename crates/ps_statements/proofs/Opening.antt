@@ -18,9 +18,6 @@ first_and_others [] x h e = absurd (let k : ⊥ = omega (arith, h) in k)
 first_and_others (a ∷ rest) x h e = ap (λ b. b ∷ rest) (sym e) ∙ ap (λ l. x ∷ l) (sym (take_all (length (a ∷ rest) - 1) rest (omega arith)))
 
 module _ (c : Context) (Γ : List Region) (ps : List Tree.Place) (s : Reading) where
-  pub with_none : (xs : List syntax.Variable) → xs ≡ [] → with_behind c (ps, Γ) xs s ≡ (s Γ >>= (λ body. Some (Tree.With ps body)))
-  with_none xs e = ap (λ l. with_behind c (ps, Γ) l s) e
-
   pub with_empty : (xs : List syntax.Variable) → length xs < 1 → with_behind c (ps, Γ) xs s ≡ (s Γ >>= (λ body. Some (Tree.With ps body)))
   with_empty [] h = refl
   with_empty (x ∷ xs) h = absurd (let k : ⊥ = omega (arith, h) in k)

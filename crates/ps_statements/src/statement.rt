@@ -138,7 +138,6 @@ fn boxed(x: &Syntax, site: Site<'_>) -> Result<Box<Statement>, Fault>
 
 /// A sequence of statements (6.8.3.2). The error is that of the statement at fault.
 #[cycle(statement)]
-#[tactic(auto, unfolding(crate::specs::Statements::statements))]
 pub fn statements(list: &[Syntax], site: Site<'_>) -> Result<Vec<Statement>, Fault>
     ensures ok { IfOk result (λ s. spec.statements (context_at site.entry) (regions_at site.entry) list.now ≡ Some (statements_of s.items)) }
     ensures err { IfErr result (λ fault. IsFault fault → spec.statements (context_at site.entry) (regions_at site.entry) list.now ≡ None) }
@@ -151,7 +150,6 @@ pub fn statements(list: &[Syntax], site: Site<'_>) -> Result<Vec<Statement>, Fau
 }
 
 #[cycle(statement)]
-#[tactic(auto, using(ps_tree::proofs::StatementLemmas::statement_of_Compound))]
 fn compound(list: &[Syntax], site: Site<'_>) -> Result<Statement, Fault>
     ensures ok { IfOk result (λ s. spec.compound_statement (spec.statements (context_at site.entry) (regions_at site.entry) list.now) ≡ Some (statement_of s)) }
     ensures err { IfErr result (λ fault. IsFault fault → spec.compound_statement (spec.statements (context_at site.entry) (regions_at site.entry) list.now) ≡ None) }
@@ -161,7 +159,6 @@ fn compound(list: &[Syntax], site: Site<'_>) -> Result<Statement, Fault>
 }
 
 #[cycle(statement)]
-#[tactic(auto, unfolding(ps_tree::specs::View::statement_of))]
 fn if_statement(body: &Syntax, site: Site<'_>, x: &SyntaxExpr) -> Result<Statement, Fault>
     ensures ok { IfOk result (λ s. spec.if_statement (context_at site.entry) (regions_at site.entry) x.now (spec.statement (context_at site.entry) body.now) ≡ Some (statement_of s)) }
     ensures err { IfErr result (λ fault. IsFault fault → spec.if_statement (context_at site.entry) (regions_at site.entry) x.now (spec.statement (context_at site.entry) body.now) ≡ None) }
@@ -171,7 +168,6 @@ fn if_statement(body: &Syntax, site: Site<'_>, x: &SyntaxExpr) -> Result<Stateme
 }
 
 #[cycle(statement)]
-#[tactic(auto, unfolding(ps_tree::specs::View::statement_of))]
 fn if_else_statement(
     body: &Syntax,
     otherwise: &Syntax,
@@ -191,7 +187,6 @@ fn if_else_statement(
 }
 
 #[cycle(statement)]
-#[tactic(auto, unfolding(ps_tree::specs::View::statement_of))]
 fn while_statement(body: &Syntax, site: Site<'_>, x: &SyntaxExpr) -> Result<Statement, Fault>
     ensures ok { IfOk result (λ s. spec.while_statement (context_at site.entry) (regions_at site.entry) x.now (spec.statement (context_at site.entry) body.now) ≡ Some (statement_of s)) }
     ensures err { IfErr result (λ fault. IsFault fault → spec.while_statement (context_at site.entry) (regions_at site.entry) x.now (spec.statement (context_at site.entry) body.now) ≡ None) }
@@ -201,7 +196,6 @@ fn while_statement(body: &Syntax, site: Site<'_>, x: &SyntaxExpr) -> Result<Stat
 }
 
 #[cycle(statement)]
-#[tactic(auto, using(ps_tree::proofs::StatementLemmas::statement_of_Repeat))]
 fn repeat_statement(list: &[Syntax], site: Site<'_>, x: &SyntaxExpr) -> Result<Statement, Fault>
     ensures ok { IfOk result (λ s. spec.repeat_statement (context_at site.entry) (regions_at site.entry) (spec.statements (context_at site.entry) (regions_at site.entry) list.now) x.now ≡ Some (statement_of s)) }
     ensures err { IfErr result (λ fault. IsFault fault → spec.repeat_statement (context_at site.entry) (regions_at site.entry) (spec.statements (context_at site.entry) (regions_at site.entry) list.now) x.now ≡ None) }
@@ -239,7 +233,6 @@ fn elements(list: &[Element], site: Site<'_>, index: Ordinal) -> Result<Vec<Case
 }
 
 #[cycle(statement)]
-#[tactic(auto, using(crate::proofs::Equations::element_is))]
 fn element(x: &Element, site: Site<'_>, index: Ordinal) -> Result<CaseElement, Fault>
     ensures ok { IfOk result (λ e. spec.element (context_at site.entry) x.now (regions_at site.entry) index ≡ Some (element_of e)) }
     ensures err { IfErr result (λ fault. IsFault fault → spec.element (context_at site.entry) x.now (regions_at site.entry) index ≡ None) }
@@ -269,7 +262,6 @@ fn for_statement(
 
 /// A `with` statement (6.8.3.10), of which some records are open already, and others are to be opened.
 #[cycle(statement)]
-#[tactic(auto, using(crate::proofs::Opening::with_none), unfolding(ps_tree::specs::View::statement_of))]
 fn with_statement(
     x: &Syntax,
     site: Site<'_>,
@@ -298,7 +290,7 @@ fn with_statement(
 
 /// The same where the last of the records, of type `ty`, is still to be opened; it begins at `at`.
 #[cycle(statement)]
-#[tactic(auto, unfolding(crate::specs::Structured::record_region, ps_regions::specs::Views::scope_of, ps_tree::specs::View::type_of))]
+#[tactic(auto, unfolding(crate::specs::Structured::record_region, ps_tree::specs::View::type_of))]
 fn with_record(
     x: &Syntax,
     site: Site<'_>,

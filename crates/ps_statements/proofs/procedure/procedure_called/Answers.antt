@@ -22,3 +22,15 @@ returns-in-Required-clause-err c = rw (c.in-Name.is, c.in-Required.is) c.require
 pub returns-in-Field-clause-err : goal.returns-in-Field-clause-err
 unfolding spec.procedure_called
 returns-in-Field-clause-err c = λ told. rw c.in-Field.is refl
+
+pub returns-in-RoutineParameter-clause-ok : goal.returns-in-RoutineParameter-clause-ok
+unfolding spec.procedure_called meaning_of
+returns-in-RoutineParameter-clause-ok c =
+    let h = rw (c.deref-in-RoutineParameter.ensures.value, c.deref.ensures) at c.parameter_called.ensures.ok in
+    rw (c.in-Name.is, c.in-RoutineParameter.is) h
+
+pub returns-in-RoutineParameter-clause-err : goal.returns-in-RoutineParameter-clause-err
+unfolding spec.procedure_called meaning_of
+returns-in-RoutineParameter-clause-err c =
+    let h = rw (c.deref-in-RoutineParameter.ensures.value, c.deref.ensures) at c.parameter_called.ensures.err in
+    rw (c.in-Name.is, c.in-RoutineParameter.is) h
