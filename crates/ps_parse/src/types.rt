@@ -127,21 +127,13 @@ impl<'a> Parser<'a> {
     }
 
     #[cycle(ty)]
-    #[tactic(auto, unfolding(crate::specs::ReadPrograms::read_type))]
+    #[tactic(auto, unfolding(crate::specs::ReadPrograms::read_type, crate::specs::ReadPrograms::any_type))]
     pub fn type_denoter(&mut self, depth: u32) -> Result<TypeDenoter, Fault>
         ensures { Reads (read.read_type depth self.old.rest.now) result self.new.rest.now }
     {
         if depth == 0 {
             return Err(self.too_deep(self.begins_type()));
         }
-        self.any_type(depth - 1)
-    }
-
-    #[cycle(ty)]
-    #[tactic(auto, unfolding(crate::specs::ReadPrograms::any_type))]
-    fn any_type(&mut self, depth: u32) -> Result<TypeDenoter, Fault>
-        ensures { Reads (read.any_type (read.read_index depth) (read.read_type depth) self.old.rest.now) result self.new.rest.now }
-    {
         let Some(token) = self.peek() else {
             return Err(self.refusal());
         };
@@ -152,10 +144,10 @@ impl<'a> Parser<'a> {
             }
             Kind::Packed => {
                 self.skip();
-                Ok(TypeDenoter::Packed(token.span, self.structure(depth)?))
+                Ok(TypeDenoter::Packed(token.span, self.structure(depth - 1)?))
             }
             Kind::Array | Kind::Record | Kind::Set => {
-                Ok(TypeDenoter::Structure(self.structure(depth)?))
+                Ok(TypeDenoter::Structure(self.structure(depth - 1)?))
             }
             _ => Ok(TypeDenoter::Ordinal(self.ordinal()?)),
         }
