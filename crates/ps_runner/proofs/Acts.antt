@@ -49,6 +49,13 @@ halts_same a b halt u d n is h = stopped_halts b halt u d n (stopped_same a b ha
 pub runs_same : {A R : Type 0} (view : R → A) (a b : m.Answer A) (result : Result R Halt) (u : World) (d k n : ℕ) → a ≡ b → k ≤ n → Runs view a d k result u → Runs view b d n result u
 runs_same view a b result u d k n is le h = runs_deeper view b result u d k d n (subst (λ x. Runs view x d k result u) is h) (omega arith)
 
+-- an act whose first part is known is what comes after it
+pub then_ran : {A B R : Type 0} (view : R → B) (a : m.Answer A) (f : A → m.Act B) (x : A) (w : m.World) (result : Result R Halt) (u : World) (d n : ℕ) → a ≡ m.Gives x w → Runs view (f x w) d n result u → Runs view (m.and_then a f) d n result u
+then_ran view a f x w result u d n gives h = subst (λ b. Runs view b d n result u) (sym (then_gives a f x w gives)) h
+
+pub then_runs : {A B R : Type 0} (view : R → B) (a : m.Answer A) (f : A → m.Act B) (x : A) (w : m.World) (result : Result R Halt) (u : World) (d n : ℕ) → a ≡ m.Gives x w → r.Answers view (f x w) result u → Runs view (m.and_then a f) d n result u
+then_runs view a f x w result u d n gives h = then_ran view a f x w result u d n gives (answers_run view (f x w) result u d n h)
+
 -- statements from a place on
 pub acts_next : (job : Job) (n : ℕ) (c : m.Context) (statements : List Statement) (i : ℕ) (x : Statement) (w u : m.World) → acting job n (statement_of x) c w ≡ m.Gives m.done u → x ≡ get_or statements i x → i < length statements → acting_all job n (statements_of (drop (i + 1) statements)) c u ≡ acting_all job n (statements_of (drop i statements)) c w
 acts_next job n c statements i x w u gives at lt =

@@ -586,7 +586,7 @@ pub operations::compare_strings-returns-in_err-y : goal.operations::compare_stri
 operations::compare_strings-returns-in_err-y t c = grind (arith, halted_then)
 
 pub operations::compare_strings-returns : goal.operations::compare_strings-returns
-operations::compare_strings-returns t c = grind (arith, answers_run)
+operations::compare_strings-returns t c = a.then_ran _ _ _ _ _ _ _ _ _ c.in_ok-x.ensures (a.then_runs _ _ _ _ _ _ _ _ _ c.in_ok-y.ensures c.strings_compared.ensures)
 
 pub operations::test_member-returns-in_err-evaluate : goal.operations::test_member-returns-in_err-evaluate
 operations::test_member-returns-in_err-evaluate t c = grind (arith, halted_then)
@@ -627,7 +627,7 @@ pub statements::assign-returns-in_err-x : goal.statements::assign-returns-in_err
 statements::assign-returns-in_err-x t c = grind (arith, halted_then)
 
 pub statements::assign-returns : goal.statements::assign-returns
-statements::assign-returns t c = grind (arith, answers_run)
+statements::assign-returns t c = a.then_ran _ _ _ _ _ _ _ _ _ c.in_ok-spot.ensures (a.then_runs _ _ _ _ _ _ _ _ _ c.in_ok-x.ensures c.put_fitting.ensures)
 
 pub statements::assign_set-returns-in_err-spot : goal.statements::assign_set-returns-in_err-spot
 statements::assign_set-returns-in_err-spot t c = grind (arith, halted_then)
@@ -645,7 +645,7 @@ pub statements::assign_structure-returns-in_err-held : goal.statements::assign_s
 statements::assign_structure-returns-in_err-held t c = grind (arith, halted_then)
 
 pub statements::assign_structure-returns : goal.statements::assign_structure-returns
-statements::assign_structure-returns t c = grind (arith, answers_run)
+statements::assign_structure-returns t c = a.then_ran _ _ _ _ _ _ _ _ _ c.in_ok-spot.ensures (a.then_runs _ _ _ _ _ _ _ _ _ c.in_ok-held.ensures c.put_contents.ensures)
 
 pub statements::make-returns-in_err-spot : goal.statements::make-returns-in_err-spot
 statements::make-returns-in_err-spot t c = grind (arith, halted_then)
@@ -692,7 +692,7 @@ pub transfers::write_evaluated-returns-in_err-n : goal.transfers::write_evaluate
 transfers::write_evaluated-returns-in_err-n t c = grind (arith, halted_then)
 
 pub transfers::write_evaluated-returns : goal.transfers::write_evaluated-returns
-transfers::write_evaluated-returns t c = grind (arith, answers_run)
+transfers::write_evaluated-returns t c = a.then_ran _ _ _ _ _ _ _ _ _ c.in_ok-x.ensures (a.then_runs _ _ _ _ _ _ _ _ _ c.in_ok-n.ensures c.write_value.ensures)
 
 pub transfers::write_one-returns-in-Integer : goal.transfers::write_one-returns-in-Integer
 unfolding write_of
