@@ -48,7 +48,7 @@ sound (PointerType n) NilType h = nil_second n
 sound s t h = same_or_strings s t h
 
 -- one type is compatible with itself
-same_found : (s t : DataType) → IsTrue (is_same_type s t) → IsTrue (is_compatible s t)
+pub same_found : (s t : DataType) → IsTrue (is_same_type s t) → IsTrue (is_compatible s t)
 unfolding is_compatible is_same_type
 same_found (OrdinalType o) (OrdinalType p) h = and_left (is_same_host o.host p.host) _ h
 same_found (SetType a k o) (SetType b l p) h = or_left (are_same a b) (is_same_host o.host p.host && goes_with k l) h

@@ -10,7 +10,7 @@ use Rattle.ps_tree.specs.declared.tree.Expr.{Expr}
 use Rattle.ps_tree.specs.declared.tree.Statement.{Statement, Compound, Repeat, Case, For, Pack, Unpack, Row_of-Statement, end_of-Statement, more_of-Statement, Row_of-CaseElement, end_of-CaseElement, more_of-CaseElement, items-the_row-Statement, items_hidden-the_row-Statement-0, items-the_row-CaseElement, items_hidden-the_row-CaseElement-1}
 use Rattle.ps_tree.specs.declared.tree.Statement.TheBlock.{hidden-the_row-Statement-0, hidden-the_row-CaseElement-1}
 use Rattle.ps_tree.specs.declared.tree.CaseElement.{CaseElement, out-CaseElement}
-use Rattle.ps_tree.specs.Counts.{◌⊕◌, nothing, node, place_extent, expr_extent, statement_extent, statements_extent, elements_extent}
+use Rattle.ps_tree.specs.Counts.{capped, ◌⊕◌, nothing, node, place_extent, expr_extent, statement_extent, statements_extent, elements_extent}
 use Rattle.ps_tree.specs.View.{place_of, expr_of, statement_of, statements_of, statements_of_row, elements_of, elements_of_row}
 
 statements_row_is : {n : _} (k : Row_of-Statement n) → statements_of_row k ≡ statements_of (items-the_row-Statement n k)
@@ -56,6 +56,21 @@ elements_none = refl
 pub elements_more : (x : CaseElement) (xs : List CaseElement) → elements_size (x ∷ xs) ≡ statement_extent (statement_of (out-CaseElement x).body) ⊕ elements_size xs
 unfolding elements_extent elements_of
 elements_more x xs = refl
+
+-- the extent of a statement, told up to the largest number of eight bytes
+abbrev pub statement_told : Statement → Extent
+statement_told s = capped (statement_extent (statement_of s))
+
+pub told_as : (s t : Statement) → s ≡ t → statement_told t ≡ statement_told s
+told_as s t f = sym (ap statement_told f)
+
+pub compound_counted : (s : Statement) (v : Vec Statement Global) → s ≡ Compound v → node ⊕ statements_extent (statements_of v.items) ≡ statement_extent (statement_of s)
+unfolding statement_extent
+compound_counted s v f = sym (ap statement_extent (ap statement_of f ∙ statement_of_Compound v))
+
+pub repeat_counted : (s : Statement) (v : Vec Statement Global) (e : Expr) → s ≡ Repeat v e → node ⊕ statements_extent (statements_of v.items) ⊕ expr_extent (expr_of e) ≡ statement_extent (statement_of s)
+unfolding statement_extent
+repeat_counted s v e f = sym (ap statement_extent (ap statement_of f ∙ statement_of_Repeat v e))
 
 -- the extents of statements with many parts
 pub case_counted : (s : Statement) (e : Expr) (v : Vec CaseElement Global) (line : Line) (items : List CaseElement) → s ≡ Case e v line → items ≡ v.items → node ⊕ expr_extent (expr_of e) ⊕ elements_extent (elements_of items) ≡ statement_extent (statement_of s)

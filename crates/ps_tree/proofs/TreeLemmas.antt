@@ -1,6 +1,7 @@
 -- What the nodes with lists of children stand for.
 use Rattle.std.proofs.Common.{◌≡◌, ℕ, List, Vec, Box, Global, refl, sym, ap, ◌∙◌}
 use Rattle.ps_tree.specs.Tree as Tree
+use Rattle.ps_tree.specs.declared.count.Extent.{Extent}
 use Rattle.ps_tree.specs.declared.line.Line.{Line}
 use Rattle.ps_tree.specs.declared.types.Ty.{Ty}
 use Rattle.ps_tree.specs.declared.tree.BooleanOperator.{BooleanOperator}
@@ -14,7 +15,7 @@ use Rattle.ps_tree.specs.declared.tree.SetExpr.{SetExpr, Load as LoadSet, Constr
 use Rattle.ps_tree.specs.declared.tree.Argument.{Argument, Variable}
 use Rattle.ps_tree.specs.declared.tree.Argument.TheBlock.{hidden-the_row-Selector-0, hidden-the_row-ArithmeticStep-1, hidden-the_row-Expr-2, hidden-the_row-Argument-3, hidden-the_row-Member-4, hidden-the_row-SetStep-5}
 use Rattle.ps_tree.specs.declared.tree.Member.{Member}
-use Rattle.ps_tree.specs.Counts.{◌⊕◌, node, place_extent, selectors_extent, expr_extent, arithmetic_extent, operands_extent, set_extent, set_steps_extent, structure_extent, argument_extent, arguments_extent}
+use Rattle.ps_tree.specs.Counts.{capped, ◌⊕◌, node, member_extent, members_extent, place_extent, selectors_extent, expr_extent, arithmetic_extent, operands_extent, set_extent, set_steps_extent, structure_extent, argument_extent, arguments_extent}
 use Rattle.ps_tree.specs.View.{type_of, base_of, place_of, selector_of, selectors_of, selectors_of_row, expr_of, arithmetic_of, arithmetic_of_row, operands_of, operands_of_row, set_of, set_steps_of, set_steps_of_row, structure_of, arguments_of, arguments_of_row, members_of, members_of_row, argument_of, member_of}
 
 arguments_row_is : {n : _} (k : Row_of-Argument n) → arguments_of_row k ≡ arguments_of (items-the_row-Argument n k)
@@ -94,10 +95,41 @@ pub set_of_Combine : (b : Box SetExpr Global) (v : Vec SetStep Global) → set_o
 unfolding set_of
 set_of_Combine b v = ap (Tree.Combine (set_of b.value)) (set_steps_row_is (hidden-the_row-SetStep-5 v) ∙ ap set_steps_of (items_hidden-the_row-SetStep-5 v))
 
+-- extents, told up to the largest number of eight bytes
+abbrev pub expr_told : Expr → Extent
+expr_told e = capped (expr_extent (expr_of e))
+
+abbrev pub set_told : SetExpr → Extent
+set_told e = capped (set_extent (set_of e))
+
+abbrev pub structure_told : Structure → Extent
+structure_told e = capped (structure_extent (structure_of e))
+
+pub expr_told_as : (e d : Expr) → e ≡ d → expr_told d ≡ expr_told e
+expr_told_as e d f = sym (ap expr_told f)
+
+pub member_told_as : (m d : Member) → m ≡ d → capped (member_extent (member_of d)) ≡ capped (member_extent (member_of m))
+member_told_as m d f = sym (ap (λ x. capped (member_extent (member_of x))) f)
+
+pub argument_told_as : (a d : Argument) → a ≡ d → capped (argument_extent (argument_of d)) ≡ capped (argument_extent (argument_of a))
+argument_told_as a d f = sym (ap (λ x. capped (argument_extent (argument_of x))) f)
+
 -- the extents of nodes with lists
 pub place_counted : (p : Place) (items : List Selector) → items ≡ p.selectors.items → node ⊕ selectors_extent (selectors_of items) ≡ place_extent (place_of p)
 unfolding place_extent
 place_counted p items g = ap (λ l. node ⊕ selectors_extent (selectors_of l)) g
+
+pub load_counted : (e : Expr) (b : Box Place Global) (place : Place) → e ≡ Load b → place ≡ b.value → place_extent (place_of place) ≡ expr_extent (expr_of e)
+unfolding expr_extent
+load_counted e b place f g = ap (λ p. place_extent (place_of p)) g ∙ sym (ap expr_extent (ap expr_of f ∙ expr_of_Load b))
+
+pub load_set_counted : (e : SetExpr) (b : Box Place Global) (place : Place) → e ≡ LoadSet b → place ≡ b.value → place_extent (place_of place) ≡ set_extent (set_of e)
+unfolding set_extent
+load_set_counted e b place f g = ap (λ p. place_extent (place_of p)) g ∙ sym (ap set_extent (ap set_of f ∙ set_of_Load b))
+
+pub constructor_counted : (e : SetExpr) (v : Vec Member Global) (items : List Member) → e ≡ Constructor v → items ≡ v.items → node ⊕ members_extent (members_of items) ≡ set_extent (set_of e)
+unfolding set_extent
+constructor_counted e v items f g = ap (λ l. node ⊕ members_extent (members_of l)) g ∙ sym (ap set_extent (ap set_of f ∙ set_of_Constructor v))
 
 pub contents_counted : (e : Structure) (b : Box Place Global) (ty : Ty) (place : Place) → e ≡ Contents b ty → place ≡ b.value → place_extent (place_of place) ≡ structure_extent (structure_of e)
 unfolding structure_extent

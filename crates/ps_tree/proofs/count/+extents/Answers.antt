@@ -1,7 +1,7 @@
 use Rattle.std.proofs.Common.{refl, ap, ◌∙◌}
-use Rattle.ps_tree.specs.Counts.{nothing, capped, argument_extent, member_extent}
-use Rattle.ps_tree.specs.View.{argument_of, member_of}
-use Rattle.ps_tree.proofs.TreeLemmas.{place_counted, contents_counted, variable_counted, arithmetic_counted, logic_counted, combine_counted, call_counted, call_formal_counted}
+use Rattle.ps_tree.specs.Counts.{nothing, capped, expr_extent, argument_extent, member_extent}
+use Rattle.ps_tree.specs.View.{expr_of, argument_of, member_of}
+use Rattle.ps_tree.proofs.TreeLemmas.{expr_told, set_told, structure_told, expr_told_as, member_told_as, argument_told_as, load_counted, load_set_counted, constructor_counted, place_counted, contents_counted, variable_counted, arithmetic_counted, logic_counted, combine_counted, call_counted, call_formal_counted}
 use Rattle.ps_tree.proofs.Sums.{summed_start, summed_next, summed_all, arguments_size, arguments_none, arguments_more, members_size, members_none, members_more, selectors_size, selector_one, selectors_none, selectors_more, arithmetic_size, arithmetic_one, arithmetic_none, arithmetic_more, operands_size, operand_one, operands_none, operands_more, set_steps_size, set_step_one, set_steps_none, set_steps_more}
 use Rattle.ps_tree.proofs.count.+extents.Goals as goal
 
@@ -82,3 +82,48 @@ count_structure-returns-in-Contents t c = c.count_place.ensures ∙ ap capped (c
 
 pub count_argument-returns-in-Variable : goal.count_argument-returns-in-Variable
 count_argument-returns-in-Variable t c = c.with_node-in-Variable.ensures _ c.count_place.ensures ∙ ap capped (variable_counted _ _ c.in-Variable.is)
+
+pub count_expr-returns-in-Load : goal.count_expr-returns-in-Load
+count_expr-returns-in-Load t c = c.count_place.ensures ∙ ap capped (load_counted _ _ _ c.in-Load.is c.deref.ensures)
+
+pub count_expr-returns-in-Apply : goal.count_expr-returns-in-Apply
+unfolding expr_of expr_extent
+count_expr-returns-in-Apply t c = c.with_nodes.ensures _ (c.count_expr.ensures ∙ ap expr_told c.deref-in-Apply.ensures) ∙ expr_told_as _ _ c.in-Apply.is
+
+pub count_expr-returns-in-CompareSets : goal.count_expr-returns-in-CompareSets
+unfolding expr_of expr_extent
+count_expr-returns-in-CompareSets t c = c.binary.ensures _ _ (c.count_set.ensures ∙ ap set_told c.deref-in-CompareSets.ensures) (c.count_set-in-CompareSets.ensures ∙ ap set_told c.deref-in-CompareSets-2.ensures) ∙ expr_told_as _ _ c.in-CompareSets.is
+
+pub count_expr-returns-in-CompareStrings : goal.count_expr-returns-in-CompareStrings
+unfolding expr_of expr_extent
+count_expr-returns-in-CompareStrings t c = c.binary-in-CompareStrings.ensures _ _ (c.count_structure.ensures ∙ ap structure_told c.deref-in-CompareStrings.ensures) (c.count_structure-in-CompareStrings.ensures ∙ ap structure_told c.deref-in-CompareStrings-2.ensures) ∙ expr_told_as _ _ c.in-CompareStrings.is
+
+pub count_expr-returns-in-In : goal.count_expr-returns-in-In
+unfolding expr_of expr_extent
+count_expr-returns-in-In t c = c.binary-in-In.ensures _ _ (c.count_expr-in-In.ensures ∙ ap expr_told c.deref-in-In.ensures) (c.count_set-in-In.ensures ∙ ap set_told c.deref-in-In-2.ensures) ∙ expr_told_as _ _ c.in-In.is
+
+pub count_set-returns-in-Load : goal.count_set-returns-in-Load
+count_set-returns-in-Load t c = c.count_place.ensures ∙ ap capped (load_set_counted _ _ _ c.in-Load.is c.deref.ensures)
+
+pub count_set-returns-in-Constructor : goal.count_set-returns-in-Constructor
+count_set-returns-in-Constructor t c = c.with_node.ensures _ c.count_members.ensures ∙ ap capped (constructor_counted _ _ _ c.in-Constructor.is c.deref-in-Constructor.ensures.value)
+
+pub count_argument-returns-in-Value : goal.count_argument-returns-in-Value
+unfolding argument_of argument_extent
+count_argument-returns-in-Value t c = c.with_node.ensures _ c.count_expr.ensures ∙ argument_told_as _ _ c.in-Value.is
+
+pub count_argument-returns-in-Set : goal.count_argument-returns-in-Set
+unfolding argument_of argument_extent
+count_argument-returns-in-Set t c = c.with_node-in-Set.ensures _ c.count_set.ensures ∙ argument_told_as _ _ c.in-Set.is
+
+pub count_argument-returns-in-Copy : goal.count_argument-returns-in-Copy
+unfolding argument_of argument_extent
+count_argument-returns-in-Copy t c = c.two.ensures _ _ c.count_structure.ensures c.copy.ensures ∙ argument_told_as _ _ c.in-Copy.is
+
+pub count_member-returns-in-One : goal.count_member-returns-in-One
+unfolding member_of member_extent
+count_member-returns-in-One t c = c.with_node.ensures _ c.count_expr.ensures ∙ member_told_as _ _ c.in-One.is
+
+pub count_member-returns-in-Range : goal.count_member-returns-in-Range
+unfolding member_of member_extent
+count_member-returns-in-Range t c = c.two.ensures _ _ c.count_expr-in-Range.ensures c.count_expr-in-Range-2.ensures ∙ member_told_as _ _ c.in-Range.is
