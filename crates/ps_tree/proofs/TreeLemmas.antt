@@ -1,5 +1,5 @@
 -- What the nodes with lists of children stand for.
-use Rattle.std.proofs.Common.{◌≡◌, ℕ, List, Vec, Box, Global, refl, sym, ap, ◌∙◌}
+use Rattle.std.proofs.Common.{◌≡◌, ℕ, List, Vec, Box, Global, refl, sym, ap, ◌∙◌, ◌⊎◌, inl, inr}
 use Rattle.ps_tree.specs.Tree as Tree
 use Rattle.ps_tree.specs.declared.count.Extent.{Extent}
 use Rattle.ps_tree.specs.declared.line.Line.{Line}
@@ -10,7 +10,9 @@ use Rattle.ps_tree.specs.declared.tree.Selector.{Selector}
 use Rattle.ps_tree.specs.declared.tree.ArithmeticStep.{ArithmeticStep}
 use Rattle.ps_tree.specs.declared.tree.SetStep.{SetStep}
 use Rattle.ps_tree.specs.declared.tree.Structure.{Structure, Contents}
-use Rattle.ps_tree.specs.declared.tree.Expr.{Expr, Load, Arithmetic, Logic, Call, CallFormal, Row_of-Argument, end_of-Argument, more_of-Argument, items-the_row-Argument, items_hidden-the_row-Argument-3, Row_of-Selector, end_of-Selector, more_of-Selector, items-the_row-Selector, items_hidden-the_row-Selector-0, Row_of-ArithmeticStep, end_of-ArithmeticStep, more_of-ArithmeticStep, items-the_row-ArithmeticStep, items_hidden-the_row-ArithmeticStep-1, Row_of-Expr, end_of-Expr, more_of-Expr, items-the_row-Expr, items_hidden-the_row-Expr-2}
+use Rattle.ps_tree.specs.declared.tree.Relation.{Relation}
+use Rattle.ps_tree.specs.declared.tree.PointerRelation.{PointerRelation}
+use Rattle.ps_tree.specs.declared.tree.Expr.{Expr, Load, Arithmetic, Logic, Call, CallFormal, Row_of-Argument, end_of-Argument, more_of-Argument, items-the_row-Argument, items_hidden-the_row-Argument-3, Row_of-Selector, end_of-Selector, more_of-Selector, items-the_row-Selector, items_hidden-the_row-Selector-0, Row_of-ArithmeticStep, end_of-ArithmeticStep, more_of-ArithmeticStep, items-the_row-ArithmeticStep, items_hidden-the_row-ArithmeticStep-1, Row_of-Expr, end_of-Expr, more_of-Expr, items-the_row-Expr, items_hidden-the_row-Expr-2, Plus, Minus, Not, Compare, ComparePointers}
 use Rattle.ps_tree.specs.declared.tree.SetExpr.{SetExpr, Load as LoadSet, Constructor, Combine, Row_of-Member, end_of-Member, more_of-Member, items-the_row-Member, items_hidden-the_row-Member-4, Row_of-SetStep, end_of-SetStep, more_of-SetStep, items-the_row-SetStep, items_hidden-the_row-SetStep-5}
 use Rattle.ps_tree.specs.declared.tree.Argument.{Argument, Variable}
 use Rattle.ps_tree.specs.declared.tree.Argument.TheBlock.{hidden-the_row-Selector-0, hidden-the_row-ArithmeticStep-1, hidden-the_row-Expr-2, hidden-the_row-Argument-3, hidden-the_row-Member-4, hidden-the_row-SetStep-5}
@@ -118,6 +120,17 @@ argument_told_as a d f = sym (ap (λ x. capped (argument_extent (argument_of x))
 pub place_counted : (p : Place) (items : List Selector) → items ≡ p.selectors.items → node ⊕ selectors_extent (selectors_of items) ≡ place_extent (place_of p)
 unfolding place_extent
 place_counted p items g = ap (λ l. node ⊕ selectors_extent (selectors_of l)) g
+
+pub one_operand : (e : Expr) (b : Box Expr Global) → (e ≡ Plus b) ⊎ (((line : Line) × (e ≡ Minus b line)) ⊎ (e ≡ Not b)) → node ⊕ expr_extent (expr_of b.value) ≡ expr_extent (expr_of e)
+unfolding expr_extent expr_of
+one_operand e b (inl f) = sym (ap (λ x. expr_extent (expr_of x)) f)
+one_operand e b (inr (inl f)) = sym (ap (λ x. expr_extent (expr_of x)) f.1)
+one_operand e b (inr (inr f)) = sym (ap (λ x. expr_extent (expr_of x)) f)
+
+pub two_operands : (e : Expr) (a b : Box Expr Global) → ((relation : Relation) × (e ≡ Compare relation a b)) ⊎ ((relation : PointerRelation) × (e ≡ ComparePointers relation a b)) → expr_extent (expr_of a.value) ⊕ node ⊕ expr_extent (expr_of b.value) ≡ expr_extent (expr_of e)
+unfolding expr_extent expr_of
+two_operands e a b (inl f) = sym (ap (λ x. expr_extent (expr_of x)) f.1)
+two_operands e a b (inr f) = sym (ap (λ x. expr_extent (expr_of x)) f.1)
 
 pub load_counted : (e : Expr) (b : Box Place Global) (place : Place) → e ≡ Load b → place ≡ b.value → place_extent (place_of place) ≡ expr_extent (expr_of e)
 unfolding expr_extent

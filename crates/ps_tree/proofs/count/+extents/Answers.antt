@@ -1,7 +1,7 @@
-use Rattle.std.proofs.Common.{refl, ap, ◌∙◌}
-use Rattle.ps_tree.specs.Counts.{nothing, capped, expr_extent, argument_extent, member_extent}
-use Rattle.ps_tree.specs.View.{expr_of, argument_of, member_of}
-use Rattle.ps_tree.proofs.TreeLemmas.{expr_told, set_told, structure_told, expr_told_as, member_told_as, argument_told_as, load_counted, load_set_counted, constructor_counted, place_counted, contents_counted, variable_counted, arithmetic_counted, logic_counted, combine_counted, call_counted, call_formal_counted}
+use Rattle.std.proofs.Common.{refl, sym, ap, ◌∙◌}
+use Rattle.ps_tree.specs.Counts.{nothing, capped, selector_extent, expr_extent, argument_extent, member_extent}
+use Rattle.ps_tree.specs.View.{selector_of, expr_of, argument_of, member_of}
+use Rattle.ps_tree.proofs.TreeLemmas.{one_operand, two_operands, expr_told, set_told, structure_told, expr_told_as, member_told_as, argument_told_as, load_counted, load_set_counted, constructor_counted, place_counted, contents_counted, variable_counted, arithmetic_counted, logic_counted, combine_counted, call_counted, call_formal_counted}
 use Rattle.ps_tree.proofs.Sums.{summed_start, summed_next, summed_all, arguments_size, arguments_none, arguments_more, members_size, members_none, members_more, selectors_size, selector_one, selectors_none, selectors_more, arithmetic_size, arithmetic_one, arithmetic_none, arithmetic_more, operands_size, operand_one, operands_none, operands_more, set_steps_size, set_step_one, set_steps_none, set_steps_more}
 use Rattle.ps_tree.proofs.count.+extents.Goals as goal
 
@@ -127,3 +127,13 @@ count_member-returns-in-One t c = c.with_node.ensures _ c.count_expr.ensures ∙
 pub count_member-returns-in-Range : goal.count_member-returns-in-Range
 unfolding member_of member_extent
 count_member-returns-in-Range t c = c.two.ensures _ _ c.count_expr-in-Range.ensures c.count_expr-in-Range-2.ensures ∙ member_told_as _ _ c.in-Range.is
+
+pub count_expr-returns-in-Plus : goal.count_expr-returns-in-Plus
+count_expr-returns-in-Plus t c = c.with_node-in-Plus.ensures _ (c.count_expr-in-Plus.ensures ∙ ap expr_told c.deref-in-Plus.ensures) ∙ ap capped (one_operand _ _ c.in-Plus.is)
+
+pub count_expr-returns-in-Compare : goal.count_expr-returns-in-Compare
+count_expr-returns-in-Compare t c = c.binary-in-Compare.ensures _ _ (c.count_expr-in-Compare.ensures ∙ ap expr_told c.deref-in-Compare.ensures) (c.count_expr-in-Compare-2.ensures ∙ ap expr_told c.deref-in-Compare-2.ensures) ∙ ap capped (two_operands _ _ _ c.in-Compare.is)
+
+pub count_selector-returns-in-Element : goal.count_selector-returns-in-Element
+unfolding selector_of selector_extent
+count_selector-returns-in-Element t c = c.with_node.ensures _ c.count_expr.ensures ∙ ap (λ s. capped (selector_extent (selector_of s))) (sym c.in-Element.is)
