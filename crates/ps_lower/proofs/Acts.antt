@@ -1,5 +1,5 @@
 -- The forms of statements, read again.
-use Rattle.std.proofs.Common.{◌≡◌, ℕ, List, ◌++◌, Vec, Box, Global, Result, OnOk, sym, ap, subst, ◌∙◌, map}
+use Rattle.std.proofs.Common.{◌≡◌, ℕ, ◌+◌, ◌≤◌, List, ◌++◌, Vec, Box, Global, Result, OnOk, sym, ap, subst, ◌∙◌, map}
 use Rattle.std.proofs.lemmas.List.{append-nil}
 use Rattle.ps_tree.specs.Tree as t
 use Rattle.ps_tree.specs.declared.line.Line.{Line}
@@ -13,9 +13,14 @@ use Rattle.ps_tree.proofs.StatementLemmas.{statement_of_Compound, statement_of_R
 use Rattle.tac_code.specs.declared.code.Instruction.{Instruction}
 use Rattle.ps_code.specs.Scopes.{Scope}
 use Rattle.ps_code.specs.Statements.{statement_code}
+use Rattle.ps_bounds.specs.Weights.{statement_weight}
 
 pub act : {X E : Type 0} (k : Scope) (x : Statement) (whole : t.Statement) (d : ℕ) (r : Result X E) (new old : List Instruction) → whole ≡ statement_of x → OnOk r (new ≡ old ++ statement_code k whole d) → OnOk r (new ≡ old ++ statement_code k (statement_of x) d)
 act k x whole d r new old e h = subst (λ (y : t.Statement). OnOk r (new ≡ old ++ statement_code k y d)) e h
+
+-- the room for a form is that for the statement
+pub room_in : (k : Scope) (x : Statement) (whole : t.Statement) (d : ℕ) → whole ≡ statement_of x → d + statement_weight k (statement_of x) d ≤ 2147483647 → d + statement_weight k whole d ≤ 2147483647
+room_in k x whole d e r = subst (λ (y : t.Statement). d + statement_weight k y d ≤ 2147483647) (sym e) r
 
 pub empty_is : (x : Statement) → x ≡ Empty → t.Empty ≡ statement_of x
 unfolding statement_of

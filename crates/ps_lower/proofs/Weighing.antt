@@ -94,6 +94,24 @@ elements_law k d x xs = refl
 pub element_in : (k : Scope) (d : ℕ) (items : List CaseElement) (i : ℕ) (s : CaseElement) → i < length items → s ≡ get_or items i s → statement_weight k (statement_of (out-CaseElement s).body) d ≤ elements_weight k (elements_of items) d
 element_in k d items i s h e = let l = in_largest (λ l. elements_weight k (elements_of l) d) (element_one k d) (elements_law k d) items i s h in subst (λ y. element_one k d y ≤ elements_weight k (elements_of items) d) (sym e) l
 
+-- ---- room at a depth and a place of the scratch block, of which something more is asked
+
+pub depth_near : (d x n : ℕ) → d + x + n ≤ 2147483647 → d ≤ 2147483647
+depth_near d x n l = omega (arith, l)
+
+pub depth_far : (d x n : ℕ) → d + x + n ≤ 2147483647 → d ≤ 4294967000
+depth_far d x n l = omega (arith, l)
+
+pub depth_farther : (d x n : ℕ) → d + x + n ≤ 2147483647 → d ≤ 4294967100
+depth_farther d x n l = omega (arith, l)
+
+pub scratch_near : (d x n : ℕ) → d + x + n ≤ 2147483647 → x ≤ 2147483647
+scratch_near d x n l = omega (arith, l)
+
+-- where a first operand stands already
+pub chain_far : (d x n : ℕ) → d + x + n ≤ 2147483647 + 1 → d ≤ 4294967000
+chain_far d x n l = omega (arith, l)
+
 -- ---- a first operand stands further on, where others follow
 
 kept_far : (b : Bool) (d : ℕ) → kept b d ≤ d + 8

@@ -247,6 +247,14 @@ fn array_bytes(index: Ordinal, each: u32) -> u32
     narrow(index.value_count() * u64::from(each))
 }
 
+/// A task that is left behind the others.
+fn leave<'a>(tasks: &mut Vec<Task<'a>>, task: Task<'a>) -> Result<(), AllocError>
+    ensures { OnOk result (tasks.new.items ≡ tasks.old.items ++ task.entry ∷ []) }
+{
+    tasks.push(task)?;
+    Ok(())
+}
+
 /// The first component of an array, and copies of it.
 fn components<'a>(
     tasks: &mut Vec<Task<'a>>,
@@ -265,16 +273,17 @@ fn components<'a>(
     if whole == 0 {
         return Ok(());
     }
-    tasks.push(Task::Copies {
+    let copies = Task::Copies {
         offset,
         each,
         whole,
-    })?;
-    tasks.push(Task::FirstValue {
+    };
+    leave(tasks, copies)?;
+    let first = Task::FirstValue {
         ty: component,
         offset,
-    })?;
-    Ok(())
+    };
+    leave(tasks, first)
 }
 
 /// The first value of an array.
@@ -304,8 +313,7 @@ fn array<'a>(
 fn record<'a>(tasks: &mut Vec<Task<'a>>, types: &'a [Ty], offset: u32) -> Result<(), AllocError>
     ensures { OnOk result (IsLeft offset (RecordShape (shapes_of (types_of types.now))) tasks.old.items tasks.new.items) }
 {
-    tasks.push(Task::FieldsLeft { types, offset })?;
-    Ok(())
+    leave(tasks, Task::FieldsLeft { types, offset })
 }
 
 /// The first value of a variable of a type at an offset from a base, but for the components and the fields, which are left.
@@ -357,12 +365,12 @@ fn field<'a>(tasks: &mut Vec<Task<'a>>, types: &'a [Ty], offset: u32) -> Result<
         return Ok(());
     };
     let next = offset + byte_count(ty);
-    tasks.push(Task::FieldsLeft {
+    let behind = Task::FieldsLeft {
         types: rest,
         offset: next,
-    })?;
-    tasks.push(Task::FirstValue { ty, offset })?;
-    Ok(())
+    };
+    leave(tasks, behind)?;
+    leave(tasks, Task::FirstValue { ty, offset })
 }
 
 /// One task; what it leaves stands behind the others.

@@ -8,8 +8,8 @@ ghost use Rattle.ps_tree.specs.View.{structure_of};
 ghost use Rattle.tac_code.specs.declared.code.Instruction.TheVariants as i;
 
 use crate::depth::beside;
-use crate::entries::run_time_number;
 use crate::level::Level;
+use crate::levels::run_time_number;
 use crate::out::Code;
 use crate::texts::text_length;
 use ps_tree::tree::Structure;

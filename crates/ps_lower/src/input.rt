@@ -2,10 +2,7 @@
 
 ghost use Rattle.std.specs.Prelude.{◌≡◌, ◌++◌, ◌≤◌, ◌∷◌, [], pos, OnOk};
 ghost use Rattle.ps_code.specs.Scopes.{even_from, input_site, site_code, helper, LookAhead};
-ghost use Rattle.ps_layout.specs.Frames.{layout_of};
 ghost use Rattle.ps_lower.specs.Levels.{scope_of, site_of};
-ghost use Rattle.ps_tree.specs.Checked.{program_in};
-ghost use Rattle.ps_tree.specs.Tree.{routine_at};
 ghost use Rattle.tac_code.specs.declared.code.Instruction.TheVariants as i;
 
 use crate::depth::{DEEPEST, even_from};
@@ -19,20 +16,13 @@ use tac_code::code::Base;
 
 const LOOK_AHEAD: u32 = 13;
 
-fn input_words(k: &Level) -> u32
-    ensures value { result ≡ (layout_of (routine_at (program_in k.now.checked.now) 0)).input }
-    ensures small { result ≤ 1000000 }
-{
-    k.checked.words(0)
-}
-
 /// Where the words stand that tell what of the input was taken ahead.
 pub fn input(k: &Level) -> Site
     ensures { site_of result ≡ input_site (scope_of k.now) }
 {
     Site {
         base: Base::Program,
-        offset: 4 * input_words(k),
+        offset: 4 * k.checked.words(0),
     }
 }
 

@@ -1,9 +1,10 @@
-// The frames of the routines round a routine, and the entries in them.
+// The frames of the routines round a routine, the entries in them, and the numbers of run-time routines.
 
-ghost use Rattle.std.specs.Prelude.{◌≡◌, ◌≤◌, ◌++◌, get_or, OnOk, IfOk};
+ghost use Rattle.std.specs.Prelude.{◌≡◌, ◌≤◌, ◌+◌, ◌++◌, get_or, length, OnOk, IfOk};
 ghost use Rattle.ps_code.specs.Scopes.{kind_at, routine_up, is_outermost, hops, frame_code, frame_base, link_code, formal_code};
 ghost use Rattle.ps_layout.specs.Frames.{entry_offset};
 ghost use Rattle.ps_lower.specs.Levels.{scope_of, is_reference_at};
+ghost use Rattle.ps_tree.specs.Checked.{program_in};
 
 use crate::depth::beside;
 use crate::frame::Spot;
@@ -86,4 +87,12 @@ pub fn formal(out: &mut Code, k: &Level, t: u32, up: u32, index: u32) -> Result<
     let place = entry(k, up, index).offset;
     out.load(beside(t), base, place + 4)?;
     out.load(t, base, place)
+}
+
+/// The number of a run-time routine, which stands behind those of the program.
+pub fn run_time_number(k: &Level, number: u32) -> u32
+    requires { number ≤ 16 }
+    ensures { result ≡ length (program_in k.now.checked.now).routines + number }
+{
+    k.checked.count() + number
 }

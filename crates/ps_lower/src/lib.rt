@@ -7,7 +7,6 @@ mod calls;
 mod cases;
 mod count;
 mod depth;
-mod entries;
 mod filling;
 mod firsts;
 mod frame;

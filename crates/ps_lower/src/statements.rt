@@ -74,8 +74,14 @@ pub fn statement(out: &mut Code, k: &Level, action: &Statement, d: u32) -> Resul
             body,
             ..
         } => {
-            let (from_line, to_line) = (from_line.number, to_line.number);
-            let control = control_of(*variable, low, high, *direction, from_line, to_line);
+            let control = control_of(
+                *variable,
+                low,
+                high,
+                *direction,
+                from_line.number,
+                to_line.number,
+            );
             act_for(out, k, body, control, from, to, d)
         }
         Statement::Write { parameters } => writes(out, k, parameters, d),

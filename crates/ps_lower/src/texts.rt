@@ -1,6 +1,6 @@
 // Strings of the text, as constants of the code.
 
-ghost use Rattle.std.specs.Prelude.{◌≡◌, ◌++◌, ◌≤◌, ◌∷◌, ◌+◌, ◌*◌, ◌/◌, [], pos, codes, OnOk, IfOk};
+ghost use Rattle.std.specs.Prelude.{◌≡◌, ◌++◌, ◌≤◌, ◌∷◌, ◌+◌, ◌*◌, ◌/◌, [], codes, OnOk, IfOk};
 ghost use Rattle.ps_code.specs.Scopes.{Scope};
 ghost use Rattle.ps_code.specs.Statements.{truth_text};
 ghost use Rattle.ps_code.specs.Values.{text_length, structure_bytes};
@@ -74,14 +74,6 @@ pub fn structure_bytes(e: &Structure) -> u32
         Structure::Literal(characters) => filled_length(characters.len()),
         Structure::Contents { ty, .. } => byte_count(ty),
     }
-}
-
-/// A number from 0 on.
-pub fn count(out: &mut Code, n: u32, d: u32) -> Result<(), AllocError>
-    requires { n ≤ 2147483647 }
-    ensures { OnOk result (out.new ≡ out.old ++ i.Literal d (pos n) ∷ []) }
-{
-    out.literal(d, n as i32)
 }
 
 /// The address and the length of the string that tells a truth value.

@@ -13,9 +13,9 @@ ghost use Rattle.tac_code.specs.declared.code.Relation.TheVariants.{NotEqual};
 
 use crate::calling::expr_calls;
 use crate::depth::{DEEPEST, even_from, held};
-use crate::entries::own_entry;
 use crate::known::{literal, operand};
 use crate::level::Level;
+use crate::levels::entry;
 use crate::out::Code;
 use crate::pieces::{check, operand_check};
 use crate::values::{unless_known, value};
@@ -101,7 +101,7 @@ pub fn turns_of(k: &Level, variable: u32, to: &Expr, calls: bool, d: u32) -> Tur
     ensures last { result.last ≤ d + 3 }
     ensures depth { result.depth ≤ d + 4 }
 {
-    let offset = own_entry(k, variable).offset;
+    let offset = entry(k, 0, variable).offset;
     let known = literal(to);
     let first = held(expr_calls(to), d);
     let last = held(calls, first + 1);

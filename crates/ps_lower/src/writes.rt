@@ -11,12 +11,12 @@ ghost use Rattle.tac_code.specs.declared.code.Instruction.TheVariants as i;
 
 use crate::calling::width_calls;
 use crate::depth::{DEEPEST, beside, even_above, even_from, held};
-use crate::helpers::help;
+use crate::helpers::{amount, help};
 use crate::known::literal;
 use crate::level::Level;
 use crate::out::Code;
 use crate::pieces::check;
-use crate::texts::{count, text_length, truth_text};
+use crate::texts::{text_length, truth_text};
 use crate::values::{structure, value};
 use ps_tree::tree::{Expr, Structure, Width, WriteParameter};
 use std::alloc::AllocError;
@@ -35,7 +35,7 @@ fn width(out: &mut Code, k: &Level, width: &Width, default: u32, t: u32) -> Resu
     ensures { OnOk result (out.new ≡ out.old ++ width_code (scope_of k.now) (width_of width.now) default t) }
 {
     match width {
-        Width::Default => count(out, default, t),
+        Width::Default => amount(out, default, t),
         Width::Given { value: e, line } => {
             value(out, k, e, t, 0)?;
             check(out, literal(e), t, 1, i32::MAX, 11, line.number)
@@ -111,7 +111,7 @@ fn write_string(
     let length = text_length(e);
     structure(out, k, e, t, 0)?;
     width(out, k, given, length, w)?;
-    count(out, length, size)?;
+    amount(out, length, size)?;
     help(out, k, WRITE_STRING, &[t, size, w], even_from(d))
 }
 

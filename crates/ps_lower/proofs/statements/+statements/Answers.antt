@@ -1,17 +1,18 @@
-use Rattle.std.proofs.Common.{rules, arith, [], ◌∷◌, ◌++◌, length, map, ap, ◌∙◌}
+use Rattle.std.proofs.Common.{rules, arith, ◌≡◌, [], ◌∷◌, ◌++◌, length, map, OnOk, ap, subst, ◌∙◌}
 use borrow.Author.Rules.{get_or_read}
 use Rattle.ps_tree.specs.declared.tree.Statement.TheFolds.{the_lemmas}
-use Rattle.ps_tree.specs.View.{expr_of, place_of, statement_of, elements_of}
+use Rattle.ps_tree.specs.View.{expr_of, place_of, statement_of, statements_of, elements_of}
 use Rattle.ps_tree.specs.declared.tree.CaseElement.{out-CaseElement}
-use Rattle.ps_code.specs.Statements.{statement_code}
+use Rattle.ps_code.specs.Values.{front_code, opposite}
+use Rattle.ps_code.specs.Statements.{statement_code, statements_code}
 use Rattle.ps_lower.specs.Levels.{scope_of, within}
 use Rattle.ps_lower.proofs.Gathering.{assign_set_is}
 use Rattle.ps_lower.proofs.Deeds.{assign_structure_is, procedure_is, formal_procedure_is, with_is, with_told}
 use Rattle.ps_lower.proofs.Doings.{new_is, pack_is, unpack_is, read_is, readln_is}
 use Rattle.ps_lower.proofs.Appends.{added_start, added_next, added_all}
 use Rattle.ps_lower.proofs.Rows.{statements_added, statements_nothing, statements_further}
-use Rattle.ps_lower.proofs.Acts.{act, told_empty, assign_is, compound_is, if_is, if_else_is, while_is, repeat_is, write_is, writeln_is}
-use Rattle.ps_lower.proofs.Jumps.{jump_behind}
+use Rattle.ps_lower.proofs.Acts.{act, room_in, told_empty, assign_is, compound_is, if_is, if_else_is, while_is, repeat_is, write_is, writeln_is}
+use Rattle.ps_lower.proofs.Jumps.{jump_past, jump_past_room, room_behind, jump_behind, back_over, back_from_test, branch_told, back_told}
 use Rattle.ps_lower.specs.Loops.{turns_of, loop_code}
 use Rattle.ps_lower.specs.declared.turns.Control.{Control}
 use Rattle.ps_lower.specs.declared.turns.Turns.{Turns}
@@ -138,6 +139,37 @@ statement-returns-in-Read t c = act (scope_of c.args.k.now) c.args.action.now _ 
 pub statement-returns-in-Readln : goal.statement-returns-in-Readln
 statement-returns-in-Readln t c = act (scope_of c.args.k.now) c.args.action.now _ c.args.d c.readln.result c.readln.new.out c.args.out.now (readln_is _ _ _ _ c.in-Readln.is c.deref-in-Readln.ensures.value) c.readln.ensures
 
+-- ---- jumps
+
+pub act_if-returns : goal.act_if-returns
+act_if-returns t c =
+    jump_past c.args.out.now c.front.new.out c.room.new.self c.statement.new.out c.set_branch.new.self _ _ i.End c.in_ok-past.past (λ n. i.Branch c.opposite-relation.result c.left_in.result c.right_in.result n)
+    c.in_ok-front.ensures c.in_ok-past.ensures.room c.in_ok-past.ensures.place c.in_ok-statement.ensures c.set_branch.ensures
+    ∙ ap (λ j. c.args.out.now ++ (front_code (scope_of c.args.k.now) (expr_of c.args.condition.now) c.args.d 0 ++ j ∷ statement_code (scope_of c.args.k.now) (statement_of c.args.body.now) c.args.d)) (branch_told _ _ _ _ _ _ _ (c.opposite-relation.ensures ∙ ap opposite c.relation_in.ensures) c.left_in.ensures c.right_in.ensures)
+
+pub then_part-returns-clause-code : goal.then_part-returns-clause-code
+then_part-returns-clause-code t c =
+    jump_past_room c.args.out.now c.front.new.out c.room.new.self c.statement.new.out c.room-2.new.self c.set_branch.new.self _ _ i.End i.End c.in_ok-past.past (λ n. i.Branch c.opposite-relation.result c.left_in.result c.right_in.result n)
+    c.in_ok-front.ensures c.in_ok-past.ensures.room c.in_ok-past.ensures.place c.in_ok-statement.ensures c.in_ok-end.ensures.room c.set_branch.ensures
+    ∙ ap (λ j. (c.args.out.now ++ (front_code (scope_of c.args.k.now) (expr_of c.args.condition.now) c.args.d 0 ++ j ∷ statement_code (scope_of c.args.k.now) (statement_of c.args.body.now) c.args.d)) ++ i.End ∷ []) (branch_told _ _ _ _ _ _ _ (c.opposite-relation.ensures ∙ ap opposite c.relation_in.ensures) c.left_in.ensures c.right_in.ensures)
+
+pub then_part-returns-clause-place : goal.then_part-returns-clause-place
+then_part-returns-clause-place t c = room_behind c.args.out.now c.front.new.out c.room.new.self c.statement.new.out _ _ i.End _ c.in_ok-end.end c.in_ok-front.ensures c.in_ok-past.ensures.room c.in_ok-statement.ensures c.in_ok-end.ensures.place
+
+pub act_while-returns : goal.act_while-returns
+act_while-returns t c =
+    subst (λ j. OnOk c.branch_back.result (c.branch_back.new.self ≡ c.args.out.now ++ i.Jump (length (statement_code (scope_of c.args.k.now) (statement_of c.args.body.now) c.args.d)) ∷ ((statement_code (scope_of c.args.k.now) (statement_of c.args.body.now) c.args.d ++ front_code (scope_of c.args.k.now) (expr_of c.args.condition.now) c.args.d 0) ++ j ∷ [])))
+    (back_told _ _ _ _ _ _ _ c.relation_in-relation.ensures c.left_in.ensures c.right_in.ensures)
+    (back_from_test c.branch_back.result c.args.out.now c.room.new.self c.statement.new.out c.set_jump.new.self c.front.new.out c.branch_back.new.self _ _ i.End c.in_ok-to_test.to_test c.place-begin.result (λ n. i.Jump n) (λ n. i.BranchBack c.relation_in-relation.result c.left_in.result c.right_in.result n)
+    c.in_ok-to_test.ensures.room c.in_ok-to_test.ensures.place c.place-begin.ensures c.in_ok-statement.ensures c.set_jump.ensures c.in_ok-front.ensures c.branch_back.ensures)
+
+pub act_repeat-returns : goal.act_repeat-returns
+act_repeat-returns t c =
+    subst (λ j. OnOk c.branch_back.result (c.branch_back.new.self ≡ c.args.out.now ++ ((statements_code (scope_of c.args.k.now) (statements_of c.args.body.now) c.args.d ++ front_code (scope_of c.args.k.now) (expr_of c.args.condition.now) c.args.d 0) ++ j ∷ [])))
+    (back_told _ _ _ _ _ _ _ (c.opposite-relation.ensures ∙ ap opposite c.relation_in.ensures) c.left_in.ensures c.right_in.ensures)
+    (back_over c.branch_back.result c.args.out.now c.statements.new.out c.front.new.out c.branch_back.new.self _ _ c.place-begin.result (λ n. i.BranchBack c.opposite-relation.result c.left_in.result c.right_in.result n)
+    c.place-begin.ensures c.in_ok-statements.ensures c.in_ok-front.ensures c.branch_back.ensures)
+
 -- ---- room for what is called
 
 pub act_elements-act_element-requires : goal.act_elements-act_element-requires
@@ -153,23 +185,73 @@ act_with-statement-requires t c = (
       c.with_calls-calls.ensures (ap (within (scope_of c.args.k.now)) c.as_slice.ensures.value ∙ c.in_ok-opened.ensures.scope) c.in_ok-opened.ensures.depth c.requires,
 )
 
-pub statement-statements-requires : goal.statement-statements-requires
-statement-statements-requires t c =
-    let e = ap (λ (y : tree.Statement). statement_weight (scope_of c.args.k.now) y c.args.d) (compound_is _ _ _ c.in-Compound.is c.deref.ensures.value) in
-    let r = c.requires in
-    (search (rules, the_lemmas, get_or_read), omega (arith, e, r))
+pub statement-assign-requires : goal.statement-assign-requires
+statement-assign-requires t c = let l = room_in (scope_of c.args.k.now) c.args.action.now _ c.args.d (assign_is _ _ _ _ _ c.in-Assign.is) c.requires in l
 
-pub statement-act_case-requires : goal.statement-act_case-requires
-statement-act_case-requires t c =
-    let e = ap (λ (y : tree.Statement). statement_weight (scope_of c.args.k.now) y c.args.d) (case_is _ _ _ _ _ c.in-Case.is c.deref-in-Case.ensures.value) in
-    let r = c.requires in
-    (search (rules, the_lemmas, get_or_read), omega (arith, e, r))
+pub statement-statements-requires : goal.statement-statements-requires
+statement-statements-requires t c = let l = room_in (scope_of c.args.k.now) c.args.action.now _ c.args.d (compound_is _ _ _ c.in-Compound.is c.deref.ensures.value) c.requires in (search (rules, the_lemmas, get_or_read), l)
+
+pub statement-act_if-requires : goal.statement-act_if-requires
+statement-act_if-requires t c = let l = room_in (scope_of c.args.k.now) c.args.action.now _ c.args.d (if_is _ _ _ _ c.in-If.is c.deref-in-If.ensures) c.requires in (search (rules, the_lemmas, get_or_read), l)
+
+pub statement-act_while-requires : goal.statement-act_while-requires
+statement-act_while-requires t c = let l = room_in (scope_of c.args.k.now) c.args.action.now _ c.args.d (while_is _ _ _ _ c.in-While.is c.deref-in-While.ensures) c.requires in (search (rules, the_lemmas, get_or_read), l)
 
 pub statement-act_repeat-requires : goal.statement-act_repeat-requires
-statement-act_repeat-requires t c =
-    let e = ap (λ (y : tree.Statement). statement_weight (scope_of c.args.k.now) y c.args.d) (repeat_is _ _ _ _ c.in-Repeat.is c.deref-in-Repeat.ensures.value) in
+statement-act_repeat-requires t c = let l = room_in (scope_of c.args.k.now) c.args.action.now _ c.args.d (repeat_is _ _ _ _ c.in-Repeat.is c.deref-in-Repeat.ensures.value) c.requires in (search (rules, the_lemmas, get_or_read), l)
+
+pub statement-writes-requires : goal.statement-writes-requires
+statement-writes-requires t c = let l = room_in (scope_of c.args.k.now) c.args.action.now _ c.args.d (write_is _ _ _ c.in-Write.is c.deref-in-Write.ensures.value) c.requires in l
+
+pub statement-writeln-requires : goal.statement-writeln-requires
+statement-writeln-requires t c =
+    let e = ap (λ (y : tree.Statement). statement_weight (scope_of c.args.k.now) y c.args.d) (writeln_is _ _ _ c.in-Writeln.is c.deref-in-Writeln.ensures.value) in
     let r = c.requires in
-    (search (rules, the_lemmas, get_or_read), omega (arith, e, r))
+    omega (arith, e, r)
+
+pub statement-act_case-requires : goal.statement-act_case-requires
+statement-act_case-requires t c = let l = room_in (scope_of c.args.k.now) c.args.action.now _ c.args.d (case_is _ _ _ _ _ c.in-Case.is c.deref-in-Case.ensures.value) c.requires in (search (rules, the_lemmas, get_or_read), l)
+
+pub statement-assign_structure-requires : goal.statement-assign_structure-requires
+statement-assign_structure-requires t c = let l = room_in (scope_of c.args.k.now) c.args.action.now _ c.args.d (assign_structure_is _ _ _ c.in-AssignStructure.is) c.requires in l
+
+pub statement-call_procedure-requires : goal.statement-call_procedure-requires
+statement-call_procedure-requires t c = let l = room_in (scope_of c.args.k.now) c.args.action.now _ c.args.d (procedure_is _ _ _ _ _ _ c.in-Call.is c.deref-in-Call.ensures.value) c.requires in l
+
+pub statement-call_formal_procedure-requires : goal.statement-call_formal_procedure-requires
+statement-call_formal_procedure-requires t c = let l = room_in (scope_of c.args.k.now) c.args.action.now _ c.args.d (formal_procedure_is _ _ _ _ _ _ c.in-CallFormal.is c.deref-in-CallFormal.ensures.value) c.requires in l
+
+pub statement-act_with-requires : goal.statement-act_with-requires
+statement-act_with-requires t c = let l = room_in (scope_of c.args.k.now) c.args.action.now _ c.args.d (with_is _ _ _ _ _ c.in-With.is c.deref-in-With-2.ensures.value c.deref-in-With.ensures) c.requires in (search (rules, the_lemmas, get_or_read), l)
+
+pub statement-assign_set-requires : goal.statement-assign_set-requires
+statement-assign_set-requires t c = let l = room_in (scope_of c.args.k.now) c.args.action.now _ c.args.d (assign_set_is _ _ _ _ _ _ c.in-AssignSet.is) c.requires in l
+
+pub statement-create-requires : goal.statement-create-requires
+statement-create-requires t c = let l = room_in (scope_of c.args.k.now) c.args.action.now _ c.args.d (new_is _ _ _ _ c.in-New.is) c.requires in l
+
+pub statement-pack-requires : goal.statement-pack-requires
+statement-pack-requires t c = let l = room_in (scope_of c.args.k.now) c.args.action.now _ c.args.d (pack_is _ _ _ _ _ _ _ _ _ c.in-Pack.is c.deref-in-Pack.ensures c.deref-in-Pack-2.ensures) c.requires in l
+
+pub statement-unpack-requires : goal.statement-unpack-requires
+statement-unpack-requires t c = let l = room_in (scope_of c.args.k.now) c.args.action.now _ c.args.d (unpack_is _ _ _ _ _ _ _ _ _ c.in-Unpack.is c.deref-in-Unpack.ensures c.deref-in-Unpack-2.ensures) c.requires in l
+
+pub statement-reads-requires : goal.statement-reads-requires
+statement-reads-requires t c = let l = room_in (scope_of c.args.k.now) c.args.action.now _ c.args.d (read_is _ _ _ c.in-Read.is c.deref-in-Read.ensures.value) c.requires in l
+
+pub statement-readln-requires : goal.statement-readln-requires
+statement-readln-requires t c =
+    let e = ap (λ (y : tree.Statement). statement_weight (scope_of c.args.k.now) y c.args.d) (readln_is _ _ _ _ c.in-Readln.is c.deref-in-Readln.ensures.value) in
+    let r = c.requires in
+    omega (arith, e, r)
+
+pub statement-act_for-requires : goal.statement-act_for-requires
+statement-act_for-requires t c =
+    let l = room_in (scope_of c.args.k.now) c.args.action.now _ c.args.d
+    (ap (λ (y : Control). tree.For y.variable y.low y.high (expr_of c.in-For.from) y.from_line y.direction (expr_of c.in-For.to) y.to_line (statement_of c.deref-in-For.result.now)) c.control_of-control.ensures
+    ∙ for_is _ _ _ _ _ _ _ _ _ _ _ _ c.in-For.is c.deref-in-For.ensures) c.requires
+    in
+    (search (rules, the_lemmas, get_or_read), l)
 
 pub statements-statement-requires : goal.statements-statement-requires
 statements-statement-requires t c =

@@ -1,8 +1,9 @@
-use Rattle.std.proofs.Common.{rules, arith, ◌≡◌, ◌+◌, [], ◌∷◌, ◌++◌, pos, OnOk, sym, ap, subst, ◌∙◌, ⊎_elim}
+use Rattle.std.proofs.Common.{rules, arith, ◌≡◌, ◌+◌, ◌≤◌, [], ◌∷◌, ◌++◌, pos, OnOk, sym, ap, subst, ◌∙◌, ⊎_elim}
 use borrow.Author.Rules.{get_or_read}
 use Rattle.ps_tree.specs.declared.tree.Argument.TheFolds.{the_lemmas}
 use Rattle.ps_tree.specs.declared.tree.Expr.{Expr}
 use Rattle.ps_tree.specs.declared.tree.Structure.{Structure}
+use Rattle.ps_tree.specs.declared.tree.ArithmeticStep.{out-ArithmeticStep}
 use Rattle.ps_tree.specs.declared.tree.SetStep.{out-SetStep}
 use Rattle.ps_tree.specs.View.{selector_of, place_of, expr_of, arithmetic_of, operands_of, structure_of, argument_of, arguments_of, set_of, member_of, members_of}
 use Rattle.tac_code.specs.declared.code.Instruction.TheVariants as i
@@ -20,8 +21,8 @@ use Rattle.ps_lower.proofs.Handing.{contents_made, compare_strings_is, strings_m
 use Rattle.ps_lower.proofs.Looking.{eof_is, eoln_is}
 use Rattle.ps_lower.proofs.Appends.{and_then, added_start, added_next, added_all}
 use Rattle.ps_lower.proofs.Chains.{steps_added, steps_nothing, steps_further, step_added, step_told, operands_added, operands_nothing, operands_further, operand_added, operand_told}
-use Rattle.ps_lower.proofs.Weighing.{step_in, operand_in, set_step_in, member_in, sum_room, truth_room, leads_start, leads_depth, leads_reach, leads_next, handing_start, handing_one, handing_next, arguments_far, variable_room, contents_room}
-use Rattle.ps_bounds.specs.Weights.{expr_weight, steps_weight, operands_weight, set_weight}
+use Rattle.ps_lower.proofs.Weighing.{depth_near, depth_far, depth_farther, scratch_near, chain_far, step_in, operand_in, set_step_in, member_in, sum_room, truth_room, leads_start, leads_depth, leads_reach, leads_next, handing_start, handing_one, handing_next, arguments_far, variable_room, contents_room}
+use Rattle.ps_bounds.specs.Weights.{place_weight, expr_weight, steps_weight, operands_weight, set_weight, structure_weight, arguments_weight}
 use Rattle.ps_lower.proofs.values.+values.Goals as goal
 
 pub front-returns-in-Number : goal.front-returns-in-Number
@@ -104,6 +105,9 @@ go_on_with-loop-operand-preserved t c =
     added_next (operands_added (scope_of c.args.k.now) c.args.operator c.args.a c.args.x) (operand_added (scope_of c.args.k.now) c.args.operator c.args.a c.args.x) (operands_further (scope_of c.args.k.now) c.args.operator c.args.a c.args.x) _ _ _ _ _ c.operand-item.result c.loop-operand-test.true c.loop-operand.invariant
     (and_then _ _ _ _ _ (and_then _ _ _ _ _ c.in_ok-front.ensures c.in_ok-truth_finish.ensures) c.in_ok-bits.ensures
     ∙ ap (λ l. c.loop-operand.out ++ l) (operand_told (scope_of c.args.k.now) c.args.operator c.args.a c.args.x c.even_above-t.result c.operand-item.result c.bit_operator.result c.even_above-t.ensures.value c.bit_operator.ensures ∙ ap (operand_added (scope_of c.args.k.now) c.args.operator c.args.a c.args.x) c.operand-item.is))
+
+pub value-returns : goal.value-returns
+value-returns t c = behind c.finish.result c.finish.new.out c.front.new.out c.args.out.now _ _ c.in_ok-front.ensures c.finish.ensures
 
 -- ---- variables
 
@@ -270,14 +274,16 @@ pub front-place-requires : goal.front-place-requires
 front-place-requires t c =
     let e = ap (expr_weight (scope_of c.args.k.now)) (load_is _ _ _ c.in-Load.is c.deref.ensures) in
     let r = c.requires in
-    (search (rules, the_lemmas, get_or_read), omega (arith, e, r))
+    let room : c.args.d + c.args.x + place_weight (scope_of c.args.k.now) (place_of c.deref.result.now) ≤ 2147483647 = omega (arith, e, r) in
+    search (rules, the_lemmas, get_or_read)
 
 pub front-value-requires-in-Arithmetic : goal.front-value-requires-in-Arithmetic
 front-value-requires-in-Arithmetic t c =
     let e = ap (expr_weight (scope_of c.args.k.now)) (arithmetic_is c.args.e.now c.in-Arithmetic.first c.in-Arithmetic.steps c.deref-in-Arithmetic-2.result.now c.deref-in-Arithmetic.result.now c.in-Arithmetic.is c.deref-in-Arithmetic-2.ensures c.deref-in-Arithmetic.ensures.value) in
     let s = sum_room (arithmetic_of c.deref-in-Arithmetic.result.now) c.args.d c.kept-sum.result (c.kept-sum.ensures.value ∙ ap (λ b. kept b c.args.d) c.steps_call.ensures) in
     let r = c.requires in
-    (search (rules, the_lemmas, get_or_read), omega (arith, e, s, r))
+    let room : c.kept-sum.result + c.args.x + expr_weight (scope_of c.args.k.now) (expr_of c.deref-in-Arithmetic-2.result.now) ≤ 2147483647 = omega (arith, e, s, r) in
+    search (rules, the_lemmas, get_or_read)
 
 pub front-go_on-requires : goal.front-go_on-requires
 front-go_on-requires t c =
@@ -285,14 +291,16 @@ front-go_on-requires t c =
     let s = c.kept-sum.ensures.small in
     let w = ap (λ l. steps_weight (scope_of c.args.k.now) (arithmetic_of l)) (c.deref-in-Arithmetic-3.ensures.value ∙ sym c.deref-in-Arithmetic.ensures.value) in
     let r = c.requires in
-    (search (rules, the_lemmas, get_or_read), omega (arith, e, s, w, r))
+    let room : c.kept-sum.result + c.args.x + steps_weight (scope_of c.args.k.now) (arithmetic_of c.deref-in-Arithmetic-3.result.now) ≤ 2147483647 + 1 = omega (arith, e, s, w, r) in
+    search (rules, the_lemmas, get_or_read)
 
 pub front-front-requires-in-Logic : goal.front-front-requires-in-Logic
 front-front-requires-in-Logic t c =
     let e = ap (expr_weight (scope_of c.args.k.now)) (logic_is c.args.e.now c.in-Logic.operator c.in-Logic.first c.in-Logic.rest c.deref-in-Logic-2.result.now c.deref-in-Logic.result.now c.in-Logic.is c.deref-in-Logic-2.ensures c.deref-in-Logic.ensures.value) in
     let s = truth_room (operands_of c.deref-in-Logic.result.now) c.args.d c.kept-truth.result (c.kept-truth.ensures.value ∙ ap (λ b. kept b c.args.d) c.operands_call.ensures) in
     let r = c.requires in
-    (search (rules, the_lemmas, get_or_read), omega (arith, e, s, r))
+    let room : c.kept-truth.result + c.args.x + expr_weight (scope_of c.args.k.now) (expr_of c.deref-in-Logic-2.result.now) ≤ 2147483647 = omega (arith, e, s, r) in
+    search (rules, the_lemmas, get_or_read)
 
 pub front-go_on_with-requires : goal.front-go_on_with-requires
 front-go_on_with-requires t c =
@@ -300,13 +308,85 @@ front-go_on_with-requires t c =
     let s = c.kept-truth.ensures.small in
     let w = ap (λ l. operands_weight (scope_of c.args.k.now) (operands_of l)) (c.deref-in-Logic-4.ensures.value ∙ sym c.deref-in-Logic.ensures.value) in
     let r = c.requires in
-    (search (rules, the_lemmas, get_or_read), omega (arith, e, s, w, r))
+    let room : c.kept-truth.result + c.args.x + operands_weight (scope_of c.args.k.now) (operands_of c.deref-in-Logic-4.result.now) ≤ 2147483647 + 1 = omega (arith, e, s, w, r) in
+    search (rules, the_lemmas, get_or_read)
+
+pub front-value-requires : goal.front-value-requires
+front-value-requires t c =
+    let e = ap (expr_weight (scope_of c.args.k.now)) (plus_is _ _ _ c.in-Plus.is c.deref-in-Plus.ensures) in
+    let r = c.requires in
+    let room : c.args.d + c.args.x + expr_weight (scope_of c.args.k.now) (expr_of c.deref-in-Plus.result.now) ≤ 2147483647 = omega (arith, e, r) in
+    search (rules, the_lemmas, get_or_read)
+
+pub front-minus-requires : goal.front-minus-requires
+front-minus-requires t c =
+    let e = ap (expr_weight (scope_of c.args.k.now)) (minus_is _ _ _ _ c.in-Minus.is c.deref-in-Minus.ensures) in
+    let r = c.requires in
+    let room : c.args.d + 8 + c.args.x + expr_weight (scope_of c.args.k.now) (expr_of c.deref-in-Minus.result.now) ≤ 2147483647 = omega (arith, e, r) in
+    search (rules, the_lemmas, get_or_read)
+
+pub front-front-requires : goal.front-front-requires
+front-front-requires t c =
+    let e = ap (expr_weight (scope_of c.args.k.now)) (not_is _ _ _ c.in-Not.is c.deref-in-Not.ensures) in
+    let r = c.requires in
+    let room : c.args.d + c.args.x + expr_weight (scope_of c.args.k.now) (expr_of c.deref-in-Not.result.now) ≤ 2147483647 = omega (arith, e, r) in
+    search (rules, the_lemmas, get_or_read)
+
+pub front-value-requires-in-Apply : goal.front-value-requires-in-Apply
+front-value-requires-in-Apply t c =
+    let e = ap (expr_weight (scope_of c.args.k.now)) (apply_is _ _ _ _ _ c.in-Apply.is c.deref-in-Apply.ensures) in
+    let r = c.requires in
+    let room : c.args.d + c.args.x + expr_weight (scope_of c.args.k.now) (expr_of c.deref-in-Apply.result.now) ≤ 2147483647 = omega (arith, e, r) in
+    search (rules, the_lemmas, get_or_read)
+
+pub front-set-requires : goal.front-set-requires
+front-set-requires t c =
+    let e = ap (expr_weight (scope_of c.args.k.now)) (compare_sets_is c.args.e.now c.in-CompareSets.relation c.in-CompareSets.left c.deref-in-CompareSets.result.now c.in-CompareSets.right c.deref-in-CompareSets-2.result.now c.in-CompareSets.is c.deref-in-CompareSets.ensures c.deref-in-CompareSets-2.ensures) in
+    let h0 = c.even_from-t.ensures.small in
+    let r = c.requires in
+    let room : c.even_from-t.result + c.args.x + set_weight (scope_of c.args.k.now) (set_of c.deref-in-CompareSets.result.now) ≤ 2147483647 = omega (arith, e, h0, r) in
+    search (rules, the_lemmas, get_or_read)
+
+pub front-set-requires-in-CompareSets : goal.front-set-requires-in-CompareSets
+front-set-requires-in-CompareSets t c =
+    let e = ap (expr_weight (scope_of c.args.k.now)) (compare_sets_is c.args.e.now c.in-CompareSets.relation c.in-CompareSets.left c.deref-in-CompareSets.result.now c.in-CompareSets.right c.deref-in-CompareSets-2.result.now c.in-CompareSets.is c.deref-in-CompareSets.ensures c.deref-in-CompareSets-2.ensures) in
+    let h0 = c.even_from-t.ensures.small in
+    let h1 = c.above-behind.ensures in
+    let r = c.requires in
+    let room : c.even_from-t.result + c.above-behind.result + set_weight (scope_of c.args.k.now) (set_of c.deref-in-CompareSets-2.result.now) ≤ 2147483647 = omega (arith, e, h0, h1, r) in
+    search (rules, the_lemmas, get_or_read)
+
+pub front-value-requires-in-In : goal.front-value-requires-in-In
+front-value-requires-in-In t c =
+    let e = ap (expr_weight (scope_of c.args.k.now)) (in_is c.args.e.now c.in-In.left c.deref-in-In.result.now c.in-In.right c.deref-in-In-2.result.now c.in-In.is c.deref-in-In.ensures c.deref-in-In-2.ensures) in
+    let h0 = c.held-member.ensures.small in
+    let r = c.requires in
+    let room : c.held-member.result + c.args.x + expr_weight (scope_of c.args.k.now) (expr_of c.deref-in-In.result.now) ≤ 2147483647 = omega (arith, e, h0, r) in
+    search (rules, the_lemmas, get_or_read)
+
+pub front-set-requires-in-In : goal.front-set-requires-in-In
+front-set-requires-in-In t c =
+    let e = ap (expr_weight (scope_of c.args.k.now)) (in_is c.args.e.now c.in-In.left c.deref-in-In.result.now c.in-In.right c.deref-in-In-2.result.now c.in-In.is c.deref-in-In.ensures c.deref-in-In-2.ensures) in
+    let h0 = c.held-member.ensures.small in
+    let h1 = c.even_above-t.ensures.small in
+    let r = c.requires in
+    let room : c.even_above-t.result + c.args.x + set_weight (scope_of c.args.k.now) (set_of c.deref-in-In-2.result.now) ≤ 2147483647 = omega (arith, e, h0, h1, r) in
+    search (rules, the_lemmas, get_or_read)
+
+pub front-structure-requires : goal.front-structure-requires
+front-structure-requires t c =
+    let e = ap (expr_weight (scope_of c.args.k.now)) (compare_strings_is c.args.e.now c.in-CompareStrings.relation c.in-CompareStrings.left c.deref-in-CompareStrings-2.result.now c.in-CompareStrings.right c.deref-in-CompareStrings.result.now c.in-CompareStrings.is c.deref-in-CompareStrings-2.ensures c.deref-in-CompareStrings.ensures) in
+    let h0 = c.held-first.ensures.small in
+    let r = c.requires in
+    let room : c.held-first.result + c.args.x + structure_weight (scope_of c.args.k.now) (structure_of c.deref-in-CompareStrings-2.result.now) ≤ 2147483647 = omega (arith, e, h0, r) in
+    search (rules, the_lemmas, get_or_read)
 
 pub front-arguments-requires : goal.front-arguments-requires
 front-arguments-requires t c =
     let e = ap (expr_weight (scope_of c.args.k.now)) (call_is c.args.e.now c.in-Call.routine c.in-Call.up c.in-Call.actual c.in-Call.line c.deref-in-Call.result.now c.in-Call.is c.deref-in-Call.ensures.value) in
     let r = c.requires in
-    (search (rules, the_lemmas, get_or_read), omega (arith, e, r))
+    let room : c.args.d + c.args.x + arguments_weight (scope_of c.args.k.now) (arguments_of c.deref-in-Call.result.now) ≤ 2147483647 = omega (arith, e, r) in
+    search (rules, the_lemmas, get_or_read)
 
 pub front-call-requires : goal.front-call-requires
 front-call-requires t c =
@@ -320,7 +400,8 @@ pub front-arguments-requires-in-CallFormal : goal.front-arguments-requires-in-Ca
 front-arguments-requires-in-CallFormal t c =
     let e = ap (expr_weight (scope_of c.args.k.now)) (call_formal_is c.args.e.now c.in-CallFormal.up c.in-CallFormal.index c.in-CallFormal.actual c.in-CallFormal.line c.deref-in-CallFormal.result.now c.in-CallFormal.is c.deref-in-CallFormal.ensures.value) in
     let r = c.requires in
-    (search (rules, the_lemmas, get_or_read), omega (arith, e, r))
+    let room : c.args.d + c.args.x + arguments_weight (scope_of c.args.k.now) (arguments_of c.deref-in-CallFormal.result.now) ≤ 2147483647 = omega (arith, e, r) in
+    search (rules, the_lemmas, get_or_read)
 
 pub front-call_formal-requires-clause-depth : goal.front-call_formal-requires-clause-depth
 front-call_formal-requires-clause-depth t c =
@@ -335,14 +416,16 @@ go_on-unless_known-requires t c =
     let l = step_in (scope_of c.args.k.now) c.args.steps.now c.loop-step.step-index c.step-item.result c.loop-step-test.true c.step-item.is in
     let h = c.even_above-t.ensures.small in
     let r = c.requires in
-    (search (rules, the_lemmas, get_or_read), omega (arith, l, h, r))
+    let room : c.even_above-t.result + c.args.x + expr_weight (scope_of c.args.k.now) (expr_of (out-ArithmeticStep c.step-item.result).operand) ≤ 2147483647 = omega (arith, l, h, r) in
+    search (rules, the_lemmas, get_or_read)
 
 pub go_on_with-front-requires : goal.go_on_with-front-requires
 go_on_with-front-requires t c =
     let l = operand_in (scope_of c.args.k.now) c.args.operands.now c.loop-operand.operand-index c.operand-item.result c.loop-operand-test.true c.operand-item.is in
     let h = c.even_above-t.ensures.small in
     let r = c.requires in
-    (search (rules, the_lemmas, get_or_read), omega (arith, l, h, r))
+    let room : c.even_above-t.result + c.args.x + expr_weight (scope_of c.args.k.now) (expr_of c.operand-item.result) ≤ 2147483647 = omega (arith, l, h, r) in
+    search (rules, the_lemmas, get_or_read)
 
 pub go_on_with-truth_finish-requires : goal.go_on_with-truth_finish-requires
 go_on_with-truth_finish-requires t c =
@@ -380,3 +463,63 @@ structure-place-requires t c =
     let e = contents_room (scope_of c.args.k.now) c.args.e.now _ _ c.deref-in-Contents.result.now c.in-Contents.is c.deref-in-Contents.ensures in
     let r = c.requires in
     (search (rules, the_lemmas, get_or_read), omega (arith, e, r))
+
+pub front-function-requires : goal.front-function-requires
+front-function-requires t c = depth_near c.args.d c.args.x _ c.requires
+
+pub front-look_ahead-requires : goal.front-look_ahead-requires
+front-look_ahead-requires t c = depth_near c.args.d c.args.x _ c.requires
+
+pub front-look_on-requires : goal.front-look_on-requires
+front-look_on-requires t c = depth_near c.args.d c.args.x _ c.requires
+
+pub value-finish-requires : goal.value-finish-requires
+value-finish-requires t c = depth_near c.args.d c.args.x _ c.requires
+
+pub set-copied_set-requires : goal.set-copied_set-requires
+set-copied_set-requires t c = depth_near c.args.d c.args.x _ c.requires
+
+pub front-held-first-requires : goal.front-held-first-requires
+front-held-first-requires t c = depth_far c.args.d c.args.x _ c.requires
+
+pub front-held-member-requires : goal.front-held-member-requires
+front-held-member-requires t c = depth_far c.args.d c.args.x _ c.requires
+
+pub front-kept-held-requires : goal.front-kept-held-requires
+front-kept-held-requires t c = depth_far c.args.d c.args.x _ c.requires
+
+pub front-kept-sum-requires : goal.front-kept-sum-requires
+front-kept-sum-requires t c = depth_far c.args.d c.args.x _ c.requires
+
+pub front-kept-truth-requires : goal.front-kept-truth-requires
+front-kept-truth-requires t c = depth_far c.args.d c.args.x _ c.requires
+
+pub member-held-first-requires : goal.member-held-first-requires
+member-held-first-requires t c = depth_far c.args.d c.args.x _ c.requires
+
+pub place-place_temporary-t-requires : goal.place-place_temporary-t-requires
+place-place_temporary-t-requires t c = depth_far c.args.d c.args.x _ c.requires
+
+pub front-even_from-t-requires : goal.front-even_from-t-requires
+front-even_from-t-requires t c = depth_farther c.args.d c.args.x _ c.requires
+
+pub member-even_from-t-requires : goal.member-even_from-t-requires
+member-even_from-t-requires t c = depth_farther c.args.d c.args.x _ c.requires
+
+pub set-even_from-requires : goal.set-even_from-requires
+set-even_from-requires t c = depth_farther c.args.d c.args.x _ c.requires
+
+pub front-above-behind-requires : goal.front-above-behind-requires
+front-above-behind-requires t c = scratch_near c.args.d c.args.x _ c.requires
+
+pub combine-above-behind-requires : goal.combine-above-behind-requires
+combine-above-behind-requires t c = scratch_near c.args.d c.args.x _ c.requires
+
+pub member-above-behind-requires : goal.member-above-behind-requires
+member-above-behind-requires t c = scratch_near c.args.d c.args.x _ c.requires
+
+pub go_on-even_above-t-requires : goal.go_on-even_above-t-requires
+go_on-even_above-t-requires t c = chain_far c.args.a c.args.x _ c.requires
+
+pub go_on_with-even_above-t-requires : goal.go_on_with-even_above-t-requires
+go_on_with-even_above-t-requires t c = chain_far c.args.a c.args.x _ c.requires
