@@ -1,5 +1,5 @@
 -- The forms of expressions and statements, read again, and results that are told of one form and asked of another.
-use Rattle.std.proofs.Common.{◌≡◌, ℕ, suc, List, ◌++◌, Vec, Box, Global, Result, OnOk, sym, ap, subst, ◌∙◌}
+use Rattle.std.proofs.Common.{◌≡◌, ℕ, suc, pos, List, [], ◌∷◌, ◌++◌, Option, None, Vec, Box, Global, Result, OnOk, sym, ap, subst, ◌∙◌}
 use Rattle.std.specs.Prelude.{Ok, Err}
 use Rattle.ps_tree.specs.Tree as t
 use Rattle.ps_tree.specs.declared.line.Line.{Line}
@@ -13,9 +13,12 @@ use Rattle.ps_tree.specs.declared.tree.Expr.{Expr, Number, Nil, Load, Plus, Minu
 use Rattle.ps_tree.specs.View.{place_of, expr_of, arithmetic_of, operands_of}
 use Rattle.ps_tree.proofs.TreeLemmas.{expr_of_Load, expr_of_Arithmetic, expr_of_Logic}
 use Rattle.tac_code.specs.declared.code.Instruction.{Instruction}
+use Rattle.tac_code.specs.declared.code.Instruction.TheVariants as i
+use Rattle.tac_code.specs.declared.code.Operand.TheVariants as operand
+use Rattle.tac_code.specs.declared.code.Operator.TheVariants as operator
 use Rattle.ps_code.specs.Scopes.{Scope, kept, even_from, moved, unless_known}
 use Rattle.ps_code.specs.Calling.{expr_calls, steps_call, operands_call}
-use Rattle.ps_code.specs.Values.{literal_of, truth_finish, front_code, steps_code, operands_code}
+use Rattle.ps_code.specs.Values.{literal_of, negated, truth_finish, minus_code, front_code, steps_code, operands_code}
 use Rattle.ps_code.specs.Statements.{expr_code}
 use Rattle.ps_lower.proofs.Appends.{and_then}
 
@@ -74,7 +77,15 @@ pub behind : {X E : Type 0} (r : Result X E) (new middle old a b : List Instruct
 behind (Ok v) new middle old a b p h = and_then old middle new a b p h
 behind (Err e) new middle old a b p h = h
 
--- ---- chains and comparisons
+-- ---- signs, chains and comparisons
+
+-- a sign before what is no number
+pub minus_made : {X E : Type 0} (k : Scope) (e : t.Expr) (d x line n : ℕ) (r : Result X E) (new o2 o1 old : List Instruction) → None ≡ negated e → n ≡ even_from (suc d) → o1 ≡ old ++ expr_code k e n x → o2 ≡ o1 ++ i.Literal d (pos 0) ∷ [] → OnOk r (new ≡ o2 ++ i.Arithmetic operator.Subtract d d (operand.Temporary n) 1 line ∷ []) → OnOk r (new ≡ old ++ minus_code (negated e) d (even_from (suc d)) line (expr_code k e (even_from (suc d)) x))
+minus_made k e d x line n r new o2 o1 old unknown is p q h =
+    subst (λ o. OnOk r (new ≡ old ++ minus_code o d (even_from (suc d)) line (expr_code k e (even_from (suc d)) x))) unknown
+    (subst (λ m. OnOk r (new ≡ old ++ minus_code None d m line (expr_code k e m x))) is
+    (behind r new o1 old (expr_code k e n x) (i.Literal d (pos 0) ∷ i.Arithmetic operator.Subtract d d (operand.Temporary n) 1 line ∷ []) p
+    (behind r new o2 o1 (i.Literal d (pos 0) ∷ []) (i.Arithmetic operator.Subtract d d (operand.Temporary n) 1 line ∷ []) q h)))
 
 pub sum_made : {X E : Type 0} (k : Scope) (e : t.Expr) (steps : t.ArithmeticSteps) (d x a : ℕ) (r : Result X E) (new o2 o1 old : List Instruction) → a ≡ kept (steps_call steps) d → o1 ≡ old ++ expr_code k e a x → o2 ≡ o1 ++ steps_code k steps a x → OnOk r (new ≡ o2 ++ moved a d) → OnOk r (new ≡ old ++ front_code k (t.Arithmetic e steps) d x)
 sum_made k e steps d x a r new o2 o1 old is p q h =

@@ -11,7 +11,7 @@ use Rattle.ps_meaning.specs.Operators.{is_between}
 use Rattle.ps_layout.specs.Words.{bits_from}
 use Rattle.ps_code.specs.Scopes.{even_from}
 use Rattle.ps_code.specs.Values.{holds_all, outside_bits, joined_word, outside_code, set_check}
-use Rattle.ps_lower.specs.Sets.{numbers_below, numbers_to, lowest_bits}
+use Rattle.ps_lower.specs.Sets.{filled_code, cleared_code, numbers_below, numbers_to, lowest_bits}
 use Rattle.ps_lower.proofs.Appends.{and_then, unchanged}
 use Rattle.ps_lower.proofs.Arms.{behind}
 
@@ -145,6 +145,28 @@ outside_start low high t x old = unchanged old
 
 pub outside_end : (low high : ℤ) (t x n : ℕ) (old now : List Instruction) → n ≡ 8 → now ≡ old ++ outside_code low high t x n → now ≡ old ++ outside_code low high t x 8
 outside_end low high t x n old now e h = h ∙ ap (λ y. old ++ outside_code low high t x y) e
+
+-- ---- a set without members, word by word
+
+pub clear_start : (t x : ℕ) (old now : List Instruction) → now ≡ old ++ i.Literal t (pos 0) ∷ [] → now ≡ old ++ i.Literal t (pos 0) ∷ filled_code t x 0
+unfolding filled_code
+clear_start t x old now h = h
+
+pub clear_next : (t x n m p : ℕ) (old middle new : List Instruction) → m ≡ suc n → p ≡ x + 4 * n → middle ≡ old ++ i.Literal t (pos 0) ∷ filled_code t x n → new ≡ middle ++ i.Store base.Scratch p t ∷ [] → new ≡ old ++ i.Literal t (pos 0) ∷ filled_code t x m
+unfolding filled_code
+clear_next t x n m p old middle new is at h s =
+    and_then old middle new (i.Literal t (pos 0) ∷ filled_code t x n) (i.Store base.Scratch (x + 4 * n) t ∷ []) h (s ∙ ap (λ y. middle ++ i.Store base.Scratch y t ∷ []) at)
+    ∙ ap (λ y. old ++ i.Literal t (pos 0) ∷ filled_code t x y) (sym is)
+
+pub clear_end : (t x n : ℕ) (old now : List Instruction) → n ≡ 8 → now ≡ old ++ i.Literal t (pos 0) ∷ filled_code t x n → now ≡ old ++ cleared_code t x
+unfolding filled_code
+clear_end t x n old now e h =
+    h ∙ ap (λ y. old ++ i.Literal t (pos 0) ∷ filled_code t x y) e
+    ∙ ap
+    (λ y. old ++ i.Literal t (pos 0) ∷ i.Store base.Scratch y t ∷ i.Store base.Scratch (x + 4) t ∷ i.Store base.Scratch (x + 8) t ∷ i.Store base.Scratch (x + 12) t ∷ i.Store base.Scratch (x + 16) t ∷ i.Store base.Scratch (x + 20) t ∷ i.Store base.Scratch (x + 24) t ∷ i.Store base.Scratch (x + 28) t ∷ [])
+    (let z : x + 4 * 0 ≡ x = omega arith in z)
+
+-- ---- the whole test
 
 abbrev pub checked : (t x : ℕ) (low high : ℤ) (line : ℕ) → List Instruction
 checked t x low high line = i.Literal t (pos 0) ∷ outside_code low high t x 8 ++ i.Branch Equal t (operand.Number (pos 0)) 1 ∷ i.Trap 8 line ∷ []

@@ -1,5 +1,5 @@
 -- Sets: their forms, read again, and their code, piece by piece.
-use Rattle.std.proofs.Common.{◌≡◌, ℕ, ℤ, suc, ◌+◌, true, List, [], ◌∷◌, ◌++◌, Vec, Box, Global, Result, OnOk, refl, sym, ap, subst, ◌∙◌, append_assoc}
+use Rattle.std.proofs.Common.{◌≡◌, ℕ, ℤ, suc, ◌+◌, Bool, true, Option, List, [], ◌∷◌, ◌++◌, Vec, Box, Global, Result, OnOk, refl, sym, ap, subst, ◌∙◌, append_assoc}
 use Rattle.ps_tree.specs.Tree as t
 use Rattle.ps_tree.specs.declared.line.Line.{Line}
 use Rattle.ps_tree.specs.declared.tree.Place.{Place}
@@ -7,7 +7,7 @@ use Rattle.ps_tree.specs.declared.tree.Expr.{Expr, CompareSets, In}
 use Rattle.ps_tree.specs.declared.tree.SetExpr.{SetExpr, Load, Constructor, Combine}
 use Rattle.ps_tree.specs.declared.tree.SetStep.{SetStep, out-SetStep}
 use Rattle.ps_tree.specs.declared.tree.Member.{Member, One, Range as Several}
-use Rattle.ps_tree.specs.declared.tree.Argument.{Argument, Set, Variable}
+use Rattle.ps_tree.specs.declared.tree.Argument.{Argument, Value, Set, Variable}
 use Rattle.ps_tree.specs.declared.tree.SetOperator.{SetOperator}
 use Rattle.ps_tree.specs.declared.tree.SetRelation.{SetRelation}
 use Rattle.ps_tree.specs.declared.tree.Statement.{Statement, AssignSet}
@@ -16,9 +16,9 @@ use Rattle.ps_tree.proofs.TreeLemmas.{set_of_Load, set_of_Constructor, set_of_Co
 use Rattle.tac_code.specs.declared.code.Base.TheVariants as base
 use Rattle.tac_code.specs.declared.code.Instruction.{Instruction}
 use Rattle.tac_code.specs.declared.code.Instruction.TheVariants as i
-use Rattle.ps_code.specs.Scopes.{Scope, Site, held, even_from, beside, moved, site_code, copy_code, helper, IsMember}
+use Rattle.ps_code.specs.Scopes.{Scope, Site, held, even_from, beside, moved, site_code, copy_code, fitting_code, helper, IsMember}
 use Rattle.ps_code.specs.Calling.{expr_calls}
-use Rattle.ps_code.specs.Values.{set_routine, clear_code, sets_code, set_check, range_members, front_code, place_code, place_site, set_code, set_steps_code, member_code, members_code, argument_code}
+use Rattle.ps_code.specs.Values.{set_routine, clear_code, sets_code, set_check, range_members, literal_of, gives_byte, front_code, place_code, place_site, set_code, set_steps_code, member_code, members_code, argument_code}
 use Rattle.ps_code.specs.Statements.{expr_code, statement_code}
 use Rattle.ps_lower.specs.Sets.{offsets_code, combined_code, copied_code, kept_code, one_member}
 use Rattle.ps_lower.proofs.Appends.{and_then}
@@ -167,6 +167,13 @@ unfolding argument_of
 set_handed k x e low high line n s r new middle old is p h =
     subst (λ (y : Argument). OnOk r (new ≡ old ++ argument_code k (argument_of y) n s)) (sym is)
     (behind_two r new middle old (set_code k (set_of e) n s) (set_check (even_from n) s low high line.number) (i.Offset n base.Scratch s 32 ∷ []) p h)
+
+pub value_handed : {X E : Type 0} (k : Scope) (x : Argument) (e : Expr) (range : _) (line : Line) (n s : ℕ) (byte : Bool) (known : Option ℤ) (r : Result X E) (new middle old : List Instruction) → x ≡ Value e range line → middle ≡ old ++ expr_code k (expr_of e) n s → byte ≡ gives_byte (expr_of e) → known ≡ literal_of (expr_of e) → OnOk r (new ≡ middle ++ fitting_code byte known n range line.number) → OnOk r (new ≡ old ++ argument_code k (argument_of x) n s)
+unfolding argument_of
+value_handed k x e range line n s byte known r new middle old is p b l h =
+    subst (λ (y : Argument). OnOk r (new ≡ old ++ argument_code k (argument_of y) n s)) (sym is)
+    (behind r new middle old (expr_code k (expr_of e) n s) (fitting_code (gives_byte (expr_of e)) (literal_of (expr_of e)) n range line.number) p
+    (subst (λ y. OnOk r (new ≡ middle ++ fitting_code (gives_byte (expr_of e)) y n range line.number)) l (subst (λ y. OnOk r (new ≡ middle ++ fitting_code y known n range line.number)) b h)))
 
 pub variable_handed : {X E : Type 0} (k : Scope) (x : Argument) (p : Place) (n s : ℕ) (site : Site) (r : Result X E) (new middle old : List Instruction) → x ≡ Variable p → middle ≡ old ++ place_code k (place_of p) n s → site ≡ place_site k (place_of p) n → OnOk r (new ≡ middle ++ site_code n site 0) → OnOk r (new ≡ old ++ argument_code k (argument_of x) n s)
 variable_handed k x p n s site r new middle old is c g h =

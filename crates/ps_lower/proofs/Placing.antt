@@ -1,13 +1,15 @@
 -- The code of variables, of loads and of assignments, piece by piece.
-use Rattle.std.proofs.Common.{◌≡◌, ℕ, ℤ, suc, Bool, List, ◌++◌, Option, Result, OnOk, IfOk, ap, subst, ◌∙◌}
+use Rattle.std.proofs.Common.{◌≡◌, ℕ, ℤ, suc, Bool, List, [], ◌++◌, Option, None, Result, OnOk, IfOk, ap, subst, ◌∙◌}
 use Rattle.std.specs.Prelude.{Ok, Err}
 use Rattle.ps_tree.specs.Tree as t
 use Rattle.ps_tree.specs.declared.tree.Range.{Range}
+use Rattle.ps_tree.specs.Types.{DataType}
 use Rattle.tac_code.specs.declared.code.Instruction.{Instruction}
 use Rattle.ps_code.specs.Scopes.{Scope, Site, kept, even_from, fitting_code}
 use Rattle.ps_code.specs.Calling.{selectors_call, expr_calls}
-use Rattle.ps_code.specs.Values.{literal_of, gives_byte, name_code, name_site, selectors_code, selectors_site, place_code, place_site, place_temporary, is_byte, load_code, store_code, front_code}
+use Rattle.ps_code.specs.Values.{literal_of, gives_byte, known_steps, index_code, name_code, name_site, selectors_code, selectors_site, place_code, place_site, place_temporary, is_byte, load_code, store_code, front_code}
 use Rattle.ps_code.specs.Statements.{expr_code, statement_code}
+use Rattle.ps_lower.specs.Sites.{selector_code}
 use Rattle.ps_lower.proofs.Appends.{and_then}
 use Rattle.ps_lower.proofs.Arms.{behind}
 
@@ -19,6 +21,13 @@ place_told k b l d x n s r new middle old is p g h =
 pub site_told : {A E : Type 0} (f : A → Site) (k : Scope) (b : t.PlaceBase) (l : t.Selectors) (d n : ℕ) (s : Site) (r : Result A E) → n ≡ kept (selectors_call l) d → s ≡ name_site k b n → IfOk r (λ y. f y ≡ selectors_site l s n) → IfOk r (λ y. f y ≡ place_site k (t.Variable b l) d)
 site_told f k b l d n s (Ok v) is g h = h ∙ ap (λ y. selectors_site l y n) g ∙ ap (λ m. selectors_site l (name_site k b m) m) is
 site_told f k b l d n s (Err e) is g h = h
+
+-- a component whose steps are not known
+pub element_told : {X E : Type 0} (k : Scope) (type : DataType) (e : t.Expr) (line : ℕ) (s : Site) (d x n : ℕ) (r : Result X E) (new middle old : List Instruction) → None ≡ known_steps type (literal_of e) → n ≡ even_from (suc d) → middle ≡ old ++ expr_code k e n x → OnOk r (new ≡ middle ++ index_code None type s d n line []) → OnOk r (new ≡ old ++ selector_code k (t.Element type e line) s d x)
+element_told k type e line s d x n r new middle old unknown is p h =
+    subst (λ o. OnOk r (new ≡ old ++ index_code o type s d (even_from (suc d)) line (expr_code k e (even_from (suc d)) x))) unknown
+    (subst (λ m. OnOk r (new ≡ old ++ index_code None type s d m line (expr_code k e m x))) is
+    (behind r new middle old (expr_code k e n x) (index_code None type s d n line []) p h))
 
 pub load_told : {X E : Type 0} (k : Scope) (p : t.Place) (d x : ℕ) (s : Site) (byte : Bool) (r : Result X E) (new middle old : List Instruction) → middle ≡ old ++ place_code k p d x → s ≡ place_site k p d → byte ≡ is_byte p → OnOk r (new ≡ middle ++ load_code byte d s) → OnOk r (new ≡ old ++ front_code k (t.Load p) d x)
 load_told k p d x s byte r new middle old c g w h =

@@ -36,7 +36,10 @@ passed_found f one law items i item d h s is hit =
 pub passed_all : {A : Type 0} (f : List A → Bool) → f [] ≡ false → (items : List A) (i : ℕ) → length items ≤ i → Passed f items i → false ≡ f items
 passed_all f none items i h s = sym none ∙ ap f (sym (drop_all i items h)) ∙ s.left
 
--- a second operand counts where the first is false
+-- a first operand that is true decides, and a second one counts where the first is false
+pub or_first : (x y z : Bool) → x ≡ true → (x || y) ≡ z → true ≡ z
+or_first x y z hit e = sym (ap (λ b. b || y) hit) ∙ e
+
 pub or_second : (x y z : Bool) → x ≡ false → (x || y) ≡ z → y ≡ z
 or_second x y z missed e = sym (ap (λ b. b || y) missed) ∙ e
 

@@ -1,5 +1,5 @@
 -- The parts of the code of sets.
-use Rattle.std.specs.Prelude.{ℕ, suc, ◌+◌, ◌-◌, ◌^◌, ℤ, pos, negsuc, nat_lt, if◌then◌else◌, List, [], ◌∷◌, ◌++◌}
+use Rattle.std.specs.Prelude.{ℕ, zero, suc, ◌+◌, ◌-◌, ◌*◌, ◌^◌, ℤ, pos, negsuc, nat_lt, if◌then◌else◌, List, [], ◌∷◌, ◌++◌}
 use Rattle.ps_tree.specs.declared.tree.SetOperator.{SetOperator}
 use Rattle.tac_code.specs.declared.code.Base.TheVariants as base
 use Rattle.tac_code.specs.declared.code.Instruction.{Instruction}
@@ -7,6 +7,11 @@ use Rattle.tac_code.specs.declared.code.Instruction.TheVariants as i
 use Rattle.tac_code.specs.Numbers.{natural}
 use Rattle.ps_code.specs.Scopes.{Scope, Site, beside, site_code, copy_code, helper, AddRange, IsIncluded}
 use Rattle.ps_code.specs.Values.{set_routine}
+
+-- the first words of the set from x on, each filled from t
+unfoldable pub filled_code : (t x words : ℕ) → List Instruction
+filled_code t x zero = []
+filled_code t x (suc q) = filled_code t x q ++ i.Store base.Scratch (x + 4 * q) t ∷ []
 
 -- no members in the set from x on
 abbrev pub cleared_code : (t x : ℕ) → List Instruction

@@ -21,7 +21,7 @@ use crate::shapes::byte_count;
 use ps_tree::tree::Argument;
 use ps_tree::types::Ty;
 use std::alloc::{AllocError, Global};
-use tac_code::code::Base;
+use tac_code::code::{Base, Instruction};
 
 /// Whether the code of an actual parameter calls.
 #[tactic(auto, using(ps_tree::proofs::TreeLemmas::argument_of_Variable), unfolding(ps_tree::specs::View::argument_of))]
@@ -216,7 +216,7 @@ pub fn routine_value(
     requires { t ≤ 4294960000 }
     ensures { OnOk result (out.new ≡ out.old ++ i.RoutineValue t routine ∷ link_code (scope_of k.now) (beside t) up) }
 {
-    out.routine_value(t, routine)?;
+    out.push(Instruction::RoutineValue { to: t, routine })?;
     link(out, k, beside(t), up)
 }
 

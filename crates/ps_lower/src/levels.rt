@@ -31,7 +31,6 @@ fn hops(out: &mut Code, k: &Level, t: u32, count: u32) -> Result<(), AllocError>
 }
 
 /// What reaches the frame so many levels up, and the base from which its parts count then.
-#[tactic(auto, using(crate::proofs::Hopping::own_code, crate::proofs::Hopping::own_base, crate::proofs::Hopping::outer_code, crate::proofs::Hopping::outer_base, crate::proofs::Hopping::between_base))]
 pub fn frame(out: &mut Code, k: &Level, t: u32, up: u32) -> Result<Base, AllocError>
     ensures code { OnOk result (out.new ≡ out.old ++ frame_code (scope_of k.now) t up) }
     ensures base { IfOk result (λ base. base ≡ frame_base (scope_of k.now) t up) }
@@ -48,7 +47,6 @@ pub fn frame(out: &mut Code, k: &Level, t: u32, up: u32) -> Result<Base, AllocEr
 }
 
 /// The address of the frame so many levels up.
-#[tactic(auto, using(crate::proofs::Hopping::own_link, crate::proofs::Hopping::outer_link, crate::proofs::Hopping::between_link))]
 pub fn link(out: &mut Code, k: &Level, t: u32, up: u32) -> Result<(), AllocError>
     ensures { OnOk result (out.new ≡ out.old ++ link_code (scope_of k.now) t up) }
 {

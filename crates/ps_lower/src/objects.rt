@@ -20,6 +20,7 @@ use crate::values::place;
 use ps_tree::tree::Place;
 use ps_tree::types::Ty;
 use std::alloc::AllocError;
+use tac_code::code::Instruction;
 
 /// The first value of the object of a pointer type; a number that no pointer type has leads to a pointer.
 fn first_of_domain(
@@ -52,7 +53,11 @@ fn object(
     requires reach { first_weight (shape_of (domain_at (scope_of k.now).program pointer)) ≤ 2147483647 }
     ensures { OnOk result (out.new ≡ out.old ++ i.New to pointer line ∷ first_code (scope_of k.now) (base.Temporary to) t 0 (shape_of (domain_at (scope_of k.now).program pointer))) }
 {
-    out.new_object(to, pointer, line)?;
+    out.push(Instruction::New {
+        to,
+        object_type: pointer,
+        line,
+    })?;
     first_of_domain(out, k, pointer, to, t)
 }
 

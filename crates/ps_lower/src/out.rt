@@ -56,7 +56,8 @@ impl Code {
         self.list.len()
     }
 
-    fn push(&mut self, instruction: Instruction) -> Result<(), AllocError>
+    /// An instruction.
+    pub fn push(&mut self, instruction: Instruction) -> Result<(), AllocError>
         ensures { OnOk result (self.new ≡ self.old ++ instruction ∷ []) }
     {
         self.list.push(instruction)?;
@@ -68,13 +69,6 @@ impl Code {
         ensures { OnOk result (self.new ≡ self.old ++ i.Literal to value ∷ []) }
     {
         self.push(Instruction::Literal { to, value })
-    }
-
-    /// A value from one temporary to another.
-    pub fn copy(&mut self, to: u32, from: u32) -> Result<(), AllocError>
-        ensures { OnOk result (self.new ≡ self.old ++ i.Copy to from ∷ []) }
-    {
-        self.push(Instruction::Copy { to, from })
     }
 
     /// An operator on numbers.
@@ -150,17 +144,6 @@ impl Code {
             value,
             low,
             high,
-            error,
-            line,
-        })
-    }
-
-    /// The test of a pointer against nil.
-    pub fn check_pointer(&mut self, pointer: u32, error: u8, line: u16) -> Result<(), AllocError>
-        ensures { OnOk result (self.new ≡ self.old ++ i.CheckPointer pointer error line ∷ []) }
-    {
-        self.push(Instruction::CheckPointer {
-            pointer,
             error,
             line,
         })
@@ -291,25 +274,11 @@ impl Code {
         self.push(Instruction::Trap { error, line })
     }
 
-    /// A byte that is written.
-    pub fn put(&mut self, from: u32) -> Result<(), AllocError>
-        ensures { OnOk result (self.new ≡ self.old ++ i.Put from ∷ []) }
-    {
-        self.push(Instruction::Put { from })
-    }
-
     /// The return from a routine.
     pub fn return_from(&mut self, from: u32) -> Result<(), AllocError>
         ensures { OnOk result (self.new ≡ self.old ++ i.Return from ∷ []) }
     {
         self.push(Instruction::Return { from })
-    }
-
-    /// The end of the program.
-    pub fn end(&mut self) -> Result<(), AllocError>
-        ensures { OnOk result (self.new ≡ self.old ++ i.End ∷ []) }
-    {
-        self.push(Instruction::End)
     }
 
     /// A call, whose operands are these temporaries.
@@ -346,24 +315,6 @@ impl Code {
             to,
             callee,
             operands,
-            line,
-        })
-    }
-
-    /// A routine as a value.
-    pub fn routine_value(&mut self, to: u32, routine: u32) -> Result<(), AllocError>
-        ensures { OnOk result (self.new ≡ self.old ++ i.RoutineValue to routine ∷ []) }
-    {
-        self.push(Instruction::RoutineValue { to, routine })
-    }
-
-    /// A new object.
-    pub fn new_object(&mut self, to: u32, object_type: u32, line: u16) -> Result<(), AllocError>
-        ensures { OnOk result (self.new ≡ self.old ++ i.New to object_type line ∷ []) }
-    {
-        self.push(Instruction::New {
-            to,
-            object_type,
             line,
         })
     }

@@ -1,6 +1,6 @@
 // Pack and unpack.
 
-ghost use Rattle.std.specs.Prelude.{◌≡◌, ◌++◌, ◌∷◌, ◌≤◌, ◌+◌, ◌-◌, ◌*◌, ◌+ℤ◌, [], pos, false, Bool, OnOk};
+ghost use Rattle.std.specs.Prelude.{◌≡◌, ◌++◌, ◌∷◌, ◌≤◌, ◌+◌, ◌-◌, ◌*◌, ◌+ℤ◌, [], pos, Bool, OnOk};
 ghost use Rattle.ps_bounds.specs.Weights.{excess, unless, part_weight, statement_weight};
 ghost use Rattle.ps_code.specs.Scopes.{RunTime, PackBytes, UnpackBytes, run_time_number, helper};
 ghost use Rattle.ps_code.specs.Values.{is_byte_array};
@@ -117,23 +117,7 @@ fn part_bytes(ty: &Ty, count: u32) -> u32
     count * component_bytes(ty)
 }
 
-/// The same by words, where neither array is one of bytes.
-fn words(
-    out: &mut Code,
-    k: &Level,
-    ty: &Ty,
-    a: u32,
-    b: u32,
-    count: u32,
-    t: u32,
-) -> Result<(), AllocError>
-    requires { count * component_bytes (shape_of (type_of ty.now)) ≤ 2147483647 }
-    ensures { (packing : Bool) → OnOk result (out.new ≡ out.old ++ components_code (scope_of k.now) packing a b count false false (component_bytes (shape_of (type_of ty.now))) t) }
-{
-    copy(out, k, b, a, t, part_bytes(ty, count))
-}
-
-/// The components of a part, from the address in a to the address in b.
+/// The components of a part, from the address in a to the address in b: by words, where neither array is one of bytes.
 fn components(
     out: &mut Code,
     k: &Level,
@@ -154,7 +138,7 @@ fn components(
     if is_byte_array(from_ty) {
         return bytes(out, k, UNPACK_BYTES, a, b, count, t);
     }
-    words(out, k, from_ty, a, b, count, t)
+    copy(out, k, b, a, t, part_bytes(from_ty, count))
 }
 
 /// `pack(from, index, to)`

@@ -15,7 +15,7 @@ use crate::known::{
 use crate::out::Code;
 use ps_tree::tree::{Expr, Range, RequiredFunction};
 use std::alloc::AllocError;
-use tac_code::code::{BitOperator, Operand, Operator, Relation};
+use tac_code::code::{BitOperator, Instruction, Operand, Operator, Relation};
 
 /// A number that stands in the tree.
 pub fn number(out: &mut Code, n: &i32, d: u32) -> Result<(), AllocError>
@@ -31,7 +31,7 @@ pub fn moved(out: &mut Code, from: u32, to: u32) -> Result<(), AllocError>
     if from == to {
         Ok(())
     } else {
-        out.copy(to, from)
+        out.push(Instruction::Copy { to, from })
     }
 }
 

@@ -20,7 +20,7 @@ use crate::site::Site;
 use ps_tree::tree::{Place, PlaceBase, Selector};
 use ps_tree::types::Ty;
 use std::alloc::AllocError;
-use tac_code::code::Base;
+use tac_code::code::{Base, Instruction};
 
 /// The temporary that may hold a variable's address.
 pub fn place_temporary(place: &Place, d: u32) -> u32
@@ -165,7 +165,11 @@ pub fn pointed(out: &mut Code, site: Site, t: u32, line: u16) -> Result<Site, Al
     ensures site { IfOk result (λ s. site_of s ≡ site_at t) }
 {
     out.load(t, site.base, site.offset)?;
-    out.check_pointer(t, 6, line)?;
+    out.push(Instruction::CheckPointer {
+        pointer: t,
+        error: 6,
+        line,
+    })?;
     Ok(Site {
         base: Base::Temporary(t),
         offset: 0,

@@ -1,6 +1,6 @@
 // The code of routines.
 
-ghost use Rattle.std.specs.Prelude.{◌≡◌, ◌++◌, ◌+◌, ◌*◌, ◌≤◌, [], ◌∷◌, pos, OnOk, IfOk, option_map};
+ghost use Rattle.std.specs.Prelude.{◌≡◌, ◌++◌, ◌+◌, ◌*◌, ◌≤◌, OnOk, IfOk, option_map};
 ghost use Rattle.ps_bounds.specs.Weights.{statements_weight, result_weight, begin_weight, routine_weight};
 ghost use Rattle.ps_code.specs.Programs.{tac_of};
 ghost use Rattle.ps_code.specs.Routines.{input_code, parameter_total, begin_code, result_end, end_code, routine_code, scope_of as scope_in};
@@ -10,8 +10,6 @@ ghost use Rattle.ps_lower.specs.Firsts.{result_at, head_code, words_in};
 ghost use Rattle.ps_lower.specs.Levels.{scope_of};
 ghost use Rattle.ps_tree.specs.Checked.{program_in};
 ghost use Rattle.ps_tree.specs.View.{type_of, routine_of};
-ghost use Rattle.tac_code.specs.declared.code.Base.TheVariants as base;
-ghost use Rattle.tac_code.specs.declared.code.Instruction.TheVariants as i;
 
 use crate::count::{scratch_in, temporaries_in};
 use crate::depth::DEEPEST;
@@ -25,7 +23,7 @@ use crate::statements::statements;
 use ps_tree::tree::Routine;
 use ps_tree::types::Ty;
 use std::alloc::{AllocError, Global};
-use tac_code::code::{Base, Body, TacRoutine};
+use tac_code::code::{Base, Body, Instruction, TacRoutine};
 
 /// No frame has more words.
 const MOST_WORDS: u32 = 250_000_000;
@@ -143,29 +141,19 @@ fn begin(out: &mut Code, k: &Level, routine: &Routine, words: u32, t: u32) -> Re
     firsts(out, k, routine.variables.as_slice(), t, place)
 }
 
-/// The return of 0.
-fn give_nothing(out: &mut Code) -> Result<(), AllocError>
-    ensures { OnOk result (out.new ≡ out.old ++ i.Literal 0 (pos 0) ∷ i.Return 0 ∷ []) }
-{
-    out.literal(0, 0)?;
-    out.return_from(0)
-}
-
-/// The return of a result, which is the first entry.
-fn give_result(out: &mut Code) -> Result<(), AllocError>
-    ensures { OnOk result (out.new ≡ out.old ++ i.Load 0 base.Frame 4 ∷ i.Return 0 ∷ []) }
-{
-    out.load(0, Base::Frame, 4)?;
-    out.return_from(0)
-}
-
-/// The return of a function's result, or of 0.
+/// The return of a function's result, which is the first entry, or of 0.
 fn give_back(out: &mut Code, routine: &Routine) -> Result<(), AllocError>
     ensures { OnOk result (out.new ≡ out.old ++ result_end (routine_of routine.now) (routine_of routine.now).result) }
 {
     match &routine.result {
-        None => give_nothing(out),
-        Some(_) => give_result(out),
+        None => {
+            out.literal(0, 0)?;
+            out.return_from(0)
+        }
+        Some(_) => {
+            out.load(0, Base::Frame, 4)?;
+            out.return_from(0)
+        }
     }
 }
 
@@ -174,7 +162,7 @@ fn finish(out: &mut Code, routine: &Routine) -> Result<(), AllocError>
     ensures { OnOk result (out.new ≡ out.old ++ end_code (routine_of routine.now)) }
 {
     if is_program_block(routine) {
-        return out.end();
+        return out.push(Instruction::End);
     }
     give_back(out, routine)
 }

@@ -1,7 +1,7 @@
 // Sets, each of which stands in the scratch block from a byte on, and what is made of them there.
 
 ghost use Rattle.std.specs.Prelude.{◌≡◌, ◌++◌, ◌+◌, ◌≤◌, ◌∷◌, [], pos, suc, OnOk};
-ghost use Rattle.ps_code.specs.Scopes.{even_from, moved, helper, AddRange, IsIncluded, IsMember, run_time_number};
+ghost use Rattle.ps_code.specs.Scopes.{even_from, moved, helper, AddRange, IsMember, run_time_number};
 ghost use Rattle.ps_code.specs.Values.{set_routine, holds_all, outside_bits, masked, joined_word, outside_code, set_check, included_code, same_sets_code, sets_code, range_members};
 ghost use Rattle.ps_lower.specs.Levels.{scope_of, site_of};
 ghost use Rattle.ps_lower.specs.Sets.{cleared_code, offsets_code, combined_code, includes_code, numbers_below, numbers_to, lowest_bits, one_member, copied_code, kept_code};
@@ -47,14 +47,10 @@ pub fn clear(out: &mut Code, t: u32, x: u32) -> Result<(), AllocError>
     ensures { OnOk result (out.new ≡ out.old ++ cleared_code t x) }
 {
     out.literal(t, 0)?;
-    out.store(Base::Scratch, x, t)?;
-    out.store(Base::Scratch, x + 4, t)?;
-    out.store(Base::Scratch, x + 8, t)?;
-    out.store(Base::Scratch, x + 12, t)?;
-    out.store(Base::Scratch, x + 16, t)?;
-    out.store(Base::Scratch, x + 20, t)?;
-    out.store(Base::Scratch, x + 24, t)?;
-    out.store(Base::Scratch, x + 28, t)
+    for word in 0..8 {
+        out.store(Base::Scratch, x + 4 * word, t)?;
+    }
+    Ok(())
 }
 
 /// The words of a set at a site, as the set from x on.
@@ -107,19 +103,6 @@ pub fn combined(
     help(out, k, set_routine(operator), &[t, second], t)
 }
 
-/// Whether the first of two sets lies in the second.
-fn is_included(
-    out: &mut Code,
-    k: &Level,
-    first: u32,
-    second: u32,
-    to: u32,
-) -> Result<(), AllocError>
-    ensures { OnOk result (out.new ≡ out.old ++ helper (scope_of k.now) IsIncluded (first ∷ second ∷ []) to ∷ []) }
-{
-    help(out, k, IS_INCLUDED, &[first, second], to)
-}
-
 /// Whether the set from x on lies in the one behind it.
 fn included(
     out: &mut Code,
@@ -133,7 +116,7 @@ fn included(
     ensures { OnOk result (out.new ≡ out.old ++ included_code (scope_of k.now) first second to x) }
 {
     offsets(out, first, second, x)?;
-    is_included(out, k, first, second, to)
+    help(out, k, IS_INCLUDED, &[first, second], to)
 }
 
 /// Whether the set behind the one from x on lies in that one.
@@ -144,7 +127,7 @@ fn includes(out: &mut Code, k: &Level, t: u32, x: u32) -> Result<(), AllocError>
 {
     let second = beside(t);
     offsets(out, t, second, x)?;
-    is_included(out, k, second, t, t)
+    help(out, k, IS_INCLUDED, &[second, t], t)
 }
 
 /// Whether the set from x on is the one behind it.

@@ -20,6 +20,7 @@ use crate::texts::{text_length, truth_text};
 use crate::values::{structure, value};
 use ps_tree::tree::{Expr, Structure, Width, WriteParameter};
 use std::alloc::AllocError;
+use tac_code::code::Instruction;
 
 const WRITE_NUMBER: u32 = 10;
 
@@ -156,5 +157,5 @@ pub fn writeln(
 {
     writes(out, k, parameters, d)?;
     out.literal(even_from(d), 10)?;
-    out.put(even_from(d))
+    out.push(Instruction::Put { from: even_from(d) })
 }

@@ -1,8 +1,8 @@
-use Rattle.std.proofs.Common.{sym, ap, ◌∙◌}
-use Rattle.ps_tree.specs.View.{selector_of, expr_of}
-use Rattle.ps_tree.proofs.TreeLemmas.{expr_of_Arithmetic, expr_of_Logic}
+use Rattle.std.proofs.Common.{sym, ap, ◌∙◌, ⊎_elim}
+use Rattle.ps_tree.specs.View.{place_of, selector_of, expr_of}
+use Rattle.ps_tree.proofs.TreeLemmas.{expr_of_Load, expr_of_Arithmetic, expr_of_Logic}
 use Rattle.ps_code.specs.Calling as code
-use Rattle.ps_lower.proofs.Searches.{passed_start, passed_next, passed_found, passed_all, or_second, selectors_in, selectors_none, selectors_more, step_in, steps_in, steps_none, steps_more, operands_in, operands_none, operands_more}
+use Rattle.ps_lower.proofs.Searches.{passed_start, passed_next, passed_found, passed_all, or_first, or_second, selectors_in, selectors_none, selectors_more, step_in, steps_in, steps_none, steps_more, operands_in, operands_none, operands_more}
 use Rattle.ps_lower.proofs.calling.+calling.Goals as goal
 
 pub selectors_call-loop-selector-init : goal.selectors_call-loop-selector-init
@@ -50,3 +50,38 @@ pub expr_calls-returns-else-expr_calls-2 : goal.expr_calls-returns-else-expr_cal
 expr_calls-returns-else-expr_calls-2 t c =
     c.operands_call.ensures ∙ ap operands_in c.deref-else-expr_calls-2.ensures.value
     ∙ or_second (code.expr_calls (expr_of c.in-Logic.first.value)) (operands_in c.in-Logic.rest.items) _ (sym (c.expr_calls-in-Logic.ensures ∙ ap (λ x. code.expr_calls (expr_of x)) c.deref-in-Logic.ensures) ∙ c.if-expr_calls-2.false) (sym (ap code.expr_calls (ap expr_of c.in-Logic.is ∙ expr_of_Logic _ c.in-Logic.first c.in-Logic.rest)))
+
+pub expr_calls-returns-in-Load : goal.expr_calls-returns-in-Load
+expr_calls-returns-in-Load t c = c.place_calls.ensures ∙ ap (λ p. code.place_calls (place_of p)) c.deref.ensures ∙ sym (ap code.expr_calls (ap expr_of c.in-Load.is ∙ expr_of_Load c.in-Load.place))
+
+pub expr_calls-returns-then-expr_calls : goal.expr_calls-returns-then-expr_calls
+expr_calls-returns-then-expr_calls t c = c.if-expr_calls.true ∙ or_first (code.expr_calls (expr_of c.in-Arithmetic.first.value)) (steps_in c.in-Arithmetic.steps.items) _ (sym (c.expr_calls.ensures ∙ ap (λ x. code.expr_calls (expr_of x)) c.deref-in-Arithmetic.ensures) ∙ c.if-expr_calls.true) (sym (ap code.expr_calls (ap expr_of c.in-Arithmetic.is ∙ expr_of_Arithmetic c.in-Arithmetic.first c.in-Arithmetic.steps)))
+
+pub expr_calls-returns-then-expr_calls-2 : goal.expr_calls-returns-then-expr_calls-2
+expr_calls-returns-then-expr_calls-2 t c = c.if-expr_calls-2.true ∙ or_first (code.expr_calls (expr_of c.in-Logic.first.value)) (operands_in c.in-Logic.rest.items) _ (sym (c.expr_calls-in-Logic.ensures ∙ ap (λ x. code.expr_calls (expr_of x)) c.deref-in-Logic.ensures) ∙ c.if-expr_calls-2.true) (sym (ap code.expr_calls (ap expr_of c.in-Logic.is ∙ expr_of_Logic _ c.in-Logic.first c.in-Logic.rest)))
+
+pub expr_calls-returns-then-expr_calls-3 : goal.expr_calls-returns-then-expr_calls-3
+unfolding expr_of
+expr_calls-returns-then-expr_calls-3 t c =
+    let hit = sym (c.expr_calls-in-Compare.ensures ∙ ap (λ x. code.expr_calls (expr_of x)) c.deref-in-Compare.ensures) ∙ c.if-expr_calls-3.true in
+    ⊎_elim
+    (λ w. c.if-expr_calls-3.true ∙ or_first (code.expr_calls (expr_of c.in-Compare.left.value)) (code.expr_calls (expr_of c.in-Compare.right.value)) _ hit (sym (ap (λ x. code.expr_calls (expr_of x)) w.1)))
+    (λ w. c.if-expr_calls-3.true ∙ or_first (code.expr_calls (expr_of c.in-Compare.left.value)) (code.expr_calls (expr_of c.in-Compare.right.value)) _ hit (sym (ap (λ x. code.expr_calls (expr_of x)) w.1)))
+    c.in-Compare.is
+
+pub expr_calls-returns-else-expr_calls-3 : goal.expr_calls-returns-else-expr_calls-3
+unfolding expr_of
+expr_calls-returns-else-expr_calls-3 t c =
+    let missed = sym (c.expr_calls-in-Compare.ensures ∙ ap (λ x. code.expr_calls (expr_of x)) c.deref-in-Compare.ensures) ∙ c.if-expr_calls-3.false in
+    let second = c.expr_calls-else-expr_calls-3.ensures ∙ ap (λ x. code.expr_calls (expr_of x)) c.deref-else-expr_calls-3.ensures in
+    ⊎_elim
+    (λ w. second ∙ or_second (code.expr_calls (expr_of c.in-Compare.left.value)) (code.expr_calls (expr_of c.in-Compare.right.value)) _ missed (sym (ap (λ x. code.expr_calls (expr_of x)) w.1)))
+    (λ w. second ∙ or_second (code.expr_calls (expr_of c.in-Compare.left.value)) (code.expr_calls (expr_of c.in-Compare.right.value)) _ missed (sym (ap (λ x. code.expr_calls (expr_of x)) w.1)))
+    c.in-Compare.is
+
+pub place_calls-returns : goal.place_calls-returns
+place_calls-returns t c = c.selectors_call.ensures ∙ ap selectors_in c.deref.ensures.value
+
+pub selector_calls-returns-in-Element : goal.selector_calls-returns-in-Element
+unfolding selector_of
+selector_calls-returns-in-Element t c = c.expr_calls.ensures ∙ sym (ap (λ x. code.selector_calls (selector_of x)) c.in-Element.is)

@@ -1,8 +1,8 @@
 use Rattle.std.proofs.Common.{sym, ap, ◌∙◌}
-use Rattle.ps_tree.specs.View.{expr_of, statement_of}
-use Rattle.ps_tree.proofs.StatementLemmas.{statement_of_Case}
+use Rattle.ps_tree.specs.View.{place_of, expr_of, statement_of}
+use Rattle.ps_tree.proofs.StatementLemmas.{statement_of_Compound, statement_of_Repeat, statement_of_Case}
 use Rattle.ps_code.specs.Calling as code
-use Rattle.ps_lower.proofs.Searches.{passed_start, passed_next, passed_found, passed_all, or_second, statements_in, statements_none, statements_more, element_in, elements_in, elements_none, elements_more}
+use Rattle.ps_lower.proofs.Searches.{passed_start, passed_next, passed_found, passed_all, or_first, or_second, places_in, statements_in, statements_none, statements_more, element_in, elements_in, elements_none, elements_more}
 use Rattle.ps_lower.proofs.calling.+calling_statements.Goals as goal
 
 pub statements_call-loop-statement-init : goal.statements_call-loop-statement-init
@@ -33,3 +33,35 @@ pub statement_calls-returns-else-expr_calls-2 : goal.statement_calls-returns-els
 statement_calls-returns-else-expr_calls-2 t c =
     c.elements_call.ensures ∙ ap elements_in c.deref-else-expr_calls-2.ensures.value
     ∙ or_second (code.expr_calls (expr_of c.in-Case.index)) (elements_in c.in-Case.elements.items) _ (sym c.expr_calls-in-Case.ensures ∙ c.if-expr_calls-2.false) (sym (ap code.statement_calls (ap statement_of c.in-Case.is ∙ statement_of_Case c.in-Case.index c.in-Case.elements c.in-Case.line)))
+
+pub statement_calls-returns-in-Empty : goal.statement_calls-returns-in-Empty
+unfolding statement_of
+statement_calls-returns-in-Empty t c = sym (ap (λ x. code.statement_calls (statement_of x)) c.in-Empty.is)
+
+pub statement_calls-returns-then-place_calls : goal.statement_calls-returns-then-place_calls
+unfolding statement_of
+statement_calls-returns-then-place_calls t c = c.if-place_calls.true ∙ or_first (code.place_calls (place_of c.in-Assign.target)) (code.expr_calls (expr_of c.in-Assign.value)) _ (sym c.place_calls.ensures ∙ c.if-place_calls.true) (sym (ap (λ x. code.statement_calls (statement_of x)) c.in-Assign.is))
+
+pub statement_calls-returns-else-place_calls : goal.statement_calls-returns-else-place_calls
+unfolding statement_of
+statement_calls-returns-else-place_calls t c = c.expr_calls.ensures ∙ or_second (code.place_calls (place_of c.in-Assign.target)) (code.expr_calls (expr_of c.in-Assign.value)) _ (sym c.place_calls.ensures ∙ c.if-place_calls.false) (sym (ap (λ x. code.statement_calls (statement_of x)) c.in-Assign.is))
+
+pub statement_calls-returns-in-Compound : goal.statement_calls-returns-in-Compound
+statement_calls-returns-in-Compound t c = c.statements_call.ensures ∙ ap statements_in c.deref.ensures.value ∙ sym (ap code.statement_calls (ap statement_of c.in-Compound.is ∙ statement_of_Compound c.in-Compound.body))
+
+pub statement_calls-returns-then-expr_calls-2 : goal.statement_calls-returns-then-expr_calls-2
+statement_calls-returns-then-expr_calls-2 t c = c.if-expr_calls-2.true ∙ or_first (code.expr_calls (expr_of c.in-Case.index)) (elements_in c.in-Case.elements.items) _ (sym c.expr_calls-in-Case.ensures ∙ c.if-expr_calls-2.true) (sym (ap code.statement_calls (ap statement_of c.in-Case.is ∙ statement_of_Case c.in-Case.index c.in-Case.elements c.in-Case.line)))
+
+pub statement_calls-returns-then-statements_call : goal.statement_calls-returns-then-statements_call
+statement_calls-returns-then-statements_call t c = c.if-statements_call.true ∙ or_first (statements_in c.in-Repeat.body.items) (code.expr_calls (expr_of c.in-Repeat.condition)) _ (sym (c.statements_call-in-Repeat.ensures ∙ ap statements_in c.deref-in-Repeat.ensures.value) ∙ c.if-statements_call.true) (sym (ap code.statement_calls (ap statement_of c.in-Repeat.is ∙ statement_of_Repeat c.in-Repeat.body c.in-Repeat.condition)))
+
+pub statement_calls-returns-else-statements_call : goal.statement_calls-returns-else-statements_call
+statement_calls-returns-else-statements_call t c = c.expr_calls-else-statements_call.ensures ∙ or_second (statements_in c.in-Repeat.body.items) (code.expr_calls (expr_of c.in-Repeat.condition)) _ (sym (c.statements_call-in-Repeat.ensures ∙ ap statements_in c.deref-in-Repeat.ensures.value) ∙ c.if-statements_call.false) (sym (ap code.statement_calls (ap statement_of c.in-Repeat.is ∙ statement_of_Repeat c.in-Repeat.body c.in-Repeat.condition)))
+
+pub statement_calls-returns-then-places_call : goal.statement_calls-returns-then-places_call
+unfolding statement_of
+statement_calls-returns-then-places_call t c = c.if-places_call.true ∙ or_first (places_in c.in-With.places.items) (code.statement_calls (statement_of c.in-With.body.value)) _ (sym (c.places_call.ensures ∙ ap places_in c.deref-in-With.ensures.value) ∙ c.if-places_call.true) (sym (ap (λ x. code.statement_calls (statement_of x)) c.in-With.is))
+
+pub statement_calls-returns-else-places_call : goal.statement_calls-returns-else-places_call
+unfolding statement_of
+statement_calls-returns-else-places_call t c = c.statement_calls-else-places_call.ensures ∙ ap (λ x. code.statement_calls (statement_of x)) c.deref-else-places_call.ensures ∙ or_second (places_in c.in-With.places.items) (code.statement_calls (statement_of c.in-With.body.value)) _ (sym (c.places_call.ensures ∙ ap places_in c.deref-in-With.ensures.value) ∙ c.if-places_call.false) (sym (ap (λ x. code.statement_calls (statement_of x)) c.in-With.is))

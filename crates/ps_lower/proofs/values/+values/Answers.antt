@@ -1,25 +1,27 @@
-use Rattle.std.proofs.Common.{rules, arith, ◌≡◌, ◌+◌, ◌≤◌, [], ◌∷◌, ◌++◌, pos, OnOk, sym, ap, subst, ◌∙◌, ⊎_elim}
+use Rattle.std.proofs.Common.{rules, arith, ◌≡◌, suc, ◌+◌, ◌≤◌, List, [], ◌∷◌, ◌++◌, pos, OnOk, IfOk, refl, sym, ap, subst, ◌∙◌, ⊎_elim}
 use borrow.Author.Rules.{get_or_read}
 use Rattle.ps_tree.specs.declared.tree.Argument.TheFolds.{the_lemmas}
+use Rattle.ps_tree.specs.declared.tree.Argument.{Argument}
 use Rattle.ps_tree.specs.declared.tree.Expr.{Expr}
+use Rattle.ps_tree.specs.declared.tree.Selector.{Selector}
 use Rattle.ps_tree.specs.declared.tree.Structure.{Structure}
 use Rattle.ps_tree.specs.declared.tree.ArithmeticStep.{out-ArithmeticStep}
 use Rattle.ps_tree.specs.declared.tree.SetStep.{out-SetStep}
-use Rattle.ps_tree.specs.View.{selector_of, place_of, expr_of, arithmetic_of, operands_of, structure_of, argument_of, arguments_of, set_of, member_of, members_of}
+use Rattle.ps_tree.specs.View.{type_of, base_of, selector_of, selectors_of, place_of, expr_of, arithmetic_of, operands_of, structure_of, argument_of, arguments_of, set_of, member_of, members_of}
 use Rattle.tac_code.specs.declared.code.Instruction.TheVariants as i
-use Rattle.ps_code.specs.Scopes.{kept, held, beside, unless_known, helper, CompareBytes}
+use Rattle.ps_code.specs.Scopes.{kept, held, beside, even_from, unless_known, helper, CompareBytes}
 use Rattle.ps_code.specs.Statements.{expr_code}
-use Rattle.ps_code.specs.Values.{literal_of, truth_finish, is_byte, text_length, structure_code, argument_code, argument_end, argument_scratch, arguments_end, set_code, member_code}
+use Rattle.ps_code.specs.Values.{literal_of, element_site, index_code, truth_finish, is_byte, text_length, structure_code, argument_code, argument_end, argument_scratch, arguments_end, selectors_code, selectors_site, set_code, member_code}
 use Rattle.ps_lower.specs.Levels.{scope_of, site_of}
-use Rattle.ps_lower.specs.Sites.{selector_code, selector_site}
+use Rattle.ps_lower.specs.Sites.{selector_code, selector_site, site_behind}
 use Rattle.ps_lower.proofs.Selecting.{led_start, led_next, led_code, led_site}
-use Rattle.ps_lower.proofs.Placing.{load_told}
-use Rattle.ps_lower.proofs.Arms.{number_is, nil_is, load_is, plus_is, minus_is, not_is, apply_is, arithmetic_is, logic_is, compare_is, compare_pointers_is, arm, behind, sum_made, truth_made, pair_made}
+use Rattle.ps_lower.proofs.Placing.{place_told, site_told, element_told, load_told}
+use Rattle.ps_lower.proofs.Arms.{number_is, nil_is, load_is, plus_is, minus_is, not_is, apply_is, arithmetic_is, logic_is, compare_is, compare_pointers_is, arm, behind, minus_made, sum_made, truth_made, pair_made}
 use Rattle.ps_lower.proofs.Actuals.{handed_start, handed_next, handed_all}
-use Rattle.ps_lower.proofs.Gathering.{compare_sets_is, in_is, load_set_is, constructor_is, combine_is, set_arm, members_added, members_nothing, members_further, one_made, several_made, set_steps_added, set_step_added, set_steps_nothing, set_steps_further, load_set_made, constructor_made, compared_made, in_made, set_handed, variable_handed}
+use Rattle.ps_lower.proofs.Gathering.{compare_sets_is, in_is, load_set_is, constructor_is, combine_is, set_arm, members_added, members_nothing, members_further, one_made, several_made, set_steps_added, set_step_added, set_steps_nothing, set_steps_further, load_set_made, constructor_made, compared_made, in_made, set_handed, value_handed, variable_handed}
 use Rattle.ps_lower.proofs.Handing.{contents_made, compare_strings_is, strings_made, call_is, call_made, call_formal_is, call_formal_made}
 use Rattle.ps_lower.proofs.Looking.{eof_is, eoln_is}
-use Rattle.ps_lower.proofs.Appends.{and_then, added_start, added_next, added_all}
+use Rattle.ps_lower.proofs.Appends.{and_then, unchanged, added_start, added_next, added_all}
 use Rattle.ps_lower.proofs.Chains.{steps_added, steps_nothing, steps_further, step_added, step_told, operands_added, operands_nothing, operands_further, operand_added, operand_told}
 use Rattle.ps_lower.proofs.Weighing.{depth_near, depth_far, depth_farther, scratch_near, chain_far, step_in, operand_in, set_step_in, member_in, sum_room, truth_room, leads_start, leads_depth, leads_reach, leads_next, handing_start, handing_one, handing_next, arguments_far, variable_room, contents_room}
 use Rattle.ps_bounds.specs.Weights.{place_weight, expr_weight, steps_weight, operands_weight, set_weight, structure_weight, arguments_weight}
@@ -111,6 +113,18 @@ value-returns t c = behind c.finish.result c.finish.new.out c.front.new.out c.ar
 
 -- ---- variables
 
+pub place-returns-clause-code : goal.place-returns-clause-code
+place-returns-clause-code t c =
+    place_told (scope_of c.args.k.now) (base_of c.args.place.now.base) (selectors_of c.args.place.now.selectors.items) c.args.d c.args.x c.place_temporary-t.result (site_of c.in_ok-site.site) c.along.result c.along.new.out c.name.new.out c.args.out.now
+    c.place_temporary-t.ensures.value c.in_ok-site.ensures.code c.in_ok-site.ensures.site
+    (subst (λ (l : List Selector). OnOk c.along.result (c.along.new.out ≡ c.name.new.out ++ selectors_code (scope_of c.args.k.now) (selectors_of l) (site_of c.in_ok-site.site) c.place_temporary-t.result c.args.x)) c.deref.ensures.value c.along.ensures.code)
+
+pub place-returns-clause-site : goal.place-returns-clause-site
+place-returns-clause-site t c =
+    site_told site_of (scope_of c.args.k.now) (base_of c.args.place.now.base) (selectors_of c.args.place.now.selectors.items) c.args.d c.place_temporary-t.result (site_of c.in_ok-site.site) c.along.result
+    c.place_temporary-t.ensures.value c.in_ok-site.ensures.site
+    (subst (λ (l : List Selector). IfOk c.along.result (λ s. site_of s ≡ selectors_site (selectors_of l) (site_of c.in_ok-site.site) c.place_temporary-t.result)) c.deref.ensures.value c.along.ensures.site)
+
 pub along-loop-selector-init : goal.along-loop-selector-init
 along-loop-selector-init t c = (led_start (scope_of c.args.k.now) c.args.t c.args.x _ _ _, leads_start (scope_of c.args.k.now) c.args.t c.args.x c.args.selectors.now c.args.site.offset c.requires.depth c.requires.reach)
 
@@ -127,6 +141,55 @@ along-returns-clause-code t c = led_code (scope_of c.args.k.now) c.args.t c.args
 
 pub along-returns-clause-site : goal.along-returns-clause-site
 along-returns-clause-site t c = led_site (scope_of c.args.k.now) c.args.t c.args.x _ _ _ _ _ _ c.loop-selector-test.false c.loop-selector.invariant.0
+
+pub select-returns-in-Element-clause-code : goal.select-returns-in-Element-clause-code
+unfolding selector_of
+select-returns-in-Element-clause-code t c = subst (λ (s : Selector). OnOk c.element.result (c.element.new.out ≡ c.args.out.now ++ selector_code (scope_of c.args.k.now) (selector_of s) (site_of c.args.site) c.args.t c.args.x)) (sym c.in-Element.is) c.element.ensures.code
+
+pub select-returns-in-Element-clause-site : goal.select-returns-in-Element-clause-site
+unfolding selector_of
+select-returns-in-Element-clause-site t c = subst (λ (s : Selector). IfOk c.element.result (λ y. site_of y ≡ selector_site (selector_of s) (site_of c.args.site) c.args.t)) (sym c.in-Element.is) c.element.ensures.site
+
+pub select-returns-in-Target-clause-code : goal.select-returns-in-Target-clause-code
+unfolding selector_of
+select-returns-in-Target-clause-code t c = subst (λ (s : Selector). OnOk c.pointed.result (c.pointed.new.out ≡ c.args.out.now ++ selector_code (scope_of c.args.k.now) (selector_of s) (site_of c.args.site) c.args.t c.args.x)) (sym c.in-Target.is) c.pointed.ensures.code
+
+pub select-returns-in-Target-clause-site : goal.select-returns-in-Target-clause-site
+unfolding selector_of
+select-returns-in-Target-clause-site t c = subst (λ (s : Selector). IfOk c.pointed.result (λ y. site_of y ≡ selector_site (selector_of s) (site_of c.args.site) c.args.t)) (sym c.in-Target.is) c.pointed.ensures.site
+
+pub select-returns-in-Field-clause-code : goal.select-returns-in-Field-clause-code
+unfolding selector_of
+select-returns-in-Field-clause-code t c = subst (λ (s : Selector). c.args.out.now ≡ c.args.out.now ++ selector_code (scope_of c.args.k.now) (selector_of s) (site_of c.args.site) c.args.t c.args.x) (sym c.in-Field.is) (unchanged c.args.out.now)
+
+pub select-returns-in-Field-clause-site : goal.select-returns-in-Field-clause-site
+unfolding selector_of
+select-returns-in-Field-clause-site t c = c.behind.ensures ∙ ap (site_behind (site_of c.args.site)) c.field_offset.ensures ∙ sym (ap (λ s. selector_site (selector_of s) (site_of c.args.site) c.args.t) c.in-Field.is)
+
+pub element-returns-in-Some-clause-code : goal.element-returns-in-Some-clause-code
+element-returns-in-Some-clause-code t c = subst (λ o. c.args.out.now ≡ c.args.out.now ++ index_code o (type_of c.args.ty.now) (site_of c.args.site) c.args.t (even_from (suc c.args.t)) c.args.line (expr_code (scope_of c.args.k.now) (expr_of c.args.index.now) (even_from (suc c.args.t)) c.args.x)) c.in-Some.ensures (unchanged c.args.out.now)
+
+pub element-returns-in-Some-clause-site : goal.element-returns-in-Some-clause-site
+element-returns-in-Some-clause-site t c = c.behind.ensures ∙ ap (λ o. element_site o (site_of c.args.site) c.args.t) c.in-Some.ensures
+
+pub element-returns-in_ok-value-in-None-clause-code : goal.element-returns-in_ok-value-in-None-clause-code
+element-returns-in_ok-value-in-None-clause-code t c =
+    element_told (scope_of c.args.k.now) (type_of c.args.ty.now) (expr_of c.args.index.now) c.args.line (site_of c.args.site) c.args.t c.args.x c.even_above-at.result c.indexed.result c.indexed.new.out c.value.new.out c.args.out.now
+    c.in-None.ensures c.even_above-at.ensures.value c.in_ok-value-in-None.ensures c.indexed.ensures.code
+
+pub element-returns-in_ok-value-in-None-clause-site : goal.element-returns-in_ok-value-in-None-clause-site
+element-returns-in_ok-value-in-None-clause-site t c = subst (λ o. IfOk c.indexed.result (λ s. site_of s ≡ element_site o (site_of c.args.site) c.args.t)) c.in-None.ensures c.indexed.ensures.site
+
+pub unless_known-returns-in-Some : goal.unless_known-returns-in-Some
+unless_known-returns-in-Some t c = subst (λ o. c.args.out.now ≡ c.args.out.now ++ unless_known o (expr_code (scope_of c.args.k.now) (expr_of c.args.e.now) c.args.d c.args.x)) c.in-Some.ensures (unchanged c.args.out.now)
+
+pub unless_known-returns-in-None : goal.unless_known-returns-in-None
+unless_known-returns-in-None t c = subst (λ o. OnOk c.value.result (c.value.new.out ≡ c.args.out.now ++ unless_known o (expr_code (scope_of c.args.k.now) (expr_of c.args.e.now) c.args.d c.args.x))) c.in-None.ensures c.value.ensures
+
+pub minus-returns-in_ok-literal-in-None : goal.minus-returns-in_ok-literal-in-None
+minus-returns-in_ok-literal-in-None t c =
+    minus_made (scope_of c.args.k.now) (expr_of c.args.operand.now) c.args.d c.args.x c.args.line c.even_above-t.result c.arithmetic.result c.arithmetic.new.self c.literal-in-None.new.self c.value.new.out c.args.out.now
+    c.in-None.ensures c.even_above-t.ensures.value c.in_ok-value-in-None.ensures c.in_ok-literal-in-None.ensures c.arithmetic.ensures
 
 -- ---- structures and calls
 
@@ -178,6 +241,17 @@ arguments-returns t c = handed_all (scope_of c.args.k.now) _ _ _ _ _ _ _ _ _ c.l
 
 pub argument-returns-in_ok-site-in-Variable : goal.argument-returns-in_ok-site-in-Variable
 argument-returns-in_ok-site-in-Variable t c = variable_handed (scope_of c.args.k.now) c.args.argument.now _ c.args.t c.args.x (site_of c.in_ok-site-in-Variable.site) c.address.result c.address.new.out c.place.new.out c.args.out.now c.in-Variable.is c.in_ok-site-in-Variable.ensures.code c.in_ok-site-in-Variable.ensures.site c.address.ensures
+
+pub argument-returns-in_ok-value-in-Value : goal.argument-returns-in_ok-value-in-Value
+argument-returns-in_ok-value-in-Value t c = value_handed (scope_of c.args.k.now) c.args.argument.now _ _ _ c.args.t c.args.x c.gives_byte.result c.literal.result c.fitting.result c.fitting.new.out c.value.new.out c.args.out.now c.in-Value.is c.in_ok-value-in-Value.ensures c.gives_byte.ensures c.literal.ensures c.fitting.ensures
+
+pub argument-returns-in-Routine : goal.argument-returns-in-Routine
+unfolding argument_of
+argument-returns-in-Routine t c = subst (λ (y : Argument). OnOk c.routine_value.result (c.routine_value.new.out ≡ c.args.out.now ++ argument_code (scope_of c.args.k.now) (argument_of y) c.args.t c.args.x)) (sym c.in-Routine.is) c.routine_value.ensures
+
+pub argument-returns-in-Formal : goal.argument-returns-in-Formal
+unfolding argument_of
+argument-returns-in-Formal t c = subst (λ (y : Argument). OnOk c.formal.result (c.formal.new.out ≡ c.args.out.now ++ argument_code (scope_of c.args.k.now) (argument_of y) c.args.t c.args.x)) (sym c.in-Formal.is) c.formal.ensures
 
 -- ---- sets
 
@@ -341,7 +415,7 @@ front-value-requires-in-Apply t c =
 
 pub front-set-requires : goal.front-set-requires
 front-set-requires t c =
-    let e = ap (expr_weight (scope_of c.args.k.now)) (compare_sets_is c.args.e.now c.in-CompareSets.relation c.in-CompareSets.left c.deref-in-CompareSets.result.now c.in-CompareSets.right c.deref-in-CompareSets-2.result.now c.in-CompareSets.is c.deref-in-CompareSets.ensures c.deref-in-CompareSets-2.ensures) in
+    let e = ap (expr_weight (scope_of c.args.k.now)) (compare_sets_is c.args.e.now c.in-CompareSets.relation c.in-CompareSets.left c.deref-in-CompareSets.result.now c.in-CompareSets.right c.in-CompareSets.right.value c.in-CompareSets.is c.deref-in-CompareSets.ensures refl) in
     let h0 = c.even_from-t.ensures.small in
     let r = c.requires in
     let room : c.even_from-t.result + c.args.x + set_weight (scope_of c.args.k.now) (set_of c.deref-in-CompareSets.result.now) ≤ 2147483647 = omega (arith, e, h0, r) in
@@ -358,7 +432,7 @@ front-set-requires-in-CompareSets t c =
 
 pub front-value-requires-in-In : goal.front-value-requires-in-In
 front-value-requires-in-In t c =
-    let e = ap (expr_weight (scope_of c.args.k.now)) (in_is c.args.e.now c.in-In.left c.deref-in-In.result.now c.in-In.right c.deref-in-In-2.result.now c.in-In.is c.deref-in-In.ensures c.deref-in-In-2.ensures) in
+    let e = ap (expr_weight (scope_of c.args.k.now)) (in_is c.args.e.now c.in-In.left c.deref-in-In.result.now c.in-In.right c.in-In.right.value c.in-In.is c.deref-in-In.ensures refl) in
     let h0 = c.held-member.ensures.small in
     let r = c.requires in
     let room : c.held-member.result + c.args.x + expr_weight (scope_of c.args.k.now) (expr_of c.deref-in-In.result.now) ≤ 2147483647 = omega (arith, e, h0, r) in
