@@ -597,3 +597,42 @@ go_on-even_above-t-requires t c = chain_far c.args.a c.args.x _ c.requires
 
 pub go_on_with-even_above-t-requires : goal.go_on_with-even_above-t-requires
 go_on_with-even_above-t-requires t c = chain_far c.args.a c.args.x _ c.requires
+
+pub value-front-requires : goal.value-front-requires
+value-front-requires t c = (search (rules, the_lemmas, get_or_read), c.requires)
+
+pub unless_known-value-requires : goal.unless_known-value-requires
+unless_known-value-requires t c = (search (rules, the_lemmas, get_or_read), c.requires)
+
+pub minus-value-requires : goal.minus-value-requires
+minus-value-requires t c =
+    let h = c.even_above-t.ensures.small in
+    let r = c.requires in
+    (search (rules, the_lemmas, get_or_read), omega (arith, h, r))
+
+pub element-value-requires : goal.element-value-requires
+element-value-requires t c =
+    let h = c.even_above-at.ensures.small in
+    let r = c.requires.depth in
+    (search (rules, the_lemmas, get_or_read), omega (arith, h, r))
+
+pub element-known_steps-requires-clause-width : goal.element-known_steps-requires-clause-width
+element-known_steps-requires-clause-width t c = c.requires.width
+
+pub element-indexed-requires : goal.element-indexed-requires
+element-indexed-requires t c = c.requires.width
+
+pub combine-combined-requires-clause-depth : goal.combine-combined-requires-clause-depth
+combine-combined-requires-clause-depth t c = depth_near c.args.d c.args.x _ c.requires
+
+pub combine-combined-requires-clause-place : goal.combine-combined-requires-clause-place
+combine-combined-requires-clause-place t c = scratch_near c.args.d c.args.x _ c.requires
+
+pub set-clear-requires : goal.set-clear-requires
+set-clear-requires t c = scratch_near c.args.d c.args.x _ c.requires
+
+pub argument-hand_set-requires-clause-place : goal.argument-hand_set-requires-clause-place
+argument-hand_set-requires-clause-place t c = scratch_near c.args.t c.args.x _ c.requires
+
+pub front-compare_sets-requires-clause-place : goal.front-compare_sets-requires-clause-place
+front-compare_sets-requires-clause-place t c = scratch_near c.args.d c.args.x _ c.requires
