@@ -636,3 +636,71 @@ argument-hand_set-requires-clause-place t c = scratch_near c.args.t c.args.x _ c
 
 pub front-compare_sets-requires-clause-place : goal.front-compare_sets-requires-clause-place
 front-compare_sets-requires-clause-place t c = scratch_near c.args.d c.args.x _ c.requires
+
+pub minus-even_above-t-requires : goal.minus-even_above-t-requires
+minus-even_above-t-requires t c = let r = c.requires in omega (arith, r)
+
+pub element-even_above-at-requires : goal.element-even_above-at-requires
+element-even_above-at-requires t c = let r = c.requires.depth in omega (arith, r)
+
+pub argument-hand_set-requires-clause-depth : goal.argument-hand_set-requires-clause-depth
+argument-hand_set-requires-clause-depth t c = let r = c.requires in omega (arith, r)
+
+pub argument-copied-requires-clause-depth : goal.argument-copied-requires-clause-depth
+argument-copied-requires-clause-depth t c = let r = c.requires in omega (arith, r)
+
+pub argument-routine_value-requires : goal.argument-routine_value-requires
+argument-routine_value-requires t c = let r = c.requires in omega (arith, r)
+
+pub argument-formal-requires-clause-depth : goal.argument-formal-requires-clause-depth
+argument-formal-requires-clause-depth t c = let r = c.requires in omega (arith, r)
+
+pub front-even_above-second-requires : goal.front-even_above-second-requires
+front-even_above-second-requires t c =
+    let h = c.held-first.ensures.small in
+    let r = c.requires in
+    omega (arith, h, r)
+
+pub front-even_above-t-requires : goal.front-even_above-t-requires
+front-even_above-t-requires t c =
+    let h = c.held-member.ensures.small in
+    let r = c.requires in
+    omega (arith, h, r)
+
+pub front-even_above-requires : goal.front-even_above-requires
+front-even_above-requires t c =
+    let h = c.kept-held.ensures.small in
+    let r = c.requires in
+    omega (arith, h, r)
+
+pub front-compare_sets-requires-clause-depth : goal.front-compare_sets-requires-clause-depth
+front-compare_sets-requires-clause-depth t c =
+    let h = c.even_from-t.ensures.small in
+    let r = c.requires in
+    omega (arith, h, r)
+
+pub front-compare_strings-requires-clause-depth : goal.front-compare_strings-requires-clause-depth
+front-compare_strings-requires-clause-depth t c =
+    let h = c.even_above-second.ensures.small in
+    let k = c.held-first.ensures.small in
+    let r = c.requires in
+    omega (arith, h, k, r)
+
+pub member-even_above-last-requires : goal.member-even_above-last-requires
+member-even_above-last-requires t c =
+    let h = c.held-first.ensures.small in
+    let r = c.requires in
+    omega (arith, h, r)
+
+pub member-add_member-requires : goal.member-add_member-requires
+member-add_member-requires t c =
+    let h = c.even_from-t.ensures.small in
+    let r = c.requires in
+    omega (arith, h, r)
+
+pub member-add_members-requires : goal.member-add_members-requires
+member-add_members-requires t c =
+    let h = c.even_above-last.ensures.small in
+    let k = c.held-first.ensures.small in
+    let r = c.requires in
+    omega (arith, h, k, r)
