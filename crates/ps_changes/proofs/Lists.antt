@@ -10,11 +10,11 @@ use Rattle.ps_tree.specs.declared.tree.SetStep.{SetStep, out-SetStep}
 use Rattle.ps_tree.specs.declared.tree.Expr.{Expr, Call, CallFormal}
 use Rattle.ps_tree.specs.declared.tree.ReadVariable.{ReadVariable}
 use Rattle.ps_tree.specs.declared.tree.WriteParameter.{WriteParameter}
-use Rattle.ps_tree.specs.declared.tree.Statement.{Statement, Repeat, Case}
+use Rattle.ps_tree.specs.declared.tree.Statement.{Statement, Compound, Repeat, Case}
 use Rattle.ps_tree.specs.declared.tree.CaseElement.{CaseElement, out-CaseElement}
 use Rattle.ps_tree.specs.View.{place_of, selector_of, selectors_of, expr_of, arithmetic_of, operands_of, set_of, set_steps_of, argument_of, arguments_of, member_of, members_of, read_of, write_of, statement_of, statements_of, elements_of}
 use Rattle.ps_tree.proofs.TreeLemmas.{expr_of_Call, expr_of_CallFormal}
-use Rattle.ps_tree.proofs.StatementLemmas.{statement_of_Repeat, statement_of_Case}
+use Rattle.ps_tree.proofs.StatementLemmas.{statement_of_Compound, statement_of_Repeat, statement_of_Case}
 use Rattle.ps_changes.specs.Changes.{place_threatens, selector_threatens, selectors_threaten, expr_threatens, arithmetic_threatens, operands_threaten, set_threatens, set_steps_threaten, member_threatens, members_threaten, argument_threatens, arguments_threaten, places_threaten, read_threatens, reads_threaten, parameter_threatens, parameters_threaten, statement_threatens, statements_threaten, elements_threaten, statement_controls, statements_control, elements_control, statement_assigns, statements_assign, elements_assign}
 
 abbrev pub arguments_answer : ℕ → (ℕ → Bool) → List Argument → Bool
@@ -212,3 +212,11 @@ repeat_controls s v e items f g = ap controls_given g ∙ sym (ap statement_cont
 pub repeat_assigns : (up index : ℕ) (s : Statement) (v : Vec Statement Global) (e : Expr) (items : List Statement) → s ≡ Repeat v e → items ≡ v.items → statements_assign up index (statements_of items) ≡ statement_assigns up index (statement_of s)
 unfolding statement_assigns
 repeat_assigns up index s v e items f g = ap (assigning_answer up index) g ∙ sym (ap (statement_assigns up index) (ap statement_of f ∙ statement_of_Repeat v e))
+
+pub compound_controls : (s : Statement) (v : Vec Statement Global) (items : List Statement) → s ≡ Compound v → items ≡ v.items → statements_control (statements_of items) ≡ statement_controls (statement_of s)
+unfolding statement_controls
+compound_controls s v items f g = ap controls_given g ∙ sym (ap statement_controls (ap statement_of f ∙ statement_of_Compound v))
+
+pub compound_assigns : (up index : ℕ) (s : Statement) (v : Vec Statement Global) (items : List Statement) → s ≡ Compound v → items ≡ v.items → statements_assign up index (statements_of items) ≡ statement_assigns up index (statement_of s)
+unfolding statement_assigns
+compound_assigns up index s v items f g = ap (assigning_answer up index) g ∙ sym (ap (statement_assigns up index) (ap statement_of f ∙ statement_of_Compound v))

@@ -3,7 +3,7 @@ use Rattle.ps_tree.specs.declared.tree.CaseElement.{out-CaseElement}
 use Rattle.ps_tree.specs.View.{statement_of}
 use Rattle.ps_changes.specs.Changes.{statement_assigns}
 use Rattle.ps_changes.proofs.Walks.{passed_next, passed_found, passed_all}
-use Rattle.ps_changes.proofs.Lists.{assigning_elements_answer, assigning_elements_none, assigning_elements_more, assigning_answer, assigning_none, assigning_more, case_assigns, repeat_assigns}
+use Rattle.ps_changes.proofs.Lists.{assigning_elements_answer, assigning_elements_none, assigning_elements_more, assigning_answer, assigning_none, assigning_more, case_assigns, compound_assigns, repeat_assigns}
 use Rattle.ps_changes.proofs.assigned.+assignments.Goals as goal
 
 pub do_elements_assign-loop-element-init : goal.do_elements_assign-loop-element-init
@@ -35,3 +35,6 @@ is_assigning-returns-in-Case t c = c.do_elements_assign.ensures ∙ case_assigns
 
 pub is_assigning-returns-in-Repeat : goal.is_assigning-returns-in-Repeat
 is_assigning-returns-in-Repeat t c = c.assigns-in-Repeat.ensures ∙ repeat_assigns _ _ _ _ _ _ c.in-Repeat.is c.deref-in-Repeat.ensures.value
+
+pub is_assigning-returns-in-Compound : goal.is_assigning-returns-in-Compound
+is_assigning-returns-in-Compound t c = c.assigns.ensures ∙ compound_assigns _ _ _ _ _ c.in-Compound.is c.deref.ensures.value

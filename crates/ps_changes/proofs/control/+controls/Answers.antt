@@ -4,7 +4,7 @@ use Rattle.ps_tree.specs.declared.tree.CaseElement.{out-CaseElement}
 use Rattle.ps_tree.specs.View.{statement_of}
 use Rattle.ps_changes.specs.Changes.{statement_controls}
 use Rattle.ps_changes.proofs.Walks.{appended_next, appended_all}
-use Rattle.ps_changes.proofs.Lists.{controls_given, controls_none, controls_more, element_controls_given, element_controls_none, element_controls_more, case_controls, repeat_controls}
+use Rattle.ps_changes.proofs.Lists.{controls_given, controls_none, controls_more, element_controls_given, element_controls_none, element_controls_more, case_controls, compound_controls, repeat_controls}
 use Rattle.ps_changes.proofs.control.+controls.Goals as goal
 
 pub add_elements-loop-element-init : goal.add_elements-loop-element-init
@@ -30,3 +30,6 @@ add_statements-loop-statement-preserved t c = appended_next controls_given (λ x
 
 pub add_statements-returns : goal.add_statements-returns
 add_statements-returns t c = appended_all controls_given controls_none _ _ _ _ c.loop-statement-test.false c.loop-statement.invariant
+
+pub add_statement-returns-in-Compound : goal.add_statement-returns-in-Compound
+add_statement-returns-in-Compound t c = on_ok_weaker c.add_statements.result (λ e. e ∙ ap (λ l. c.args.found.now.items ++ l) (compound_controls _ _ _ c.in-Compound.is c.deref-in-Compound.ensures.value)) c.add_statements.ensures

@@ -1,8 +1,9 @@
 use Rattle.std.proofs.Common.{refl, ◌∙◌}
 use Rattle.ps_tree.specs.declared.tree.ArithmeticStep.{out-ArithmeticStep}
 use Rattle.ps_tree.specs.declared.tree.SetStep.{out-SetStep}
-use Rattle.ps_tree.specs.View.{argument_of, member_of, selector_of, expr_of, set_of}
-use Rattle.ps_changes.specs.Changes.{argument_threatens, member_threatens, selector_threatens, expr_threatens, set_threatens}
+use Rattle.ps_tree.specs.View.{argument_of, member_of, selector_of, expr_of, set_of, structure_of}
+use Rattle.ps_tree.proofs.TreeLemmas.{expr_of_Load, set_of_Load, set_of_Constructor, argument_of_Variable}
+use Rattle.ps_changes.specs.Changes.{argument_threatens, member_threatens, selector_threatens, expr_threatens, set_threatens, structure_threatens}
 use Rattle.ps_changes.proofs.Walks.{passed_none, passed_some, passed_all}
 use Rattle.ps_changes.proofs.Lists.{arguments_answer, arguments_none, arguments_more, members_answer, members_none, members_more, selectors_answer, selectors_none, selectors_more, arithmetic_answer, arithmetic_none, arithmetic_more, operands_answer, operands_none, operands_more, set_steps_answer, set_steps_none, set_steps_more, call_threatens, call_formal_threatens}
 use Rattle.ps_changes.proofs.Chains.{place_threat, arithmetic_threat, logic_threat, combine_threat, contents_threat}
@@ -100,3 +101,59 @@ by_set-returns-in-Combine t c = c.either.ensures ∙ combine_threat _ _ _ _ _ _ 
 
 pub by_structure-returns-in-Contents : goal.by_structure-returns-in-Contents
 by_structure-returns-in-Contents t c = c.by_place.ensures ∙ contents_threat _ _ _ _ _ _ c.in-Contents.is c.deref.ensures
+
+pub by_expr-returns-in-Load : goal.by_expr-returns-in-Load
+unfolding expr_threatens
+by_expr-returns-in-Load t c = rw (c.in-Load.is, expr_of_Load, c.by_place.ensures, c.deref.ensures) refl
+
+pub by_expr-returns-in-CompareSets : goal.by_expr-returns-in-CompareSets
+unfolding expr_threatens expr_of
+by_expr-returns-in-CompareSets t c = rw (c.in-CompareSets.is, c.either-in-CompareSets.ensures, c.by_set.ensures, c.by_set-in-CompareSets.ensures, c.deref-in-CompareSets.ensures, c.deref-in-CompareSets-2.ensures) refl
+
+pub by_expr-returns-in-CompareStrings : goal.by_expr-returns-in-CompareStrings
+unfolding expr_threatens expr_of
+by_expr-returns-in-CompareStrings t c = rw (c.in-CompareStrings.is, c.either-in-CompareStrings.ensures, c.by_structure.ensures, c.by_structure-in-CompareStrings.ensures, c.deref-in-CompareStrings.ensures, c.deref-in-CompareStrings-2.ensures) refl
+
+pub by_expr-returns-in-In : goal.by_expr-returns-in-In
+unfolding expr_threatens expr_of
+by_expr-returns-in-In t c = rw (c.in-In.is, c.either-in-In.ensures, c.by_expr-in-In.ensures, c.by_set-in-In.ensures, c.deref-in-In.ensures, c.deref-in-In-2.ensures) refl
+
+pub by_set-returns-in-Load : goal.by_set-returns-in-Load
+unfolding set_threatens
+by_set-returns-in-Load t c = rw (c.in-Load.is, set_of_Load, c.by_place.ensures, c.deref.ensures) refl
+
+pub by_set-returns-in-Constructor : goal.by_set-returns-in-Constructor
+unfolding set_threatens
+by_set-returns-in-Constructor t c = rw (c.in-Constructor.is, set_of_Constructor, c.by_members.ensures, c.deref-in-Constructor.ensures.value) refl
+
+pub by_argument-returns-in-Value : goal.by_argument-returns-in-Value
+unfolding argument_threatens argument_of
+by_argument-returns-in-Value t c = rw (c.in-Value.is, c.by_expr.ensures) refl
+
+pub by_argument-returns-in-Set : goal.by_argument-returns-in-Set
+unfolding argument_threatens argument_of
+by_argument-returns-in-Set t c = rw (c.in-Set.is, c.by_set.ensures) refl
+
+pub by_argument-returns-in-Copy : goal.by_argument-returns-in-Copy
+unfolding argument_threatens argument_of
+by_argument-returns-in-Copy t c = rw (c.in-Copy.is, c.by_structure.ensures) refl
+
+pub by_argument-returns-in-Variable : goal.by_argument-returns-in-Variable
+unfolding argument_threatens
+by_argument-returns-in-Variable t c = rw (c.in-Variable.is, argument_of_Variable, c.either.ensures, c.named.ensures, c.by_place.ensures) refl
+
+pub by_member-returns-in-One : goal.by_member-returns-in-One
+unfolding member_threatens member_of
+by_member-returns-in-One t c = rw (c.in-One.is, c.by_expr.ensures) refl
+
+pub by_member-returns-in-Range : goal.by_member-returns-in-Range
+unfolding member_threatens member_of
+by_member-returns-in-Range t c = rw (c.in-Range.is, c.either.ensures, c.by_expr-in-Range.ensures, c.by_expr-in-Range-2.ensures) refl
+
+pub by_selector-returns-in-Element : goal.by_selector-returns-in-Element
+unfolding selector_threatens selector_of
+by_selector-returns-in-Element t c = rw (c.in-Element.is, c.by_expr.ensures) refl
+
+pub by_structure-returns-in-Literal : goal.by_structure-returns-in-Literal
+unfolding structure_threatens structure_of
+by_structure-returns-in-Literal t c = rw (c.in-Literal.is) refl

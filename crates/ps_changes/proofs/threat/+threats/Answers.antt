@@ -1,6 +1,7 @@
 use Rattle.std.proofs.Common.{refl, ◌∙◌}
 use Rattle.ps_tree.specs.declared.tree.CaseElement.{out-CaseElement}
 use Rattle.ps_tree.specs.View.{statement_of}
+use Rattle.ps_tree.proofs.StatementLemmas.{statement_of_Compound, statement_of_Repeat}
 use Rattle.ps_changes.specs.Changes.{statement_threatens}
 use Rattle.ps_changes.proofs.Walks.{passed_none, passed_some, passed_all}
 use Rattle.ps_changes.proofs.Lists.{elements_answer, elements_none, elements_more, statements_answer, statements_none, statements_more, case_threatens}
@@ -32,3 +33,63 @@ threat-returns t c = passed_all (statements_answer _ _) (statements_none _ _) _ 
 
 pub threat_of-returns-in-Case : goal.threat_of-returns-in-Case
 threat_of-returns-in-Case t c = c.either-in-Case.ensures ∙ case_threatens _ _ _ _ _ _ _ _ _ c.in-Case.is c.deref-in-Case.ensures.value c.by_expr-in-Case.ensures c.by_elements.ensures
+
+pub threat_of-returns-in-Empty : goal.threat_of-returns-in-Empty
+unfolding statement_threatens statement_of
+threat_of-returns-in-Empty t c = rw (c.in-Empty.is) refl
+
+pub threat_of-returns-in-AssignStructure : goal.threat_of-returns-in-AssignStructure
+unfolding statement_threatens statement_of
+threat_of-returns-in-AssignStructure t c = rw (c.in-AssignStructure.is, c.either-in-AssignStructure.ensures, c.by_target-in-AssignStructure.ensures, c.by_structure.ensures) refl
+
+pub threat_of-returns-in-Call : goal.threat_of-returns-in-Call
+unfolding statement_threatens statement_of
+threat_of-returns-in-Call t c = rw (c.in-Call.is, c.by_arguments.ensures, c.deref.ensures.value) refl
+
+pub threat_of-returns-in-CallFormal : goal.threat_of-returns-in-CallFormal
+unfolding statement_threatens statement_of
+threat_of-returns-in-CallFormal t c = rw (c.in-CallFormal.is, c.by_arguments-in-CallFormal.ensures, c.deref-in-CallFormal.ensures.value) refl
+
+pub threat_of-returns-in-Compound : goal.threat_of-returns-in-Compound
+unfolding statement_threatens
+threat_of-returns-in-Compound t c = rw (c.in-Compound.is, statement_of_Compound, c.threat.ensures, c.deref-in-Compound.ensures.value) refl
+
+pub threat_of-returns-in-IfElse : goal.threat_of-returns-in-IfElse
+unfolding statement_threatens statement_of
+threat_of-returns-in-IfElse t c = rw (c.in-IfElse.is, c.either-in-IfElse-2.ensures, c.by_expr-in-IfElse.ensures, c.either-in-IfElse.ensures, c.threat_of.ensures, c.threat_of-in-IfElse.ensures, c.deref-in-IfElse.ensures, c.deref-in-IfElse-2.ensures) refl
+
+pub threat_of-returns-in-Repeat : goal.threat_of-returns-in-Repeat
+unfolding statement_threatens
+threat_of-returns-in-Repeat t c = rw (c.in-Repeat.is, statement_of_Repeat, c.either-in-Repeat.ensures, c.threat-in-Repeat.ensures, c.deref-in-Repeat.ensures.value, c.by_expr-in-Repeat.ensures) refl
+
+pub threat_of-returns-in-For : goal.threat_of-returns-in-For
+unfolding statement_threatens statement_of
+threat_of-returns-in-For t c = rw (c.in-For.is, c.either-in-For-3.ensures, c.by_control.ensures, c.either-in-For-2.ensures, c.by_expr-in-For.ensures, c.either-in-For.ensures, c.by_expr-in-For-2.ensures, c.threat_of-in-For.ensures, c.deref-in-For.ensures) refl
+
+pub threat_of-returns-in-With : goal.threat_of-returns-in-With
+unfolding statement_threatens statement_of
+threat_of-returns-in-With t c = rw (c.in-With.is, c.either-in-With.ensures, c.by_places.ensures, c.deref-in-With.ensures.value, c.threat_of-in-With.ensures, c.deref-in-With-2.ensures) refl
+
+pub threat_of-returns-in-New : goal.threat_of-returns-in-New
+unfolding statement_threatens statement_of
+threat_of-returns-in-New t c = rw (c.in-New.is, c.by_target-in-New.ensures) refl
+
+pub threat_of-returns-in-Unpack : goal.threat_of-returns-in-Unpack
+unfolding statement_threatens statement_of
+threat_of-returns-in-Unpack t c = rw (c.in-Unpack.is, c.either-in-Unpack-2.ensures, c.by_place-in-Unpack.ensures, c.deref-in-Unpack.ensures, c.either-in-Unpack.ensures, c.by_target-in-Unpack.ensures, c.deref-in-Unpack-2.ensures, c.by_expr-in-Unpack.ensures) refl
+
+pub threat_of-returns-in-Read : goal.threat_of-returns-in-Read
+unfolding statement_threatens statement_of
+threat_of-returns-in-Read t c = rw (c.in-Read.is, c.by_reads.ensures, c.deref-in-Read.ensures.value) refl
+
+pub threat_of-returns-in-Readln : goal.threat_of-returns-in-Readln
+unfolding statement_threatens statement_of
+threat_of-returns-in-Readln t c = rw (c.in-Readln.is, c.by_reads-in-Readln.ensures, c.deref-in-Readln.ensures.value) refl
+
+pub threat_of-returns-in-Write : goal.threat_of-returns-in-Write
+unfolding statement_threatens statement_of
+threat_of-returns-in-Write t c = rw (c.in-Write.is, c.by_parameters.ensures, c.deref-in-Write.ensures.value) refl
+
+pub threat_of-returns-in-Writeln : goal.threat_of-returns-in-Writeln
+unfolding statement_threatens statement_of
+threat_of-returns-in-Writeln t c = rw (c.in-Writeln.is, c.by_parameters-in-Writeln.ensures, c.deref-in-Writeln.ensures.value) refl
