@@ -1,5 +1,8 @@
-use Rattle.std.proofs.Common.{◌<◌, ◌≤◌, length, arith}
-use Rattle.ps_regions.proofs.Lists.{stepped_next_map, stepped_end_map}
+use Rattle.std.proofs.Common.{◌<◌, ◌≤◌, length, refl, arith}
+use Rattle.ps_regions.proofs.Lists.{stepped_next_map, stepped_fault_map, stepped_end_map}
+use Rattle.ps_declare.specs.Denoters.{array_type, record_type}
+use Rattle.ps_declare.specs.Views.{hidden_of}
+use Rattle.ps_declare.proofs.Refused.{refused}
 use Rattle.ps_declare.proofs.FoldLemmas.{denoter_Ordinal, denoter_Pointer, denoter_Structure, denoter_Packed, structure_Array, structure_Record, structure_Set}
 use Rattle.ps_declare.proofs.denoters.+denoter.Goals as goal
 
@@ -54,3 +57,25 @@ structure-returns-in-Set-clause-ok t c = grind (arith, structure_Set)
 
 pub structure-returns-in-Set-clause-err : goal.structure-returns-in-Set-clause-err
 structure-returns-in-Set-clause-err t c = grind (arith, structure_Set)
+
+pub all_fields-returns-in_err-add_fields-clause-err : goal.all_fields-returns-in_err-add_fields-clause-err
+all_fields-returns-in_err-add_fields-clause-err t c =
+    let below : c.loop-section.section-index < length c.args.sections.now = omega (arith, c.loop-section-test.true) in
+    let h = rw c.behind-inside.ensures.same at c.in_err-add_fields.ensures.err in
+    refused _ _ _ c.from_residual.ensures.1 (λ told. stepped_fault_map _ _ _ _ _ _ c.section-item.result below c.section-item.is c.loop-section.invariant (h told))
+
+pub array_type-returns-in_err-indices-clause-err : goal.array_type-returns-in_err-indices-clause-err
+unfolding array_type
+array_type-returns-in_err-indices-clause-err t c = refused _ _ _ c.from_residual.ensures.1 (λ told. rw (← c.begins.ensures, c.in_err-indices.ensures.err told) refl)
+
+pub array_type-returns-in_err-component-clause-err : goal.array_type-returns-in_err-component-clause-err
+unfolding array_type
+array_type-returns-in_err-component-clause-err t c = refused _ _ _ c.from_residual-in_err-component.ensures.1 (λ told. rw (← c.begins.ensures, c.in_ok-indices.ensures.ok, c.in_err-component.ensures.err told) refl)
+
+pub record_type-returns-in_err-names-clause-err : goal.record_type-returns-in_err-names-clause-err
+unfolding record_type
+record_type-returns-in_err-names-clause-err t c = refused _ _ _ c.from_residual.ensures.1 (λ told. rw (c.in_err-names.ensures.err told) refl)
+
+pub record_type-returns-in_err-types-clause-err : goal.record_type-returns-in_err-types-clause-err
+unfolding record_type hidden_of
+record_type-returns-in_err-types-clause-err t c = refused _ _ _ c.from_residual-in_err-types.ensures.1 (λ told. rw (c.in_ok-names.ensures.ok, c.in_err-types.ensures.err told) refl)

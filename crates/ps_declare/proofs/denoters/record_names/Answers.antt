@@ -2,6 +2,7 @@ use Rattle.std.proofs.Common.{rules, ◌≡◌, ◌<◌, ◌≤◌, length, arit
 use Rattle.ps_declare.specs.Points.{add_points}
 use Rattle.ps_declare.specs.Denoters.{fields, section_names, record_names}
 use Rattle.ps_declare.specs.Views.{frame_of}
+use Rattle.ps_declare.proofs.Walks.{walked_next}
 use Rattle.ps_declare.proofs.DenoterLemmas.{names_fault, names_end}
 use Rattle.ps_declare.proofs.denoters.record_names.Goals as goal
 
@@ -15,3 +16,8 @@ pub returns-clause-ok : goal.returns-clause-ok
 returns-clause-ok c =
     let over : length c.args.sections.now ≤ c.loop-section.section-index = omega (arith, c.loop-section-test.false) in
     names_end (frame_of c.args.frame.now) c.args.sections.now c.loop-section.section-index c.loop-section.names over c.loop-section.invariant
+
+pub loop-section-preserved : goal.loop-section-preserved
+loop-section-preserved c =
+    let below : c.loop-section.section-index < length c.args.sections.now = omega (arith, c.loop-section-test.true) in
+    walked_next _ _ _ _ _ _ c.section-item.result _ below c.section-item.is c.loop-section.invariant c.in_ok-section_names.ensures.ok

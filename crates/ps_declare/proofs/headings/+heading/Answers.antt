@@ -1,10 +1,11 @@
-use Rattle.std.proofs.Common.{rules, ◌≡◌, ◌<◌, ◌≤◌, length, arith, None, [], map}
+use Rattle.std.proofs.Common.{rules, ◌≡◌, ◌<◌, ◌≤◌, length, arith, None, [], map, refl}
 use Rattle.ps_regions.specs.Option.{steps}
 use Rattle.ps_regions.specs.Views.{meaning_of, section_of}
 use Rattle.ps_regions.proofs.Lists.{stepped_next_map, stepped_fault_map, stepped_end_map}
-use Rattle.ps_declare.specs.Headings.{add_section, section}
+use Rattle.ps_declare.specs.Headings.{add_section, section, sections_of}
 use Rattle.ps_declare.specs.Views.{frame_of, hidden_of}
 use Rattle.ps_declare.proofs.HeadingLemmas.{section_Routine, routine_made, heading_Procedure, heading_Function, section_Value, section_Variable}
+use Rattle.ps_declare.proofs.Refused.{refused}
 use Rattle.ps_declare.proofs.headings.+heading.Goals as goal
 
 pub all_sections-returns-in_err-add_section-clause-err : goal.all_sections-returns-in_err-add_section-clause-err
@@ -63,3 +64,22 @@ section-returns-in_ok-ty-in-Variable-clause-ok t c = grind (arith, section_Varia
 
 pub section-returns-in_err-sections-in-Routine-clause-err : goal.section-returns-in_err-sections-in-Routine-clause-err
 section-returns-in_err-sections-in-Routine-clause-err t c = grind (arith, section_Routine)
+
+pub sections-returns-in_err-names-clause-err : goal.sections-returns-in_err-names-clause-err
+unfolding sections_of
+sections-returns-in_err-names-clause-err t c = refused _ _ _ c.from_residual.ensures.1 (λ told. rw (c.in_err-names.ensures.err told) refl)
+
+pub sections-returns-in_err-_count-clause-err : goal.sections-returns-in_err-_count-clause-err
+unfolding sections_of
+sections-returns-in_err-_count-clause-err t c = refused _ _ _ c.from_residual-in_err-_count.ensures.1 (λ told. rw (c.in_ok-names.ensures.ok, ← c.len.ensures, c.in_err-_count.ensures.err told) refl)
+
+pub sections-returns-clause-ok : goal.sections-returns-clause-ok
+unfolding sections_of hidden_of
+sections-returns-clause-ok t c = rw (c.in_ok-names.ensures.ok, ← c.len.ensures, c.in_ok-_count.ensures.ok) c.all_sections.ensures.ok
+
+pub sections-returns-clause-err : goal.sections-returns-clause-err
+unfolding sections_of hidden_of
+sections-returns-clause-err t c = rw (c.in_ok-names.ensures.ok, ← c.len.ensures, c.in_ok-_count.ensures.ok) c.all_sections.ensures.err
+
+pub add_section-returns-in_err-section-clause-err : goal.add_section-returns-in_err-section-clause-err
+add_section-returns-in_err-section-clause-err t c = refused _ _ _ c.from_residual.ensures.1 (λ told. rw (c.in_err-section.ensures.err told) refl)

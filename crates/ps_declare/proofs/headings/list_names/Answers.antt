@@ -3,6 +3,7 @@ use Rattle.ps_regions.specs.Views.{meaning_of}
 use Rattle.ps_declare.specs.Points.{add_points}
 use Rattle.ps_declare.specs.Headings.{section, section_points, list_names}
 use Rattle.ps_declare.specs.Views.{frame_of}
+use Rattle.ps_declare.proofs.Walks.{walked_next}
 use Rattle.ps_declare.proofs.HeadingLemmas.{names_fault, names_end}
 use Rattle.ps_declare.proofs.headings.list_names.Goals as goal
 
@@ -16,3 +17,8 @@ pub returns-clause-ok : goal.returns-clause-ok
 returns-clause-ok c =
     let over : length c.args.list.now ≤ c.loop-written.written-index = omega (arith, c.loop-written-test.false) in
     names_end (frame_of c.args.frame.now) (map meaning_of c.args.known.now) c.args.list.now c.loop-written.written-index c.loop-written.names over c.loop-written.invariant
+
+pub loop-written-preserved : goal.loop-written-preserved
+loop-written-preserved c =
+    let below : c.loop-written.written-index < length c.args.list.now = omega (arith, c.loop-written-test.true) in
+    walked_next _ _ _ _ _ _ c.written-item.result _ below c.written-item.is c.loop-written.invariant c.in_ok-add_names.ensures.ok
