@@ -93,3 +93,15 @@ threat_of-returns-in-Write t c = rw (c.in-Write.is, c.by_parameters.ensures, c.d
 pub threat_of-returns-in-Writeln : goal.threat_of-returns-in-Writeln
 unfolding statement_threatens statement_of
 threat_of-returns-in-Writeln t c = rw (c.in-Writeln.is, c.by_parameters-in-Writeln.ensures, c.deref-in-Writeln.ensures.value) refl
+
+pub threat_of-returns-in-Assign : goal.threat_of-returns-in-Assign
+unfolding statement_threatens statement_of
+threat_of-returns-in-Assign t c = rw (c.in-Assign.is, c.either.ensures, c.by_target.ensures, c.by_expr.ensures) refl
+
+pub threat_of-returns-in-AssignSet : goal.threat_of-returns-in-AssignSet
+unfolding statement_threatens statement_of
+threat_of-returns-in-AssignSet t c = rw (c.in-AssignSet.is, c.either-in-AssignSet.ensures, c.by_target-in-AssignSet.ensures, c.by_set.ensures) refl
+
+pub threat_of-returns-in-Pack : goal.threat_of-returns-in-Pack
+unfolding statement_threatens statement_of
+threat_of-returns-in-Pack t c = rw (c.in-Pack.is, c.either-in-Pack-2.ensures, c.by_place.ensures, c.deref-in-Pack.ensures, c.either-in-Pack.ensures, c.by_expr-in-Pack.ensures, c.by_target-in-Pack.ensures, c.deref-in-Pack-2.ensures) refl
