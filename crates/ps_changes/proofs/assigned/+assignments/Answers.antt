@@ -1,4 +1,4 @@
-use Rattle.std.proofs.Common.{refl, ◌∙◌}
+use Rattle.std.proofs.Common.{refl, ◌∙◌, arith}
 use Rattle.ps_tree.specs.declared.tree.CaseElement.{out-CaseElement}
 use Rattle.ps_tree.specs.View.{statement_of}
 use Rattle.ps_changes.specs.Changes.{statement_assigns}
@@ -38,3 +38,11 @@ is_assigning-returns-in-Repeat t c = c.assigns-in-Repeat.ensures ∙ repeat_assi
 
 pub is_assigning-returns-in-Compound : goal.is_assigning-returns-in-Compound
 is_assigning-returns-in-Compound t c = c.assigns.ensures ∙ compound_assigns _ _ _ _ _ c.in-Compound.is c.deref.ensures.value
+
+pub is_assigning-returns-in-If : goal.is_assigning-returns-in-If
+unfolding statement_assigns statement_of
+is_assigning-returns-in-If t c = grind arith
+
+pub is_assigning-returns-in-Assign : goal.is_assigning-returns-in-Assign
+unfolding statement_assigns statement_of
+is_assigning-returns-in-Assign t c = grind arith

@@ -1,4 +1,4 @@
-use Rattle.std.proofs.Common.{◌++◌, refl, ap, ◌∙◌}
+use Rattle.std.proofs.Common.{◌++◌, refl, ap, ◌∙◌, arith}
 use Rattle.std.proofs.lemmas.Result.{on_ok_weaker}
 use Rattle.ps_tree.specs.declared.tree.CaseElement.{out-CaseElement}
 use Rattle.ps_tree.specs.View.{statement_of}
@@ -33,3 +33,7 @@ add_statements-returns t c = appended_all controls_given controls_none _ _ _ _ c
 
 pub add_statement-returns-in-Compound : goal.add_statement-returns-in-Compound
 add_statement-returns-in-Compound t c = on_ok_weaker c.add_statements.result (λ e. e ∙ ap (λ l. c.args.found.now.items ++ l) (compound_controls _ _ _ c.in-Compound.is c.deref-in-Compound.ensures.value)) c.add_statements.ensures
+
+pub add_statement-returns-in-If : goal.add_statement-returns-in-If
+unfolding statement_controls statement_of
+add_statement-returns-in-If t c = grind arith

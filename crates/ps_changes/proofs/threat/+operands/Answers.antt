@@ -1,4 +1,4 @@
-use Rattle.std.proofs.Common.{refl, ◌∙◌}
+use Rattle.std.proofs.Common.{refl, ◌∙◌, arith}
 use Rattle.ps_tree.specs.declared.tree.ArithmeticStep.{out-ArithmeticStep}
 use Rattle.ps_tree.specs.declared.tree.SetStep.{out-SetStep}
 use Rattle.ps_tree.specs.View.{argument_of, member_of, selector_of, expr_of, set_of, structure_of}
@@ -157,3 +157,11 @@ by_selector-returns-in-Element t c = rw (c.in-Element.is, c.by_expr.ensures) ref
 pub by_structure-returns-in-Literal : goal.by_structure-returns-in-Literal
 unfolding structure_threatens structure_of
 by_structure-returns-in-Literal t c = rw (c.in-Literal.is) refl
+
+pub by_expr-returns-in-Compare : goal.by_expr-returns-in-Compare
+unfolding expr_threatens expr_of
+by_expr-returns-in-Compare t c = grind arith
+
+pub by_expr-returns-in-Plus : goal.by_expr-returns-in-Plus
+unfolding expr_threatens expr_of
+by_expr-returns-in-Plus t c = grind arith

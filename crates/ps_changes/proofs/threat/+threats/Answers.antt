@@ -1,4 +1,4 @@
-use Rattle.std.proofs.Common.{refl, ◌∙◌}
+use Rattle.std.proofs.Common.{refl, ◌∙◌, arith}
 use Rattle.ps_tree.specs.declared.tree.CaseElement.{out-CaseElement}
 use Rattle.ps_tree.specs.View.{statement_of}
 use Rattle.ps_tree.proofs.StatementLemmas.{statement_of_Compound, statement_of_Repeat}
@@ -105,3 +105,7 @@ threat_of-returns-in-AssignSet t c = rw (c.in-AssignSet.is, c.either-in-AssignSe
 pub threat_of-returns-in-Pack : goal.threat_of-returns-in-Pack
 unfolding statement_threatens statement_of
 threat_of-returns-in-Pack t c = rw (c.in-Pack.is, c.either-in-Pack-2.ensures, c.by_place.ensures, c.deref-in-Pack.ensures, c.either-in-Pack.ensures, c.by_expr-in-Pack.ensures, c.by_target-in-Pack.ensures, c.deref-in-Pack-2.ensures) refl
+
+pub threat_of-returns-in-If : goal.threat_of-returns-in-If
+unfolding statement_threatens statement_of
+threat_of-returns-in-If t c = grind arith
