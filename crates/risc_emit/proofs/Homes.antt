@@ -1,9 +1,10 @@
 -- The homes of a routine's temporaries lie among all homes.
-use Rattle.std.proofs.Common.{◌≡◌, ℕ, ◌+◌, ◌<◌, ◌≤◌, List, [], ◌∷◌, length, take, drop, slice_get, Some, refl, sym, ap, ◌∙◌, arith}
+use Rattle.std.proofs.Common.{◌≡◌, ℕ, ◌+◌, ◌<◌, ◌≤◌, List, [], ◌∷◌, length, take, drop, slice_get, Option, Some, None, refl, sym, ap, ◌∙◌, arith}
 use Rattle.tac_code.specs.declared.code.TacRoutine.{TacRoutine}
 use Rattle.tac_code.specs.Meaning.{Code, routines}
 use Rattle.risc_alloc.specs.declared.homes.Home.{Home}
-use Rattle.risc_alloc.specs.Homes.{temporaries_before, homes_of, found}
+use Rattle.risc_alloc.specs.declared.homes.Home.TheVariants.{Reg}
+use Rattle.risc_alloc.specs.Homes.{temporaries_before, homes_of, home_in, home_of, found}
 use Rattle.risc_alloc.specs.Valid.{Valid}
 use Rattle.risc_alloc.proofs.Whole.{before_more, before_within, homes_part}
 use Rattle.risc_emit.specs.Frames.{AreHomes}
@@ -30,3 +31,20 @@ before_none (x ∷ rs) = refl
 
 pub before_next : (rs : List TacRoutine) (r first : ℕ) (x : TacRoutine) → first ≡ temporaries_before rs r → slice_get rs r ≡ Some x → first + x.temporaries ≡ temporaries_before rs (r + 1)
 before_next rs r first x begins is = ap (λ n. n + x.temporaries) begins ∙ sym (before_more rs r x is)
+
+-- what is found among the homes of a routine is the temporary's home, and its register is below 12
+module _ (code : Code) (homes : List Home) (r : ℕ) (own : List Home) (t : ℕ) (h : Home) (are : AreHomes code homes r own) (is : h ≡ home_in own t) where
+  pub home_is : h ≡ home_of code homes r t
+  home_is = is ∙ ap (λ (l : List Home). home_in l t) are.is_own
+
+  pub register_below : (q : ℕ) → h ≡ Reg q → q < 12
+  register_below q e = go (slice_get own t) refl
+    where
+      go : (o : Option Home) → slice_get own t ≡ o → q < 12
+      go None none =
+          let first : Reg 0 ≡ Reg q = sym (is ∙ ap found none) ∙ e in
+          let same : 0 ≡ q = cc first in
+          omega (arith, same)
+      go (Some x) some =
+          let same : x ≡ Reg q = sym (is ∙ ap found some) ∙ e in
+          are.register t q (some ∙ ap (λ (y : Home). Some y) same)

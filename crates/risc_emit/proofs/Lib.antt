@@ -6,6 +6,7 @@ mod Rows
 mod Written
 mod Passing
 mod Joined
+mod Parts
 mod Homes
 mod Texts
 mod Few

@@ -12,8 +12,8 @@ ghost use Rattle.risc_emit.specs.Frames.{context_of};
 
 use crate::frame::Frame;
 use crate::operands::{
-    fetch, fetch_length, is_told, put_divisor, put_modulus, put_operation, receive, right, save,
-    target,
+    fetch, fetch_length, finish, is_told, put_divisor, put_modulus, put_operation, receive, right,
+    save, target,
 };
 use crate::pieces::{Piece, Pieces};
 use crate::words::{computed, constant, r12, r15, set, skip};
@@ -115,11 +115,11 @@ fn is_own(frame: &Frame<'_>, told: Option<u32>, to: u32, left: u32, operand: Ope
 fn put_one(frame: &Frame<'_>, pieces: &mut Pieces, to: u32) -> Result<(), OutOfMemory>
     ensures { OnOk result (pieces.new ≡ pieces.old ++ form.unlike (context_of frame.now) frame.now.number to) }
 {
-    pieces.all(&[
+    let different = [
         Piece::Plain(skip(Condition::Equal, 1)),
         Piece::Plain(set(target(frame, to), 1)),
-    ])?;
-    save(frame, pieces, to)
+    ];
+    finish(frame, pieces, &different, to)
 }
 
 // Whether two values differ.
@@ -152,13 +152,13 @@ fn put_truth(
 {
     let register = target(frame, to);
     put_difference(frame, pieces, left, operand)?;
-    pieces.all(&[
+    let truth = [
         Piece::Plain(skip(condition_of(relation), 2)),
         Piece::Plain(set(register, 0)),
         Piece::Plain(skip(Condition::Always, 1)),
         Piece::Plain(set(register, 1)),
-    ])?;
-    save(frame, pieces, to)
+    ];
+    finish(frame, pieces, &truth, to)
 }
 
 pub(crate) fn put_compare(
@@ -196,23 +196,11 @@ fn put_sum(
     ensures { OnOk result (pieces.new ≡ pieces.old ++ form.both (context_of frame.now) frame.now.number left operand (form.operate (context_of frame.now) frame.now.number operation (home (context_of frame.now) frame.now.number to) left operand ∷ piece.Fails on.OverflowSet error line ∷ form.save (context_of frame.now) frame.now.number (home (context_of frame.now) frame.now.number to))) }
 {
     put_operate(frame, pieces, operation, to, left, operand)?;
-    pieces.push(Piece::Fails(Condition::OverflowSet, error, line))?;
-    save(frame, pieces, to)
+    let fails = Piece::Fails(Condition::OverflowSet, error, line);
+    finish(frame, pieces, &[fails], to)
 }
 
 // R15 takes 0 where the product has 32 bits: H is 0, or all ones above a negative low word.
-fn put_beyond(pieces: &mut Pieces) -> Result<(), OutOfMemory>
-    ensures { OnOk result (pieces.new ≡ pieces.old ++ form.beyond) }
-{
-    pieces.all(&[
-        Piece::Plain(skip(Condition::Plus, 3)),
-        Piece::Plain(Instr::MoveHigh { to: r15() }),
-        Piece::Plain(computed(Operation::Add, r15(), r15(), constant(1))),
-        Piece::Plain(skip(Condition::Always, 1)),
-        Piece::Plain(Instr::MoveHigh { to: r15() }),
-    ])
-}
-
 fn put_product(
     frame: &Frame<'_>,
     pieces: &mut Pieces,
@@ -225,9 +213,15 @@ fn put_product(
     ensures { OnOk result (pieces.new ≡ pieces.old ++ form.multiply_form (context_of frame.now) frame.now.number to left operand error line) }
 {
     put_operate(frame, pieces, Operation::Mul, to, left, operand)?;
-    put_beyond(pieces)?;
-    pieces.push(Piece::Fails(Condition::NotEqual, error, line))?;
-    save(frame, pieces, to)
+    let beyond = [
+        Piece::Plain(skip(Condition::Plus, 3)),
+        Piece::Plain(Instr::MoveHigh { to: r15() }),
+        Piece::Plain(computed(Operation::Add, r15(), r15(), constant(1))),
+        Piece::Plain(skip(Condition::Always, 1)),
+        Piece::Plain(Instr::MoveHigh { to: r15() }),
+        Piece::Fails(Condition::NotEqual, error, line),
+    ];
+    finish(frame, pieces, &beyond, to)
 }
 
 // The floored quotient in a register rounded toward zero.
@@ -416,13 +410,13 @@ fn put_modulo_by_any(
         Piece::Fails(Condition::Less, 3, line),
     ])?;
     let dividend = fetch(frame, pieces, r12(), left)?;
-    pieces.all(&[
+    let remainder = [
         Piece::Plain(computed(Operation::Div, r12(), dividend, Right::Content(modulus))),
         Piece::Plain(Instr::MoveHigh {
             to: target(frame, to),
         }),
-    ])?;
-    save(frame, pieces, to)
+    ];
+    finish(frame, pieces, &remainder, to)
 }
 
 // What H holds after a division is Pascal's mod.
@@ -440,10 +434,10 @@ fn put_modulo(
         return put_modulo_by_any(frame, pieces, to, left, operand, line);
     }
     put_division(frame, pieces, r12(), left, operand)?;
-    pieces.plain(Instr::MoveHigh {
+    let remainder = Instr::MoveHigh {
         to: target(frame, to),
-    })?;
-    save(frame, pieces, to)
+    };
+    finish(frame, pieces, &[Piece::Plain(remainder)], to)
 }
 
 pub(crate) fn put_arithmetic(

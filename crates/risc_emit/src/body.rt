@@ -1,9 +1,7 @@
 // The words of each instruction.
 
-ghost use Rattle.std.specs.Prelude.{◌≡◌, suc, ◌++◌, [], ◌∷◌, OnOk};
-ghost use Rattle.risc_word.specs.declared.instr.Condition.TheVariants as on;
+ghost use Rattle.std.specs.Prelude.{◌≡◌, suc, ◌++◌, OnOk};
 ghost use Rattle.risc_related.specs.Context.{home};
-ghost use Rattle.risc_steps.specs.Pieces as piece;
 ghost use Rattle.risc_steps.specs.Told.{told_at, bent_at};
 ghost use Rattle.risc_steps.specs.Forms as form;
 ghost use Rattle.risc_emit.specs.Frames.{context_of};
@@ -33,12 +31,6 @@ fn put_literal(
 {
     put_number(pieces, target(frame, to), value)?;
     save(frame, pieces, to)
-}
-
-fn put_jump(pieces: &mut Pieces, label: Label) -> Result<(), OutOfMemory>
-    ensures { OnOk result (pieces.new ≡ pieces.old ++ piece.Goes on.Always (label_of label) ∷ []) }
-{
-    pieces.push(Piece::Goes(Condition::Always, label))
 }
 
 // The condition for a comparison with 0 by N and Z alone.
@@ -195,8 +187,14 @@ pub(crate) fn put_instruction(
             *offset,
             *from,
         ),
-        Instruction::Jump { forward } => put_jump(pieces, Label::Forward(r, place, *forward)),
-        Instruction::JumpBack { back } => put_jump(pieces, Label::Back(r, place, *back)),
+        Instruction::Jump { forward } => pieces.push(Piece::Goes(
+            Condition::Always,
+            Label::Forward(r, place, *forward),
+        )),
+        Instruction::JumpBack { back } => pieces.push(Piece::Goes(
+            Condition::Always,
+            Label::Back(r, place, *back),
+        )),
         Instruction::Branch {
             relation,
             left,

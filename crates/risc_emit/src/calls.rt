@@ -1,6 +1,6 @@
 // Calls and returns, devices and objects.
 
-ghost use Rattle.std.specs.Prelude.{◌≡◌, ◌<◌, ◌≤◌, ◌++◌, length, [], ◌∷◌, pos, OnOk};
+ghost use Rattle.std.specs.Prelude.{◌≡◌, ◌<◌, ◌≤◌, ◌++◌, length, ◌∷◌, pos, OnOk};
 ghost use Rattle.risc_word.specs.declared.instr.Operation.TheVariants as op;
 ghost use Rattle.risc_word.specs.declared.instr.Operand.TheVariants.{Content};
 ghost use Rattle.risc_word.specs.declared.instr.Width.TheVariants.{Word};
@@ -12,7 +12,7 @@ ghost use Rattle.risc_emit.specs.Frames.{context_of};
 
 use crate::frame::Frame;
 use crate::numbers::put_natural;
-use crate::operands::{accept, bring, fetch, put_into, receive, save, target};
+use crate::operands::{accept, bring, fetch, finish, put_into, receive, target};
 use crate::pieces::{Piece, Pieces};
 use crate::seat::Seat;
 use crate::words::{computed, copied, goes_to, loaded, r0, r12, r13, r14, r15, set, stored};
@@ -213,11 +213,11 @@ pub(crate) fn put_put(frame: &Frame<'_>, pieces: &mut Pieces, from: u32) -> Resu
 pub(crate) fn put_take(frame: &Frame<'_>, pieces: &mut Pieces, to: u32) -> Result<(), OutOfMemory>
     ensures { OnOk result (pieces.new ≡ pieces.old ++ form.take_form (context_of frame.now) frame.now.number to) }
 {
-    pieces.all(&[
+    let taken = [
         Piece::Plain(set(r15(), DEVICE)),
         Piece::Plain(loaded(Width::Word, target(frame, to), r15(), PORT)),
-    ])?;
-    save(frame, pieces, to)
+    ];
+    finish(frame, pieces, &taken, to)
 }
 
 pub(crate) fn put_end(frame: &Frame<'_>, pieces: &mut Pieces) -> Result<(), OutOfMemory>
@@ -231,29 +231,16 @@ pub(crate) fn put_end(frame: &Frame<'_>, pieces: &mut Pieces) -> Result<(), OutO
     ])
 }
 
-// R12 takes the bytes, and what is left of the room between the heap's next address and the stack's limit sets the flags.
+// R15 takes the room between the heap's next address and the stack's limit, and R12 the bytes.
 fn put_room(pieces: &mut Pieces, bytes: u32) -> Result<(), OutOfMemory>
-    ensures { OnOk result (pieces.new ≡ pieces.old ++ (piece.Plain (word.Load Word 15 13 (pos 268)) ∷ piece.Plain (word.Load Word 12 13 (pos 272)) ∷ piece.Plain (word.Operate op.Sub 15 15 (Content 12)) ∷ (form.number 12 (pos bytes) ++ piece.Plain (word.Operate op.Sub 15 15 (Content 12)) ∷ []))) }
+    ensures { OnOk result (pieces.new ≡ pieces.old ++ (piece.Plain (word.Load Word 15 13 (pos 268)) ∷ piece.Plain (word.Load Word 12 13 (pos 272)) ∷ piece.Plain (word.Operate op.Sub 15 15 (Content 12)) ∷ form.number 12 (pos bytes))) }
 {
     pieces.all(&[
         Piece::Plain(loaded(Width::Word, r15(), r13(), LIMIT_AT)),
         Piece::Plain(loaded(Width::Word, r12(), r13(), NEXT_AT)),
         Piece::Plain(computed(Operation::Sub, r15(), r15(), Right::Content(r12()))),
     ])?;
-    put_natural(pieces, r12(), u64::from(bytes))?;
-    pieces.plain(computed(Operation::Sub, r15(), r15(), Right::Content(r12())))
-}
-
-// The heap's next address moves on by R12, which takes the address that it had.
-fn put_taken(pieces: &mut Pieces) -> Result<(), OutOfMemory>
-    ensures { OnOk result (pieces.new ≡ pieces.old ++ (piece.Plain (word.Load Word 15 13 (pos 272)) ∷ piece.Plain (word.Operate op.Add 12 12 (Content 15)) ∷ piece.Plain (word.Store Word 12 13 (pos 272)) ∷ piece.Plain (word.Move 12 (Content 15)) ∷ [])) }
-{
-    pieces.all(&[
-        Piece::Plain(loaded(Width::Word, r15(), r13(), NEXT_AT)),
-        Piece::Plain(computed(Operation::Add, r12(), r12(), Right::Content(r15()))),
-        Piece::Plain(stored(Width::Word, r12(), r13(), NEXT_AT)),
-        Piece::Plain(copied(r12(), r15())),
-    ])
+    put_natural(pieces, r12(), u64::from(bytes))
 }
 
 /// The heap's next address, where there is room up to the stack's limit.
@@ -267,7 +254,14 @@ pub(crate) fn put_new(
     ensures { OnOk result (pieces.new ≡ pieces.old ++ form.new_form (context_of frame.now) frame.now.number to bytes line) }
 {
     put_room(pieces, bytes)?;
-    pieces.push(Piece::Fails(Condition::CarrySet, 13, line))?;
-    put_taken(pieces)?;
+    // What is left of the room sets the flags. The next address moves on by R12, which takes the address that it had.
+    pieces.all(&[
+        Piece::Plain(computed(Operation::Sub, r15(), r15(), Right::Content(r12()))),
+        Piece::Fails(Condition::CarrySet, 13, line),
+        Piece::Plain(loaded(Width::Word, r15(), r13(), NEXT_AT)),
+        Piece::Plain(computed(Operation::Add, r12(), r12(), Right::Content(r15()))),
+        Piece::Plain(stored(Width::Word, r12(), r13(), NEXT_AT)),
+        Piece::Plain(copied(r12(), r15())),
+    ])?;
     receive(frame, pieces, to)
 }

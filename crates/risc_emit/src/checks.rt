@@ -10,7 +10,7 @@ ghost use Rattle.risc_emit.specs.Frames.{context_of};
 use crate::frame::Frame;
 use crate::memory::{base_register, put_base_address};
 use crate::numbers::put_exact;
-use crate::operands::{bring, fetch, is_told, natural_right, number_right, save, target};
+use crate::operands::{bring, fetch, finish, is_told, natural_right, number_right, target};
 use crate::pieces::{Piece, Pieces};
 use crate::words::{computed, constant, r12, r15};
 use risc_word::{Condition, Operand as Right, Operation, Register};
@@ -154,8 +154,7 @@ fn put_component(
         address,
         Right::Content(distance),
     );
-    pieces.plain(sum)?;
-    save(frame, pieces, to)
+    finish(frame, pieces, &[Piece::Plain(sum)], to)
 }
 
 // The address so many steps behind a base as a register tells.

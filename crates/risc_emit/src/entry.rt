@@ -188,12 +188,14 @@ fn put_enter(
     ensures { OnOk result (pieces.new ≡ pieces.old ++ form.enter_form (context_of frame.now) frame.now.number routine.now) }
 {
     put_frame_below(frame, pieces, frame.cost())?;
-    pieces.plain(loaded(Width::Word, r11(), r13(), LIMIT_AT))?;
-    pieces.plain(computed(Operation::Sub, r11(), r12(), Right::Content(r11())))?;
-    pieces.push(Piece::Fails(Condition::Less, 12, routine.line))?;
-    pieces.plain(stored(Width::Word, r15(), r12(), 0))?;
-    pieces.plain(stored(Width::Word, r14(), r12(), 4))?;
-    pieces.plain(copied(r14(), r12()))?;
+    pieces.all(&[
+        Piece::Plain(loaded(Width::Word, r11(), r13(), LIMIT_AT)),
+        Piece::Plain(computed(Operation::Sub, r11(), r12(), Right::Content(r11()))),
+        Piece::Fails(Condition::Less, 12, routine.line),
+        Piece::Plain(stored(Width::Word, r15(), r12(), 0)),
+        Piece::Plain(stored(Width::Word, r14(), r12(), 4)),
+        Piece::Plain(copied(r14(), r12())),
+    ])?;
     put_arrival(frame, pieces, frame.cost(), routine.parameters)
 }
 
@@ -253,10 +255,12 @@ pub(crate) fn put_start(
         return pieces.push(Piece::Fails(Condition::Always, 12, block.line));
     }
     put_frame_below(frame, pieces, frame.cost())?;
-    pieces.plain(computed(Operation::Sub, r2(), r12(), Right::Content(r1())))?;
-    pieces.push(Piece::Fails(Condition::Less, 12, block.line))?;
-    pieces.plain(stored(Width::Word, r1(), r12(), LIMIT_AT))?;
-    pieces.plain(stored(Width::Word, r0(), r12(), NEXT_AT))?;
-    pieces.plain(copied(r13(), r12()))?;
-    pieces.push(Piece::Goes(Condition::Always, Label::Entry(0)))
+    pieces.all(&[
+        Piece::Plain(computed(Operation::Sub, r2(), r12(), Right::Content(r1()))),
+        Piece::Fails(Condition::Less, 12, block.line),
+        Piece::Plain(stored(Width::Word, r1(), r12(), LIMIT_AT)),
+        Piece::Plain(stored(Width::Word, r0(), r12(), NEXT_AT)),
+        Piece::Plain(copied(r13(), r12())),
+        Piece::Goes(Condition::Always, Label::Entry(0)),
+    ])
 }

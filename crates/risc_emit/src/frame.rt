@@ -40,14 +40,15 @@ impl<'a> Model for Frame<'a> {
     ghost invariant = { λ f. AreOffsets f.tac.now f.number f.offsets × AreHomes f.tac.now f.homes.now f.number f.own.now };
 }
 
-ghost use Rattle.std.specs.Prelude.{◌≡◌, ◌+◌, ◌<◌, ◌≤◌, length, take, drop, slice_get, Some, pos, ◌≤ℤ◌};
+ghost use Rattle.std.specs.Prelude.{◌≡◌, ℕ, ◌+◌, ◌<◌, ◌≤◌, length, take, drop, slice_get, Some, pos, ◌≤ℤ◌};
 ghost use Rattle.risc_related.specs.Context.{home, slot_at, is_program};
 ghost use Rattle.risc_emit.specs.Meant.{home_of_seat};
 ghost use Rattle.risc_emit.specs.Layout.{object_cost};
 ghost use Rattle.risc_emit.specs.Frames.{place_of, context_of};
 ghost use Rattle.tac_code.specs.Meaning.{routines};
 ghost use Rattle.tac_code.specs.Sound.{IsSound};
-ghost use Rattle.risc_alloc.specs.Homes.{temporaries_before};
+ghost use Rattle.risc_alloc.specs.declared.homes.Home.TheVariants.{Reg};
+ghost use Rattle.risc_alloc.specs.Homes.{temporaries_before, home_in};
 ghost use Rattle.risc_alloc.specs.Valid.{Valid};
 
 // So many homes from one on.
@@ -57,6 +58,27 @@ fn homes_from(homes: &[Home], first: usize, count: u32) -> &[Home]
 {
     let next = first + count as usize;
     &homes[first..next]
+}
+
+// The home of a temporary among its routine's. What is no temporary is told to be in register 0.
+fn home_in(homes: &[Home], temporary: u32) -> Home
+    ensures { result ≡ home_in homes.now temporary }
+{
+    match homes.get(temporary as usize) {
+        Some(home) => *home,
+        None => Home::Reg(0),
+    }
+}
+
+// A home whose register is known to exist.
+fn seat_of(home: Home) -> Seat
+    requires { (q : ℕ) → home ≡ Reg q → q < 12 }
+    ensures { home_of_seat result ≡ home }
+{
+    match home {
+        Home::Slot(slot) => Seat::Slot(slot),
+        Home::Reg(number) => Seat::Register(Register::new(number)),
+    }
 }
 
 impl Frame<'_> {
@@ -100,11 +122,7 @@ impl Frame<'_> {
     pub(crate) fn seat(&self, temporary: u32) -> Seat
         ensures { home_of_seat result ≡ home (context_of self.now) self.now.number temporary }
     {
-        match self.own.get(temporary as usize) {
-            Some(Home::Slot(slot)) => Seat::Slot(*slot),
-            Some(Home::Reg(number)) => Seat::Register(Register::new(*number)),
-            None => Seat::Register(Register::new(0)),
-        }
+        seat_of(home_in(self.own, temporary))
     }
 
     /// The offset of a slot.

@@ -9,7 +9,7 @@ ghost use Rattle.risc_emit.specs.Passes.{IsNear};
 
 use crate::frame::Frame;
 use crate::numbers::{is_near, put_constant};
-use crate::operands::{fetch, save, target};
+use crate::operands::{fetch, finish, save, target};
 use crate::pieces::{Label, Piece, Pieces};
 use crate::words::{computed, constant, loaded, r12, r13, r14, r15, stored};
 use risc_word::{Operand as Right, Operation, Register, Width};
@@ -105,8 +105,8 @@ pub(crate) fn put_load_form(
     ensures { OnOk result (pieces.new ≡ pieces.old ++ form.load_form (context_of frame.now) frame.now.number width to base bytes) }
 {
     let (register, offset) = put_reach(frame, pieces, base, bytes)?;
-    pieces.plain(loaded(width, target(frame, to), register, offset))?;
-    save(frame, pieces, to)
+    let load = loaded(width, target(frame, to), register, offset);
+    finish(frame, pieces, &[Piece::Plain(load)], to)
 }
 
 pub(crate) fn put_store_form(
@@ -202,6 +202,6 @@ pub(crate) fn put_label(
     ensures { OnOk result (pieces.new ≡ pieces.old ++ form.label_form (context_of frame.now) frame.now.number to (label_of label)) }
 {
     let register = target(frame, to);
-    pieces.all(&[Piece::High(register, label), Piece::Low(register, label)])?;
-    save(frame, pieces, to)
+    let address = [Piece::High(register, label), Piece::Low(register, label)];
+    finish(frame, pieces, &address, to)
 }

@@ -7,11 +7,11 @@ ghost use Rattle.risc_related.specs.Context.{home};
 ghost use Rattle.risc_steps.specs.Pieces as piece;
 ghost use Rattle.risc_steps.specs.Forms as form;
 ghost use Rattle.risc_emit.specs.Frames.{context_of};
-ghost use Rattle.risc_emit.specs.Meant.{home_of_seat};
+ghost use Rattle.risc_emit.specs.Meant.{all_meant, home_of_seat};
 
 use crate::frame::Frame;
 use crate::numbers::{is_near, is_small, put_exact, put_load, put_number, put_store};
-use crate::pieces::Pieces;
+use crate::pieces::{Piece, Pieces};
 use crate::seat::Seat;
 use crate::words::{computed, constant, copied, r0, r12, r14, r15};
 use risc_word::{Operand as Right, Operation, Register};
@@ -96,6 +96,19 @@ pub(crate) fn save(
         Seat::Register(_) => Ok(()),
         Seat::Slot(slot) => put_store(pieces, r12(), r14(), frame.slot_at(slot)),
     }
+}
+
+/// The last words of a result; what was made comes into the temporary's slot.
+pub(crate) fn finish(
+    frame: &Frame<'_>,
+    pieces: &mut Pieces,
+    words: &[Piece],
+    temporary: u32,
+) -> Result<(), OutOfMemory>
+    ensures { OnOk result (pieces.new ≡ pieces.old ++ (all_meant words.now ++ form.save (context_of frame.now) frame.now.number (home (context_of frame.now) frame.now.number temporary))) }
+{
+    pieces.all(words)?;
+    save(frame, pieces, temporary)
 }
 
 /// A result in R12 comes to its home.
