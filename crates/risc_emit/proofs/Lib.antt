@@ -3,6 +3,7 @@ mod Emitted
 mod Places
 mod Costs
 mod Rows
+mod Jumps
 mod Written
 mod Passing
 mod Joined

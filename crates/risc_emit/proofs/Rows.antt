@@ -16,12 +16,12 @@ use Rattle.risc_emit.specs.Meant.{meant, all_meant}
 use Rattle.risc_emit.specs.Placed.{AreWordsTo}
 use Rattle.risc_emit.proofs.Places.{get_there}
 
-drop_get : {X : Type 0} (xs : List X) (n : ℕ) (x : X) → slice_get xs n ≡ Some x → drop n xs ≡ x ∷ drop (suc n) xs
+pub drop_get : {X : Type 0} (xs : List X) (n : ℕ) (x : X) → slice_get xs n ≡ Some x → drop n xs ≡ x ∷ drop (suc n) xs
 drop_get [] n x e = absurd (cc e)
 drop_get (y ∷ xs) zero x e = let same : y ≡ x = cc e in ap (λ z. z ∷ xs) same
 drop_get (y ∷ xs) (suc n) x e = drop_get xs n x e
 
-drop_past : {X : Type 0} (xs : List X) (n : ℕ) → length xs ≤ n → drop n xs ≡ []
+pub drop_past : {X : Type 0} (xs : List X) (n : ℕ) → length xs ≤ n → drop n xs ≡ []
 drop_past [] zero le = refl
 drop_past [] (suc n) le = refl
 drop_past (x ∷ xs) zero le = absurd (omega (arith, le))
