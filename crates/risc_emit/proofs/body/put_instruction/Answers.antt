@@ -53,3 +53,58 @@ returns-in-Put c =
 pub returns-in-End : goal.returns-in-End
 returns-in-End c =
     arm (context_of c.args.frame.now) c.args.frame.now.number c.args.place c.put_end.result c.args.pieces.now c.put_end.new.pieces c.args.instruction.now _ c.in-End.is c.put_end.ensures
+
+pub returns-in-Text : goal.returns-in-Text
+returns-in-Text c =
+    let words = rw c.number-r.ensures at c.put_label.ensures in
+    arm (context_of c.args.frame.now) c.args.frame.now.number c.args.place c.put_label.result c.args.pieces.now c.put_label.new.pieces c.args.instruction.now _ c.in-Text.is words
+
+pub returns-in-Jump : goal.returns-in-Jump
+returns-in-Jump c =
+    let words = rw c.number-r.ensures at c.push.ensures in
+    arm (context_of c.args.frame.now) c.args.frame.now.number c.args.place c.push.result c.args.pieces.now c.push.new.self c.args.instruction.now _ c.in-Jump.is words
+
+pub returns-in-JumpBack : goal.returns-in-JumpBack
+returns-in-JumpBack c =
+    let words = rw c.number-r.ensures at c.push-in-JumpBack.ensures in
+    arm (context_of c.args.frame.now) c.args.frame.now.number c.args.place c.push-in-JumpBack.result c.args.pieces.now c.push-in-JumpBack.new.self c.args.instruction.now _ c.in-JumpBack.is words
+
+pub returns-in-Branch : goal.returns-in-Branch
+returns-in-Branch c =
+    let words = rw (c.number-r.ensures, c.requires.told) at c.put_branch.ensures in
+    arm (context_of c.args.frame.now) c.args.frame.now.number c.args.place c.put_branch.result c.args.pieces.now c.put_branch.new.pieces c.args.instruction.now _ c.in-Branch.is words
+
+pub returns-in-BranchBack : goal.returns-in-BranchBack
+returns-in-BranchBack c =
+    let words = rw (c.number-r.ensures, c.requires.told) at c.put_branch-in-BranchBack.ensures in
+    arm (context_of c.args.frame.now) c.args.frame.now.number c.args.place c.put_branch-in-BranchBack.result c.args.pieces.now c.put_branch-in-BranchBack.new.pieces c.args.instruction.now _ c.in-BranchBack.is words
+
+pub returns-in-Compare : goal.returns-in-Compare
+returns-in-Compare c =
+    let words = rw c.requires.told at c.put_compare.ensures in
+    arm (context_of c.args.frame.now) c.args.frame.now.number c.args.place c.put_compare.result c.args.pieces.now c.put_compare.new.pieces c.args.instruction.now _ c.in-Compare.is words
+
+pub returns-in-CheckPointer : goal.returns-in-CheckPointer
+returns-in-CheckPointer c =
+    let words = rw c.requires.told at c.put_pointer_check.ensures in
+    arm (context_of c.args.frame.now) c.args.frame.now.number c.args.place c.put_pointer_check.result c.args.pieces.now c.put_pointer_check.new.pieces c.args.instruction.now _ c.in-CheckPointer.is words
+
+pub returns-in-Load : goal.returns-in-Load
+returns-in-Load c =
+    let words = rw c.requires.bent at c.put_word_form.ensures in
+    arm (context_of c.args.frame.now) c.args.frame.now.number c.args.place c.put_word_form.result c.args.pieces.now c.put_word_form.new.pieces c.args.instruction.now _ c.in-Load.is words
+
+pub returns-in-New : goal.returns-in-New
+returns-in-New c =
+    let words = rw c.object_bytes.ensures at c.put_new.ensures in
+    arm (context_of c.args.frame.now) c.args.frame.now.number c.args.place c.put_new.result c.args.pieces.now c.put_new.new.pieces c.args.instruction.now _ c.in-New.is words
+
+pub returns-in-Call : goal.returns-in-Call
+returns-in-Call c =
+    let words = rw c.as_slice.ensures at c.put_call.ensures in
+    arm (context_of c.args.frame.now) c.args.frame.now.number c.args.place c.put_call.result c.args.pieces.now c.put_call.new.pieces c.args.instruction.now _ c.in-Call.is words
+
+pub returns-in-CallValue : goal.returns-in-CallValue
+returns-in-CallValue c =
+    let words = rw c.as_slice-in-CallValue.ensures at c.put_call_value.ensures in
+    arm (context_of c.args.frame.now) c.args.frame.now.number c.args.place c.put_call_value.result c.args.pieces.now c.put_call_value.new.pieces c.args.instruction.now _ c.in-CallValue.is words
