@@ -8,6 +8,7 @@ mod Written
 mod Passing
 mod Joined
 mod Parts
+mod Ranged
 mod Homes
 mod Texts
 mod Few
