@@ -1,6 +1,7 @@
 -- What the parts of a step back tell of the step.
-use Rattle.std.proofs.Common.{◌≡◌, ◌≢◌, ℕ, true, false, List, Option, Some, None, IfSome, sym, ◌∙◌, subst}
+use Rattle.std.proofs.Common.{◌≡◌, ◌≢◌, ℕ, ◌<◌, true, false, List, length, get_or, slice_get, Option, Some, None, IfSome, refl, sym, ◌∙◌, subst}
 use Rattle.std.proofs.lemmas.Bool.{eq-eqb}
+use Rattle.std.proofs.lemmas.Option.{slice_get_read}
 use Rattle.tac_code.specs.declared.code.Instruction.{Instruction}
 use Rattle.risc_alloc.specs.declared.flow.Exit.{Exit}
 use Rattle.risc_alloc.specs.declared.claims.Claims.{Claims}
@@ -55,8 +56,12 @@ reads_of seats i first second passed a b c d is_first is_second is_passed ab in_
     go u (Second e) = cd u (some_of (Held seats c) second u (is_second ∙ e) in_c)
     go u (Passed h) = in_d u (subst (λ (l : List ℕ). IsIn l u) (sym is_passed) h)
 
-pub step_of : (seats : List ℕ) (claims : Claims) (i : Instruction) (place : ℕ) (next out left table : List ℕ) → Flows seats claims i place next out → Writes seats i out left → Reads seats i left table → Step seats claims i place next table
-step_of seats claims i place next out left table f w r = record { out = out; left = left; flows = f; writes = w; reads = r }
+-- the instruction is the one at a place of a body
+pub step_at : (seats : List ℕ) (claims : Claims) (body : List Instruction) (i at : Instruction) (place : ℕ) (next out left table : List ℕ) → place < length body → i ≡ get_or body place i → Flows seats claims i place next out → Writes seats i out left → Reads seats i left table → slice_get body place ≡ Some at → Step seats claims at place next table
+step_at seats claims body i at place next out left table lt is f w r e =
+    let here : slice_get body place ≡ Some i = slice_get_read body (length body) place i refl lt is in
+    let same : i ≡ at = cc (sym here ∙ e) in
+    subst (λ (j : Instruction). Step seats claims j place next table) same (record { out = out; left = left; flows = f; writes = w; reads = r })
 
 pub some_is : (P : ℕ → Type 0) (o : Option ℕ) (t : ℕ) → o ≡ Some t → P t → IfSome o P
 some_is P o t e h = subst (λ (x : Option ℕ). IfSome x P) (sym e) h

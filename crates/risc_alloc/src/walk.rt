@@ -52,7 +52,6 @@ fn jump_back(table: &mut Table, claims: &Claims, seats: &[usize], target: Option
 }
 
 // From what is alive at the next place to what is alive behind an instruction.
-#[tactic(auto, using(crate::proofs::Steps::flows_of))]
 fn flow_back(
     table: &mut Table,
     claims: &Claims,
@@ -90,7 +89,6 @@ fn write_back(table: &mut Table, seats: &[usize], instruction: &Instruction) -> 
     table.free(seats, to)
 }
 
-#[tactic(auto, using(crate::proofs::Steps::reads_of))]
 fn read_back(table: &mut Table, seats: &[usize], instruction: &Instruction) -> bool
     ensures { IsTrue result → Reads seats.now instruction.now table.old.holders.items table.new.holders.items }
 {
@@ -104,7 +102,6 @@ fn read_back(table: &mut Table, seats: &[usize], instruction: &Instruction) -> b
 }
 
 // One instruction back; false at a clash.
-#[tactic(auto, using(crate::proofs::Steps::step_of))]
 fn step_back(
     table: &mut Table,
     claims: &Claims,

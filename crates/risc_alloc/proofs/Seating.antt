@@ -1,0 +1,42 @@
+-- Seats of homes, one after the other.
+use Rattle.std.proofs.Common.{◌≡◌, ℕ, zero, suc, ◌+◌, ◌<◌, ◌≤◌, ◌⊎◌, inl, inr, List, [], ◌∷◌, ◌++◌, length, length-append, slice_get, slice_index, Some, refl, sym, ap, ◌∙◌, subst, arith}
+use Rattle.std.proofs.lemmas.Bool.{cases_lt}
+use Rattle.std.proofs.lemmas.Option.{slice_get_within}
+use Rattle.risc_alloc.specs.declared.homes.Home.{Home}
+use Rattle.risc_alloc.specs.Seats.{IsSeatOf, AreSeatsOf}
+
+index_front : (xs : List ℕ) (y t : ℕ) → t < length xs → slice_index (xs ++ y ∷ []) t ≡ slice_index xs t
+index_front [] y t lt = absurd (omega (arith, lt))
+index_front (x ∷ xs) y zero lt = refl
+index_front (x ∷ xs) y (suc t) lt = index_front xs y t (omega (arith, lt))
+
+index_last : (xs : List ℕ) (y : ℕ) → slice_index (xs ++ y ∷ []) (length xs) ≡ y
+index_last [] y = refl
+index_last (x ∷ xs) y = index_last xs y
+
+-- the homes before a place have these seats
+abbrev pub Each : (homes : List Home) (n : ℕ) (seats : List ℕ) → Type 0
+Each homes n seats =
+    (t : ℕ) (home : Home) → t < n → slice_get homes t ≡ Some home → IsSeatOf (length homes) home (slice_index seats t)
+
+pub seats_more : (homes : List Home) (n seat : ℕ) (home : Home) (seats more : List ℕ) → IsSeatOf (length homes) home seat → slice_get homes n ≡ Some home → more ≡ seats ++ seat ∷ [] → length seats ≡ n → Each homes n seats → (length more ≡ n + 1) × Each homes (n + 1) more
+seats_more homes n seat home seats more is here e count each =
+    (let a = ap length e in let b = length-append seats (seat ∷ []) in omega (arith, a, b, count), λ t h lt at. by t h lt at (cases_lt t n))
+  where
+    by : (t : ℕ) (h : Home) → t < n + 1 → slice_get homes t ≡ Some h → (t < n) ⊎ (n ≤ t) → IsSeatOf (length homes) h (slice_index more t)
+    by t h lt at (inl below) =
+        let within : t < length seats = omega (arith, below, count) in
+        let same : slice_index seats t ≡ slice_index more t = sym (ap (λ (l : List ℕ). slice_index l t) e ∙ index_front seats seat t within) in
+        subst (IsSeatOf (length homes) h) same (each t h below at)
+    by t h lt at (inr above) =
+        let last : n ≡ t = omega (arith, lt, above) in
+        let end : length seats ≡ t = omega (arith, lt, above, count) in
+        let one : home ≡ h = cc (sym here ∙ ap (slice_get homes) last ∙ at) in
+        let same : seat ≡ slice_index more t = sym (ap (λ (l : List ℕ). slice_index l t) e ∙ ap (slice_index (seats ++ seat ∷ [])) (sym end) ∙ index_last seats seat) in
+        subst (IsSeatOf (length homes) h) same (subst (λ (x : Home). IsSeatOf (length homes) x seat) one is)
+
+pub seats_all : (homes : List Home) (n : ℕ) (seats : List ℕ) → n ≡ length homes → length seats ≡ n → Each homes n seats → AreSeatsOf homes seats
+seats_all homes n seats end count each = record {
+  count = count ∙ end;
+  each = λ t h at. each t h (let lt = slice_get_within homes t h at in omega (arith, lt, end)) at;
+}
