@@ -1,9 +1,12 @@
--- Seats of homes, one after the other.
+-- Homes and their seats, one after the other.
 use Rattle.std.proofs.Common.{◌≡◌, ℕ, zero, suc, ◌+◌, ◌<◌, ◌≤◌, ◌⊎◌, inl, inr, List, [], ◌∷◌, ◌++◌, length, length-append, slice_get, slice_index, Some, refl, sym, ap, ◌∙◌, subst, arith}
 use Rattle.std.proofs.lemmas.Bool.{cases_lt}
+use Rattle.std.proofs.lemmas.List.{append_assoc}
 use Rattle.std.proofs.lemmas.Option.{slice_get_within}
 use Rattle.risc_alloc.specs.declared.homes.Home.{Home}
+use Rattle.risc_alloc.specs.declared.homes.Home.TheVariants.{Slot}
 use Rattle.risc_alloc.specs.Seats.{IsSeatOf, AreSeatsOf}
+use Rattle.risc_alloc.specs.Slots.{own_slots}
 
 index_front : (xs : List ℕ) (y t : ℕ) → t < length xs → slice_index (xs ++ y ∷ []) t ≡ slice_index xs t
 index_front [] y t lt = absurd (omega (arith, lt))
@@ -40,3 +43,9 @@ seats_all homes n seats end count each = record {
   count = count ∙ end;
   each = λ t h at. each t h (let lt = slice_get_within homes t h at in omega (arith, lt, end)) at;
 }
+
+-- a slot of its own for one temporary more
+pub own_more : (first all more : List Home) (n : ℕ) → all ≡ first ++ own_slots n → more ≡ all ++ Slot n ∷ [] → more ≡ first ++ own_slots (n + 1)
+own_more first all more n so e =
+    let next : suc n ≡ n + 1 = omega arith in
+    e ∙ ap (λ (l : List Home). l ++ Slot n ∷ []) so ∙ append_assoc first (own_slots n) (Slot n ∷ []) ∙ ap (λ (k : ℕ). first ++ own_slots k) next
