@@ -19,35 +19,20 @@ pub(crate) fn instruction(
             to: natural(words),
             bytes: bytes(alloc, words)?,
         }),
-        "call" => call(alloc, words, false),
-        "callvalue" => call(alloc, words, true),
+        "call" => Ok(Instruction::Call {
+            to: natural(words),
+            routine: natural(words),
+            line: line(words),
+            operands: operands(alloc, words)?,
+        }),
+        "callvalue" => Ok(Instruction::CallValue {
+            to: natural(words),
+            callee: natural(words),
+            line: line(words),
+            operands: operands(alloc, words)?,
+        }),
         name => Ok(computation(name, words)),
     }
-}
-
-/// The call of a routine, or of a value.
-fn call(
-    alloc: Global,
-    words: &mut SplitWhitespace,
-    is_value: bool,
-) -> Result<Instruction, AllocError> {
-    let (to, callee, line) = (natural(words), natural(words), line(words));
-    let operands = operands(alloc, words)?;
-    Ok(if is_value {
-        Instruction::CallValue {
-            to,
-            callee,
-            operands,
-            line,
-        }
-    } else {
-        Instruction::Call {
-            to,
-            routine: callee,
-            operands,
-            line,
-        }
-    })
 }
 
 fn computation(name: &str, words: &mut SplitWhitespace) -> Instruction {
@@ -159,11 +144,11 @@ fn access(name: &str, words: &mut SplitWhitespace) -> Instruction {
             offset: natural(words),
             from: natural(words),
         },
-        _ => branch(name, words),
+        _ => transfer(name, words),
     }
 }
 
-fn branch(name: &str, words: &mut SplitWhitespace) -> Instruction {
+fn transfer(name: &str, words: &mut SplitWhitespace) -> Instruction {
     match name {
         "jump" => Instruction::Jump {
             forward: distance(words),
