@@ -21,14 +21,14 @@ pub const MAX_LINES: usize = 65_535;
 const LINE_END: u8 = b'\n';
 
 /// A part of a text, from the offset of its first byte to the one after its last.
-#[derive(Clone, Copy, Debug, PartialEq, Eq)]
+#[derive(Clone, Copy)]
 pub struct Span {
     pub from: u32,
     pub to: u32,
 }
 
 /// Why bytes are no source text.
-#[derive(Clone, Copy, Debug, PartialEq, Eq, Error)]
+#[derive(Clone, Copy, Debug, Error)]
 pub enum TextRefusal {
     /// The text has more than `MAX_LENGTH` bytes.
     #[error("TooLong")]
