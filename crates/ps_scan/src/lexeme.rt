@@ -9,14 +9,14 @@ use crate::values::small_value;
 use crate::words::word_kind;
 
 /// What stands at the front of bytes: a token of a kind, or a separator where there is none, and how many bytes it takes.
-#[derive(Clone, Copy, Debug)]
+#[derive(Clone, Copy)]
 pub struct Lexeme {
     pub kind: Option<Kind>,
     pub length: usize,
 }
 
 /// Why nothing stands at the front of bytes.
-#[derive(Clone, Copy, Debug)]
+#[derive(Clone, Copy)]
 pub enum Fault {
     BadByte,
     OpenComment,

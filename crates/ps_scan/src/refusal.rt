@@ -3,35 +3,43 @@
 ghost use Rattle.std.specs.Prelude.{◌≡◌};
 ghost use Rattle.ps_scan.specs.Refusals.{number_of, line_of};
 
+use std::fmt;
 use thiserror::Error;
 
-/// Why a text has no tokens, and the line of the fault.
-#[derive(Clone, Copy, Debug, PartialEq, Eq, Error)]
+/// Why a text has no tokens, and the line of the fault. It is shown by its name.
+#[derive(Clone, Copy, Debug, Error)]
 pub enum ScanRefusal {
     /// A growth was refused.
-    #[error("OutOfMemory")]
     OutOfMemory,
     /// A byte that begins no token and no separator.
-    #[error("BadByte")]
     BadByte { line: u32 },
     /// A comment without its end. The line is that of its opening.
-    #[error("OpenComment")]
     OpenComment { line: u32 },
     /// A string that meets the end of its line or of the text. The line is that of its opening.
-    #[error("OpenString")]
     OpenString { line: u32 },
     /// A string of no character.
-    #[error("EmptyString")]
     EmptyString { line: u32 },
     /// A name or a word-symbol that touches the number before it.
-    #[error("SeparatorMissing")]
     SeparatorMissing { line: u32 },
     /// A number above `MAX_NUMBER`.
-    #[error("NumberTooLarge")]
     NumberTooLarge { line: u32 },
     /// A real literal.
-    #[error("RealNumber")]
     RealNumber { line: u32 },
+}
+
+impl fmt::Display for ScanRefusal {
+    fn fmt<W: fmt::Write>(&self, f: &mut fmt::Formatter<W>) -> fmt::Result {
+        f.write_str(match self {
+            ScanRefusal::OutOfMemory => "OutOfMemory",
+            ScanRefusal::BadByte { .. } => "BadByte",
+            ScanRefusal::OpenComment { .. } => "OpenComment",
+            ScanRefusal::OpenString { .. } => "OpenString",
+            ScanRefusal::EmptyString { .. } => "EmptyString",
+            ScanRefusal::SeparatorMissing { .. } => "SeparatorMissing",
+            ScanRefusal::NumberTooLarge { .. } => "NumberTooLarge",
+            ScanRefusal::RealNumber { .. } => "RealNumber",
+        })
+    }
 }
 
 impl ScanRefusal {
