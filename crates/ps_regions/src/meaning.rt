@@ -4,14 +4,14 @@ use ps_tree::types::{Ordinal, Ty};
 use std::rc::Rc;
 
 /// The files that a program heading may list.
-#[derive(Clone, Copy, PartialEq, Eq, Debug)]
+#[derive(Clone, Copy)]
 pub enum File {
     Input,
     Output,
 }
 
 /// The required functions and procedures of the profile (ISO 7185, 6.6.5 and 6.6.6).
-#[derive(Clone, Copy, PartialEq, Eq, Debug)]
+#[derive(Clone, Copy)]
 pub enum Required {
     Abs,
     Sqr,

@@ -2,8 +2,8 @@
 
 ghost use Rattle.std.specs.Prelude.{◌≡◌};
 
-use crate::refusal::{Fault, Rule};
-use crate::scope::{Found, Lookup, Scope, find};
+use crate::refusal::Fault;
+use crate::scope::{Found, Scope, denoted_at};
 use ps_scan::name_spelling;
 use ps_text::{LineTable, Source, Span};
 use ps_tree::line::Line;
@@ -84,30 +84,6 @@ impl<'a> Reading<'a> {
         ensures err { IfErr result (λ fault. IsFault fault → find (scope_of scope.now) (spelled self.now.source.now name) ≡ None) }
     {
         let spelling = self.spelling(alloc, name)?;
-        match find(scope, spelling.as_slice()) {
-            Lookup::Found(point) => Ok(point),
-            Lookup::Later => Err(Fault::Broken {
-                rule: Rule::UsedBefore,
-                at: name.from,
-            }),
-            Lookup::OwnField => Err(Fault::Broken {
-                rule: Rule::WrongKind,
-                at: name.from,
-            }),
-            Lookup::Missing => Err(Fault::Broken {
-                rule: missing(spelling.as_slice()),
-                at: name.from,
-            }),
-        }
-    }
-}
-
-/// The rule that the use of a name without a defining point breaks: input and output have one where the program
-/// heading lists them.
-fn missing(name: &[u8]) -> Rule {
-    if name == b"input".as_slice() || name == b"output".as_slice() {
-        Rule::NoInputOutput
-    } else {
-        Rule::Unknown
+        denoted_at(scope, spelling.as_slice(), name.from)
     }
 }

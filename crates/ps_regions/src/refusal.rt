@@ -4,62 +4,52 @@ ghost use Rattle.std.specs.Prelude.{◌≡◌};
 ghost use Rattle.ps_regions.specs.Refusal.{number_of, number_of_rule, line_of};
 
 use std::alloc::{AllocError, AllocFailed};
+use std::fmt;
 use thiserror::Error;
 
-/// A rule of the language that a program breaks.
-#[derive(Clone, Copy, Debug, PartialEq, Eq, Error)]
+/// A rule of the language that a program breaks. It is shown by its name.
+#[derive(Clone, Copy, Debug, PartialEq, Eq)]
 pub enum Rule {
     /// A required name that the profile leaves out, or a program parameter other than input and output.
-    #[error("NotInProfile")]
     NotInProfile,
     /// A name without a defining point.
-    #[error("Unknown")]
     Unknown,
     /// Two defining points of a name in a region.
-    #[error("Twice")]
     Twice,
     /// A use before the name's defining point in its region, or within the name's own definition.
-    #[error("UsedBefore")]
     UsedBefore,
     /// A name of another kind than its place needs.
-    #[error("WrongKind")]
     WrongKind,
     /// An operand, index, condition or parameter of a wrong type.
-    #[error("WrongType")]
     WrongType,
     /// An expression that isn't assignment-compatible.
-    #[error("NotAssignable")]
     NotAssignable,
     /// A subrange whose lowest value is above its highest.
-    #[error("BadSubrange")]
     BadSubrange,
     /// A set's base with ordinals outside 0..255.
-    #[error("SetBase")]
     SetBase,
     /// A case constant twice.
-    #[error("CaseTwice")]
     CaseTwice,
     /// A control variable that is not declared in the variable part of the closest block, or is threatened.
-    #[error("ControlVariable")]
     ControlVariable,
     /// A packed variable's component as a variable parameter.
-    #[error("PackedVariable")]
     PackedVariable,
     /// Parameter lists that aren't congruous, or a wrong number of actual parameters.
-    #[error("NotCongruous")]
     NotCongruous,
     /// A forward heading without its block.
-    #[error("ForwardOpen")]
     ForwardOpen,
     /// A function whose block assigns no result.
-    #[error("NoResultAssigned")]
     NoResultAssigned,
     /// Input or output, named or implied, that the program heading doesn't list.
-    #[error("NoInputOutput")]
     NoInputOutput,
     /// A limit of this project.
-    #[error("Limit")]
     Limit,
+}
+
+impl fmt::Display for Rule {
+    fn fmt<W: fmt::Write>(&self, f: &mut fmt::Formatter<W>) -> fmt::Result {
+        fmt::Debug::fmt(self, f)
+    }
 }
 
 impl Rule {
@@ -90,7 +80,7 @@ impl Rule {
 }
 
 /// Why a program is refused.
-#[derive(Clone, Copy, Debug, PartialEq, Eq, Error)]
+#[derive(Clone, Copy, Debug, Error)]
 pub enum CheckRefusal {
     /// A growth was refused.
     #[error("OutOfMemory")]
@@ -123,7 +113,7 @@ impl CheckRefusal {
 }
 
 /// The same, by the offset `at` of the token that it is told at.
-#[derive(Clone, Copy, Debug, PartialEq, Eq)]
+#[derive(Clone, Copy)]
 pub enum Fault {
     OutOfMemory,
     Broken { rule: Rule, at: u32 },

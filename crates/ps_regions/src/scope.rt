@@ -1,11 +1,12 @@
 //! The regions that enclose a place, and the search through them.
 
-ghost use Rattle.std.specs.Prelude.{◌≡◌, ℕ};
+ghost use Rattle.std.specs.Prelude.{◌≡◌, ℕ, IfOk, IfErr, None, Some};
 ghost use Rattle.ps_regions.specs.Regions.{one_more, find_past, find};
-ghost use Rattle.ps_regions.specs.Views.{scope_of, found};
+ghost use Rattle.ps_regions.specs.Views.{scope_of, point_of, found};
 ghost use Rattle.ps_regions.specs.Denotes.{FindsWhatIsDenoted};
 
 use crate::meaning::Meaning;
+use crate::refusal::{Fault, Rule};
 use ps_tree::names::Names;
 use ps_tree::types::{Fields, Ty};
 
@@ -131,6 +132,38 @@ pub fn find<'a>(scope: &'a Scope<'a>, name: &[u8]) -> Lookup<'a>
     ensures { found result ≡ find (scope_of scope.now) name.now }
 {
     find_past(scope, 0, 0, name)
+}
+
+/// The defining point that a name denotes whose use begins at an offset.
+pub(crate) fn denoted_at<'s>(scope: &'s Scope<'s>, name: &[u8], at: u32) -> Result<Found<'s>, Fault>
+    ensures ok { IfOk result (λ found. find (scope_of scope.now) name.now ≡ Some (point_of found)) }
+    ensures err { IfErr result (λ _. find (scope_of scope.now) name.now ≡ None) }
+{
+    match find(scope, name) {
+        Lookup::Found(point) => Ok(point),
+        Lookup::Later => Err(Fault::Broken {
+            rule: Rule::UsedBefore,
+            at,
+        }),
+        Lookup::OwnField => Err(Fault::Broken {
+            rule: Rule::WrongKind,
+            at,
+        }),
+        Lookup::Missing => Err(Fault::Broken {
+            rule: missing(name),
+            at,
+        }),
+    }
+}
+
+/// The rule that the use of a name without a defining point breaks: input and output have one where the program
+/// heading lists them.
+fn missing(name: &[u8]) -> Rule {
+    if name == b"input".as_slice() || name == b"output".as_slice() {
+        Rule::NoInputOutput
+    } else {
+        Rule::Unknown
+    }
 }
 
 /// A search finds the defining point that the name denotes, and finds none only where it denotes none.
