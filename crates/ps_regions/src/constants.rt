@@ -1,7 +1,7 @@
 //! Constants.
 
-ghost use Rattle.std.specs.Prelude.{◌≡◌, IfOk, IfErr, None, Some, ℤ, option_map};
-ghost use Rattle.ps_regions.specs.Constants.{integer, char, boolean, constant_at, text_constant, integer_with_sign, signed_constant, number_at, constant};
+ghost use Rattle.std.specs.Prelude.{◌≡◌, IfOk, IfErr, None, Some, ℤ, option_map, option_and_then};
+ghost use Rattle.ps_regions.specs.Constants.{denoted, integer, char, boolean, constant_at, text_constant, integer_with_sign, signed_constant, number_at, constant};
 ghost use Rattle.ps_regions.specs.Refusal.{IsFault};
 ghost use Rattle.ps_regions.specs.Views.{scope_of, point_of, constant_of};
 
@@ -138,6 +138,22 @@ fn signed_constant(
     }
 }
 
+/// The value of the constant that a name denotes.
+fn constant_named(
+    reading: &Reading,
+    alloc: Global,
+    scope: &Scope,
+    name: Span,
+) -> Result<ConstantValue, Fault>
+    ensures ok { IfOk result (λ value. option_and_then constant_at (denoted reading.now.source.now (scope_of scope.now) name) ≡ Some (constant_of value)) }
+    ensures err { IfErr result (λ fault. IsFault fault → option_and_then constant_at (denoted reading.now.source.now (scope_of scope.now) name) ≡ None) }
+{
+    match reading.denoted(alloc, scope, name) {
+        Ok(found) => constant_at(&found, name.from),
+        Err(fault) => Err(fault),
+    }
+}
+
 /// The value of a constant.
 #[tactic(auto, unfolding(crate::specs::Views::constant_of, crate::specs::Constants::constant))]
 pub fn constant(
@@ -155,8 +171,7 @@ pub fn constant(
             signed_constant(sign, value, at.from)
         }
         Constant::Name(sign, at) => {
-            let found = reading.denoted(alloc, scope, at)?;
-            let value = constant_at(&found, at.from)?;
+            let value = constant_named(reading, alloc, scope, at)?;
             signed_constant(sign, value, at.from)
         }
         Constant::Text(at) => {
