@@ -6,14 +6,14 @@ ghost use Rattle.risc_load.specs.Refusal.{number_of};
 use thiserror::Error;
 
 /// The bytes of stack and heap that a run may use.
-#[derive(Clone, Copy, PartialEq, Eq, Debug)]
+#[derive(Clone, Copy)]
 pub struct Budget {
     pub stack: u32,
     pub heap: u32,
 }
 
 /// Why an image is not loaded.
-#[derive(Clone, Copy, PartialEq, Eq, Debug, Error)]
+#[derive(Clone, Copy, Debug, Error)]
 pub enum LoadRefusal {
     /// Memory ran out.
     #[error("OutOfMemory")]

@@ -52,7 +52,7 @@ pub enum Width {
 }
 
 /// A condition on the flags.
-#[derive(Clone, Copy, PartialEq, Eq, Debug)]
+#[derive(Clone, Copy, Debug)]
 pub enum Condition {
     /// N.
     Minus,
