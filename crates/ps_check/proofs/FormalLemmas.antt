@@ -205,6 +205,13 @@ routine_entered entry next known new made sections result type s is n e copy sam
     ∙ ap (λ r. Some (as_entries next (map meaning_of known ++ RoutineParameterMeaning entry (sections_of made.value.items) r ∷ []))) (sym same)
     ∙ ap (λ l. Some (as_entries next l)) (sym (map_push meaning_of known (m.RoutineParameter entry made result)) ∙ ap (map meaning_of) (sym e))
 
+pub routine_not_entered : (entry : ℕ) (known : List RustMeaning.Meaning) (sections : Rc (Vec Rust.Section Global) Global) (type : Option Ty) (s : Rust.Section) → s ≡ Rust.Routine sections type → one_more entry ≡ None → add_section (entries_of entry known) (section_of s) ≡ None
+unfolding add_section
+routine_not_entered entry known sections type s is n =
+    ap (λ x. add_section (entries_of entry known) (section_of x)) is
+    ∙ ap (add_section (entries_of entry known)) (section_of_Routine sections type)
+    ∙ ap (λ o. o >>= (λ k. Some (as_entries k (map meaning_of known ++ RoutineParameterMeaning entry (sections_of sections.value.items) (option_map tree.type_of type) ∷ [])))) n
+
 pub no_formals : (fs : List Formal) → fs ≡ [] → tree.formals_of fs ≡ Tree.no_formal
 unfolding tree.formals_of
 no_formals fs e = ap tree.formals_of e

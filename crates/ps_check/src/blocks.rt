@@ -83,7 +83,6 @@ fn read_statements(
 }
 
 /// The names of a block's region, behind those that are there.
-#[tactic(auto, unfolding(crate::specs::Forwards::block_names))]
 fn add_block_names(
     written: &Block,
     reading: &Reading,
@@ -105,7 +104,6 @@ fn add_block_names(
 }
 
 /// The declarations of a block: the meanings of its names, behind those that are there, and the types of its variables.
-#[tactic(auto, unfolding(crate::specs::Blocks::declared))]
 fn declare(
     written: &Block,
     frame: &Frame,
@@ -138,7 +136,6 @@ fn declare(
 }
 
 /// The statements of a block. The routines within it come behind the first ones.
-#[tactic(auto, unfolding(crate::specs::Blocks::block_body))]
 fn read_body(
     written: &Block,
     frame: &Frame,
@@ -172,7 +169,6 @@ fn read_body(
 /// A block, and the routines within it. The names of its region and their meanings are added to those that it begins
 /// with.
 #[cycle(block)]
-#[tactic(auto, using(crate::proofs::Equations::block_is), unfolding(crate::specs::Blocks::block_step))]
 pub fn block(
     written: &Block,
     reading: &Reading,
@@ -213,7 +209,6 @@ pub fn block(
 
 /// The routines of a block, in their order.
 #[cycle(block)]
-#[tactic(auto, using(ps_regions::proofs::Lists::stepped_fault_map))]
 fn read_routines(
     list: &[Routine],
     frame: &Frame,
@@ -258,7 +253,6 @@ fn read_routine(
 
 /// The block of the heading with this index. `at` is where a fault of the whole routine is told.
 #[cycle(block)]
-#[tactic(auto, unfolding(crate::specs::Blocks::read_block))]
 fn read_block(
     written: &Block,
     frame: &Frame,

@@ -76,7 +76,8 @@ fn check_block(
     };
     let read = read_program(alloc, reading, &outer, &mut start, written);
     // They go before the fault is passed on: so they are dropped in one place.
-    drop((around, start));
+    drop(around);
+    drop(start);
     let (done, gathered) = read?;
     program_of(alloc, done, gathered, written.name.from)
 }
@@ -94,7 +95,6 @@ fn nothing_gathered(alloc: Global) -> Result<Gathered, AllocError>
 }
 
 /// The checked tree of a program, by a reading of the text in which its heading lists no file.
-#[tactic(auto, unfolding(crate::specs::Programs::program))]
 fn check_text(alloc: Global, heading: &Reading, written: &Program) -> Result<Checked, Fault>
     ensures ok { IfOk result (λ checked. program heading.now.source.now written.now ≡ Some (program_in checked)) }
     ensures err { IfErr result (λ fault. IsFault fault → program heading.now.source.now written.now ≡ None) }

@@ -31,7 +31,6 @@ pub fn copy_result(ty: &Option<Ty>) -> Result<Option<Ty>, AllocError>
 }
 
 /// More value parameters of a type.
-#[tactic(auto, using(crate::proofs::FormalLemmas::pushed_start, crate::proofs::FormalLemmas::pushed_next, crate::proofs::FormalLemmas::pushed_end), unfolding(ps_tree::specs::View::formal_of))]
 fn add_values(count: u32, ty: &Ty, formals: &mut Vec<Formal>) -> Result<(), AllocError>
     ensures { OnOk result (map formal_of formals.new.items ≡ map formal_of formals.old.items ++ replicate count (ValueFormal (type_of ty.now))) }
 {
@@ -42,7 +41,6 @@ fn add_values(count: u32, ty: &Ty, formals: &mut Vec<Formal>) -> Result<(), Allo
 }
 
 /// More variable parameters of a type.
-#[tactic(auto, using(crate::proofs::FormalLemmas::pushed_start, crate::proofs::FormalLemmas::pushed_next, crate::proofs::FormalLemmas::pushed_end), unfolding(ps_tree::specs::View::formal_of))]
 fn add_variables(count: u32, ty: &Ty, formals: &mut Vec<Formal>) -> Result<(), AllocError>
     ensures { OnOk result (map formal_of formals.new.items ≡ map formal_of formals.old.items ++ replicate count (VariableFormal (type_of ty.now))) }
 {

@@ -1,11 +1,9 @@
 //! The region around the program, the files that its heading lists, and the program of its routines.
 
 ghost use Rattle.std.specs.Prelude.{◌≡◌, ◌++◌, ◌∷◌, [], Some, None, IfOk, IfErr, OnOk, map, option_map};
-ghost use Rattle.ps_tree.specs.Counts.{is_within_limits};
-ghost use Rattle.ps_tree.specs.View as tree;
 ghost use Rattle.ps_tree.specs.View.{routine_of};
 ghost use Rattle.ps_tree.specs.Checked.{program_in};
-ghost use Rattle.ps_regions.specs.Option.{provided, steps, traverse};
+ghost use Rattle.ps_regions.specs.Option.{steps, traverse};
 ghost use Rattle.ps_regions.specs.Refusal.{IsFault, IsToldAt};
 ghost use Rattle.ps_regions.specs.Regions.{BlockRegion, FileMeaning};
 ghost use Rattle.ps_regions.specs.Views.{meaning_of};
@@ -199,7 +197,6 @@ fn list_file(reading: &Reading, alloc: Global, files: &mut Files, at: Span) -> R
 }
 
 /// The files that a program heading lists.
-#[tactic(auto, using(ps_regions::proofs::Lists::stepped_fault))]
 pub fn list_files(reading: &Reading, alloc: Global, parameters: &[Span]) -> Result<Files, Fault>
     ensures ok { IfOk result (λ files. steps (list_file reading.now.source.now) no_files parameters.now ≡ Some (files_of files)) }
     ensures err { IfErr result (λ fault. IsFault fault → steps (list_file reading.now.source.now) no_files parameters.now ≡ None) }
@@ -231,22 +228,13 @@ fn all_routines(
     Ok(Some(routines))
 }
 
-/// The program of these routines and domain types, where it keeps the limits.
-#[tactic(auto, using(crate::proofs::Collected::limited_is))]
-fn limited(routines: Vec<Routine>, domains: Vec<Ty>) -> Option<Checked>
-    ensures { option_map program_in result ≡ provided (is_within_limits (tree.program_of routines.items domains.items)) (tree.program_of routines.items domains.items) }
-{
-    Checked::new(routines, domains)
-}
-
 /// The program of these parts, where each routine has its block, and it keeps the limits.
-#[tactic(auto, using(crate::proofs::Collected::assembled_is, crate::proofs::Collected::not_assembled))]
 fn assembled(alloc: Global, gathered: Gathered) -> Result<Option<Checked>, AllocError>
     ensures { IfOk result (λ all. option_map program_in all ≡ assembled (gathered_of gathered)) }
 {
     match all_routines(alloc, gathered.routines)? {
         None => Ok(None),
-        Some(routines) => Ok(limited(routines, gathered.domains)),
+        Some(routines) => Ok(Checked::new(routines, gathered.domains)),
     }
 }
 
@@ -269,7 +257,6 @@ fn program_routine(alloc: Global, block: Done) -> Result<Finished, AllocError>
 }
 
 /// The program of a program block and the routines in it. `at` is where a fault is told.
-#[tactic(auto, using(crate::proofs::Collected::program_of_is))]
 pub fn program_of(
     alloc: Global,
     block: Done,

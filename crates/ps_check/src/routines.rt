@@ -92,7 +92,6 @@ fn add_routine(
 }
 
 /// The names of a block's routines, behind those that are there.
-#[tactic(auto, using(ps_regions::proofs::Lists::stepped_fault_map))]
 pub fn add_routines(
     reading: &Reading,
     alloc: Global,
@@ -196,7 +195,6 @@ fn meaning_at(known: &[Meaning], index: usize) -> Option<&Meaning>
 }
 
 /// A new heading of a routine, which isn't that of a forward one.
-#[tactic(auto, using(crate::proofs::Equations::introduce_Whole, crate::proofs::Equations::introduce_Forward, crate::proofs::Equations::introduce_Completion))]
 fn add_heading(
     written: &Routine,
     frame: &Frame,
@@ -215,7 +213,6 @@ fn add_heading(
 }
 
 /// The heading of a routine, whose name has this index among the names: a new one, unless it completes a forward one.
-#[tactic(auto, using(crate::proofs::Equations::introduce_waiting, crate::proofs::Equations::introduce_twice))]
 pub fn introduce(
     written: &Routine,
     index: usize,
@@ -264,7 +261,6 @@ fn add_name(names: &mut Names, name: &[u8], alloc: Global, at: u32) -> Result<()
 }
 
 /// These names, each of which is new.
-#[tactic(auto, using(ps_regions::proofs::Lists::stepped_next_map, ps_regions::proofs::Lists::stepped_fault_map))]
 fn names_of(list: &[Vec<u8>], alloc: Global, at: u32) -> Result<Names, Fault>
     ensures ok { IfOk result (λ names. steps add_name [] (map (λ name. name.items) list.now) ≡ Some names) }
     ensures err { IfErr result (λ fault. IsFault fault → steps add_name [] (map (λ name. name.items) list.now) ≡ None) }

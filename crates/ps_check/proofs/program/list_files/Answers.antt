@@ -1,6 +1,9 @@
-use Rattle.std.proofs.Common.{arith}
-use Rattle.ps_regions.proofs.Lists.{stepped_next, stepped_fault, stepped_end}
+use Rattle.ps_regions.proofs.Lists.{stepped_start, stepped_next, stepped_fault, stepped_end}
+use Rattle.ps_declare.proofs.Refused.{refused}
 use Rattle.ps_check.proofs.program.list_files.Goals as goal
+
+pub loop-at-init : goal.loop-at-init
+loop-at-init c = rw (c.new.ensures, c.new-2.ensures.items) (stepped_start _ _ _)
 
 pub loop-at-preserved : goal.loop-at-preserved
 loop-at-preserved c = stepped_next _ _ _ _ _ _ _ c.loop-at-test.true c.loop-at.invariant c.in_ok-list_file.ensures.ok
@@ -9,4 +12,4 @@ pub returns-clause-ok : goal.returns-clause-ok
 returns-clause-ok c = stepped_end _ _ _ _ _ c.loop-at-test.false c.loop-at.invariant
 
 pub returns-in_err-list_file-clause-err : goal.returns-in_err-list_file-clause-err
-returns-in_err-list_file-clause-err c = grind (arith, stepped_fault)
+returns-in_err-list_file-clause-err c = refused _ _ _ c.from_residual.ensures.1 (λ told. stepped_fault _ _ _ _ _ _ c.loop-at-test.true c.loop-at.invariant (c.in_err-list_file.ensures.err told))

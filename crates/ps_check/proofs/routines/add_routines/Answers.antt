@@ -1,5 +1,5 @@
-use Rattle.std.proofs.Common.{arith}
 use Rattle.ps_regions.proofs.Lists.{stepped_start, stepped_next_map, stepped_fault_map, stepped_end_map}
+use Rattle.ps_declare.proofs.Refused.{refused}
 use Rattle.ps_check.proofs.routines.add_routines.Goals as goal
 
 pub loop-written-init : goal.loop-written-init
@@ -12,4 +12,4 @@ pub returns-clause-ok : goal.returns-clause-ok
 returns-clause-ok c = stepped_end_map _ _ _ _ _ _ c.loop-written-test.false c.loop-written.invariant
 
 pub returns-in_err-add_routine-clause-err : goal.returns-in_err-add_routine-clause-err
-returns-in_err-add_routine-clause-err c = grind (arith, stepped_fault_map)
+returns-in_err-add_routine-clause-err c = refused _ _ _ c.from_residual.ensures.1 (λ told. stepped_fault_map _ _ _ _ _ _ _ c.loop-written-test.true c.written-item.is c.loop-written.invariant (c.in_err-add_routine.ensures.err told))
