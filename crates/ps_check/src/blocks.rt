@@ -169,6 +169,7 @@ fn read_body(
 /// A block, and the routines within it. The names of its region and their meanings are added to those that it begins
 /// with.
 #[cycle(block)]
+#[tactic(auto, using(crate::proofs::Equations::block_is), unfolding(crate::specs::Blocks::block_step))]
 pub fn block(
     written: &Block,
     reading: &Reading,
@@ -253,6 +254,7 @@ fn read_routine(
 
 /// The block of the heading with this index. `at` is where a fault of the whole routine is told.
 #[cycle(block)]
+#[tactic(auto, unfolding(crate::specs::Blocks::read_block))]
 fn read_block(
     written: &Block,
     frame: &Frame,

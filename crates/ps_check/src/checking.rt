@@ -95,6 +95,7 @@ fn nothing_gathered(alloc: Global) -> Result<Gathered, AllocError>
 }
 
 /// The checked tree of a program, by a reading of the text in which its heading lists no file.
+#[tactic(auto, unfolding(crate::specs::Programs::program))]
 fn check_text(alloc: Global, heading: &Reading, written: &Program) -> Result<Checked, Fault>
     ensures ok { IfOk result (λ checked. program heading.now.source.now written.now ≡ Some (program_in checked)) }
     ensures err { IfErr result (λ fault. IsFault fault → program heading.now.source.now written.now ≡ None) }

@@ -229,6 +229,7 @@ fn all_routines(
 }
 
 /// The program of these parts, where each routine has its block, and it keeps the limits.
+#[tactic(auto, using(crate::proofs::Collected::assembled_is, crate::proofs::Collected::not_assembled, crate::proofs::Collected::limited_is))]
 fn assembled(alloc: Global, gathered: Gathered) -> Result<Option<Checked>, AllocError>
     ensures { IfOk result (λ all. option_map program_in all ≡ assembled (gathered_of gathered)) }
 {
@@ -257,6 +258,7 @@ fn program_routine(alloc: Global, block: Done) -> Result<Finished, AllocError>
 }
 
 /// The program of a program block and the routines in it. `at` is where a fault is told.
+#[tactic(auto, using(crate::proofs::Collected::program_of_is))]
 pub fn program_of(
     alloc: Global,
     block: Done,

@@ -30,20 +30,6 @@ block-returns-in_err-read_routines-clause-err t c =
     let none = rw c.as_slice.ensures at c.in_err-read_routines.ensures.err in
     refused _ _ _ c.from_residual-in_err-read_routines.ensures.1 (λ told. no_routines _ _ _ _ _ _ _ c.own_number.ensures c.in_ok-add_block_names.ensures.ok _ _ c.in_ok-variables.ensures.ok (none told))
 
-pub block-returns-in_err-body-clause-err : goal.block-returns-in_err-body-clause-err
-block-returns-in_err-body-clause-err t c =
-    let read = rw c.as_slice.ensures at c.in_ok-read_routines.ensures.ok in
-    let before = c.len-before.ensures ∙ sym (length-map c.args.gathered.now.routines.items finished_of) in
-    let none = rw c.deref.ensures.value at c.in_err-body.ensures.err in
-    refused _ _ _ c.from_residual-in_err-body.ensures.1 (λ told. no_body _ _ _ _ _ _ _ c.own_number.ensures c.in_ok-add_block_names.ensures.ok _ _ c.in_ok-variables.ensures.ok _ _ read before (none told))
-
-pub block-returns-clause-ok : goal.block-returns-clause-ok
-block-returns-clause-ok t c =
-    let read = rw c.as_slice.ensures at c.in_ok-read_routines.ensures.ok in
-    let before = c.len-before.ensures ∙ sym (length-map c.args.gathered.now.routines.items finished_of) in
-    let body = rw c.deref.ensures.value at c.in_ok-body.ensures.ok in
-    whole_block _ _ _ _ _ _ _ c.own_number.ensures c.in_ok-add_block_names.ensures.ok _ _ c.in_ok-variables.ensures.ok _ _ read before _ _ body c.line.ensures
-
 pub read_routine-returns-in_err-index-clause-err : goal.read_routine-returns-in_err-index-clause-err
 read_routine-returns-in_err-index-clause-err t c = refused _ _ _ c.from_residual.ensures.1 (λ told. no_place _ _ _ _ (c.in_err-index.ensures.err told))
 
@@ -63,15 +49,3 @@ pub read_block-returns-in_err-done-clause-err : goal.read_block-returns-in_err-d
 read_block-returns-in_err-done-clause-err t c =
     let none = rw c.scope_within-outer.ensures at c.in_err-done.ensures.err in
     refused _ _ _ c.from_residual-in_err-done.ensures.1 (λ told. no_block _ _ _ _ _ _ _ c.in_ok-heading.ensures.ok c.in_ok-inner.ensures.ok (none told))
-
-pub read_block-returns-clause-ok : goal.read_block-returns-clause-ok
-read_block-returns-clause-ok t c =
-    let done = rw c.scope_within-outer.ensures at c.in_ok-done.ensures.ok in
-    let before = c.len-before.ensures ∙ sym (length-map c.args.gathered.now.routines.items finished_of) in
-    on_ok_weaker c.finish.result (λ e. whole_routine _ _ _ _ _ _ _ _ _ _ c.in_ok-heading.ensures.ok c.in_ok-inner.ensures.ok done before e) c.finish.ensures.ok
-
-pub read_block-returns-clause-err : goal.read_block-returns-clause-err
-read_block-returns-clause-err t c =
-    let done = rw c.scope_within-outer.ensures at c.in_ok-done.ensures.ok in
-    let before = c.len-before.ensures ∙ sym (length-map c.args.gathered.now.routines.items finished_of) in
-    still_refused _ _ _ (λ e. not_finished _ _ _ _ _ _ _ _ _ c.in_ok-heading.ensures.ok c.in_ok-inner.ensures.ok done before e) c.finish.ensures.err
