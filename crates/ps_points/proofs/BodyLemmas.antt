@@ -74,8 +74,8 @@ moved x y r e h = subst (λ b. IsFound b.uses r) (sym e) h
 pub found_assign : (x : Variable) (at : Span) (y : Expr) (opened : Bool) (a b : Option Use) → IsFound (entire Assigned (variable_part x)) a → IsFound (expr_part y).uses b → IsFound (statement_body (s.Assign x at y) opened).uses (either a b)
 found_assign x at y opened a b f g = moved _ _ (either a b) (body_assign x at y opened) (found_both (entire Assigned (variable_part x)) (expr_part y).uses a b f g)
 
-pub found_call : (name : Span) (xs : List Parameter) (opened : Bool) (r : Option Use) → IsFound (used name Called ∷ arguments name 0 (map parameter_part xs)) r → IsFound (statement_body (s.Call name xs) opened).uses r
-found_call name xs opened r h = moved _ _ r (body_call name xs opened) h
+pub found_call : (name : Span) (xs : List Parameter) (opened : Bool) (a b : Option Use) → IsFound (used name Called ∷ []) a → IsFound (arguments name 0 (map parameter_part xs)) b → IsFound (statement_body (s.Call name xs) opened).uses (either a b)
+found_call name xs opened a b f g = moved _ _ (either a b) (body_call name xs opened) (found_cons (used name Called) (arguments name 0 (map parameter_part xs)) a b f g)
 
 pub found_compound : (xs : List Statement) (opened : Bool) (r : Option Use) → IsFound (statements_body xs opened).uses r → IsFound (statement_body (s.Compound xs) opened).uses r
 found_compound xs opened r h = moved _ _ r (body_compound xs opened) h
@@ -100,8 +100,8 @@ found_for name x direction y t opened way a b c d is f g h k =
     let inner : IsFound ((expr_part x).uses ++ (expr_part y).uses ++ (statement_body t opened).uses) (either (either b c) d) = found_both ((expr_part x).uses ++ (expr_part y).uses) (statement_body t opened).uses (either b c) d (found_both (expr_part x).uses (expr_part y).uses b c g h) k in
     moved _ _ (either a (either (either b c) d)) (body_for name x direction y t opened) (found_cons (used name (counted opened)) ((expr_part x).uses ++ (expr_part y).uses ++ (statement_body t opened).uses) a (either (either b c) d) (subst (λ w. IsFound (used name w ∷ []) a) is f) inner)
 
-pub found_with : (xs : List Variable) (t : Statement) (opened : Bool) (a b : Option Use) → IsFound (all_uses record_uses xs) a → IsFound (statement_body t true).uses b → IsFound (statement_body (s.With xs t) opened).uses (either a b)
-found_with xs t opened a b f g = moved _ _ (either a b) (body_with xs t opened) (found_both (all_uses record_uses xs) (statement_body t true).uses a b f g)
+pub found_with : (xs : List Variable) (t : Statement) (opened : Bool) (r : Option Use) → IsFound (all_uses record_uses xs ++ (statement_body t true).uses) r → IsFound (statement_body (s.With xs t) opened).uses r
+found_with xs t opened r h = moved _ _ r (body_with xs t opened) h
 
 all_bodies_uses : {A : Type 0} (f : A → Body) (xs : List A) → (all_bodies f xs).uses ≡ all_uses (λ x. (f x).uses) xs
 all_bodies_uses f [] = refl

@@ -9,7 +9,7 @@ use Rattle.ps_points.specs.declared.point.Region.{Region}
 use Rattle.ps_points.specs.declared.point.Form.{Form}
 use Rattle.ps_points.specs.declared.point.Form.TheVariants.{Constant, Field, VariableParameter}
 use Rattle.ps_points.specs.declared.absent.Kind.TheVariants.{OfVariable}
-use Rattle.ps_points.specs.declared.uses.Way.TheVariants.{CountedWithin}
+use Rattle.ps_points.specs.declared.uses.Way.TheVariants.{Counted, CountedWithin}
 use Rattle.ps_points.specs.declared.uses.Use.{Use}
 use Rattle.ps_points.specs.declared.bodies.Repeated.{Repeated}
 use Rattle.ps_points.specs.Points.{Points, point, within}
@@ -72,6 +72,9 @@ module _ (text : List ℕ) (points : Points) where
 
   pub field_found : (name : Span) (i : ℕ) (x : Point) → i < length points → x ≡ get_or points i x → x.form ≡ Field → spelled text x.name ≡ spelled text name → IsField text points name
   field_found name i x lt at form alike = record { field = x; stands = (i, lt, sym at); form = form; alike = alike }
+
+  pub foreign_counted : (region : Region) (control : Use) (like : Point) → control.way ≡ Counted → like ≡ point region control.name Constant → IsAbsent text points OfVariable like → IsForeign text points region control control.way
+  foreign_counted region control like is named h = subst (λ w. IsForeign text points region control w) (sym is) (subst (λ p. IsAbsent text points OfVariable p) named h)
 
   pub foreign_name : (region : Region) (control : Use) → control.way ≡ CountedWithin → IsAbsent text points OfVariable (point region control.name Constant) → IsForeign text points region control control.way
   foreign_name region control is h = subst (λ w. IsForeign text points region control w) (sym is) (inl h)

@@ -24,6 +24,9 @@ module _ (text : List ℕ) (points : Points) where
   pub defined : (region : Region) (name : Span) (i : ℕ) (x like : Point) → i < length points → x ≡ get_or points i x → like ≡ point region name Constant → AreAlike text like x → IsDefined text points region name
   defined region name i x like lt at named alike = record { defining = x; stands = (i, lt, sym at); alike = subst (λ p. AreAlike text p x) named alike }
 
+  pub defined_at : (region : Region) (name : Span) (i : ℕ) (d like : Point) → i < length points → like ≡ point region name Constant → AreAlike text like (get_or points i d) → IsDefined text points region name
+  defined_at region name i d like lt named alike = defined region name i (get_or points i d) like lt (get_any points i d (get_or points i d) lt) named alike
+
   pub behind_here : (l : Level) (ls : Nested) (u : Use) → IsBehind text points l.region u → IsBehindIn text points (l ∷ ls) u
   behind_here l ls u h = inl h
 
@@ -35,6 +38,9 @@ module _ (text : List ℕ) (points : Points) where
 
   pub before_hidden : (u : Use) (i : ℕ) (x : Point) → i < length points → x ≡ get_or points i x → is_hidden x.form ≡ true → x.region.owner.from < u.name.from → u.name.from < x.name.from → spelled text x.name ≡ spelled text u.name → IsBeforeHidden text points u
   before_hidden u i x lt at form inside order alike = record { later = x; stands = (i, lt, sym at); form = form; alike = alike; inside = inside; order = order }
+
+  pub before_hidden_at : (u : Use) (i : ℕ) (d : Point) → i < length points → is_hidden (get_or points i d).form ≡ true → (get_or points i d).region.owner.from < u.name.from → u.name.from < (get_or points i d).name.from → spelled text (get_or points i d).name ≡ spelled text u.name → IsBeforeHidden text points u
+  before_hidden_at u i d lt form inside order alike = before_hidden u i (get_or points i d) lt (get_any points i d (get_or points i d) lt) form inside order alike
 
   pub before_field : (b : Block) (at : ℕ) (u : Use) → IsUseAt (block_declared_uses b) at u → is_looked_up u.way ≡ true → IsBeforeHidden text points u → IsBeforeField text points (block_declared_uses b) at
   before_field b at u h way before = record { occurrence = u; stands = h.stands; way = way; before = before; told = h.told }

@@ -86,8 +86,8 @@ multiplied_found xs i x r lt at h = all_found multiplied_uses xs i x r lt at (mo
 pub factor_found_variable : (x : Variable) (r : Option Use) → IsFound (variable_part x).uses r → IsFound (factor_part (f.Variable x)).uses r
 factor_found_variable x r h = moved _ _ r (ap (λ (p : Part). p.uses) (factor_Variable x)) h
 
-pub factor_found_call : (name : Span) (xs : List Expr) (r : Option Use) → IsFound (used name Applied ∷ arguments name 0 (map expr_part xs)) r → IsFound (factor_part (f.Call name xs)).uses r
-factor_found_call name xs r h = moved _ _ r (ap (λ (p : Part). p.uses) (factor_Call name xs)) h
+pub factor_found_call : (name : Span) (xs : List Expr) (a b : Option Use) → IsFound (used name Applied ∷ []) a → IsFound (arguments name 0 (map expr_part xs)) b → IsFound (factor_part (f.Call name xs)).uses (either a b)
+factor_found_call name xs a b f g = moved _ _ (either a b) (ap (λ (p : Part). p.uses) (factor_Call name xs)) (found_cons (used name Applied) (arguments name 0 (map expr_part xs)) a b f g)
 
 pub factor_found_set : (at : Span) (xs : List Member) (r : Option Use) → IsFound (all_uses member_uses xs) r → IsFound (factor_part (f.Set at xs)).uses r
 factor_found_set at xs r h = moved _ _ r (ap (λ (p : Part). p.uses) (factor_Set at xs)) h

@@ -114,12 +114,6 @@ module _ (text : List ℕ) (points : Points) where
   pub outside_further : (within : Option Region) (l : Level) (ls : Nested) (name : Span) → Lacks text points l.region name → IsOutside text points (Some l.region) ls name → IsOutside text points within (l ∷ ls) name
   outside_further within l ls name h k = inr (h, k)
 
-  pub odd_other : (levels : Nested) (name : Span) (need : Need) → IsOtherIn text points levels name need → IsOdd text points levels name need
-  odd_other levels name need h = inl h
-
-  pub odd_outside : (levels : Nested) (name : Span) (need : Need) → need ≡ ATarget → IsOutside text points None levels name → IsOdd text points levels name need
-  odd_outside levels name need h k = inr (h, k)
-
   -- ---- uses
 
   pub misused : (levels : Nested) (u : Use) (need : Need) → Needs text points levels u.way need → IsOdd text points levels u.name need → IsMisused text points levels u

@@ -1,8 +1,7 @@
 //! The search for a use in statements, and in what their `for` statements repeat.
 
-ghost use Rattle.std.specs.Prelude.{◌≡◌, ◌∷◌, map, true, IfSome, Contains};
-ghost use Rattle.ps_points.specs.Uses.{IsFound, used, all_uses, argument, arguments, entire, record_uses, constant_uses, parameter_part, variable_part, counted, statement_body, statements_body, elements_body, IsFoundIn, IsRepeatedThere, earlier};
-ghost use Rattle.ps_points.specs.declared.uses.Way.TheVariants.{Called};
+ghost use Rattle.std.specs.Prelude.{◌≡◌, ◌++◌, map, true, IfSome, Contains};
+ghost use Rattle.ps_points.specs.Uses.{IsFound, all_uses, argument, arguments, entire, record_uses, constant_uses, parameter_part, variable_part, counted, statement_body, statements_body, elements_body, IsFoundIn, IsRepeatedThere, earlier};
 
 use crate::twice::same_name;
 use crate::uses::{
@@ -92,14 +91,6 @@ fn in_parameters(routine: Span, list: &[Parameter], sought: Sought<'_>) -> Optio
     None
 }
 
-fn in_procedure(name: Span, list: &[Parameter], sought: Sought<'_>) -> Option<Use>
-    ensures { IsFound (used name Called ∷ arguments name 0 (map parameter_part list.now)) result }
-{
-    let own = one_use(name, Way::Called, sought);
-    let more = in_parameters(name, list, sought);
-    first(own, more)
-}
-
 fn in_records(list: &[Variable], sought: Sought<'_>) -> Option<Use>
     ensures { IsFound (all_uses record_uses list.now) result }
 {
@@ -137,7 +128,12 @@ fn in_statement(statement: &Statement, opened: bool, sought: Sought<'_>) -> Opti
                 in_expr(x.get(), sought),
             )
         }
-        Statement::Call(name, list) => in_procedure(*name, list.as_slice(), sought),
+        Statement::Call(name, list) => {
+            first(
+                one_use(*name, Way::Called, sought),
+                in_parameters(*name, list.as_slice(), sought),
+            )
+        }
         Statement::Compound(list) => in_statements(list.as_slice(), opened, sought),
         Statement::If(x, then) | Statement::While(x, then) => {
             first(
@@ -175,13 +171,19 @@ fn in_statement(statement: &Statement, opened: bool, sought: Sought<'_>) -> Opti
             let inner = first(bounds, in_statement(body.get(), opened, sought));
             first(one_use(*variable, counted(opened), sought), inner)
         }
-        Statement::With(list, body) => {
-            first(
-                in_records(list.as_slice(), sought.within_records()),
-                in_statement(body.get(), true, sought.within_records()),
-            )
-        }
+        Statement::With(list, body) => in_with(body.get(), list.as_slice(), sought),
     }
+}
+
+/// A use in the list or the statement of a `with` statement.
+#[cycle(body)]
+fn in_with(body: &Statement, list: &[Variable], sought: Sought<'_>) -> Option<Use>
+    ensures { IsFound (all_uses record_uses list.now ++ (statement_body body.now true).uses) result }
+{
+    let within = sought.within_records();
+    let named = in_records(list, within);
+    let inner = in_statement(body, true, within);
+    first(named, inner)
 }
 
 /// A use in a sequence of statements.
@@ -222,11 +224,15 @@ fn changed(
 ) -> Option<Repeated>
     ensures { IsRepeatedThere name (statement_body body.now opened).uses result }
 {
-    let changed = in_statement(body, opened, Sought::At(at))?;
-    if same_name(reading, name, changed.name) {
-        Some(Repeated { name, changed })
-    } else {
-        None
+    match in_statement(body, opened, Sought::At(at)) {
+        None => None,
+        Some(changed) => {
+            if same_name(reading, name, changed.name) {
+                Some(Repeated { name, changed })
+            } else {
+                None
+            }
+        }
     }
 }
 

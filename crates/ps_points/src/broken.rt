@@ -31,11 +31,15 @@ fn confirmed(
 ) -> Option<u32>
     ensures { IfSome result (IsSomewhere asked reading.now.source.now points.now (program_levels written.now)) }
 {
-    let at = at?;
-    if is_broken(asked, reading, points, written, at) {
-        Some(at)
-    } else {
-        None
+    match at {
+        None => None,
+        Some(at) => {
+            if is_broken(asked, reading, points, written, at) {
+                Some(at)
+            } else {
+                None
+            }
+        }
     }
 }
 

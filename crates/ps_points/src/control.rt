@@ -10,7 +10,7 @@ use crate::absent::{Kind, is_absent};
 use crate::bodies::{changed_in, in_statements};
 use crate::levels::Levels;
 use crate::point::{Form, Point, Region, within};
-use crate::twice::{are_alike, same_name};
+use crate::twice::{are_alike, is_spelled, same_name};
 use crate::used::stated_at;
 use crate::uses::{Sought, Use, Way};
 use ps_regions::reading::Reading;
@@ -111,8 +111,7 @@ fn is_by_variable(
 pub fn is_read(reading: &Reading, routine: Span) -> bool
     ensures { result ≡ true → IsRead reading.now.source.now routine }
 {
-    let name = reading.bytes(routine);
-    name.eq_ignore_ascii_case(b"read") || name.eq_ignore_ascii_case(b"readln")
+    is_spelled(reading, routine, b"read") || is_spelled(reading, routine, b"readln")
 }
 
 /// Whether the name denotes a routine that takes the parameter with this number by variable.

@@ -6,21 +6,13 @@ ghost use Rattle.std.specs.Prelude.{◌≡◌, ◌⊎◌};
 use crate::bodies::in_statements;
 use crate::declared::in_declarations;
 use crate::headings::heading_name;
-use crate::levels::Levels;
+use crate::levels::Regions;
 use crate::point::{Point, Region, within};
 use crate::undefined::{Defined, Open};
 use crate::uses::{Sought, first};
 use ps_regions::reading::Reading;
 use ps_syntax::{Block, Program, Routine};
 use std::alloc::{AllocError, Global};
-
-/// What names are looked up in.
-#[derive(Clone, Copy)]
-struct Looking<'a> {
-    reading: &'a Reading<'a>,
-    alloc: Global,
-    defined: &'a Defined,
-}
 
 /// The earlier of two offsets.
 pub fn earlier(one: Option<u32>, other: Option<u32>) -> Option<u32>
@@ -35,13 +27,18 @@ pub fn earlier(one: Option<u32>, other: Option<u32>) -> Option<u32>
     }
 }
 
-/// The first in the declarations and statements of a block, the innermost of these.
-fn in_own(looking: Looking<'_>, block: &Block, levels: &Levels) -> Option<u32> {
+/// The first in a block, which has this region, and those within it.
+#[cycle(earliest)]
+fn in_block(round: Open<'_>, block: &Block, region: Region) -> Option<u32> {
+    let regions = Regions::Within {
+        region,
+        outer: &*round.regions,
+    };
     let open = Open {
-        reading: looking.reading,
-        alloc: looking.alloc,
-        defined: looking.defined,
-        levels,
+        reading: round.reading,
+        alloc: round.alloc,
+        defined: round.defined,
+        regions: &regions,
     };
     let declared = in_declarations(block, Sought::Undefined(open, true));
     let stated = in_statements(
@@ -49,54 +46,30 @@ fn in_own(looking: Looking<'_>, block: &Block, levels: &Levels) -> Option<u32> {
         false,
         Sought::Undefined(open, false),
     );
+    let inner = in_routines(open, block.routines.as_slice(), region);
     match first(declared, stated) {
-        None => None,
-        Some(found) => Some(found.name.from),
+        None => inner,
+        Some(found) => earlier(Some(found.name.from), inner),
     }
 }
 
-/// The first in a block and those within it.
 #[cycle(earliest)]
-fn in_block(looking: Looking<'_>, block: &Block, region: Region, outer: &Levels) -> Option<u32> {
-    let levels = Levels::Within {
-        region,
-        block: &*block,
-        outer: &*outer,
-    };
-    let own = in_own(looking, &*block, &levels);
-    let inner = in_routines(looking, block.routines.as_slice(), region, &levels);
-    earlier(own, inner)
-}
-
-#[cycle(earliest)]
-fn in_routines(
-    looking: Looking<'_>,
-    list: &[Routine],
-    region: Region,
-    outer: &Levels,
-) -> Option<u32> {
+fn in_routines(open: Open<'_>, list: &[Routine], region: Region) -> Option<u32> {
     let mut found = None;
     for routine in list {
-        found = earlier(found, in_routine(looking, routine, region, outer));
+        found = earlier(found, in_routine(open, routine, region));
     }
     found
 }
 
 #[cycle(earliest)]
-fn in_routine(
-    looking: Looking<'_>,
-    routine: &Routine,
-    region: Region,
-    outer: &Levels,
-) -> Option<u32> {
+fn in_routine(open: Open<'_>, routine: &Routine, region: Region) -> Option<u32> {
     match routine {
         Routine::Whole(heading, block) => {
-            in_block(looking, block, within(region, heading_name(heading)), outer)
+            in_block(open, block, within(region, heading_name(heading)))
         }
         Routine::Forward(_) => None,
-        Routine::Completion(name, block) => {
-            in_block(looking, block, within(region, *name), outer)
-        }
+        Routine::Completion(name, block) => in_block(open, block, within(region, *name)),
     }
 }
 
@@ -108,16 +81,17 @@ pub fn first_undefined(
     written: &Program,
 ) -> Result<Option<u32>, AllocError> {
     let defined = Defined::new(reading, alloc, points)?;
-    let looking = Looking {
+    let open = Open {
         reading,
         alloc,
         defined: &defined,
+        regions: &Regions::Outside,
     };
     let region = Region {
         outer: 0,
         owner: written.name,
     };
-    let found = in_block(looking, &written.block, region, &Levels::Outside);
+    let found = in_block(open, &written.block, region);
     drop(defined);
     Ok(found)
 }

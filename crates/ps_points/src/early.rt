@@ -3,7 +3,7 @@
 ghost use Rattle.std.specs.Prelude.{◌≡◌, true, map};
 ghost use Rattle.ps_points.specs.DeclaredUses.{constant_definition, type_definition};
 ghost use Rattle.ps_points.specs.Levels.{own_level, levels_of, block_declared_uses, block_definitions, routine_heading};
-ghost use Rattle.ps_points.specs.Early.{is_looked_up, reach, IsDefined, IsBehind, IsBehindIn, IsBeforePoint, IsBeforeHidden, IsBeforeField, is_named, IsUseOf, IsOwn, IsOwnIn, IsEarly};
+ghost use Rattle.ps_points.specs.Early.{is_looked_up, reach, IsDefined, IsBehind, IsBehindIn, IsBeforePoint, IsBeforeHidden, IsBeforeField, is_named, IsUseOf, IsOwnIn, IsEarly};
 
 use crate::absent::{Kind, is_absent};
 use crate::bodies::in_constant;
@@ -145,70 +145,43 @@ fn is_use_of(reading: &Reading, name: Span, found: Use, at: u32) -> bool
     found.name.from == at && is_named(found.way) && same_name(reading, name, found.name)
 }
 
-/// Whether the definition of a constant uses its name at an offset.
-#[tactic(auto, using(crate::proofs::EarlyLemmas::own))]
-fn is_own_constant(reading: &Reading, definition: &ConstantDefinition, at: u32) -> bool
-    ensures { result ≡ true → IsOwn reading.now.source.now (constant_definition definition.now) at }
-{
-    match in_constant(&definition.value, Sought::At(at)) {
-        None => false,
-        Some(found) => is_use_of(reading, definition.name, found, at),
-    }
-}
-
-#[tactic(auto, using(crate::proofs::EarlyLemmas::own_constants))]
+/// Whether the definition of one of these constants uses its name at an offset.
 fn is_own_in_constants(reading: &Reading, list: &[ConstantDefinition], at: u32) -> bool
     ensures { result ≡ true → IsOwnIn reading.now.source.now (map constant_definition list.now) at }
 {
     for definition in list {
-        if is_own_constant(reading, definition, at) {
-            return true;
+        if let Some(found) = in_constant(&definition.value, Sought::At(at)) {
+            if is_use_of(reading, definition.name, found, at) {
+                return true;
+            }
         }
     }
     false
 }
 
-/// Whether the definition of a type uses its name at an offset.
-#[tactic(auto, using(crate::proofs::EarlyLemmas::own))]
-fn is_own_type(reading: &Reading, definition: &TypeDefinition, at: u32) -> bool
-    ensures { result ≡ true → IsOwn reading.now.source.now (type_definition definition.now) at }
-{
-    match in_type(&definition.ty, Sought::At(at)) {
-        None => false,
-        Some(found) => is_use_of(reading, definition.name, found, at),
-    }
-}
-
-#[tactic(auto, using(crate::proofs::EarlyLemmas::own_types))]
+/// Whether the definition of one of these types uses its name at an offset.
 fn is_own_in_types(reading: &Reading, list: &[TypeDefinition], at: u32) -> bool
     ensures { result ≡ true → IsOwnIn reading.now.source.now (map type_definition list.now) at }
 {
     for definition in list {
-        if is_own_type(reading, definition, at) {
-            return true;
+        if let Some(found) = in_type(&definition.ty, Sought::At(at)) {
+            if is_use_of(reading, definition.name, found, at) {
+                return true;
+            }
         }
     }
     false
 }
 
-/// Whether the heading of a routine uses its name at an offset.
-#[tactic(auto, using(crate::proofs::EarlyLemmas::own_routine))]
-fn is_own_routine(reading: &Reading, routine: &Routine, at: u32) -> bool
-    ensures { result ≡ true → IsOwn reading.now.source.now (routine_heading routine.now) at }
-{
-    match in_routine_heading(routine, Sought::At(at)) {
-        None => false,
-        Some(found) => is_use_of(reading, routine_name(routine), found, at),
-    }
-}
-
-#[tactic(auto, using(crate::proofs::EarlyLemmas::own_routines))]
+/// Whether the heading of one of these routines uses its name at an offset.
 fn is_own_in_routines(reading: &Reading, list: &[Routine], at: u32) -> bool
     ensures { result ≡ true → IsOwnIn reading.now.source.now (map routine_heading list.now) at }
 {
     for routine in list {
-        if is_own_routine(reading, routine, at) {
-            return true;
+        if let Some(found) = in_routine_heading(routine, Sought::At(at)) {
+            if is_use_of(reading, routine_name(routine), found, at) {
+                return true;
+            }
         }
     }
     false

@@ -1,9 +1,8 @@
 //! Names of another kind than their place needs.
 
 ghost use Rattle.std.specs.Prelude.{◌≡◌, true, map, IfSome};
-ghost use Rattle.ps_points.specs.declared.needs.Need.TheVariants.{ATarget};
 ghost use Rattle.ps_points.specs.Levels.{own_level, levels_of, block_declared_uses};
-ghost use Rattle.ps_points.specs.Kinds.{required, IsOneOf, IsOtherRequired, IsIndex, IsPlace, TakesVariable, TakesValue, TakesRequired, HasFormal, Needs, IsOther, IsOtherIn, HasFunction, IsNoBlockOf, IsOutside, IsOdd, IsMisused, IsOfWrongKind, IsMisusedField, IsOddField, IsBehindHidden, IsBesideField, IsRefused, IsWrongArgument, IsMiscast};
+ghost use Rattle.ps_points.specs.Kinds.{required, IsOneOf, IsOtherRequired, IsIndex, IsPlace, TakesVariable, TakesValue, TakesRequired, HasFormal, Needs, IsOther, IsOtherIn, HasFunction, IsNoBlockOf, IsOutside, IsOdd, IsOfWrongKind, IsOddField, IsBehindHidden, IsBesideField, IsRefused, IsWrongArgument, IsMiscast};
 
 use crate::absent::{Kind, is_absent};
 use crate::bodies::in_statements;
@@ -145,9 +144,10 @@ fn need_in(reading: &Reading, points: &[Point], levels: &Levels, way: Way) -> Op
     ensures { IfSome result (Needs reading.now.source.now points.now (levels_of levels.now) way) }
 {
     match way {
-        Way::Passed { routine, index } => {
-            need_of_formal(formal_in(reading, points, levels, routine, index)?)
-        }
+        Way::Passed { routine, index } => match formal_in(reading, points, levels, routine, index) {
+            None => None,
+            Some(form) => need_of_formal(form),
+        },
         _ => need_of(way),
     }
 }
@@ -220,36 +220,20 @@ fn is_outside(
     }
 }
 
-fn is_target(need: Need) -> bool
-    ensures { result ≡ true → need ≡ ATarget }
+/// Whether a name can't stand where that is needed.
+fn is_odd(reading: &Reading, points: &[Point], levels: &Levels, name: Span, need: Need) -> bool
+    ensures { result ≡ true → IsOdd reading.now.source.now points.now (levels_of levels.now) name need }
 {
+    if is_other_in(reading, points, levels, name, need) {
+        return true;
+    }
     match need {
-        Need::ATarget => true,
+        Need::ATarget => is_outside(reading, points, None, levels, name),
         _ => false,
     }
 }
 
-/// Whether a name can't stand where that is needed.
-#[tactic(auto, using(crate::proofs::KindLemmas::odd_other, crate::proofs::KindLemmas::odd_outside))]
-fn is_odd(reading: &Reading, points: &[Point], levels: &Levels, name: Span, need: Need) -> bool
-    ensures { result ≡ true → IsOdd reading.now.source.now points.now (levels_of levels.now) name need }
-{
-    is_other_in(reading, points, levels, name, need)
-        || (is_target(need) && is_outside(reading, points, None, levels, name))
-}
-
-/// Whether the name of a use is of another kind than its place needs.
-#[tactic(auto, using(crate::proofs::KindLemmas::misused))]
-fn is_misused(reading: &Reading, points: &[Point], levels: &Levels, found: Use) -> bool
-    ensures { result ≡ true → IsMisused reading.now.source.now points.now (levels_of levels.now) found }
-{
-    match need_in(reading, points, levels, found.way) {
-        None => false,
-        Some(need) => is_odd(reading, points, levels, found.name, need),
-    }
-}
-
-/// Whether a use at an offset in a block is of such a name.
+/// Whether the name of a use at an offset in a block is of another kind than its place needs.
 #[tactic(auto, unfolding(crate::specs::Levels::levels_of))]
 fn is_of_wrong_kind(
     reading: &Reading,
@@ -268,23 +252,15 @@ fn is_of_wrong_kind(
     };
     match used_at(block, at) {
         None => false,
-        Some(found) => is_misused(reading, points, &levels, found),
+        Some(found) => match need_in(reading, points, &levels, found.way) {
+            None => false,
+            Some(need) => is_odd(reading, points, &levels, found.name, need),
+        },
     }
 }
 
-/// Whether the name of a use is a field's, which can't stand there.
-#[tactic(auto, using(crate::proofs::KindLemmas::misused_field))]
-fn is_misused_field(reading: &Reading, points: &[Point], levels: &Levels, found: Use) -> bool
-    ensures { result ≡ true → IsMisusedField reading.now.source.now points.now (levels_of levels.now) found }
-{
-    match need_in(reading, points, levels, found.way) {
-        None => false,
-        Some(need) => !fits(need, Form::Field) && has_field(reading, points, found.name),
-    }
-}
-
-/// Whether a use at an offset in the statements of a block is of such a name.
-#[tactic(auto, using(crate::proofs::KindLemmas::odd_field), unfolding(crate::specs::Levels::levels_of))]
+/// Whether the name of a use at an offset in the statements of a block is a field's, which can't stand there.
+#[tactic(auto, unfolding(crate::specs::Levels::levels_of))]
 fn is_odd_field(
     reading: &Reading,
     points: &[Point],
@@ -302,7 +278,10 @@ fn is_odd_field(
     };
     match stated_at(block, at) {
         None => false,
-        Some(found) => is_misused_field(reading, points, &levels, found),
+        Some(found) => match need_in(reading, points, &levels, found.way) {
+            None => false,
+            Some(need) => !fits(need, Form::Field) && has_field(reading, points, found.name),
+        },
     }
 }
 

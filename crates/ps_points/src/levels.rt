@@ -1,4 +1,4 @@
-//! Blocks with those round them.
+//! Blocks with those round them, and regions.
 
 use crate::point::Region;
 use ps_syntax::Block;
@@ -11,5 +11,15 @@ pub enum Levels<'a> {
         region: Region,
         block: &'a Block,
         outer: &'a Levels<'a>,
+    },
+}
+
+/// Regions, from the inside out.
+#[derive(Clone, Copy)]
+pub enum Regions<'a> {
+    Outside,
+    Within {
+        region: Region,
+        outer: &'a Regions<'a>,
     },
 }

@@ -4,7 +4,7 @@
 ghost use Rattle.std.specs.Prelude.{◌≡◌};
 ghost use Rattle.ps_points.specs.Early.{is_hidden};
 
-use crate::levels::Levels;
+use crate::levels::Regions;
 use crate::point::{Form, Point, Region};
 use crate::uses::{Use, Way};
 use ps_regions::reading::Reading;
@@ -95,18 +95,6 @@ pub fn is_hidden(form: Form) -> bool
 }
 
 impl Defined {
-    /// One more point, behind those before it in the text.
-    fn add(&mut self, reading: &Reading, alloc: Global, point: Point) -> Result<(), AllocError> {
-        let key = key(reading, alloc, point.region, point.name)?;
-        if self.keys.add(key)? {
-            self.firsts.push(point.name.from)?;
-        }
-        if is_hidden(point.form) {
-            self.hidden.add(reading.name(alloc, point.name)?)?;
-        }
-        Ok(())
-    }
-
     /// More points, in the order of the text.
     fn add_all(
         &mut self,
@@ -115,7 +103,13 @@ impl Defined {
         points: &[Point],
     ) -> Result<(), AllocError> {
         for point in points {
-            self.add(reading, alloc, *point)?;
+            let key = key(reading, alloc, point.region, point.name)?;
+            if self.keys.add(key)? {
+                self.firsts.push(point.name.from)?;
+            }
+            if is_hidden(point.form) {
+                self.hidden.add(reading.name(alloc, point.name)?)?;
+            }
         }
         Ok(())
     }
@@ -134,13 +128,13 @@ impl Defined {
     }
 }
 
-/// The blocks round a use, and what a name is looked up in.
+/// The regions round a use, and what a name is looked up in.
 #[derive(Clone, Copy)]
 pub struct Open<'a> {
     pub reading: &'a Reading<'a>,
     pub alloc: Global,
     pub defined: &'a Defined,
-    pub levels: &'a Levels<'a>,
+    pub regions: &'a Regions<'a>,
 }
 
 /// Where the first point of a name in a region stands.
@@ -152,29 +146,29 @@ fn first_of(open: Open<'_>, region: Region, name: Span) -> Result<Option<u32>, A
     }
 }
 
-/// Whether none of these blocks has the name.
-fn all_lack(open: Open<'_>, levels: &Levels, name: Span) -> Result<bool, AllocError> {
-    match levels {
-        Levels::Outside => Ok(true),
-        Levels::Within { region, outer, .. } => match first_of(open, *region, name)? {
+/// Whether none of these regions has the name.
+fn all_lack(open: Open<'_>, regions: &Regions, name: Span) -> Result<bool, AllocError> {
+    match regions {
+        Regions::Outside => Ok(true),
+        Regions::Within { region, outer } => match first_of(open, *region, name)? {
             None => all_lack(open, outer, name),
             Some(_) => Ok(false),
         },
     }
 }
 
-/// Whether no point of the name stands before it in the innermost of the blocks.
+/// Whether no point of the name stands before it in the innermost of the regions.
 fn has_no_heading(open: Open<'_>, name: Span) -> Result<bool, AllocError> {
-    match open.levels {
-        Levels::Outside => Ok(false),
-        Levels::Within { region, .. } => match first_of(open, *region, name)? {
+    match open.regions {
+        Regions::Outside => Ok(false),
+        Regions::Within { region, .. } => match first_of(open, *region, name)? {
             None => Ok(true),
             Some(first) => Ok(first >= name.from),
         },
     }
 }
 
-/// Whether the name is neither a required one nor defined in one of the blocks. Where names of records or of lists of
+/// Whether the name is neither a required one nor defined in one of the regions. Where names of records or of lists of
 /// formal parameters may be meant, as `is_hiding` tells, it is also none of these.
 fn is_undefined_name(open: Open<'_>, name: Span, is_hiding: bool) -> Result<bool, AllocError> {
     let spelling = open.reading.name(open.alloc, name)?;
@@ -184,7 +178,7 @@ fn is_undefined_name(open: Open<'_>, name: Span, is_hiding: bool) -> Result<bool
     if is_hiding && open.defined.hidden.contains(&spelling) {
         return Ok(false);
     }
-    all_lack(open, open.levels, name)
+    all_lack(open, open.regions, name)
 }
 
 /// Whether no point is found for a use; where memory is wanting for that, it isn't known.

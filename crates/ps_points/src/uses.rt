@@ -3,9 +3,9 @@
 ghost use Rattle.std.specs.Prelude.{◌≡◌, [], ◌∷◌, map, false};
 ghost use Rattle.ps_points.specs.Uses.{IsFound, either, used, begin, based, all_uses, argument, arguments, expr_part, factor_part, member_uses, selector_uses, added_uses, multiplied_uses, simple_part, term_part, variable_part};
 ghost use Rattle.ps_syntax.specs.declared.expression.Variable.{out-Variable};
-ghost use Rattle.ps_points.specs.declared.uses.Way.TheVariants.{Applied};
 ghost use Rattle.ps_points.specs.declared.uses.Whole.TheVariants.{Other};
 
+use crate::twice::same_name;
 use crate::undefined::{Open, is_undefined};
 use ps_regions::reading::Reading;
 use ps_syntax::{
@@ -101,11 +101,7 @@ impl<'a> Sought<'a> {
                 _ => false,
             },
             Sought::CountedAs(reading, name) => match found.way {
-                Way::Counted | Way::CountedWithin => {
-                    reading
-                        .bytes(name)
-                        .eq_ignore_ascii_case(reading.bytes(found.name))
-                }
+                Way::Counted | Way::CountedWithin => same_name(reading, name, found.name),
                 _ => false,
             },
             Sought::Undefined(open, is_hiding) => is_undefined(open, found, is_hiding),
@@ -288,21 +284,17 @@ fn in_factor(factor: &Factor, sought: Sought<'_>) -> Option<Use>
 {
     match factor {
         Factor::Variable(variable) => in_variable(variable, sought),
-        Factor::Call(name, list) => in_call(*name, list.as_slice(), sought),
+        Factor::Call(name, list) => {
+            first(
+                one_use(*name, Way::Applied, sought),
+                in_arguments(*name, list.as_slice(), sought),
+            )
+        }
         Factor::Number(_) | Factor::Text(_) | Factor::Nil(_) => None,
         Factor::Set(_, members) => in_members(members.as_slice(), sought),
         Factor::Group(_, _, x) => in_expr(x.get(), sought),
         Factor::Not(_, x) => in_factor(x.get(), sought),
     }
-}
-
-#[cycle(uses)]
-fn in_call(name: Span, list: &[Expr], sought: Sought<'_>) -> Option<Use>
-    ensures { IsFound (used name Applied ∷ arguments name 0 (map expr_part list.now)) result }
-{
-    let own = one_use(name, Way::Applied, sought);
-    let more = in_arguments(name, list, sought);
-    first(own, more)
 }
 
 #[cycle(uses)]

@@ -1,5 +1,7 @@
-use Rattle.std.proofs.Common.{arith}
-use Rattle.ps_points.proofs.Found.{found_none}
+use Rattle.std.proofs.Common.{◌++◌, sym, subst, arith}
+use Rattle.std.specs.Prelude.{true}
+use Rattle.ps_points.specs.Uses.{IsFound, all_uses, record_uses, statement_body}
+use Rattle.ps_points.proofs.Found.{found_none, found_both}
 use Rattle.ps_points.proofs.BodyLemmas.{found_assign, found_call, found_compound, found_if_else, found_case, found_repeat, found_for, found_with, statements_found, elements_found}
 use Rattle.ps_points.proofs.bodies.+body.Goals as goal
 
@@ -41,3 +43,6 @@ in_statement-returns-in-For t c = grind (arith, found_for)
 
 pub in_statement-returns-in-With : goal.in_statement-returns-in-With
 in_statement-returns-in-With t c = grind (arith, found_with)
+
+pub in_with-returns : goal.in_with-returns
+in_with-returns t c = subst (λ r. IsFound (all_uses record_uses c.args.list.now ++ (statement_body c.args.body.now true).uses) r) (sym c.first.ensures) (found_both _ _ _ _ c.in_records-named.ensures c.in_statement-inner.ensures)

@@ -2,6 +2,15 @@ use Rattle.std.proofs.Common.{arith}
 use Rattle.ps_points.proofs.BodyLemmas.{repeated_none, repeated_if_else, repeated_case, repeated_for, repeated_with, statements_repeated, elements_repeated}
 use Rattle.ps_points.proofs.bodies.+changed.Goals as goal
 
+pub changed_in_statement-returns-in-Empty : goal.changed_in_statement-returns-in-Empty
+changed_in_statement-returns-in-Empty t c = repeated_none _
+
+pub changed_in_statement-returns-in-Empty-2 : goal.changed_in_statement-returns-in-Empty-2
+changed_in_statement-returns-in-Empty-2 t c = repeated_none _
+
+pub changed_in_statement-returns-in-Empty-3 : goal.changed_in_statement-returns-in-Empty-3
+changed_in_statement-returns-in-Empty-3 t c = repeated_none _
+
 pub changed_in-returns-then-is_some : goal.changed_in-returns-then-is_some
 changed_in-returns-then-is_some t c = statements_repeated _ _ _ _ _ c.loop-statement-test.true c.statement-item.is c.changed_in_statement-found.ensures
 

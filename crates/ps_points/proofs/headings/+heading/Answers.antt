@@ -1,6 +1,20 @@
+use Rattle.std.proofs.Common.{arith}
 use Rattle.ps_points.specs.Points.{section_points}
-use Rattle.ps_points.proofs.Lists.{gained_start, gained_next, gained_end}
+use Rattle.ps_points.proofs.Lists.{gained_start, gained_next, gained_end, one_added}
+use Rattle.ps_points.proofs.Equations.{section_Value, section_Variable, section_Routine}
 use Rattle.ps_points.proofs.headings.+heading.Goals as goal
+
+pub add_section-returns-in-Value : goal.add_section-returns-in-Value
+add_section-returns-in-Value t c = grind (arith, section_Value)
+
+pub add_section-returns-in-Variable : goal.add_section-returns-in-Variable
+add_section-returns-in-Variable t c = grind (arith, section_Variable)
+
+pub add_section-returns-in-Routine : goal.add_section-returns-in-Routine
+add_section-returns-in-Routine t c = grind (arith, section_Routine)
+
+pub add_heading-returns : goal.add_heading-returns
+add_heading-returns t c = grind (arith, one_added)
 
 pub add_sections-loop-section-init : goal.add_sections-loop-section-init
 add_sections-loop-section-init t c = gained_start _ _ _

@@ -1,6 +1,11 @@
+use Rattle.std.proofs.Common.{arith}
 use Rattle.ps_points.specs.Levels.{own_level, levels_of}
-use Rattle.ps_points.proofs.KindLemmas.{formal_here}
+use Rattle.ps_points.proofs.KindLemmas.{formal_here, formal_further}
 use Rattle.ps_points.proofs.kinds.+formal_in.Goals as goal
+
+pub returns-else-not-lacks : goal.returns-else-not-lacks
+unfolding levels_of
+returns-else-not-lacks t c = grind (arith, formal_further)
 
 pub returns-in-Outside : goal.returns-in-Outside
 unfolding levels_of

@@ -1,6 +1,15 @@
 use Rattle.std.proofs.Common.{arith}
-use Rattle.ps_points.proofs.Found.{added_found, argument_alone, argument_other, arguments_found, compare_found, expr_found, exprs_found, factor_found_call, factor_found_group, factor_found_not, factor_found_set, factor_found_variable, found_cons, found_none, member_found_one, member_found_range, members_found, multiplied_found, selector_found, selector_found_field, selectors_found, simple_found, term_found, variable_found}
+use Rattle.ps_points.proofs.Found.{added_found, argument_alone, argument_other, arguments_found, compare_found, expr_found, exprs_found, factor_found_call, factor_found_group, factor_found_not, factor_found_set, factor_found_variable, found_none, member_found_one, member_found_range, members_found, multiplied_found, selector_found, selector_found_field, selectors_found, simple_found, term_found, variable_found}
 use Rattle.ps_points.proofs.uses.+uses.Goals as goal
+
+pub in_factor-returns-in-Number : goal.in_factor-returns-in-Number
+in_factor-returns-in-Number t c = found_none _
+
+pub in_factor-returns-in-Number-2 : goal.in_factor-returns-in-Number-2
+in_factor-returns-in-Number-2 t c = found_none _
+
+pub in_factor-returns-in-Number-3 : goal.in_factor-returns-in-Number-3
+in_factor-returns-in-Number-3 t c = found_none _
 
 pub in_added-returns-then-is_some : goal.in_added-returns-then-is_some
 in_added-returns-then-is_some t c = added_found _ _ _ _ c.loop-added-test.true c.added-item.is c.in_term-found.ensures
@@ -64,9 +73,6 @@ in_factor-returns-in-Group t c = grind (arith, factor_found_group)
 
 pub in_factor-returns-in-Not : goal.in_factor-returns-in-Not
 in_factor-returns-in-Not t c = grind (arith, factor_found_not)
-
-pub in_call-returns : goal.in_call-returns
-in_call-returns t c = grind (arith, found_cons)
 
 pub in_argument-returns-in-Alone : goal.in_argument-returns-in-Alone
 in_argument-returns-in-Alone t c = grind (arith, argument_alone)

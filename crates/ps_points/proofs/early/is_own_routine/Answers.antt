@@ -1,6 +1,0 @@
-use Rattle.std.proofs.Common.{arith}
-use Rattle.ps_points.proofs.EarlyLemmas.{own_routine}
-use Rattle.ps_points.proofs.early.is_own_routine.Goals as goal
-
-pub returns-in-Some : goal.returns-in-Some
-returns-in-Some c = grind (arith, own_routine)
