@@ -65,7 +65,9 @@ fn repeated(reading: &Reading, points: &[Point], earlier: usize, later: usize) -
     let Some(second) = points.get(later) else {
         return None;
     };
-    if earlier < later && are_alike(reading, *first, *second) && !completes(first.form, second.form)
+    if earlier < later
+        && are_alike(reading, *first, *second)
+        && !completes(first.form, second.form)
     {
         Some(second.name.from)
     } else {

@@ -16,9 +16,6 @@ add_structure-returns-in-Record t c = grind (arith, structure_Record)
 pub add_structure-returns-in-Set : goal.add_structure-returns-in-Set
 add_structure-returns-in-Set t c = grind (arith, structure_Set)
 
-pub add_array-returns : goal.add_array-returns
-add_array-returns t c = grind (arith, both_added)
-
 pub add_section-returns : goal.add_section-returns
 add_section-returns t c = grind (arith, fields_added)
 
