@@ -1,5 +1,6 @@
 pub mod Agreement
 pub mod Called
+pub mod Commands
 pub mod GivenRows
 pub mod Leaves
 pub mod LineWalk

@@ -1,12 +1,13 @@
 -- The commands as `clap` has them.
-use Rattle.std.specs.Prelude.{⊤, ◌≤◌, ℕ, Bool, pos, true, false, List, [], ◌∷◌, Option, Some, None, IfSome, codes, unwrap_or, if◌then◌else◌}
+use Rattle.std.specs.Prelude.{◌≡◌, ⊤, ◌≤◌, ℕ, Bool, pos, true, false, List, [], ◌∷◌, Option, Some, None, IfSome, Result, IfOk, codes, unwrap_or, if◌then◌else◌}
 use Rattle.std.specs.Option.{option_map_or}
 use Rattle.std.specs.Str.{bytes_eq}
 use Rattle.std.specs.Str.Parse.{IsNumeral, digits_value, without_leading_plus}
-use Rattle.clap.specs.Walk.{Row, Rule, Text, first_of, one_of}
+use Rattle.clap.specs.Walk.{Row, Rule, Text, first_of, one_of, rule_of}
 use Rattle.clap.specs.Kinds.{IsAmong, Kinds}
 use Rattle.clap.specs.Values.{kind_of}
-use Rattle.clap.specs.Simple.{App, new_app, new_rule, on_top, with_rule, with_subcommand}
+use Rattle.clap.specs.Simple.{App, app_of, new_app, new_rule, on_top, with_rule, with_subcommand}
+use Rattle.clap.specs.declared.builder.arg.Arg.{Arg}
 use Rattle.clap.specs.declared.builder.command.Command.{Command}
 use Rattle.clap.specs.declared.builder.command.Command.TheViews.{out-Command}
 use Rattle.clap.specs.declared.builder.value_parser.ValueParser.TheVariants as vp
@@ -21,27 +22,37 @@ use Rattle.pascal_cli.specs.declared.job.CommandFault.TheVariants as fault
 abbrev pub has_globals : Command → Bool
 has_globals command = (out-Command command).has_globals
 
+-- a command of this shape, without global arguments
+abbrev pub IsCommand : App → Command → Type 0
+IsCommand app command = (app_of command ≡ app) × (has_globals command ≡ false)
+
+-- such a command was made, or none
+abbrev pub Makes : {E : Type 0} → App → Result Command E → Type 0
+Makes app made = IfOk made (IsCommand app)
+
+-- an argument of this rule, which is not global
+abbrev pub IsArgument : Rule → Arg → Type 0
+IsArgument rule arg = (rule_of arg ≡ rule) × (arg.global ≡ false)
+
 -- a path, which must be given
 abbrev pub path_rule : Text → Rule
 path_rule name = record (new_rule name) { required = true }
 
--- an option of bytes
-abbrev pub budget_rule : Text → Text → Rule
-budget_rule name default = record (new_rule name) {
+-- an option that takes a number
+abbrev pub limit_rule : Text → Text → Rule
+limit_rule name default = record (new_rule name) {
   long = Some name;
   value_names = 1;
   defaults = default ∷ [];
-  parser = Some (vp.Signed (pos 0) (pos 16777152));
 }
+
+-- an option of bytes
+abbrev pub budget_rule : Text → Text → Rule
+budget_rule name default = record (limit_rule name default) { parser = Some (vp.Signed (pos 0) (pos 16777152)) }
 
 -- the option of steps
 abbrev pub steps_rule : Rule
-steps_rule = record (new_rule (codes "steps")) {
-  long = Some (codes "steps");
-  value_names = 1;
-  defaults = codes "1000000000" ∷ [];
-  parser = Some (vp.Unsigned 1 1000000000000);
-}
+steps_rule = record (limit_rule (codes "steps") (codes "1000000000")) { parser = Some (vp.Unsigned 1 1000000000000) }
 
 -- a command with the three options
 abbrev pub limited : App → App

@@ -1,8 +1,10 @@
 // The words of the command line.
 
 ghost use Rattle.std.specs.Prelude.{◌≡◌, ◌≤◌, IfOk, IfErr, IfSome, List, None, Some, codes, ℕ, true, false, map};
+ghost use Rattle.clap.specs.Simple.{App, new_app, with_rule, with_subcommand};
+ghost use Rattle.clap.specs.Walk.{Rule};
 ghost use Rattle.clap.specs.Words.{app_of, fault_of, found_of, one_of, rows_of, rule_of, subcommand_rows_of};
-ghost use Rattle.pascal_cli.specs.App.{HasLimits, IsLineOf, IsWithin, compile_app, fault_in, go_app, has_globals, limited, list_app, pascal_app, path_rule, row_path, row_request, row_work, budget_rule, run_app, steps_rule, whole};
+ghost use Rattle.pascal_cli.specs.App.{HasLimits, IsArgument, IsCommand, IsLineOf, IsWithin, Makes, compile_app, fault_in, go_app, limit_rule, limited, list_app, pascal_app, path_rule, row_path, row_request, row_work, budget_rule, run_app, steps_rule, whole};
 ghost use Rattle.pascal_cli.specs.Command.{is_line_fault, request_in, request_of, work_of};
 ghost use Rattle.pascal_cli.specs.declared.job.CommandFault.TheVariants.{OutOfMemory};
 
@@ -86,91 +88,160 @@ fn path<'a>(alloc: Global, name: &'a str, help: &'a str) -> Arg<'a>
     Arg::new(alloc, name).required(true).help(help)
 }
 
-fn budget<'a>(alloc: Global, name: &'a str, default: &'a str, help: &'a str) -> Arg<'a>
-    ensures rule { rule_of result ≡ budget_rule name.entry.now default.entry.now }
+// An option that takes a number, with a default.
+fn limit<'a>(
+    alloc: Global,
+    name: &'a str,
+    unit: &'a str,
+    default: &'a str,
+    help: &'a str,
+) -> Arg<'a>
+    ensures rule { rule_of result ≡ limit_rule name.entry.now default.entry.now }
     ensures local { result.global ≡ false }
 {
     Arg::new(alloc, name)
         .long(name)
-        .value_name("BYTES")
-        .value_parser(value_parser!(u32).range(0..=16_777_152))
+        .value_name(unit)
         .default_value(default)
         .help(help)
+}
+
+fn budget<'a>(alloc: Global, name: &'a str, default: &'a str, help: &'a str) -> Arg<'a>
+    ensures rule { rule_of result ≡ budget_rule name.entry.now default.entry.now }
+    ensures local { result.global ≡ false }
+{
+    limit(alloc, name, "BYTES", default, help)
+        .value_parser(value_parser!(u32).range(0..=16_777_152))
 }
 
 fn step_limit<'a>(alloc: Global) -> Arg<'a>
     ensures rule { rule_of result ≡ steps_rule }
     ensures local { result.global ≡ false }
 {
-    Arg::new(alloc, "steps")
-        .long("steps")
-        .value_name("COUNT")
+    let help = "Instructions that the run may make";
+    limit(alloc, "steps", "COUNT", "1000000000", help)
         .value_parser(value_parser!(u64).range(1..=1_000_000_000_000))
-        .default_value("1000000000")
-        .help("Instructions that the run may make")
 }
 
-// The three options of a command that runs an image.
-fn with_limits<'a>(alloc: Global, command: Command<'a>) -> Result<Command<'a>, AllocError>
-    ensures app { IfOk result (λ r. app_of r ≡ limited (app_of command.entry)) }
-    ensures local { IfOk result (λ r. has_globals r ≡ has_globals command.entry) }
+// A command with its first argument.
+fn command_with<'a>(
+    alloc: Global,
+    name: &'a str,
+    about: &'a str,
+    arg: Arg<'a>,
+) -> Result<Command<'a>, AllocError>
+    ensures { (rule : Rule) → IsArgument rule arg.entry → Makes (with_rule (new_app name.entry.now) rule) result }
 {
-    command
-        .arg(budget(alloc, "stack", "4194304", "Bytes of the stack"))?
-        .arg(budget(alloc, "heap", "1048576", "Bytes of the heap"))?
-        .arg(step_limit(alloc))
+    Command::new(alloc, name).about(about).arg(arg)
+}
+
+// Adds an argument to a command, if there is one.
+fn with_arg<'a>(
+    command: Result<Command<'a>, AllocError>,
+    arg: Arg<'a>,
+) -> Result<Command<'a>, AllocError>
+    ensures { (app : App) (rule : Rule) → Makes app command.entry → IsArgument rule arg.entry
+        → Makes (with_rule app rule) result }
+{
+    match command {
+        Ok(command) => command.arg(arg),
+        Err(error) => {
+            drop(arg);
+            Err(error)
+        }
+    }
+}
+
+// Adds the three options of a command that runs an image.
+fn with_limits<'a>(
+    alloc: Global,
+    command: Result<Command<'a>, AllocError>,
+) -> Result<Command<'a>, AllocError>
+    ensures { (app : App) → Makes app command.entry → Makes (limited app) result }
+{
+    let stack = budget(alloc, "stack", "4194304", "Bytes of the stack");
+    let heap = budget(alloc, "heap", "1048576", "Bytes of the heap");
+    with_arg(with_arg(with_arg(command, stack), heap), step_limit(alloc))
 }
 
 fn compile_command<'a>(alloc: Global) -> Result<Command<'a>, AllocError>
-    ensures app { IfOk result (λ r. app_of r ≡ compile_app) }
-    ensures local { IfOk result (λ r. has_globals r ≡ false) }
+    ensures { Makes compile_app result }
 {
-    Command::new(alloc, "compile")
-        .about("Compiles a text and writes its image")
-        .arg(path(alloc, "SRC", "The Pascal text"))?
-        .arg(path(alloc, "IMG", "The image"))
+    let about = "Compiles a text and writes its image";
+    let source = path(alloc, "SRC", "The Pascal text");
+    let image = path(alloc, "IMG", "The image");
+    with_arg(command_with(alloc, "compile", about, source), image)
 }
 
 fn list_command<'a>(alloc: Global) -> Result<Command<'a>, AllocError>
-    ensures app { IfOk result (λ r. app_of r ≡ list_app) }
-    ensures local { IfOk result (λ r. has_globals r ≡ false) }
+    ensures { Makes list_app result }
 {
-    Command::new(alloc, "list")
-        .about("Compiles a text and writes the listing of its image to standard output")
-        .arg(path(alloc, "SRC", "The Pascal text"))
+    let about = "Compiles a text and writes the listing of its image to standard output";
+    let source = path(alloc, "SRC", "The Pascal text");
+    command_with(alloc, "list", about, source)
 }
 
 fn run_command<'a>(alloc: Global) -> Result<Command<'a>, AllocError>
-    ensures app { IfOk result (λ r. app_of r ≡ run_app) }
-    ensures local { IfOk result (λ r. has_globals r ≡ false) }
+    ensures { Makes run_app result }
 {
-    let run = Command::new(alloc, "run")
-        .about("Runs an image on standard input and output")
-        .arg(path(alloc, "IMG", "The image"))?;
-    with_limits(alloc, run)
+    let about = "Runs an image on standard input and output";
+    let image = path(alloc, "IMG", "The image");
+    with_limits(alloc, command_with(alloc, "run", about, image))
 }
 
 fn go_command<'a>(alloc: Global) -> Result<Command<'a>, AllocError>
-    ensures app { IfOk result (λ r. app_of r ≡ go_app) }
-    ensures local { IfOk result (λ r. has_globals r ≡ false) }
+    ensures { Makes go_app result }
 {
-    let go = Command::new(alloc, "go")
-        .about("Compiles a text and runs it on standard input and output")
-        .arg(path(alloc, "SRC", "The Pascal text"))?;
-    with_limits(alloc, go)
+    let about = "Compiles a text and runs it on standard input and output";
+    let source = path(alloc, "SRC", "The Pascal text");
+    with_limits(alloc, command_with(alloc, "go", about, source))
+}
+
+// Adds a subcommand, if there is one, to a command.
+fn add_subcommand<'a>(
+    command: Command<'a>,
+    subcommand: Result<Command<'a>, AllocError>,
+) -> Result<Command<'a>, AllocError>
+    ensures { (app below : App) → IsCommand app command.entry → Makes below subcommand.entry
+        → Makes (with_subcommand app below.top) result }
+{
+    match subcommand {
+        Ok(subcommand) => command.subcommand(subcommand),
+        Err(error) => {
+            drop(command);
+            Err(error)
+        }
+    }
+}
+
+// Adds a subcommand to a command, if there are both.
+fn with_subcommand<'a>(
+    command: Result<Command<'a>, AllocError>,
+    subcommand: Result<Command<'a>, AllocError>,
+) -> Result<Command<'a>, AllocError>
+    ensures { (app below : App) → Makes app command.entry → Makes below subcommand.entry
+        → Makes (with_subcommand app below.top) result }
+{
+    match command {
+        Ok(command) => add_subcommand(command, subcommand),
+        Err(error) => {
+            drop(subcommand);
+            Err(error)
+        }
+    }
 }
 
 fn pascal<'a>(alloc: Global) -> Result<Command<'a>, AllocError>
     ensures { IfOk result (λ r. app_of r ≡ pascal_app) }
 {
-    Command::new(alloc, "pascal")
+    let pascal = Command::new(alloc, "pascal")
         .about("A Pascal compiler whose images mean what their programs mean")
         .no_binary_name(true)
-        .bin_name("pascal")?
-        .subcommand(compile_command(alloc)?)?
-        .subcommand(list_command(alloc)?)?
-        .subcommand(run_command(alloc)?)?
-        .subcommand(go_command(alloc)?)
+        .bin_name("pascal");
+    let pascal = with_subcommand(pascal, compile_command(alloc));
+    let pascal = with_subcommand(pascal, list_command(alloc));
+    let pascal = with_subcommand(pascal, run_command(alloc));
+    with_subcommand(pascal, go_command(alloc))
 }
 
 // A budget as it was given. `clap` has refused what lies outside the range.
@@ -240,8 +311,8 @@ fn default_job() -> Job<'static>
     }
 }
 
-// The job of what a parse found.
-fn job_of<'a>(matches: &ArgMatches<'a>) -> Job<'a>
+// The job in what a parse found.
+fn job_in<'a>(matches: &ArgMatches<'a>) -> Job<'a>
     ensures request { IfSome (subcommand_rows_of matches.now) (λ entered. HasLimits entered.1)
         → request_in result ≡ row_request (subcommand_rows_of matches.now) }
     ensures stack { result.stack ≤ MAX_BUDGET }
@@ -260,6 +331,20 @@ fn job_of<'a>(matches: &ArgMatches<'a>) -> Job<'a>
     }
 }
 
+// The job of what a parse found, which is let go.
+fn job_of<'a>(matches: ArgMatches<'a>) -> Job<'a>
+    ensures request { IfSome (subcommand_rows_of matches.entry) (λ entered. HasLimits entered.1)
+        → request_in result ≡ row_request (subcommand_rows_of matches.entry) }
+    ensures stack { result.stack ≤ MAX_BUDGET }
+    ensures heap { result.heap ≤ MAX_BUDGET }
+    ensures least { 1 ≤ result.steps }
+    ensures most { result.steps ≤ MAX_STEPS }
+{
+    let job = job_in(&matches);
+    drop(matches);
+    job
+}
+
 /// Reads the words after the program's name: an `Ok` is the job that they ask for, and `Line` comes only where
 /// they ask for none, with an error of a kind that `clap` gives at the first step that fails: help is told as help.
 /// An `Ok` has its three numbers within their ranges.
@@ -275,5 +360,5 @@ pub fn command<'a>(alloc: Global, words: &'a [&'a str]) -> Result<Job<'a>, Comma
 {
     let command = pascal(alloc)?;
     let matches = command.try_get_matches_from(words)?;
-    Ok(job_of(&matches))
+    Ok(job_of(matches))
 }
