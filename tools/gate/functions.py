@@ -1,5 +1,6 @@
 """The functions of a source file in the layout of `rt fmt`: their names, their lines, and where their proofs lie."""
 
+import collections
 import functools
 import re
 
@@ -11,9 +12,9 @@ CYCLE = re.compile(r"^ *#\[cycle\((\w+)\)\]$")
 
 
 class Function:
-    """A function of a source file, and its type, if it is a method; of its lines, counted from 0: the first of its attributes and comments, its header, the
-    first of its body, and its last; the cycle of calls that it is marked as a member of, if any; whether it is a trait's method; and whether its body, below its
-    header, can be another: not that of a constant function, nor one that a macro or a trait gives."""
+    """A function of a source file, and its type, if it is a method, with the trait behind it where only that tells it from another; of its lines, counted from 0:
+    the first of its attributes and comments, its header, the first of its body, and its last; the cycle of calls that it is marked as a member of, if any; whether
+    it is a trait's method; and whether its body, below its header, can be another: not that of a constant function, nor one that a macro or a trait gives."""
 
     def __init__(self, name, owner, lines, at, body, last):
         self.name, self.owner, self.header, self.body, self.last = name, owner, at, body, last
@@ -25,10 +26,10 @@ class Function:
 @functools.lru_cache(512)
 def functions_of(text):
     """The functions of a file in the layout of `rt fmt`, in which a body opens at the end of a header or on a line of its own, and closes below it."""
-    found, owner, is_of_trait, is_held, lines = [], None, False, False, text.split("\n")
+    found, traits, owner, trait, is_held, lines = [], {}, None, "", False, text.split("\n")
     for at, line in enumerate(lines):
         if OWNER.match(line):
-            is_of_trait, owner, is_held = bool(OWNER.match(line)[1]), OWNER.match(line)[2], False
+            trait, owner, is_held = OWNER.match(line)[1], OWNER.match(line)[2], False
         elif HOLDER.match(line):
             is_held = True
         header = HEADER.match(line)
@@ -41,10 +42,20 @@ def functions_of(text):
         function = Function(header[3], owner if space else None, lines, at, body, closed)
         # (a header that ends in its own line, as `fn f() {}` or a trait's, would take the next one's body)
         ends = any(HEADER.match(it) for it in lines[at + 1 : body]) or line.endswith(("}", ";"))
-        function.is_of_trait = bool(space) and is_of_trait
+        function.is_of_trait = bool(space and trait)
+        traits[function] = trait
         function.has_body = not (space and is_held or header[2] or ends) and body < closed
         found.append(function)
+    tell_apart(found, traits)
     return found
+
+
+def tell_apart(functions, traits):
+    """Names behind the type of a trait's method the trait as well, as the kit does, where the file has another of this name and type: `RefusalFromScanRefusal`."""
+    count = collections.Counter((it.name, it.owner) for it in functions)
+    for it in functions:
+        if it.is_of_trait and count[it.name, it.owner] > 1:
+            it.owner += re.sub(r"\W", "", traits[it].removesuffix(" for "))
 
 
 def top_of(lines, at):
