@@ -110,8 +110,9 @@ fn budget<'a>(alloc: Global, name: &'a str, default: &'a str, help: &'a str) -> 
     ensures rule { rule_of result ≡ budget_rule name.entry.now default.entry.now }
     ensures local { result.global ≡ false }
 {
-    limit(alloc, name, "BYTES", default, help)
-        .value_parser(value_parser!(u32).range(0..=16_777_152))
+    limit(alloc, name, "BYTES", default, help).value_parser(value_parser!(u32).range(
+        0..=16_777_152,
+    ))
 }
 
 fn step_limit<'a>(alloc: Global) -> Arg<'a>
@@ -119,8 +120,9 @@ fn step_limit<'a>(alloc: Global) -> Arg<'a>
     ensures local { result.global ≡ false }
 {
     let help = "Instructions that the run may make";
-    limit(alloc, "steps", "COUNT", "1000000000", help)
-        .value_parser(value_parser!(u64).range(1..=1_000_000_000_000))
+    limit(alloc, "steps", "COUNT", "1000000000", help).value_parser(value_parser!(u64).range(
+        1..=1_000_000_000_000,
+    ))
 }
 
 // A command with its first argument.

@@ -9,9 +9,10 @@ nameless = on_top (λ shape. record shape { no_binary_name = true })
 
 pub returns : goal.returns
 returns c =
-    let begun = IfOk-weaker c.bin_name-pascal.result _ (IsCommand (nameless (new_app (codes "pascal")))) (λ r h.
-    (ap app_of_fields h.0 ∙ (ap (λ fields. app_of_fields fields) c.no_binary_name.ensures ∙ (ap (λ fields. app_of_fields (record fields { no_binary_name = true })) c.about.ensures ∙ ap nameless c.new.ensures.app)),
-      ap (λ fields. fields.has_globals) h.0 ∙ (ap (λ fields. fields.has_globals) c.no_binary_name.ensures ∙ (ap (λ fields. fields.has_globals) c.about.ensures ∙ c.new.ensures.local)))) c.bin_name-pascal.ensures in
+    let begun = IfOk-weaker c.bin_name-pascal.result _ (IsCommand (nameless (new_app (codes "pascal")))) (λ r h. (
+      ap app_of_fields h.0 ∙ (ap (λ fields. app_of_fields fields) c.no_binary_name.ensures ∙ (ap (λ fields. app_of_fields (record fields { no_binary_name = true })) c.about.ensures ∙ ap nameless c.new.ensures.app)),
+      ap (λ fields. fields.has_globals) h.0 ∙ (ap (λ fields. fields.has_globals) c.no_binary_name.ensures ∙ (ap (λ fields. fields.has_globals) c.about.ensures ∙ c.new.ensures.local)),
+    )) c.bin_name-pascal.ensures in
     let with_compile = c.with_subcommand-pascal.ensures _ compile_app begun c.compile_command.ensures in
     let with_list = c.with_subcommand-pascal-2.ensures _ list_app with_compile c.list_command.ensures in
     let with_run = c.with_subcommand-pascal-3.ensures _ run_app with_list c.run_command.ensures in
