@@ -2,7 +2,9 @@
 
 mod code;
 mod command;
+mod endings;
 mod language;
+mod line;
 mod texts;
 
 use code::Table as Code;
@@ -14,6 +16,7 @@ use language::blocks::Asked as OfBlock;
 use language::check::Asked as OfProgram;
 use language::front::Asked as OfTree;
 use language::tokens::Asked as OfTokens;
+use line::Line;
 use std::alloc::{AllocError, Global};
 use std::io;
 use tables::{Answers, answer_rows};
@@ -148,16 +151,26 @@ impl Answers for Rows {
     }
 
     fn answer(&mut self, alloc: Global, text: &[u8]) -> Result<String, AllocError> {
-        let answer = match self.table {
-            Table::Unknown => String::from_str(alloc, "no such table"),
-            Table::Language(table) => language::answer(alloc, table, text, &self.language),
-            Table::Code(table) => code::answer(alloc, table, text, &self.code),
-            Table::Command(table) => command::answer(alloc, table, text, self.command),
-        };
+        let mut line = Line::new(alloc);
+        self.put_answer(alloc, &mut line, text)?;
         self.language = language::untold(alloc);
         self.code = code::untold(alloc);
         self.command = command::untold();
-        answer
+        line.told()
+    }
+}
+
+impl Rows {
+    fn put_answer(&self, alloc: Global, line: &mut Line, text: &[u8]) -> Result<(), AllocError> {
+        match self.table {
+            Table::Unknown => line.word("no such table"),
+            Table::Language(table) => language::answer(alloc, line, table, text, &self.language),
+            Table::Code(table) => return code::answer(alloc, line, table, text, &self.code),
+            Table::Command(table) => {
+                return command::answer(alloc, line, table, text, self.command);
+            }
+        }
+        Ok(())
     }
 }
 

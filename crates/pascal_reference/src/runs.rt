@@ -182,17 +182,6 @@ pub fn ending_of(ending: code::Ending) -> Result<Ending, Fault> {
     }
 }
 
-/// The end of a run, in words.
-pub fn end_in_words(alloc: Global, ending: Ending) -> Result<String, AllocError> {
-    match ending {
-        Ending::Normal => String::from_str(alloc, "normal"),
-        Ending::Error { number, line } => format!(in alloc; "error {number} at line {line}"),
-        Ending::Stack { line } => format!(in alloc; "stack at line {line}"),
-        Ending::Heap { line } => format!(in alloc; "heap at line {line}"),
-        Ending::More => String::from_str(alloc, "more"),
-    }
-}
-
 // The end of a run, as `pascal go` tells it, with the lines of the calls that were open there.
 fn outcome_of(ending: Ending, calls: &[u32]) -> Outcome {
     match ending {

@@ -13,6 +13,7 @@ mod steps;
 mod texts;
 mod words;
 
+use crate::rows::line::Line;
 use crate::rows::texts::letters;
 pub(crate) use job::{Job, untold};
 use std::alloc::{AllocError, Global};
@@ -32,24 +33,26 @@ pub(crate) enum Table {
     Loaded,
 }
 
-/// What is to be shown of a row.
+/// Puts what is to be shown of a row. The error is that memory was short.
 pub(crate) fn answer(
     alloc: Global,
+    line: &mut Line,
     table: Table,
     text: &[u8],
     job: &Job,
-) -> Result<String, AllocError> {
+) -> Result<(), AllocError> {
     let row = letters(text);
     match table {
-        Table::Programs(asked) => programs::answer(alloc, row, asked, job),
-        Table::Words => words::decoded(alloc, row),
-        Table::Steps => steps::stepped(alloc, row),
-        Table::Runs => runs::ran(alloc, row, job),
-        Table::Streamed => runs::streamed(alloc, row, job),
-        Table::Devices => devices::called(alloc, row),
-        Table::Started => runs::started(alloc, text, job),
-        Table::Images => images::read(alloc, text, job),
-        Table::Written => images::written(alloc),
-        Table::Loaded => images::loaded(alloc, text, job),
+        Table::Programs(asked) => return programs::answer(alloc, line, row, asked, job),
+        Table::Runs => return runs::put_runs(alloc, line, row, job),
+        Table::Streamed => return runs::put_streamed(alloc, line, row, job),
+        Table::Started => return runs::put_started(alloc, line, text, job),
+        Table::Steps => return steps::put_step(alloc, line, row),
+        Table::Written => return images::put_written(alloc, line),
+        Table::Loaded => images::put_loaded(alloc, line, text, job),
+        Table::Images => images::put_read(line, text, job),
+        Table::Words => words::put_decoded(alloc, line, row),
+        Table::Devices => devices::put_called(line, row),
     }
+    Ok(())
 }

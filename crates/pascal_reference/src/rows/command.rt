@@ -6,6 +6,7 @@ pub(crate) mod programs;
 mod reports;
 mod transfers;
 
+use crate::rows::line::Line;
 use crate::rows::texts::letters;
 pub(crate) use programs::{Job, untold};
 use std::alloc::{AllocError, Global};
@@ -25,24 +26,26 @@ pub(crate) enum Table {
     Texts,
 }
 
-/// What is to be shown of a row.
+/// Puts what is to be shown of a row. The error is that memory was short.
 pub(crate) fn answer(
     alloc: Global,
+    line: &mut Line,
     table: Table,
     text: &[u8],
     job: Job,
-) -> Result<String, AllocError> {
+) -> Result<(), AllocError> {
     let words = letters(text);
     match table {
-        Table::Built(asked) => programs::answer(alloc, text, asked, job),
-        Table::Go => programs::went(alloc, text, job),
-        Table::Writers => programs::wrote(alloc, text, job),
-        Table::Images => programs::ran(alloc, text, job),
-        Table::Calls => programs::reported(alloc, text, job),
-        Table::Reports => reports::report(alloc, words),
-        Table::Words => command_line::asked(alloc, words),
-        Table::Puts => transfers::put(alloc, words),
-        Table::Reads => transfers::read(alloc, words),
-        Table::Texts => transfers::went(alloc, words),
+        Table::Built(asked) => return programs::answer(alloc, line, text, asked, job),
+        Table::Go => return programs::put_gone(alloc, line, text, job),
+        Table::Images => return programs::put_run(alloc, line, text, job),
+        Table::Calls => return programs::put_reported(alloc, line, text, job),
+        Table::Words => return command_line::put_asked(alloc, line, words),
+        Table::Reads => transfers::put_read(alloc, line, words),
+        Table::Writers => programs::put_written(alloc, line, text, job),
+        Table::Reports => reports::put_report(alloc, line, words),
+        Table::Puts => transfers::put_taken(alloc, line, words),
+        Table::Texts => transfers::put_gone(alloc, line, words),
     }
+    Ok(())
 }

@@ -10,10 +10,10 @@ mod shown;
 mod texts;
 pub(crate) mod tokens;
 mod types;
-mod words;
 
+use crate::rows::line::Line;
 pub(crate) use runs::{Job, untold};
-use std::alloc::{AllocError, Global};
+use std::alloc::Global;
 
 /// What is asked of a row's text.
 #[derive(Clone, Copy)]
@@ -28,21 +28,16 @@ pub(crate) enum Table {
     Program(check::Asked),
 }
 
-/// What is to be shown of a row.
-pub(crate) fn answer(
-    alloc: Global,
-    table: Table,
-    text: &[u8],
-    job: &Job,
-) -> Result<String, AllocError> {
+/// Puts what is to be shown of a row.
+pub(crate) fn answer(alloc: Global, line: &mut Line, table: Table, text: &[u8], job: &Job) {
     match table {
-        Table::Lengths => texts::length(alloc, text),
-        Table::Lines => texts::lines(alloc, text),
-        Table::Slices => texts::slice(alloc, text),
-        Table::Tokens(asked) => tokens::tokens(alloc, text, asked),
-        Table::Values => tokens::value(alloc, text),
-        Table::Tree(asked) => front::answer(alloc, text, asked),
-        Table::Regions => regions::found(alloc, text),
-        Table::Program(asked) => check::answer(alloc, text, asked, job),
+        Table::Lengths => texts::put_length(alloc, line, text),
+        Table::Lines => texts::put_lines(alloc, line, text),
+        Table::Slices => texts::put_slice(line, text),
+        Table::Tokens(asked) => tokens::put_tokens(alloc, line, text, asked),
+        Table::Values => tokens::put_value(alloc, line, text),
+        Table::Tree(asked) => front::answer(alloc, line, text, asked),
+        Table::Regions => regions::put_found(alloc, line, text),
+        Table::Program(asked) => check::answer(alloc, line, text, asked, job),
     }
 }

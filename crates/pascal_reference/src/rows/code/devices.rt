@@ -1,7 +1,7 @@
 //! A console over a reader and a writer that fail in mid-stream.
 
+use crate::rows::line::Line;
 use risc_machine::{Console, Streams};
-use std::alloc::{AllocError, Global};
 use std::io::{self, ErrorKind, Read, Write};
 
 /// Its second read is an error; its second write takes no byte, and its fourth is an error.
@@ -39,27 +39,19 @@ impl Write for Failing {
     }
 }
 
-fn put_called(
-    line: &mut String,
-    console: &mut Streams<Failing, Failing>,
-    word: &str,
-) -> Result<(), AllocError> {
-    if word == "take" {
-        let taken = console.take();
-        return write!(line, "{taken:?} ");
-    }
-    let put = console.put(7);
-    write!(line, "{put:?} ")
-}
-
-/// What a console gives at each `take` of the row, and says to each `put` of a byte 7; and how often its reader and its writer are called.
-pub(crate) fn called(alloc: Global, row: &str) -> Result<String, AllocError> {
+/// Puts what a console gives at each `take` of the row, and says to each `put` of a byte 7; and how often its reader and its writer are called.
+pub(crate) fn put_called(line: &mut Line, row: &str) {
     let mut console = Streams::new(Failing { calls: 0 }, Failing { calls: 0 });
-    let mut line = String::new(alloc);
     for word in row.split_whitespace() {
-        put_called(&mut line, &mut console, word)?;
+        if word == "take" {
+            line.seen("", &console.take());
+        } else {
+            line.seen("", &console.put(7));
+        }
+        line.word(" ");
     }
     let (reader, writer) = console.into_parts();
-    let (reads, writes) = (reader.calls, writer.calls);
-    format!(in alloc; "{line}{reads} reads {writes} writes")
+    line.numbered("", u64::from(reader.calls));
+    line.numbered(" reads ", u64::from(writer.calls));
+    line.word(" writes");
 }

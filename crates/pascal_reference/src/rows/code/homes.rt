@@ -1,5 +1,6 @@
 //! Homes for the temporaries of three-address code.
 
+use crate::rows::line::Line;
 use crate::rows::texts::{u8_of, u32_of};
 use risc_alloc::homes::{Home, PlaceRefusal, Raw};
 use risc_alloc::placement::Placement;
@@ -14,37 +15,42 @@ pub(crate) fn home_of(word: &str) -> Home {
     }
 }
 
-/// Whether homes are taken.
-pub(crate) fn verdict(
+/// Puts whether homes are taken.
+pub(crate) fn put_verdict(
     alloc: Global,
+    line: &mut Line,
     tac: &Tac,
     homes: &[Home],
-) -> Result<&'static str, AllocError> {
+) -> Result<(), AllocError> {
     let raw = Raw {
         homes: Vec::from_slice(alloc, homes)?,
     };
-    Ok(match Placement::new(alloc, tac, raw) {
+    line.word(match Placement::new(alloc, tac, raw) {
         Ok(_) => "taken",
         Err(PlaceRefusal::BadPlacement) => "refused",
         Err(PlaceRefusal::OutOfMemory) => "out of memory",
-    })
+    });
+    Ok(())
 }
 
-fn put_home(line: &mut String, home: Home) -> Result<(), AllocError> {
-    let (letter, number) = match home {
-        Home::Slot(slot) => ("s", slot),
-        Home::Reg(register) => ("r", u32::from(register)),
-    };
-    write!(line, "{letter}{number} ")
-}
-
-/// The homes of a placement, and whether a copy of them is taken.
-pub(crate) fn shown(alloc: Global, tac: &Tac, placement: &Placement) -> Result<String, AllocError> {
-    let homes = &placement.raw().homes;
-    let mut line = String::new(alloc);
-    for home in homes {
-        put_home(&mut line, *home)?;
+fn put_home(line: &mut Line, home: Home) {
+    match home {
+        Home::Slot(slot) => line.numbered("s", u64::from(slot)),
+        Home::Reg(register) => line.numbered("r", u64::from(register)),
     }
-    line.push_str(verdict(alloc, tac, homes)?)?;
-    Ok(line)
+    line.word(" ");
+}
+
+/// Puts the homes of a placement, and whether a copy of them is taken.
+pub(crate) fn put_placement(
+    alloc: Global,
+    line: &mut Line,
+    tac: &Tac,
+    placement: &Placement,
+) -> Result<(), AllocError> {
+    let homes = &placement.raw().homes;
+    for home in homes {
+        put_home(line, *home);
+    }
+    put_verdict(alloc, line, tac, homes)
 }

@@ -1,47 +1,46 @@
 //! Images, read, written and loaded.
 
 use crate::rows::code::job::Job;
-use crate::rows::code::runs::told;
-use crate::rows::texts::{bracketed, put_bracketed};
+use crate::rows::code::runs::put_machine;
+use crate::rows::line::Line;
 use risc_image::{CallRow, FrameRow, ImageView, Parts, write};
 use risc_load::{Budget, load};
 use std::alloc::{AllocError, Global};
 
-/// The parts of an image: its counts, a row of each table, what is found by a link, and the bytes of its code; or the number of its refusal.
-pub(crate) fn read(alloc: Global, bytes: &[u8], job: &Job) -> Result<String, AllocError> {
+/// Puts the parts of an image: its counts, a row of each table, what is found by a link, and the bytes of its code; or the number of its refusal.
+pub(crate) fn put_read(line: &mut Line, bytes: &[u8], job: &Job) {
     match ImageView::read(bytes) {
-        Ok(image) => shown(alloc, &image, job),
-        Err(refusal) => {
-            let number = refusal.number();
-            format!(in alloc; "refused {number}")
+        Ok(image) => {
+            put_counts(line, &image);
+            put_rows(line, &image, job.row as usize);
+            put_found(line, &image, job.link);
+            line.bracketed(image.code());
         }
+        Err(refusal) => line.numbered("refused ", u64::from(refusal.number())),
     }
 }
 
-fn shown(alloc: Global, image: &ImageView, job: &Job) -> Result<String, AllocError> {
-    let mut line = String::new(alloc);
-    put_counts(&mut line, image)?;
-    put_rows(&mut line, image, job)?;
-    put_bracketed(&mut line, image.code())?;
-    Ok(line)
+fn put_counts(line: &mut Line, image: &ImageView) {
+    line.valued("", &image.global());
+    line.valued(" ", &image.words());
+    line.valued(" ", &image.frames());
+    line.valued(" ", &image.objects());
+    line.valued(" ", &image.traps());
+    line.seen(" ", &image.calls());
 }
 
-fn put_counts(line: &mut String, image: &ImageView) -> Result<(), AllocError> {
-    let (global, words, frames) = (image.global(), image.words(), image.frames());
-    let (objects, traps, calls) = (image.objects(), image.traps(), image.calls());
-    write!(
-        line,
-        "{global} {words} {frames} {objects} {traps} {calls:?}; "
-    )
+fn put_rows(line: &mut Line, image: &ImageView, row: usize) {
+    line.seen("; ", &image.word(row));
+    line.seen(" ", &image.frame(row));
+    line.seen(" ", &image.object(row));
+    line.seen(" ", &image.trap(row));
+    line.seen(" ", &image.call(row));
 }
 
-fn put_rows(line: &mut String, image: &ImageView, job: &Job) -> Result<(), AllocError> {
-    let row = job.row as usize;
-    let (word, frame, object) = (image.word(row), image.frame(row), image.object(row));
-    let (trap, call) = (image.trap(row), image.call(row));
-    write!(line, "{word:?} {frame:?} {object:?} {trap:?} {call:?}")?;
-    let (trap, call) = (image.trap_of(job.link), image.call_of(job.link));
-    write!(line, "; found {trap:?} {call:?}; ")
+fn put_found(line: &mut Line, image: &ImageView, link: u32) {
+    line.seen("; found ", &image.trap_of(link));
+    line.seen(" ", &image.call_of(link));
+    line.word("; ");
 }
 
 // The parts of an image of two words of code, 4 bytes of globals, a frame and a call.
@@ -59,19 +58,20 @@ fn few_parts(alloc: Global) -> Result<Parts, AllocError> {
     })
 }
 
-/// The image of two words of code, 4 bytes of globals, a frame and a call.
-pub(crate) fn written(alloc: Global) -> Result<String, AllocError> {
+/// Puts the image of two words of code, 4 bytes of globals, a frame and a call.
+pub(crate) fn put_written(alloc: Global, line: &mut Line) -> Result<(), AllocError> {
     let parts = few_parts(alloc)?;
     let bytes = write(alloc, &parts);
     drop(parts);
-    let told = bracketed(alloc, &bytes?)?;
-    format!(in alloc; "bytes {told}")
+    line.word("bytes ");
+    line.bracketed(&bytes?);
+    Ok(())
 }
 
-/// What the machine of a loaded image holds, or the number of the load's refusal.
-pub(crate) fn loaded(alloc: Global, bytes: &[u8], job: &Job) -> Result<String, AllocError> {
+/// Puts what the machine of a loaded image holds, or the number of the load's refusal.
+pub(crate) fn put_loaded(alloc: Global, line: &mut Line, bytes: &[u8], job: &Job) {
     let Ok(image) = ImageView::read(bytes) else {
-        return String::from_str(alloc, "no image");
+        return line.word("no image");
     };
     let budget = Budget {
         stack: job.stack,
@@ -79,13 +79,9 @@ pub(crate) fn loaded(alloc: Global, bytes: &[u8], job: &Job) -> Result<String, A
     };
     match load(alloc, &image, budget) {
         Ok(machine) => {
-            let told = told(alloc, &machine);
+            put_machine(line, &machine);
             drop(machine);
-            told
         }
-        Err(refusal) => {
-            let number = refusal.number();
-            format!(in alloc; "refused {number}")
-        }
+        Err(refusal) => line.numbered("refused ", u64::from(refusal.number())),
     }
 }

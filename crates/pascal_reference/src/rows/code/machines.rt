@@ -1,7 +1,9 @@
 //! Machines, and what they hold.
 
+use crate::rows::line::Line;
 use risc_machine::{Flags, Fused, Machine, OutOfMemory};
-use std::alloc::{AllocError, Global};
+use std::alloc::Global;
+use std::fmt::Write;
 
 /// A console with no input and no room.
 pub(crate) fn closed(alloc: Global) -> Result<Fused, OutOfMemory> {
@@ -23,74 +25,71 @@ pub(crate) fn machine_of(
 }
 
 /// The registers and the memory of a machine.
-#[derive(Drop)]
-pub(crate) struct State {
+#[derive(Clone, Copy)]
+pub(crate) struct State<'a> {
     registers: [u32; 16],
-    memory: Vec<u8>,
+    memory: &'a [u8],
 }
 
 /// Registers that hold 0, and no memory.
-pub(crate) fn nothing(alloc: Global) -> State {
-    State {
-        registers: [0; 16],
-        memory: Vec::new(alloc),
-    }
-}
+pub(crate) const NOTHING: State<'static> = State {
+    registers: [0; 16],
+    memory: &[],
+};
 
-/// What a machine holds.
-pub(crate) fn state_of(alloc: Global, machine: &Machine) -> Result<State, OutOfMemory> {
-    let mut held = nothing(alloc);
-    for number in 0..16u8 {
-        held.registers[usize::from(number)] = machine.reg(number);
-    }
+/// The memory of a machine.
+pub(crate) fn memory_of(alloc: Global, machine: &Machine) -> Result<Vec<u8>, OutOfMemory> {
+    let mut memory = Vec::new(alloc);
     for address in 0..machine.size() {
-        held.memory.push(machine.byte(address))?;
+        memory.push(machine.byte(address))?;
     }
-    Ok(held)
+    Ok(memory)
 }
 
-/// Flags as a word like `N-CV`.
-fn put_flags(line: &mut String, flags: Flags) -> Result<(), AllocError> {
+/// What a machine holds, of which this is the memory.
+pub(crate) fn state_of<'a>(machine: &Machine, memory: &'a [u8]) -> State<'a> {
+    let mut registers = [0; 16];
+    for number in 0..16u8 {
+        registers[usize::from(number)] = machine.reg(number);
+    }
+    State { registers, memory }
+}
+
+/// Puts flags as a word like `N-CV`.
+fn put_flags(line: &mut Line, flags: Flags) {
     for (is_set, letter) in [
         (flags.negative, 'N'),
         (flags.equal, 'Z'),
         (flags.carry, 'C'),
         (flags.overflow, 'V'),
     ] {
-        line.push(if is_set { letter } else { '-' })?;
+        line.letter(if is_set { letter } else { '-' });
     }
-    Ok(())
 }
 
-fn put_registers(line: &mut String, before: &State, machine: &Machine) -> Result<(), AllocError> {
+fn put_registers(line: &mut Line, before: State<'_>, machine: &Machine) {
     for number in 0..16u8 {
         let value = machine.reg(number);
         if number == 0 || before.registers[usize::from(number)] != value {
-            write!(line, " R{number} {value:08X}")?;
+            line.numbered(" R", u64::from(number));
+            line.coded(" ", value);
         }
     }
-    Ok(())
 }
 
-fn put_memory(line: &mut String, before: &State, machine: &Machine) -> Result<(), AllocError> {
+fn put_memory(line: &mut Line, before: State<'_>, machine: &Machine) {
     for address in 0..machine.size() {
         let byte = machine.byte(address);
         if before.memory.get(address as usize).copied().unwrap_or(0) != byte {
-            write!(line, " [{address}] {byte:02X}")?;
+            let _ = write!(line, " [{address}] {byte:02X}");
         }
     }
-    Ok(())
 }
 
-/// Puts what a machine holds behind a line: the flags, H, R0, and the other registers and the bytes of memory that are not as before.
-pub(crate) fn put_held(
-    line: &mut String,
-    before: &State,
-    machine: &Machine,
-) -> Result<(), AllocError> {
-    put_flags(line, machine.flags())?;
-    let high = machine.high();
-    write!(line, " H {high:08X}")?;
-    put_registers(line, before, machine)?;
-    put_memory(line, before, machine)
+/// Puts what a machine holds: the flags, H, R0, and the other registers and the bytes of memory that are not as before.
+pub(crate) fn put_held(line: &mut Line, before: State<'_>, machine: &Machine) {
+    put_flags(line, machine.flags());
+    line.coded(" H ", machine.high());
+    put_registers(line, before, machine);
+    put_memory(line, before, machine);
 }

@@ -1,11 +1,13 @@
 //! Three-address code: whether it keeps its invariant, its printed form, its runs, and the homes of its temporaries.
 
-use crate::rows::code::homes::{shown, verdict};
+use crate::rows::code::homes::{put_placement, put_verdict};
 use crate::rows::code::instructions::instruction;
 use crate::rows::code::job::Job;
 use crate::rows::code::texts::word;
+use crate::rows::endings::put_ending;
+use crate::rows::line::Line;
 use crate::rows::texts::u32_of;
-use crate::runs::{end_in_words, ending_of};
+use crate::runs::ending_of;
 use risc_alloc::placer::{EverySlot, Placer};
 use risc_alloc::scan::Scan;
 use std::alloc::{AllocError, Global};
@@ -65,57 +67,64 @@ pub(crate) enum Asked {
     Slotted,
 }
 
-fn answer_of(alloc: Global, tac: &Tac, asked: Asked, job: &Job) -> Result<String, AllocError> {
-    match asked {
-        Asked::Kept => String::from_str(alloc, "code"),
-        Asked::Printed => print(alloc, tac),
-        Asked::Ran => ran(alloc, tac, job),
-        Asked::Tried => String::from_str(alloc, verdict(alloc, tac, &job.homes)?),
-        Asked::Scanned => shown(alloc, tac, &Scan.place(alloc, tac)?),
-        Asked::Slotted => shown(alloc, tac, &EverySlot.place(alloc, tac)?),
-    }
-}
-
-/// What is asked of the code of a row.
-pub(crate) fn answer(
+fn put_asked(
     alloc: Global,
-    row: &str,
+    line: &mut Line,
+    tac: &Tac,
     asked: Asked,
     job: &Job,
-) -> Result<String, AllocError> {
-    match code(alloc, row)? {
-        Some(tac) => answer_of(alloc, &tac, asked, job),
-        None => String::from_str(alloc, "no code"),
-    }
-}
-
-fn put_numbers(line: &mut String, numbers: &[u16]) -> Result<(), AllocError> {
-    for number in numbers {
-        write!(line, " {number}")?;
+) -> Result<(), AllocError> {
+    match asked {
+        Asked::Kept => line.word("code"),
+        Asked::Printed => line.text(print(alloc, tac)),
+        Asked::Ran => return put_run(alloc, line, tac, job),
+        Asked::Tried => return put_verdict(alloc, line, tac, &job.homes),
+        Asked::Scanned => return put_placement(alloc, line, tac, &Scan.place(alloc, tac)?),
+        Asked::Slotted => return put_placement(alloc, line, tac, &EverySlot.place(alloc, tac)?),
     }
     Ok(())
 }
 
-fn told(alloc: Global, report: &Report) -> Result<String, AllocError> {
-    let mut line = match ending_of(report.ending) {
-        Ok(ending) => end_in_words(alloc, ending)?,
-        Err(_) => String::from_str(alloc, "stuck")?,
+/// Puts what is asked of the code of a row.
+pub(crate) fn answer(
+    alloc: Global,
+    line: &mut Line,
+    row: &str,
+    asked: Asked,
+    job: &Job,
+) -> Result<(), AllocError> {
+    let Some(tac) = code(alloc, row)? else {
+        line.word("no code");
+        return Ok(());
     };
-    line.push_str(", calls")?;
-    put_numbers(&mut line, &report.calls)?;
-    line.push_str(", transcript")?;
-    put_numbers(&mut line, &report.transcript)?;
-    Ok(line)
+    put_asked(alloc, line, &tac, asked, job)
 }
 
-/// How a run of code ends, the lines of its open calls, and its transcript, 256 a mark. Each frame costs 40 bytes, and so does each object, of which one fits.
-fn ran(alloc: Global, tac: &Tac, job: &Job) -> Result<String, AllocError> {
+fn put_numbers(line: &mut Line, numbers: &[u16]) {
+    for number in numbers {
+        line.listed(u64::from(*number));
+    }
+}
+
+fn put_report(line: &mut Line, report: &Report) {
+    match ending_of(report.ending) {
+        Ok(ending) => put_ending(line, ending),
+        Err(_) => line.word("stuck"),
+    }
+    line.word(", calls");
+    put_numbers(line, &report.calls);
+    line.word(", transcript");
+    put_numbers(line, &report.transcript);
+}
+
+/// Puts how a run of code ends, the lines of its open calls, and its transcript, 256 a mark. Each frame costs 40 bytes, and so does each object, of which one fits.
+fn put_run(alloc: Global, line: &mut Line, tac: &Tac, job: &Job) -> Result<(), AllocError> {
     let budget = Budget {
         frames: &[40, 40, 40],
         objects: &[40],
         stack: job.stack,
         heap: 40,
     };
-    let report = run(alloc, tac, budget, &job.input, job.limit())?;
-    told(alloc, &report)
+    put_report(line, &run(alloc, tac, budget, &job.input, job.limit())?);
+    Ok(())
 }

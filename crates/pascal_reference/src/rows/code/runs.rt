@@ -1,9 +1,9 @@
 //! Runs of the processor.
 
 use crate::rows::code::job::Job;
-use crate::rows::code::machines::{State, machine_of, nothing, put_held, state_of};
+use crate::rows::code::machines::{NOTHING, State, machine_of, memory_of, put_held, state_of};
 use crate::rows::code::texts::hexadecimals;
-use crate::rows::texts::{followed, put_bracketed};
+use crate::rows::line::Line;
 use risc_machine::{Fused, Machine, Stop, Streams, run};
 use std::alloc::{AllocError, Global};
 
@@ -17,37 +17,15 @@ fn step_by_step(machine: &mut Machine, console: &mut Fused, limit: u64) -> Stop 
     Stop::Steps
 }
 
-// Puts where a run stopped, what the machine holds then and what was written behind a line.
-fn put_stop(
-    line: &mut String,
-    stop: Stop,
-    before: &State,
-    machine: &Machine,
-    output: &[u8],
-) -> Result<(), AllocError> {
-    let place = machine.pc();
-    write!(line, "{stop:?} at {place}, ")?;
-    put_held(line, before, machine)?;
-    line.push(' ')?;
-    put_bracketed(line, output)?;
-    line.push(';')
-}
-
-/// How the runs of one machine end, one behind the other, and what it has written then. The row has the words of its code.
-pub(crate) fn ran(alloc: Global, row: &str, job: &Job) -> Result<String, AllocError> {
-    let mut machine = machine_told(alloc, row, job)?;
-    let told = runs_of(alloc, &mut machine, job);
-    drop(machine);
-    told
-}
-
-fn runs_of(alloc: Global, machine: &mut Machine, job: &Job) -> Result<String, AllocError> {
-    let before = state_of(alloc, machine)?;
-    let mut line = String::new(alloc);
-    let end = put_runs(alloc, &mut line, machine, &before, job);
-    drop(before);
-    end?;
-    Ok(line)
+/// Puts where a run stopped, what the machine holds then, and what was written.
+fn put_stop(line: &mut Line, stop: Stop, before: State<'_>, machine: &Machine, output: &[u8]) {
+    line.seen("", &stop);
+    line.valued(" at ", &machine.pc());
+    line.word(", ");
+    put_held(line, before, machine);
+    line.word(" ");
+    line.bracketed(output);
+    line.word(";");
 }
 
 // The machine with the words of a row.
@@ -57,13 +35,27 @@ fn machine_told(alloc: Global, row: &str, job: &Job) -> Result<Machine, AllocErr
     Ok(machine)
 }
 
-fn put_runs(
+/// Puts how the runs of one machine end, one behind the other, and what it has written then. The row has the words of its code.
+pub(crate) fn put_runs(
     alloc: Global,
-    line: &mut String,
-    machine: &mut Machine,
-    before: &State,
+    line: &mut Line,
+    row: &str,
     job: &Job,
 ) -> Result<(), AllocError> {
+    let mut machine = machine_told(alloc, row, job)?;
+    let end = put_runs_of(alloc, line, &mut machine, job);
+    drop(machine);
+    end
+}
+
+fn put_runs_of(
+    alloc: Global,
+    line: &mut Line,
+    machine: &mut Machine,
+    job: &Job,
+) -> Result<(), AllocError> {
+    let memory = memory_of(alloc, machine)?;
+    let before = state_of(machine, &memory);
     let mut console = Fused::new(alloc, &job.input, usize::from(job.room), job.take, job.put)?;
     for limit in &job.limits {
         let stop = if job.is_stepped {
@@ -71,29 +63,39 @@ fn put_runs(
         } else {
             run(machine, &mut console, *limit)
         };
-        put_stop(line, stop, before, machine, console.output())?;
+        put_stop(line, stop, before, machine, console.output());
     }
     Ok(())
 }
 
-/// How the run of code ends over a reader and a writer, how much of the input is left, and what is written.
-pub(crate) fn streamed(alloc: Global, row: &str, job: &Job) -> Result<String, AllocError> {
+/// Puts how the run of code ends over a reader and a writer, how much of the input is left, and what is written.
+pub(crate) fn put_streamed(
+    alloc: Global,
+    line: &mut Line,
+    row: &str,
+    job: &Job,
+) -> Result<(), AllocError> {
     let mut machine = machine_told(alloc, row, job)?;
     let input: &[u8] = &job.input;
     let mut console = Streams::new(input, Vec::new(alloc));
     let stop = run(&mut machine, &mut console, job.limit());
-    let place = machine.pc();
+    line.seen("", &stop);
+    line.valued(" at ", &machine.pc());
     drop(machine);
     let (rest, written) = console.into_parts();
-    let left = rest.len();
-    followed(
-        format!(in alloc; "{stop:?} at {place}, {left} left "),
-        &written,
-    )
+    line.numbered(", ", rest.len() as u64);
+    line.word(" left ");
+    line.bracketed(&written);
+    Ok(())
 }
 
-/// What a machine holds when it starts. The row is its code.
-pub(crate) fn started(alloc: Global, code: &[u8], job: &Job) -> Result<String, AllocError> {
+/// Puts what a machine holds when it starts. The row is its code.
+pub(crate) fn put_started(
+    alloc: Global,
+    line: &mut Line,
+    code: &[u8],
+    job: &Job,
+) -> Result<(), AllocError> {
     let front = code.len().min(1024);
     let (globals, heap, stack) = (
         job.globals.min(1024),
@@ -101,18 +103,15 @@ pub(crate) fn started(alloc: Global, code: &[u8], job: &Job) -> Result<String, A
         job.stack.min(1024),
     );
     let machine = Machine::start(alloc, &code[..front], globals, heap, stack)?;
-    let told = told(alloc, &machine);
+    put_machine(line, &machine);
     drop(machine);
-    told
+    Ok(())
 }
 
-/// What a machine holds, and where it is.
-pub(crate) fn told(alloc: Global, machine: &Machine) -> Result<String, AllocError> {
-    let (size, place) = (machine.size(), machine.pc());
-    let mut line = format!(in alloc; "{size} bytes, at {place}, ")?;
-    let before = nothing(alloc);
-    let end = put_held(&mut line, &before, machine);
-    drop(before);
-    end?;
-    Ok(line)
+/// Puts what a machine holds, and where it is.
+pub(crate) fn put_machine(line: &mut Line, machine: &Machine) {
+    line.valued("", &machine.size());
+    line.valued(" bytes, at ", &machine.pc());
+    line.word(", ");
+    put_held(line, NOTHING, machine);
 }

@@ -1,7 +1,8 @@
 //! Single steps of the processor.
 
-use crate::rows::code::machines::{closed, machine_of, put_held, state_of};
+use crate::rows::code::machines::{closed, machine_of, memory_of, put_held, state_of};
 use crate::rows::code::texts::{hexadecimal, word};
+use crate::rows::line::Line;
 use crate::rows::texts::u32_of;
 use risc_machine::{Machine, run};
 use std::alloc::{AllocError, Global};
@@ -99,43 +100,42 @@ fn machine_at(alloc: Global, row: &str) -> Result<Machine, AllocError> {
 }
 
 // Puts where a machine goes on that was at a place.
-fn put_place(line: &mut String, before: u32, after: u32) -> Result<(), AllocError> {
+fn put_place(line: &mut Line, before: u32, after: u32) {
     if after == before {
-        return line.push_str("here ");
+        return line.word("here ");
     }
     match after.checked_sub(before) {
-        Some(1) => line.push_str("next "),
-        Some(words) => write!(line, "{words} on "),
-        None => write!(line, "at {after} "),
+        Some(1) => line.word("next "),
+        Some(words) => {
+            line.valued("", &words);
+            line.word(" on ");
+        }
+        None => {
+            line.valued("at ", &after);
+            line.word(" ");
+        }
     }
 }
 
-// Makes a step, and puts how it ends and where the machine goes on.
-fn put_step(alloc: Global, line: &mut String, machine: &mut Machine) -> Result<(), AllocError> {
+// Makes a step, and puts how it ends, where the machine goes on, and what it holds then.
+fn put_step_of(alloc: Global, line: &mut Line, machine: &mut Machine) -> Result<(), AllocError> {
+    let memory = memory_of(alloc, machine)?;
+    let before = state_of(machine, &memory);
     let at = machine.pc();
-    let mut console = closed(alloc)?;
-    let stop = machine.step(&mut console);
-    drop(console);
+    let stop = machine.step(&mut closed(alloc)?);
     if let Some(stop) = stop {
-        write!(line, "{stop:?} ")?;
+        line.seen("", &stop);
+        line.word(" ");
     }
-    put_place(line, at, machine.pc())
+    put_place(line, at, machine.pc());
+    put_held(line, before, machine);
+    Ok(())
 }
 
-fn step_told(alloc: Global, machine: &mut Machine) -> Result<String, AllocError> {
-    let before = state_of(alloc, machine)?;
-    let mut line = String::new(alloc);
-    put_step(alloc, &mut line, machine)?;
-    let end = put_held(&mut line, &before, machine);
-    drop(before);
-    end?;
-    Ok(line)
-}
-
-/// What the step of a word does. The row has the word, the flags before it, and what registers hold before it; H holds 0BADCAFE, and the word at address 4 is 87654380.
-pub(crate) fn stepped(alloc: Global, row: &str) -> Result<String, AllocError> {
+/// Puts what the step of a word does. The row has the word, the flags before it, and what registers hold before it; H holds 0BADCAFE, and the word at address 4 is 87654380.
+pub(crate) fn put_step(alloc: Global, line: &mut Line, row: &str) -> Result<(), AllocError> {
     let mut machine = machine_at(alloc, row)?;
-    let told = step_told(alloc, &mut machine);
+    let end = put_step_of(alloc, line, &mut machine);
     drop(machine);
-    told
+    end
 }

@@ -1,15 +1,16 @@
 //! Words of the processor.
 
 use crate::rows::code::texts::hexadecimal;
+use crate::rows::line::Line;
 use risc_word::{decode, encode, print};
-use std::alloc::{AllocError, Global};
+use std::alloc::Global;
 
-/// The printed form of the instruction that a word is, the word of that instruction again, and its parts.
-pub(crate) fn decoded(alloc: Global, row: &str) -> Result<String, AllocError> {
+/// Puts the printed form of the instruction that a word is, the word of that instruction again, and its parts.
+pub(crate) fn put_decoded(alloc: Global, line: &mut Line, row: &str) {
     let Some(instr) = decode(hexadecimal(row)) else {
-        return String::from_str(alloc, "no instruction");
+        return line.word("no instruction");
     };
-    let printed = print(alloc, instr)?;
-    let again = encode(instr);
-    format!(in alloc; "{printed} = {again:08X}, {instr:?}")
+    line.text(print(alloc, instr));
+    line.coded(" = ", encode(instr));
+    line.seen(", ", &instr);
 }

@@ -1,6 +1,6 @@
 //! The words of the command line.
 
-use crate::rows::texts::put_parts;
+use crate::rows::line::Line;
 use pascal_cli::{CommandFault, Job, Task, command};
 use std::alloc::{AllocError, Global};
 
@@ -15,17 +15,15 @@ fn parts_of(task: Task<'_>) -> [&str; 4] {
     }
 }
 
-fn told(alloc: Global, job: &Job<'_>) -> Result<String, AllocError> {
-    let stack = job.stack;
-    let heap = job.heap;
-    let steps = job.steps;
-    let mut line = String::new(alloc);
-    put_parts(&mut line, &parts_of(job.task))?;
-    format!(in alloc; "{line}, stack {stack}, heap {heap}, steps {steps}")
+fn put_job(line: &mut Line, job: &Job<'_>) {
+    line.words(&parts_of(job.task));
+    line.valued(", stack ", &job.stack);
+    line.valued(", heap ", &job.heap);
+    line.valued(", steps ", &job.steps);
 }
 
-/// What words ask for. A row without words is a call without words.
-pub(crate) fn asked(alloc: Global, row: &str) -> Result<String, AllocError> {
+/// Puts what words ask for. A row without words is a call without words.
+pub(crate) fn put_asked(alloc: Global, line: &mut Line, row: &str) -> Result<(), AllocError> {
     let mut words = Vec::new(alloc);
     for word in row.split(' ') {
         if !word.is_empty() {
@@ -33,8 +31,9 @@ pub(crate) fn asked(alloc: Global, row: &str) -> Result<String, AllocError> {
         }
     }
     match command(alloc, &words) {
-        Ok(job) => told(alloc, &job),
-        Err(CommandFault::Line(_)) => String::from_str(alloc, "refused"),
-        Err(CommandFault::OutOfMemory) => Err(AllocError),
+        Ok(job) => put_job(line, &job),
+        Err(CommandFault::Line(_)) => line.word("refused"),
+        Err(CommandFault::OutOfMemory) => line.fall_short(),
     }
+    Ok(())
 }

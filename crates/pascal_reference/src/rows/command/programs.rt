@@ -1,6 +1,7 @@
 //! Programs that are built and run, and images that are run.
 
-use crate::rows::texts::{followed, u32_of, u64_of};
+use crate::rows::line::Line;
+use crate::rows::texts::{u32_of, u64_of};
 use pascal_cli::message;
 use ps_build::{Budget, Built, Outcome, Refusal, build, go, list, run_image};
 use risc_machine::{Fused, Streams};
@@ -39,34 +40,56 @@ impl Job {
     }
 }
 
-/// How a run ended, and what it wrote, in brackets.
-fn told(alloc: Global, end: Result<Outcome, Refusal>, output: &[u8]) -> Result<String, AllocError> {
-    let shown = match end {
-        Ok(outcome) => format!(in alloc; "{outcome:?} "),
-        Err(refusal) => format!(in alloc; "refused: {refusal:?} "),
-    };
-    followed(shown, output)
+/// Puts how a run ended.
+pub(crate) fn put_end(line: &mut Line, end: Result<Outcome, Refusal>) {
+    match end {
+        Ok(outcome) => line.seen("", &outcome),
+        Err(refusal) => line.seen("refused: ", &refusal),
+    }
 }
 
-/// How a text goes.
-pub(crate) fn went(alloc: Global, text: &[u8], job: Job) -> Result<String, AllocError> {
+/// Puts how a text goes, and what it writes, in brackets.
+pub(crate) fn put_gone(
+    alloc: Global,
+    line: &mut Line,
+    text: &[u8],
+    job: Job,
+) -> Result<(), AllocError> {
     let mut console = Fused::new(alloc, b"", 100, 0, job.failing_put)?;
-    let end = go(alloc, text, job.budget, &mut console, job.steps);
-    told(alloc, end, console.output())
+    put_end(line, go(alloc, text, job.budget, &mut console, job.steps));
+    line.word(" ");
+    line.bracketed(console.output());
+    Ok(())
 }
 
-/// How an image runs.
-pub(crate) fn ran(alloc: Global, image: &[u8], job: Job) -> Result<String, AllocError> {
+/// Puts how an image runs, and what it writes, in brackets.
+pub(crate) fn put_run(
+    alloc: Global,
+    line: &mut Line,
+    image: &[u8],
+    job: Job,
+) -> Result<(), AllocError> {
+    let mut console = Fused::new(alloc, b"", 100, 0, job.failing_put)?;
+    put_end(
+        line,
+        run_image(alloc, image, job.budget, &mut console, job.steps),
+    );
+    line.word(" ");
+    line.bracketed(console.output());
+    Ok(())
+}
+
+/// Puts what is told of how an image runs.
+pub(crate) fn put_reported(
+    alloc: Global,
+    line: &mut Line,
+    image: &[u8],
+    job: Job,
+) -> Result<(), AllocError> {
     let mut console = Fused::new(alloc, b"", 100, 0, job.failing_put)?;
     let end = run_image(alloc, image, job.budget, &mut console, job.steps);
-    told(alloc, end, console.output())
-}
-
-/// What is told of how an image runs.
-pub(crate) fn reported(alloc: Global, image: &[u8], job: Job) -> Result<String, AllocError> {
-    let mut console = Fused::new(alloc, b"", 100, 0, job.failing_put)?;
-    let end = run_image(alloc, image, job.budget, &mut console, job.steps);
-    message(alloc, &end)
+    line.text(message(alloc, &end));
+    Ok(())
 }
 
 /// What is asked of the image that is built of a text.
@@ -80,32 +103,48 @@ pub(crate) enum Asked {
     Ran,
 }
 
-fn answer_of(alloc: Global, built: &Built, asked: Asked, job: Job) -> Result<String, AllocError> {
-    match asked {
-        Asked::Built => String::from_str(alloc, "built"),
-        Asked::Listed => list(alloc, built),
-        Asked::Ran => ran(alloc, built.bytes(), job),
-    }
-}
-
-/// What is asked of the image that is built of a text, or the text's refusal.
+/// Puts what is asked of the image that is built of a text, or the text's refusal.
 pub(crate) fn answer(
     alloc: Global,
+    line: &mut Line,
     text: &[u8],
     asked: Asked,
     job: Job,
-) -> Result<String, AllocError> {
+) -> Result<(), AllocError> {
     match build(alloc, text) {
-        Ok(built) => answer_of(alloc, &built, asked, job),
-        Err(refusal) => format!(in alloc; "{refusal:?}"),
+        Ok(built) => {
+            let end = put_asked(alloc, line, &built, asked, job);
+            drop(built);
+            end
+        }
+        Err(refusal) => {
+            line.seen("", &refusal);
+            Ok(())
+        }
     }
 }
 
-/// How a text goes whose output is written by a writer.
-pub(crate) fn wrote(alloc: Global, text: &[u8], job: Job) -> Result<String, AllocError> {
+fn put_asked(
+    alloc: Global,
+    line: &mut Line,
+    built: &Built,
+    asked: Asked,
+    job: Job,
+) -> Result<(), AllocError> {
+    match asked {
+        Asked::Built => line.word("built"),
+        Asked::Listed => line.text(list(alloc, built)),
+        Asked::Ran => return put_run(alloc, line, built.bytes(), job),
+    }
+    Ok(())
+}
+
+/// Puts how a text goes whose output is written by a writer, and what is written, in brackets.
+pub(crate) fn put_written(alloc: Global, line: &mut Line, text: &[u8], job: Job) {
     let input: &[u8] = b"";
     let mut console = Streams::new(input, Vec::new(alloc));
-    let end = go(alloc, text, job.budget, &mut console, job.steps);
+    put_end(line, go(alloc, text, job.budget, &mut console, job.steps));
     let (_, output) = console.into_parts();
-    told(alloc, end, &output)
+    line.word(" ");
+    line.bracketed(&output);
 }

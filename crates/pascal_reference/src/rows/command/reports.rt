@@ -1,9 +1,10 @@
 //! Statuses and messages.
 
+use crate::rows::line::Line;
 use crate::rows::texts::number;
 use pascal_cli::{message, status};
 use ps_build::{FaultKind, Outcome, Refusal, Rule, Trail};
-use std::alloc::{AllocError, Global};
+use std::alloc::Global;
 
 fn refusal(name: &str, line: u32) -> Refusal {
     match name {
@@ -58,10 +59,11 @@ fn end_of(row: &str) -> Result<Outcome, Refusal> {
     }
 }
 
-/// The status and the message of an end.
-pub(crate) fn report(alloc: Global, row: &str) -> Result<String, AllocError> {
+/// Puts the status of an end, and its message, in brackets.
+pub(crate) fn put_report(alloc: Global, line: &mut Line, row: &str) {
     let end = end_of(row);
-    let status = status(&end);
-    let message = message(alloc, &end)?;
-    format!(in alloc; "{status} [{message}]")
+    line.numbered("", u64::from(status(&end)));
+    line.word(" [");
+    line.text(message(alloc, &end));
+    line.word("]");
 }

@@ -1,8 +1,8 @@
 //! What the layers of the checker make of the block of a program, each called by itself. Of the required names only `integer`,
 //! `char` and `Boolean` are known here.
 
-use crate::rows::language::types::{fields, relation, sizes};
-use crate::rows::language::words::{or_none, put_space};
+use crate::rows::language::types::{put_fields, put_relation, put_sizes};
+use crate::rows::line::Line;
 use ps_declare::declarations::declarations;
 use ps_declare::frame::{Declared, Frame};
 use ps_declare::points::add_block;
@@ -42,27 +42,44 @@ pub(crate) enum Asked {
 // The names of the required types that are known.
 const REQUIRED: &[(&str, Ordinal)] = &[("integer", INTEGER), ("char", CHAR), ("boolean", BOOLEAN)];
 
-/// Names, and what they stand for.
+/// What is known of a block: the required names and what they stand for, its own names, and what its declarations give.
 #[derive(Drop)]
 struct Known {
-    names: Names,
+    required: Names,
     meanings: Vec<Meaning>,
+    names: Names,
+    declared: Declared,
+}
+
+fn nothing(alloc: Global) -> Known {
+    Known {
+        required: Names::new(alloc),
+        meanings: Vec::new(alloc),
+        names: Names::new(alloc),
+        declared: Declared {
+            known: Vec::new(alloc),
+            domains: Vec::new(alloc),
+            pending: Vec::new(alloc),
+            variables: Vec::new(alloc),
+        },
+    }
 }
 
 /// Adds the required types.
 fn add_required(alloc: Global, known: &mut Known) -> Result<(), AllocError> {
     for (name, ordinal) in REQUIRED {
-        known.names.add(Vec::from_slice(alloc, name.as_bytes())?)?;
+        known
+            .required
+            .add(Vec::from_slice(alloc, name.as_bytes())?)?;
         known.meanings.push(Meaning::Type(Ty::Simple(*ordinal)))?;
     }
     Ok(())
 }
 
-fn counts(alloc: Global, declared: &Declared) -> Result<String, AllocError> {
-    let names = declared.known.len();
-    let domains = declared.domains.len();
-    let variables = declared.variables.len();
-    format!(in alloc; "names {names}, domains {domains}, variables {variables}")
+fn put_counts(line: &mut Line, declared: &Declared) {
+    line.numbered("names ", declared.known.len() as u64);
+    line.numbered(", domains ", declared.domains.len() as u64);
+    line.numbered(", variables ", declared.variables.len() as u64);
 }
 
 /// The variable and the expression of the first statement, where it is an assignment.
@@ -70,14 +87,6 @@ fn assignment(written: &[Statement]) -> Option<(&Variable, &Expr)> {
     match written.first() {
         Some(Statement::Assign(variable, _, value)) => Some((variable, value.get())),
         _ => None,
-    }
-}
-
-/// A text, or that memory is short for it.
-fn told(text: Result<String, AllocError>) -> Result<String, Fault> {
-    match text {
-        Ok(text) => Ok(text),
-        Err(AllocError) => Err(Fault::OutOfMemory),
     }
 }
 
@@ -89,18 +98,23 @@ fn type_of(value: &TypedValue) -> &Ty {
     }
 }
 
-fn relation_in(site: Site<'_>, variable: &Variable, value: &Expr) -> Result<String, Fault> {
+fn put_relation_in(
+    line: &mut Line,
+    site: Site<'_>,
+    variable: &Variable,
+    value: &Expr,
+) -> Result<(), Fault> {
     let variable = variable_place(variable, site)?;
-    let related = relation_to(site, value, &variable.ty);
+    let end = put_relation_to(line, site, value, &variable.ty);
     drop(variable);
-    related
+    end
 }
 
-fn relation_to(site: Site<'_>, value: &Expr, ty: &Ty) -> Result<String, Fault> {
+fn put_relation_to(line: &mut Line, site: Site<'_>, value: &Expr, ty: &Ty) -> Result<(), Fault> {
     let value = expr_value(value, site)?;
-    let related = told(relation(site.alloc, type_of(&value), ty));
+    put_relation(line, type_of(&value), ty);
     drop(value);
-    related
+    Ok(())
 }
 
 fn form_of(value: &TypedValue) -> &'static str {
@@ -112,77 +126,60 @@ fn form_of(value: &TypedValue) -> &'static str {
     }
 }
 
-fn form_in(site: Site<'_>, value: &Expr) -> Result<String, Fault> {
+fn put_form(line: &mut Line, site: Site<'_>, value: &Expr) -> Result<(), Fault> {
     let value = expr_value(value, site)?;
-    let form = form_of(&value);
+    line.word(form_of(&value));
     drop(value);
-    told(String::from_str(site.alloc, form))
+    Ok(())
 }
 
-fn kinds_of(alloc: Global, statements: &[Checked]) -> Result<String, AllocError> {
-    let mut shown = String::new(alloc);
-    for statement in statements {
+fn put_statements(line: &mut Line, site: Site<'_>, written: &[Statement]) -> Result<(), Fault> {
+    for statement in &statements(written, site)? {
         let is_empty = matches!(statement, Checked::Empty);
-        put_space(&mut shown)?;
-        shown.push_str(if is_empty { "empty" } else { "other" })?;
+        line.space();
+        line.word(if is_empty { "empty" } else { "other" });
     }
-    or_none(alloc, shown)
+    line.none_if_empty();
+    Ok(())
 }
 
-fn statements_in(site: Site<'_>, written: &[Statement]) -> Result<String, Fault> {
-    let statements = statements(written, site)?;
-    told(kinds_of(site.alloc, &statements))
-}
-
-/// What is asked of the first statement, where it is an assignment.
-fn asked_of_assignment(
-    asked: Asked,
-    site: Site<'_>,
-    written: &[Statement],
-) -> Result<String, Fault> {
-    match assignment(written) {
-        None => told(String::from_str(site.alloc, "no assignment")),
-        Some((variable, value)) if matches!(asked, Asked::Types) => {
-            relation_in(site, variable, value)
-        }
-        Some((_, value)) => form_in(site, value),
-    }
-}
-
-fn asked_of(
+fn put_asked(
+    line: &mut Line,
     asked: Asked,
     declared: &Declared,
     site: Site<'_>,
     written: &[Statement],
-) -> Result<String, Fault> {
-    match asked {
-        Asked::Declarations => told(counts(site.alloc, declared)),
-        Asked::Sizes => told(sizes(site.alloc, &declared.variables)),
-        Asked::Fields => told(fields(site.alloc, &declared.variables)),
-        Asked::Types => asked_of_assignment(asked, site, written),
-        Asked::Expressions => asked_of_assignment(asked, site, written),
-        Asked::Statements => statements_in(site, written),
+) -> Result<(), Fault> {
+    match (asked, assignment(written)) {
+        (Asked::Declarations, _) => put_counts(line, declared),
+        (Asked::Sizes, _) => put_sizes(line, &declared.variables),
+        (Asked::Fields, _) => put_fields(line, &declared.variables),
+        (Asked::Statements, _) => return put_statements(line, site, written),
+        (_, None) => line.word("no assignment"),
+        (Asked::Types, Some((variable, value))) => {
+            return put_relation_in(line, site, variable, value);
+        }
+        (Asked::Expressions, Some((_, value))) => return put_form(line, site, value),
     }
+    Ok(())
 }
 
 /// Adds the declarations of a block.
 fn declare(
-    reading: &Reading,
-    alloc: Global,
+    around: Site<'_>,
     block: &Block,
     names: &Names,
-    outer: &Scope,
     declared: &mut Declared,
 ) -> Result<(), Fault> {
     let frame = Frame {
-        reading,
+        reading: around.reading,
         routine: 0,
         names,
-        outer,
+        outer: around.scope,
     };
     declarations(
         &frame,
-        alloc,
+        around.alloc,
         0,
         declared,
         block.constants.as_slice(),
@@ -191,91 +188,92 @@ fn declare(
     )
 }
 
-/// What is asked of a block whose names are known.
-fn asked_below(
-    reading: &Reading,
-    alloc: Global,
+/// Puts what is asked of a block whose names are known.
+fn put_below(
+    line: &mut Line,
+    around: Site<'_>,
     block: &Block,
-    names: &Names,
-    outer: &Scope,
     asked: Asked,
-) -> Result<String, Fault> {
-    let mut declared = Declared {
-        known: Vec::new(alloc),
-        domains: Vec::new(alloc),
-        pending: Vec::new(alloc),
-        variables: Vec::new(alloc),
-    };
-    declare(reading, alloc, block, names, outer, &mut declared)?;
+    names: &Names,
+    declared: &mut Declared,
+) -> Result<(), Fault> {
+    declare(around, block, names, declared)?;
     let scope = Scope::Block {
         routine: 0,
         names,
         known: &declared.known,
-        outer,
+        outer: around.scope,
     };
-    let behind = Reading {
-        source: reading.source,
-        lines: reading.lines,
+    let reading = Reading {
+        source: around.reading.source,
+        lines: around.reading.lines,
         domains: &declared.domains,
         has_input: false,
         has_output: false,
     };
     let site = Site {
-        alloc,
-        reading: &behind,
+        alloc: around.alloc,
+        reading: &reading,
         scope: &scope,
     };
-    asked_of(asked, &declared, site, block.statements.as_slice())
+    put_asked(line, asked, declared, site, block.statements.as_slice())
 }
 
-/// What is asked of a block within a region.
-fn asked_within(
+/// Puts what is asked of a block.
+fn put_within(
+    line: &mut Line,
     reading: &Reading,
     alloc: Global,
     block: &Block,
-    outer: &Scope,
     asked: Asked,
-) -> Result<String, Fault> {
-    let mut names = Names::new(alloc);
+    known: &mut Known,
+) -> Result<(), Fault> {
+    add_required(alloc, known)?;
     add_block(
         reading,
         alloc,
-        &mut names,
+        &mut known.names,
         block.constants.as_slice(),
         block.types.as_slice(),
         block.variables.as_slice(),
     )?;
-    asked_below(reading, alloc, block, &names, outer, asked)
-}
-
-fn asked_in(
-    reading: &Reading,
-    alloc: Global,
-    block: &Block,
-    asked: Asked,
-) -> Result<String, Fault> {
-    let mut known = Known {
-        names: Names::new(alloc),
-        meanings: Vec::new(alloc),
-    };
-    add_required(alloc, &mut known)?;
-    let outer = Scope::Block {
+    let scope = Scope::Block {
         routine: 0,
-        names: &known.names,
+        names: &known.required,
         known: &known.meanings,
         outer: &Scope::Outside,
     };
-    asked_within(reading, alloc, block, &outer, asked)
+    let around = Site {
+        alloc,
+        reading,
+        scope: &scope,
+    };
+    put_below(
+        line,
+        around,
+        block,
+        asked,
+        &known.names,
+        &mut known.declared,
+    )
 }
 
-/// What is asked of the block of a text, or the rule that it breaks.
-pub(crate) fn answer(
-    alloc: Global,
-    source: &Source,
-    block: &Block,
-    asked: Asked,
-) -> Result<String, AllocError> {
-    let lines = LineTable::new(alloc, source)?;
+fn put_fault(line: &mut Line, fault: Fault) {
+    match fault {
+        Fault::OutOfMemory => line.fall_short(),
+        Fault::Broken { rule, at } => {
+            line.numbered("", rule.number() as u64);
+            line.valued(" ", &rule);
+            line.numbered(" at byte ", u64::from(at));
+        }
+    }
+}
+
+/// Puts what is asked of the block of a text, or the rule that it breaks.
+pub(crate) fn answer(alloc: Global, line: &mut Line, source: &Source, block: &Block, asked: Asked) {
+    let Ok(lines) = LineTable::new(alloc, source) else {
+        return line.fall_short();
+    };
     let reading = Reading {
         source,
         lines: &lines,
@@ -283,12 +281,10 @@ pub(crate) fn answer(
         has_input: false,
         has_output: false,
     };
-    match asked_in(&reading, alloc, block, asked) {
-        Ok(answer) => Ok(answer),
-        Err(Fault::OutOfMemory) => Err(AllocError),
-        Err(Fault::Broken { rule, at }) => {
-            let number = rule.number();
-            format!(in alloc; "{number} {rule} at byte {at}")
-        }
+    let mut known = nothing(alloc);
+    let end = put_within(line, &reading, alloc, block, asked, &mut known);
+    drop(known);
+    if let Err(fault) = end {
+        put_fault(line, fault);
     }
 }

@@ -1,13 +1,13 @@
 //! What the statements of a program change.
 
-use crate::rows::language::words::put_space;
+use crate::rows::line::Line;
 use ps_changes::assigned::assigns;
 use ps_changes::control::control_variables;
 use ps_changes::place::Entries;
 use ps_changes::threat::threat;
 use ps_tree::program::Checked;
 use ps_tree::tree::Statement;
-use std::alloc::{AllocError, Global};
+use std::alloc::Global;
 
 /// Programs of these tables have fewer entries in each block.
 const ENTRIES: u32 = 10;
@@ -19,59 +19,52 @@ enum Change {
     Assignment,
 }
 
+fn is_changed(change: Change, body: &[Statement], up: u32, entry: u32) -> bool {
+    match change {
+        Change::Threat => threat(body, up, Entries::One(entry)).is_some(),
+        Change::Assignment => assigns(body, up, entry),
+    }
+}
+
 /// Puts a word, and the entries, of the routine so many levels out, to which statements do that, or `none`.
-fn put_changed(
-    line: &mut String,
-    word: &str,
-    change: Change,
-    body: &[Statement],
-    up: u32,
-) -> Result<(), AllocError> {
-    line.push_str(word)?;
+fn put_changed(line: &mut Line, word: &str, change: Change, body: &[Statement], up: u32) {
+    line.word(word);
     let mut is_none = true;
     for entry in 0..ENTRIES {
-        let is_changed = match change {
-            Change::Threat => threat(body, up, Entries::One(entry)).is_some(),
-            Change::Assignment => assigns(body, up, entry),
-        };
-        if is_changed {
-            write!(line, " {entry}")?;
+        if is_changed(change, body, up, entry) {
+            line.listed(u64::from(entry));
             is_none = false;
         }
     }
-    put_none(line, is_none)
+    line.word_if(" none", is_none);
 }
 
 /// Puts the variables that control `for` statements, or `none`.
-fn put_controls(alloc: Global, line: &mut String, body: &[Statement]) -> Result<(), AllocError> {
-    line.push_str("; controls")?;
-    let entries = control_variables(alloc, body)?;
+fn put_controls(alloc: Global, line: &mut Line, body: &[Statement]) {
+    line.word("; controls");
+    let Ok(entries) = control_variables(alloc, body) else {
+        return line.fall_short();
+    };
     for entry in &entries {
-        write!(line, " {entry}")?;
+        line.listed(u64::from(*entry));
     }
-    put_none(line, entries.is_empty())
-}
-
-fn put_none(line: &mut String, is_none: bool) -> Result<(), AllocError> {
-    line.push_str(if is_none { " none" } else { "" })
+    line.word_if(" none", entries.is_empty());
 }
 
 /// Puts what the statements of a routine change: its own entries, and those of the routine round it.
-fn put_routine(alloc: Global, line: &mut String, body: &[Statement]) -> Result<(), AllocError> {
-    put_changed(line, "[threatens", Change::Threat, body, 0)?;
-    put_changed(line, ", outside", Change::Threat, body, 1)?;
-    put_changed(line, "; assigns", Change::Assignment, body, 0)?;
-    put_changed(line, ", outside", Change::Assignment, body, 1)?;
-    put_controls(alloc, line, body)?;
-    line.push(']')
+fn put_routine(alloc: Global, line: &mut Line, body: &[Statement]) {
+    put_changed(line, "[threatens", Change::Threat, body, 0);
+    put_changed(line, ", outside", Change::Threat, body, 1);
+    put_changed(line, "; assigns", Change::Assignment, body, 0);
+    put_changed(line, ", outside", Change::Assignment, body, 1);
+    put_controls(alloc, line, body);
+    line.word("]");
 }
 
-/// What the statements of each block of a program change, by the numbers of entries.
-pub(crate) fn changes(alloc: Global, program: &Checked) -> Result<String, AllocError> {
-    let mut shown = String::new(alloc);
+/// Puts what the statements of each block of a program change, by the numbers of entries.
+pub(crate) fn put_changes(alloc: Global, line: &mut Line, program: &Checked) {
     for routine in program.routines() {
-        put_space(&mut shown)?;
-        put_routine(alloc, &mut shown, routine.body.as_slice())?;
+        line.space();
+        put_routine(alloc, line, routine.body.as_slice());
     }
-    Ok(shown)
 }

@@ -1,12 +1,12 @@
 //! What the checker says of program texts, and what is asked of the programs that it accepts.
 
 use crate::front::checked;
-use crate::rows::language::changes::changes;
-use crate::rows::language::front::refused;
-use crate::rows::language::runs::{Job, shown_of, trail_of};
-use crate::rows::language::words::put_space;
+use crate::rows::language::changes::put_changes;
+use crate::rows::language::front::put_refusal;
+use crate::rows::language::runs::{Job, put_output, put_run, put_trail};
+use crate::rows::line::Line;
 use ps_tree::program::Checked;
-use std::alloc::{AllocError, Global};
+use std::alloc::Global;
 
 /// What is asked of a checked program.
 #[derive(Clone, Copy)]
@@ -25,44 +25,34 @@ pub(crate) enum Asked {
     Output,
 }
 
-fn counts(alloc: Global, program: &Checked) -> Result<String, AllocError> {
-    let mut shown = String::new(alloc);
+fn put_counts(line: &mut Line, program: &Checked) {
     let count = u32::try_from(program.routines().len()).unwrap_or(0);
     for routine in 0..count {
-        let nodes = program.nodes(routine);
-        let cells = program.cells(routine);
-        put_space(&mut shown)?;
-        write!(shown, "{nodes}/{cells}")?;
+        line.space();
+        line.valued("", &program.nodes(routine));
+        line.valued("/", &program.cells(routine));
     }
-    let domains = program.domains().len();
-    format!(in alloc; "{shown}, domains {domains}")
+    line.valued(", domains ", &program.domains().len());
 }
 
-fn answer_of(
-    alloc: Global,
-    program: &Checked,
-    asked: Asked,
-    job: &Job,
-) -> Result<String, AllocError> {
+fn put_asked(alloc: Global, line: &mut Line, program: &Checked, asked: Asked, job: &Job) {
     match asked {
-        Asked::Verdict => String::from_str(alloc, "accepted"),
-        Asked::Counts => counts(alloc, program),
-        Asked::Changes => changes(alloc, program),
-        Asked::Run => shown_of(alloc, program, job, false),
-        Asked::Output => shown_of(alloc, program, job, true),
-        Asked::Trail => trail_of(alloc, program, job),
+        Asked::Verdict => line.word("accepted"),
+        Asked::Counts => put_counts(line, program),
+        Asked::Changes => put_changes(alloc, line, program),
+        Asked::Run => put_run(alloc, line, program, job),
+        Asked::Output => put_output(alloc, line, program, job),
+        Asked::Trail => put_trail(alloc, line, program, job),
     }
 }
 
-/// What is asked of the program of a text, or the text's refusal.
-pub(crate) fn answer(
-    alloc: Global,
-    text: &[u8],
-    asked: Asked,
-    job: &Job,
-) -> Result<String, AllocError> {
+/// Puts what is asked of the program of a text, or the text's refusal.
+pub(crate) fn answer(alloc: Global, line: &mut Line, text: &[u8], asked: Asked, job: &Job) {
     match checked(alloc, text) {
-        Ok(program) => answer_of(alloc, &program, asked, job),
-        Err(refusal) => refused(alloc, refusal),
+        Ok(program) => {
+            put_asked(alloc, line, &program, asked, job);
+            drop(program);
+        }
+        Err(refusal) => put_refusal(line, refusal),
     }
 }

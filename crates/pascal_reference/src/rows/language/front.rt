@@ -3,20 +3,19 @@
 use crate::front::parsed;
 use crate::rows::language::blocks;
 use crate::rows::language::shown::Shown;
+use crate::rows::line::Line;
 use ps_build::Refusal;
-use ps_syntax::{Program, Statement, height};
+use ps_syntax::{Program, height};
 use ps_text::Source;
-use std::alloc::{AllocError, Global};
+use std::alloc::Global;
 
-/// What is said of a text that is refused.
-pub(crate) fn refused(alloc: Global, refusal: Refusal) -> Result<String, AllocError> {
-    let number = refusal.number();
-    let line = refusal.line().unwrap_or(0);
-    match refusal {
-        Refusal::NotAProgram { token, .. } => {
-            format!(in alloc; "{number} {refusal} at line {line}, token {token}")
-        }
-        _ => format!(in alloc; "{number} {refusal} at line {line}"),
+/// Puts why a text is refused.
+pub(crate) fn put_refusal(line: &mut Line, refusal: Refusal) {
+    line.numbered("", u64::from(refusal.number()));
+    line.valued(" ", &refusal);
+    line.numbered(" at line ", u64::from(refusal.line().unwrap_or(0)));
+    if let Refusal::NotAProgram { token, .. } = refusal {
+        line.numbered(", token ", u64::from(token));
     }
 }
 
@@ -31,46 +30,28 @@ pub(crate) enum Asked {
     Block(blocks::Asked),
 }
 
-fn shown(alloc: Global, text: &[u8], statements: &[Statement]) -> Result<String, AllocError> {
-    let mut shown = Shown {
-        text,
-        line: String::new(alloc),
-        is_short: false,
-    };
-    shown.statements(statements);
-    if shown.is_short {
-        return Err(AllocError);
-    }
-    String::from_str(alloc, shown.line.as_str().trim_start())
-}
-
-fn told(
-    alloc: Global,
-    source: &Source,
-    program: &Program,
-    asked: Asked,
-) -> Result<String, AllocError> {
+fn put_asked(alloc: Global, line: &mut Line, source: &Source, program: &Program, asked: Asked) {
+    let block = &program.block;
     match asked {
-        Asked::Height => {
-            let height = height(program);
-            format!(in alloc; "accepted, height {height}")
+        Asked::Height => line.numbered("accepted, height ", u64::from(height(program))),
+        Asked::Statements => {
+            let text = source.bytes();
+            Shown { text, line }.statements(block.statements.as_slice());
         }
-        Asked::Statements => shown(alloc, source.bytes(), program.block.statements.as_slice()),
-        Asked::Block(asked) => blocks::answer(alloc, source, &program.block, asked),
+        Asked::Block(asked) => blocks::answer(alloc, line, source, block, asked),
     }
 }
 
-/// What is asked of a text's tree, or the refusal.
-pub(crate) fn answer(alloc: Global, text: &[u8], asked: Asked) -> Result<String, AllocError> {
+/// Puts what is asked of a text's tree, or the refusal.
+pub(crate) fn answer(alloc: Global, line: &mut Line, text: &[u8], asked: Asked) {
     let Ok(source) = Source::new(text) else {
-        return String::from_str(alloc, "no source");
+        return line.word("no source");
     };
     match parsed(alloc, &source) {
         Ok(program) => {
-            let told = told(alloc, &source, &program, asked);
+            put_asked(alloc, line, &source, &program, asked);
             drop(program);
-            told
         }
-        Err(refusal) => refused(alloc, refusal),
+        Err(refusal) => put_refusal(line, refusal),
     }
 }

@@ -1,5 +1,6 @@
 //! The search for a name through two regions.
 
+use crate::rows::line::Line;
 use crate::rows::texts::letters;
 use ps_regions::meaning::Meaning;
 use ps_regions::scope::{Found, Lookup, Scope, find};
@@ -28,59 +29,70 @@ fn add_name(
     Ok(())
 }
 
-/// The region of some words: names, of which those behind the word `later` stand behind the place.
-fn region_of(alloc: Global, words: &str) -> Result<Region, AllocError> {
-    let mut region = Region {
-        names: Names::new(alloc),
-        known: Vec::new(alloc),
-    };
+/// Adds some words: names, of which those behind the word `later` stand behind the place.
+fn add_names(alloc: Global, region: &mut Region, words: &str) -> Result<(), AllocError> {
     let mut is_later = false;
     for word in words.split(' ') {
         if word == "later" {
             is_later = true;
         } else {
-            add_name(alloc, &mut region, word, is_later)?;
+            add_name(alloc, region, word, is_later)?;
         }
     }
-    Ok(region)
+    Ok(())
 }
 
-fn told(alloc: Global, lookup: Lookup) -> Result<String, AllocError> {
+/// The region of some words.
+fn region_of(alloc: Global, words: &str) -> Result<Region, AllocError> {
+    let mut region = Region {
+        names: Names::new(alloc),
+        known: Vec::new(alloc),
+    };
+    let end = add_names(alloc, &mut region, words);
+    end.and(Ok(region))
+}
+
+fn put_lookup(line: &mut Line, lookup: Lookup) {
     match lookup {
-        Lookup::Found(Found::Name { up, .. }) => format!(in alloc; "{up} out"),
-        Lookup::Found(Found::Field { .. }) => String::from_str(alloc, "a field"),
-        Lookup::Later => String::from_str(alloc, "later"),
-        Lookup::OwnField => String::from_str(alloc, "a field of its own record"),
-        Lookup::Missing => String::from_str(alloc, "missing"),
+        Lookup::Found(Found::Name { up, .. }) => {
+            line.numbered("", u64::from(up));
+            line.word(" out");
+        }
+        Lookup::Found(Found::Field { .. }) => line.word("a field"),
+        Lookup::Later => line.word("later"),
+        Lookup::OwnField => line.word("a field of its own record"),
+        Lookup::Missing => line.word("missing"),
     }
 }
 
-/// Where a name is found. The row has the outer region, the inner one and the name, with `/` and `:` between them.
-pub(crate) fn found(alloc: Global, row: &[u8]) -> Result<String, AllocError> {
+/// Puts where a name is found. The row has the outer region, the inner one and the name, with `/` and `:` between them.
+pub(crate) fn put_found(alloc: Global, line: &mut Line, row: &[u8]) {
     let (regions, name) = letters(row).split_once(" : ").unwrap_or(("", ""));
     let (outer, inner) = regions.split_once(" / ").unwrap_or(("", ""));
-    let outer = region_of(alloc, outer)?;
-    let inner = region_of(alloc, inner)?;
-    found_in(alloc, &outer, &inner, name)
-}
-
-fn found_in(
-    alloc: Global,
-    outer: &Region,
-    inner: &Region,
-    name: &str,
-) -> Result<String, AllocError> {
+    let Ok(outer) = region_of(alloc, outer) else {
+        return line.fall_short();
+    };
     let around = Scope::Block {
         routine: 0,
         names: &outer.names,
         known: outer.known.as_slice(),
         outer: &Scope::Outside,
     };
+    put_found_within(alloc, line, &around, inner, name);
+    drop(outer);
+}
+
+/// Puts where a name is found in the region of some words, or round it.
+fn put_found_within(alloc: Global, line: &mut Line, around: &Scope, words: &str, name: &str) {
+    let Ok(inner) = region_of(alloc, words) else {
+        return line.fall_short();
+    };
     let within = Scope::Block {
         routine: 1,
         names: &inner.names,
         known: inner.known.as_slice(),
-        outer: &around,
+        outer: around,
     };
-    told(alloc, find(&within, name.as_bytes()))
+    put_lookup(line, find(&within, name.as_bytes()));
+    drop(inner);
 }

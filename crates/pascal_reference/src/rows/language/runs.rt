@@ -1,11 +1,12 @@
 //! What the slow runner shows of runs, and how they end.
 
-use crate::rows::language::words::{or_none, put_space};
-use crate::rows::texts::{bracketed, number, u64_of};
-use crate::runs::end_in_words;
+use crate::rows::endings::put_ending;
+use crate::rows::line::Line;
+use crate::rows::texts::{number, u64_of};
 use ps_runner::ending::Ending;
 use ps_runner::run::{
-    Budget, Ran, Refusal, output, reference, reference_to_depth, reference_within, trail,
+    Budget, Ran, Refusal, TranscriptFault, output, reference, reference_to_depth, reference_within,
+    trail,
 };
 use ps_tree::program::Checked;
 use std::alloc::{AllocError, Global};
@@ -87,90 +88,78 @@ fn run(alloc: Global, program: &Checked, job: &Job) -> Result<Ran, Refusal> {
 }
 
 /// Puts the first 16 of some lines.
-fn put_lines(shown: &mut String, lines: &[u32]) -> Result<(), AllocError> {
-    for line in lines.iter().take(16) {
-        put_space(shown)?;
-        write!(shown, "{line}")?;
+fn put_lines(line: &mut Line, lines: &[u32]) {
+    for at in lines.iter().take(16) {
+        line.listed(u64::from(*at));
     }
-    Ok(())
 }
 
 /// Puts the lines of the calls that are open at an error, up to 16.
-fn put_calls(shown: &mut String, ran: &Ran) -> Result<(), AllocError> {
+fn put_calls(line: &mut Line, ran: &Ran) {
     if matches!(ran.ending, Ending::Error { .. }) && !ran.calls.is_empty() {
-        shown.push_str(", called at")?;
-        put_lines(shown, &ran.calls)?;
+        line.word(", called at");
+        put_lines(line, &ran.calls);
     }
-    Ok(())
 }
 
 /// Puts a transcript, with a space before it if there is any. A mark at a first look at a byte of the input, or at its end, is `^`.
-fn put_transcript(shown: &mut String, transcript: &[u16]) -> Result<(), AllocError> {
-    if !transcript.is_empty() {
-        shown.push(' ')?;
-    }
+fn put_transcript(line: &mut Line, transcript: &[u16]) {
+    line.word_if(" ", !transcript.is_empty());
     for item in transcript {
-        shown.push(match *item {
+        line.letter(match *item {
             256 => '^',
             byte => char::from((byte % 256) as u8),
-        })?;
+        });
     }
-    Ok(())
 }
 
-fn refused(alloc: Global, refusal: Refusal) -> Result<String, AllocError> {
+fn put_refusal(line: &mut Line, refusal: Refusal) {
     match refusal {
-        Refusal::OutOfMemory => Err(AllocError),
-        Refusal::TooDeep => String::from_str(alloc, "given up as too deep"),
+        Refusal::OutOfMemory => line.fall_short(),
+        Refusal::TooDeep => line.word("given up as too deep"),
     }
 }
 
-fn told(alloc: Global, ran: &Ran) -> Result<String, AllocError> {
-    let mut shown = end_in_words(alloc, ran.ending)?;
-    put_calls(&mut shown, ran)?;
-    shown.push(':')?;
-    put_transcript(&mut shown, &ran.transcript)?;
-    Ok(shown)
-}
-
-fn written(alloc: Global, ran: &Ran) -> Result<String, AllocError> {
-    match output(alloc, &ran.transcript) {
-        Ok(bytes) => bracketed(alloc, &bytes),
-        Err(_) => String::from_str(alloc, "no output"),
-    }
-}
-
-fn lines_of(alloc: Global, lines: &[u32]) -> Result<String, AllocError> {
-    let mut shown = String::new(alloc);
-    put_lines(&mut shown, lines)?;
-    or_none(alloc, shown)
-}
-
-/// How the run of a program ends, the calls that are open there, and what it shows; or the bytes that `output` makes of its transcript, in brackets.
-pub(crate) fn shown_of(
-    alloc: Global,
-    program: &Checked,
-    job: &Job,
-    is_output: bool,
-) -> Result<String, AllocError> {
+/// Puts how the run of a program ends, the calls that are open there, and what it shows.
+pub(crate) fn put_run(alloc: Global, line: &mut Line, program: &Checked, job: &Job) {
     match run(alloc, program, job) {
         Ok(ran) => {
-            let shown = if is_output {
-                written(alloc, &ran)
-            } else {
-                told(alloc, &ran)
-            };
+            put_ending(line, ran.ending);
+            put_calls(line, &ran);
+            line.word(":");
+            put_transcript(line, &ran.transcript);
             drop(ran);
-            shown
         }
-        Err(refusal) => refused(alloc, refusal),
+        Err(refusal) => put_refusal(line, refusal),
     }
 }
 
-/// The lines that `trail` tells of a run.
-pub(crate) fn trail_of(alloc: Global, program: &Checked, job: &Job) -> Result<String, AllocError> {
+/// Puts the bytes that `output` makes of the transcript of a run.
+pub(crate) fn put_output(alloc: Global, line: &mut Line, program: &Checked, job: &Job) {
+    match run(alloc, program, job) {
+        Ok(ran) => {
+            let bytes = output(alloc, &ran.transcript);
+            drop(ran);
+            put_bytes(line, bytes);
+        }
+        Err(refusal) => put_refusal(line, refusal),
+    }
+}
+
+fn put_bytes(line: &mut Line, bytes: Result<Vec<u8>, TranscriptFault>) {
+    match bytes {
+        Ok(bytes) => line.bracketed(&bytes),
+        Err(_) => line.word("no output"),
+    }
+}
+
+/// Puts the lines that `trail` tells of a run.
+pub(crate) fn put_trail(alloc: Global, line: &mut Line, program: &Checked, job: &Job) {
     match trail(alloc, program, &job.input, job.fuel) {
-        Ok(lines) => lines_of(alloc, &lines),
-        Err(refusal) => refused(alloc, refusal),
+        Ok(lines) => {
+            put_lines(line, &lines);
+            line.none_if_empty();
+        }
+        Err(refusal) => put_refusal(line, refusal),
     }
 }

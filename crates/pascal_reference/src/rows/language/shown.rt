@@ -1,18 +1,17 @@
 //! The statements of a tree, with brackets round what belongs together.
 
-use crate::rows::texts::put_bytes;
+use crate::rows::line::Line;
 use ps_syntax::{
     Adding, Constant, Direction, Element, Expr, Factor, Member, Multiplying, Parameter, Relation,
     Selector, Sign, Simple, Statement, Term, Variable,
 };
 use ps_text::Span;
 
-/// A text, what is shown of its tree so far, and whether memory was short for some of that.
+/// A text, and the line on which its tree is shown.
 #[derive(Drop)]
-pub struct Shown<'a> {
-    pub text: &'a [u8],
-    pub line: String,
-    pub is_short: bool,
+pub(crate) struct Shown<'a> {
+    pub(crate) text: &'a [u8],
+    pub(crate) line: &'a mut Line,
 }
 
 fn sign_of(sign: Option<(Sign, Span)>) -> &'static str {
@@ -61,9 +60,7 @@ fn direction_of(direction: Direction) -> &'static str {
 
 impl<'a> Shown<'a> {
     fn word(&mut self, word: &str) {
-        if self.line.push_str(word).is_err() {
-            self.is_short = true;
-        }
+        self.line.word(word);
     }
 
     fn repeated(&mut self, word: &str, count: u32) {
@@ -74,9 +71,7 @@ impl<'a> Shown<'a> {
 
     fn span(&mut self, span: Span) {
         let bytes = self.text.get(span.from as usize..span.to as usize);
-        if put_bytes(&mut self.line, bytes.unwrap_or(&[])).is_err() {
-            self.is_short = true;
-        }
+        self.line.bytes(bytes.unwrap_or(&[]));
     }
 
     #[cycle(expression)]
@@ -230,7 +225,7 @@ impl<'a> Shown<'a> {
     }
 
     #[cycle(statement)]
-    pub fn statement(&mut self, statement: &Statement) {
+    pub(crate) fn statement(&mut self, statement: &Statement) {
         match statement {
             Statement::Empty => {}
             Statement::Assign(variable, _, value) => self.assignment(variable, value.get()),
@@ -319,13 +314,14 @@ impl<'a> Shown<'a> {
 
     #[cycle(statement)]
     fn braced(&mut self, statement: &Statement) {
-        self.word(" {");
+        self.line.space();
+        self.word("{");
         self.statement(statement);
         self.word("}");
     }
 
     #[cycle(statement)]
-    pub fn statements(&mut self, statements: &[Statement]) {
+    pub(crate) fn statements(&mut self, statements: &[Statement]) {
         for statement in statements {
             self.braced(statement);
         }

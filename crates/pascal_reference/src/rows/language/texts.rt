@@ -1,69 +1,64 @@
 //! Texts within the limits, their lines, and slices of them.
 
-use crate::rows::texts::{bracketed, letters, number};
+use crate::rows::line::Line;
+use crate::rows::texts::{letters, number, u8_of};
 use ps_text::{LineTable, Source, Span};
-use std::alloc::{AllocError, Global};
+use std::alloc::Global;
 
-/// Whether a text of one byte, over and over, is within the limits. The row has the byte's code, and how many there are.
-pub(crate) fn length(alloc: Global, row: &[u8]) -> Result<String, AllocError> {
+/// Puts whether a text of one byte, over and over, is within the limits. The row has the byte's code, and how many there are.
+pub(crate) fn put_length(alloc: Global, line: &mut Line, row: &[u8]) {
     let mut words = letters(row).split(' ');
-    let byte = u8::try_from(number(words.next())).unwrap_or(0);
+    let byte = u8_of(words.next().unwrap_or(""));
     let count = number(words.next()) as usize;
-    let bytes = vec![in alloc; byte; count]?;
+    let Ok(bytes) = vec![in alloc; byte; count] else {
+        return line.fall_short();
+    };
     match Source::new(&bytes) {
-        Ok(_) => String::from_str(alloc, "accepted"),
+        Ok(_) => line.word("accepted"),
         Err(refusal) => {
-            let number = refusal.number();
-            format!(in alloc; "{number} {refusal}")
+            line.numbered("", u64::from(refusal.number()));
+            line.valued(" ", &refusal);
         }
     }
 }
 
-/// How many bytes a text has, and the line of each of its offsets and of its end: as the text counts it, and by a table.
-pub(crate) fn lines(alloc: Global, text: &[u8]) -> Result<String, AllocError> {
+/// Puts how many bytes a text has and holds, and the line of each of its offsets and of its end: as the text counts it, and by a table.
+pub(crate) fn put_lines(alloc: Global, line: &mut Line, text: &[u8]) {
     let Ok(source) = Source::new(text) else {
-        return String::from_str(alloc, "no source");
+        return line.word("no source");
     };
-    let mut line = size(alloc, &source)?;
-    put_counted(&mut line, &source)?;
-    line.push_str(", by the table")?;
-    put_found(alloc, &mut line, &source)?;
-    Ok(line)
-}
-
-/// How many bytes a text has, and holds.
-fn size(alloc: Global, source: &Source) -> Result<String, AllocError> {
-    let length = source.len();
-    let held = source.bytes().len();
-    let kind = if source.is_empty() { "empty, " } else { "" };
-    format!(in alloc; "{kind}{length} bytes, {held} held, lines")
+    line.word_if("empty, ", source.is_empty());
+    line.numbered("", u64::from(source.len()));
+    line.numbered(" bytes, ", source.bytes().len() as u64);
+    line.word(" held, lines");
+    put_counted(line, &source);
+    line.word(", by the table");
+    put_found(alloc, line, &source);
 }
 
 /// Puts the lines of offsets as the text counts them.
-fn put_counted(line: &mut String, source: &Source) -> Result<(), AllocError> {
+fn put_counted(line: &mut Line, source: &Source) {
     for offset in 0..=source.len() {
-        let number = source.line_of(offset);
-        write!(line, " {number}")?;
+        line.listed(u64::from(source.line_of(offset)));
     }
-    Ok(())
 }
 
 /// Puts the lines of offsets as a table finds them.
-fn put_found(alloc: Global, line: &mut String, source: &Source) -> Result<(), AllocError> {
-    let table = LineTable::new(alloc, source)?;
+fn put_found(alloc: Global, line: &mut Line, source: &Source) {
+    let Ok(table) = LineTable::new(alloc, source) else {
+        return line.fall_short();
+    };
     for offset in 0..=source.len() {
-        let number = table.line_of(offset);
-        write!(line, " {number}")?;
+        line.listed(u64::from(table.line_of(offset)));
     }
-    Ok(())
 }
 
-/// A slice of a text, in brackets. The row has where it begins, where it ends, and the text.
-pub(crate) fn slice(alloc: Global, row: &[u8]) -> Result<String, AllocError> {
+/// Puts a slice of a text, in brackets. The row has where it begins, where it ends, and the text.
+pub(crate) fn put_slice(line: &mut Line, row: &[u8]) {
     let mut words = letters(row).splitn(3, ' ');
     let (from, to) = (number(words.next()), number(words.next()));
     let text = words.next().unwrap_or("").as_bytes();
-    bracketed(alloc, slice_of(text, from, to))
+    line.bracketed(slice_of(text, from, to));
 }
 
 /// A slice of a text, empty where there is none.

@@ -1,15 +1,15 @@
 //! Tokens, and what they stand for.
 
-use crate::rows::language::front::refused;
-use crate::rows::language::words::{or_none, put_space};
-use crate::rows::texts::{letters, letters_of};
+use crate::rows::language::front::put_refusal;
+use crate::rows::line::Line;
+use crate::rows::texts::letters;
 use ps_build::Refusal;
 use ps_regions::refusal::CheckRefusal;
 use ps_scan::{
     Token, is_same_name, name_spelling, number_value, scan, string_length, string_value,
 };
 use ps_text::Source;
-use std::alloc::{AllocError, Global};
+use std::alloc::Global;
 
 /// What is asked of tokens.
 #[derive(Clone, Copy)]
@@ -20,68 +20,62 @@ pub(crate) enum Asked {
     Spans,
 }
 
-fn put_token(shown: &mut String, token: Token, asked: Asked) -> Result<(), AllocError> {
-    let kind = token.kind;
-    let (from, to) = (token.span.from, token.span.to);
-    put_space(shown)?;
+fn put_token(line: &mut Line, token: Token, asked: Asked) {
+    line.space();
     match asked {
-        Asked::Kinds => write!(shown, "{kind:?}"),
-        Asked::Spans => write!(shown, "{from}-{to}"),
+        Asked::Kinds => line.seen("", &token.kind),
+        Asked::Spans => {
+            line.numbered("", u64::from(token.span.from));
+            line.numbered("-", u64::from(token.span.to));
+        }
     }
 }
 
-fn told(alloc: Global, tokens: &[Token], asked: Asked) -> Result<String, AllocError> {
-    let mut shown = String::new(alloc);
-    for token in tokens {
-        put_token(&mut shown, *token, asked)?;
-    }
-    or_none(alloc, shown)
-}
-
-/// What is asked of a text's tokens, or the refusal.
-pub(crate) fn tokens(alloc: Global, text: &[u8], asked: Asked) -> Result<String, AllocError> {
+/// Puts what is asked of a text's tokens, or the refusal.
+pub(crate) fn put_tokens(alloc: Global, line: &mut Line, text: &[u8], asked: Asked) {
     let Ok(source) = Source::new(text) else {
-        return String::from_str(alloc, "no source");
+        return line.word("no source");
     };
     match scan(alloc, &source) {
-        Ok(tokens) => told(alloc, &tokens, asked),
-        Err(refusal) => refused(alloc, Refusal::from(refusal)),
+        Ok(tokens) => {
+            for token in &tokens {
+                put_token(line, *token, asked);
+            }
+            line.none_if_empty();
+        }
+        Err(refusal) => put_refusal(line, Refusal::from(refusal)),
     }
 }
 
-/// What a string stands for, and its length.
-fn string(alloc: Global, literal: &[u8]) -> Result<String, AllocError> {
-    let characters = string_value(alloc, literal)?;
-    let shown = letters_of(alloc, &characters)?;
-    let length = string_length(literal);
-    format!(in alloc; "{shown}, {length} characters")
+/// Puts what a string stands for, and its length.
+fn put_string(alloc: Global, line: &mut Line, literal: &[u8]) {
+    line.made(string_value(alloc, literal));
+    line.numbered(", ", string_length(literal) as u64);
+    line.word(" characters");
 }
 
-fn same(alloc: Global, names: &str) -> Result<String, AllocError> {
+fn put_same(line: &mut Line, names: &str) {
     let (a, b) = names.split_once(' ').unwrap_or(("", ""));
     let is_same = is_same_name(a.as_bytes(), b.as_bytes());
-    String::from_str(alloc, if is_same { "yes" } else { "no" })
+    line.word(if is_same { "yes" } else { "no" });
 }
 
-fn out_of_memory(alloc: Global) -> Result<String, AllocError> {
+fn put_out_of_memory(line: &mut Line) {
     let refusal = CheckRefusal::OutOfMemory;
-    let number = refusal.number();
-    let has_line = refusal.line().is_some();
-    format!(in alloc; "{number} {refusal}, with a line: {has_line}")
+    line.numbered("", u64::from(refusal.number()));
+    line.valued(" ", &refusal);
+    line.valued(", with a line: ", &refusal.line().is_some());
 }
 
-/// What a word of a row stands for, by the word before it.
-pub(crate) fn value(alloc: Global, row: &[u8]) -> Result<String, AllocError> {
+/// Puts what a word of a row stands for, by the word before it.
+pub(crate) fn put_value(alloc: Global, line: &mut Line, row: &[u8]) {
     let (what, rest) = letters(row).split_once(' ').unwrap_or(("", ""));
     match what {
-        "number" => {
-            let value = number_value(rest.as_bytes());
-            format!(in alloc; "{value}")
-        }
-        "string" => string(alloc, rest.as_bytes()),
-        "name" => letters_of(alloc, &name_spelling(alloc, rest.as_bytes())?),
-        "same" => same(alloc, rest),
-        "refusal" => out_of_memory(alloc),
-        _ => String::from_str(alloc, "no such word"),
+        "number" => line.numbered("", u64::from(number_value(rest.as_bytes()))),
+        "string" => put_string(alloc, line, rest.as_bytes()),
+        "name" => line.made(name_spelling(alloc, rest.as_bytes())),
+        "same" => put_same(line, rest),
+        "refusal" => put_out_of_memory(line),
+        _ => line.word("no such word"),
     }
 }

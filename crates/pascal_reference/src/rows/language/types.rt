@@ -1,47 +1,27 @@
 //! Types: how two are related, their sizes, and the fields of records.
 
-use crate::rows::language::words::put_space;
-use crate::rows::texts::put_parts;
+use crate::rows::line::Line;
 use ps_tree::types::{Fields, Ty, assignable, compatible};
-use std::alloc::{AllocError, Global};
 
-/// How the type of a value and that of a variable are related.
-pub(crate) fn relation(alloc: Global, value: &Ty, variable: &Ty) -> Result<String, AllocError> {
-    let forth = if compatible(value, variable) {
-        "compatible"
-    } else {
-        "incompatible"
-    };
-    let back = if compatible(variable, value) == compatible(value, variable) {
-        ""
-    } else {
-        ", but not the other way round"
-    };
-    let to = if assignable(value, variable) {
-        ", assignable"
-    } else {
-        ""
-    };
-    let from = if assignable(variable, value) {
-        ", assignable back"
-    } else {
-        ""
-    };
-    let mut line = String::new(alloc);
-    put_parts(&mut line, &[forth, back, to, from])?;
-    Ok(line)
+/// Puts how the type of a value and that of a variable are related.
+pub(crate) fn put_relation(line: &mut Line, value: &Ty, variable: &Ty) {
+    let is_compatible = compatible(value, variable);
+    let is_one_way = compatible(variable, value) != is_compatible;
+    line.word_if("in", !is_compatible);
+    line.word("compatible");
+    line.word_if(", but not the other way round", is_one_way);
+    line.word_if(", assignable", assignable(value, variable));
+    line.word_if(", assignable back", assignable(variable, value));
 }
 
-/// The cells and bytes of types.
-pub(crate) fn sizes(alloc: Global, types: &[Ty]) -> Result<String, AllocError> {
-    let mut shown = String::new(alloc);
+/// Puts the cells and bytes of types.
+pub(crate) fn put_sizes(line: &mut Line, types: &[Ty]) {
     for ty in types {
-        let cells = ty.cells();
-        let bytes = ty.bytes();
-        put_space(&mut shown)?;
-        write!(shown, "{cells} cells, {bytes} bytes")?;
+        line.space();
+        line.valued("", &ty.cells());
+        line.valued(" cells, ", &ty.bytes());
+        line.word(" bytes");
     }
-    Ok(shown)
 }
 
 fn form(ty: &Ty) -> &'static str {
@@ -56,29 +36,25 @@ fn form(ty: &Ty) -> &'static str {
 }
 
 /// Puts the field of a name: its place and the form of its type.
-fn put_field(line: &mut String, fields: &Fields, name: &str) -> Result<(), AllocError> {
+fn put_field(line: &mut Line, fields: &Fields, name: &str) {
+    line.word(name);
     match fields.find(name.as_bytes()) {
-        None => write!(line, "{name}: none, "),
+        None => line.word(": none, "),
         Some((place, ty)) => {
-            let form = form(ty);
-            write!(line, "{name}: {place} {form}, ")
+            line.valued(": ", &place);
+            line.words(&[" ", form(ty), ", "]);
         }
     }
 }
 
-fn fields_of(alloc: Global, fields: &Fields) -> Result<String, AllocError> {
-    let mut shown = String::new(alloc);
+/// Puts the fields a, b, c, and the one without a name, of the first type.
+pub(crate) fn put_fields(line: &mut Line, types: &[Ty]) {
+    let Some(Ty::Record { fields, .. }) = types.first() else {
+        return line.word("no record");
+    };
     for name in ["a", "b", "c", ""] {
-        put_field(&mut shown, fields, name)?;
+        put_field(line, fields, name);
     }
-    let count = fields.types().len();
-    format!(in alloc; "{shown}{count} types")
-}
-
-/// The fields a, b, c, and the one without a name, of the first type.
-pub(crate) fn fields(alloc: Global, types: &[Ty]) -> Result<String, AllocError> {
-    match types.first() {
-        Some(Ty::Record { fields, .. }) => fields_of(alloc, fields),
-        _ => String::from_str(alloc, "no record"),
-    }
+    line.numbered("", fields.types().len() as u64);
+    line.word(" types");
 }
