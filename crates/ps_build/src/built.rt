@@ -12,7 +12,7 @@ use crate::making::{code_made, image_made};
 use crate::refusal::Refusal;
 use ps_accepts::{accepted_are_formed, accepted_fit};
 use ps_check::check;
-use ps_parse::parse;
+use ps_parse::{parse, release};
 use ps_scan::scan;
 use ps_text::Source;
 use ps_tree::program::Checked;
@@ -70,7 +70,9 @@ fn program_of(alloc: Global, text: &[u8]) -> Result<Checked, Refusal>
         Ok(tree) => tree,
         Err(refusal) => return Err(Refusal::from(refusal)),
     };
-    match check(alloc, &source, &tree) {
+    let checked = check(alloc, &source, &tree);
+    release(tree);
+    match checked {
         Ok(checked) => Ok(checked),
         Err(refusal) => Err(Refusal::from(refusal)),
     }

@@ -11,4 +11,4 @@ mod statement;
 mod types;
 
 pub use error::ParseRefusal;
-pub use public::parse;
+pub use public::{parse, release};

@@ -40,6 +40,11 @@ pub fn parse(alloc: Global, source: &Source, tokens: &[Token]) -> Result<Program
     }
 }
 
+/// Lets a tree go. That each of its parts is let go is proved here, once, and not in the crates that hand a tree over.
+pub fn release(tree: Program) {
+    drop(tree);
+}
+
 /// The program that all tokens are.
 fn whole_program(alloc: Global, text: &[u8], tokens: &[Token]) -> Result<Program, Fault>
     ensures derives { IfOk result (IsTreeOf text.now tokens.now) }

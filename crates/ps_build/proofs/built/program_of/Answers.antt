@@ -29,8 +29,8 @@ pub returns-clause-err : goal.returns-clause-err
 returns-clause-err c =
     let source = c.in_ok-source.ensures.source in
     let tokens = c.deref.ensures.value in
-    subst (λ r. IsRefused c.args.text.now r) (sym c.from-in-Err-check.ensures) (
-    subst (λ text. IsRefused text (of_check c.in-Err-check.refusal)) source (
+    subst (λ r. IsRefused c.args.text.now r) (sym c.from-in-Err-checked.ensures) (
+    subst (λ text. IsRefused text (of_check c.in-Err-checked.refusal)) source (
     no_program
     c.in_ok-source.source
     c.deref.result.now
@@ -40,8 +40,8 @@ returns-clause-err c =
     (λ other h. c.in_ok-tokens.ensures.only other h ∙ sym tokens)
     c.in-Ok.ensures.derives
     c.in-Ok.ensures.only
-    c.in-Err-check.refusal
-    c.in-Err-check.ensures.err
-    c.in-Err-check.ensures.told
+    c.in-Err-checked.refusal
+    c.in-Err-checked.ensures.err
+    c.in-Err-checked.ensures.told
     )
     )
