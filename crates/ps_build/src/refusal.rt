@@ -12,80 +12,65 @@ use risc_emit::emit::EmitRefusal;
 use risc_image::ImageRefusal;
 use risc_load::LoadRefusal;
 use std::alloc::{AllocError, AllocFailed};
+use std::fmt;
 use thiserror::Error;
 
 /// Why a text, an image or a budget is refused. Faults of the tokens, the syntax and the rules of a text have its line, counted from 1.
+/// It is shown by its name.
 #[derive(Clone, Copy, Debug, Error)]
 pub enum Refusal {
     /// A text of more than 1,048,576 bytes.
-    #[error("TooLong")]
     TooLong,
     /// A text of more than 65,535 lines, which isn't too long.
-    #[error("TooManyLines")]
     TooManyLines,
     /// A growth of memory was refused.
-    #[error("OutOfMemory")]
     OutOfMemory,
     /// A byte that begins no token and no separator.
-    #[error("BadByte")]
     BadByte { line: u32 },
     /// A comment without its end.
-    #[error("OpenComment")]
     OpenComment { line: u32 },
     /// A string that meets the end of its line or of the text.
-    #[error("OpenString")]
     OpenString { line: u32 },
     /// A string without a character.
-    #[error("EmptyString")]
     EmptyString { line: u32 },
     /// Names, word-symbols or numbers that touch.
-    #[error("SeparatorMissing")]
     SeparatorMissing { line: u32 },
     /// A number above 2147483647.
-    #[error("NumberTooLarge")]
     NumberTooLarge { line: u32 },
     /// A real number.
-    #[error("RealNumber")]
     RealNumber { line: u32 },
     /// No program derives from the tokens: the first token, counted from 0, that no derivation can take.
-    #[error("NotAProgram")]
     NotAProgram { line: u32, token: u32 },
     /// A program that is more than 500 constructions deep.
-    #[error("TooDeep")]
     TooDeep { line: u32 },
     /// A construction that the profile leaves out.
-    #[error("NotInProfile")]
     NotInProfile { line: u32 },
     /// A rule of the language that is broken.
-    #[error("{rule}")]
     Broken { rule: Rule, line: u32 },
     /// Code of more than 1,048,576 words.
-    #[error("CodeTooLarge")]
     CodeTooLarge,
     /// A placement of temporaries that isn't valid.
-    #[error("BadPlacement")]
     BadPlacement,
     /// An image that doesn't begin as one.
-    #[error("Magic")]
     Magic,
     /// An image with fewer bytes than it tells.
-    #[error("Truncated")]
     Truncated,
     /// An image with more bytes than it tells.
-    #[error("Trailing")]
     Trailing,
     /// An image, or a count in it, above its limit.
-    #[error("TooLarge")]
     TooLarge,
     /// An image with a wrong number in its header or its tables.
-    #[error("BadTable")]
     BadTable,
     /// Code, globals, heap and stack of more than 16,777,152 bytes.
-    #[error("BudgetTooLarge")]
     BudgetTooLarge,
     /// A stack or a heap that isn't a multiple of 4.
-    #[error("BudgetUneven")]
     BudgetUneven,
+}
+
+impl fmt::Display for Refusal {
+    fn fmt<W: fmt::Write>(&self, f: &mut fmt::Formatter<W>) -> fmt::Result {
+        f.write_str(self.name())
+    }
 }
 
 // The name of the refusal that tells that a rule is broken.
