@@ -200,7 +200,7 @@ fn put_sum(
     finish(frame, pieces, &[fails], to)
 }
 
-// R15 takes 0 where the product has 32 bits: H is 0, or all ones above a negative low word.
+// The product in its home, after a test that it has 32 bits.
 fn put_product(
     frame: &Frame<'_>,
     pieces: &mut Pieces,
@@ -213,6 +213,7 @@ fn put_product(
     ensures { OnOk result (pieces.new ≡ pieces.old ++ form.multiply_form (context_of frame.now) frame.now.number to left operand error line) }
 {
     put_operate(frame, pieces, Operation::Mul, to, left, operand)?;
+    // R15 takes 0 where the product has 32 bits: H is 0, or all ones above a negative low word.
     let beyond = [
         Piece::Plain(skip(Condition::Plus, 3)),
         Piece::Plain(Instr::MoveHigh { to: r15() }),
