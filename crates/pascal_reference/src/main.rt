@@ -8,7 +8,6 @@
 //! what single calls of the compiler's layers give.
 #![tactic(auto)]
 
-mod front;
 mod phases;
 mod rows;
 mod runs;

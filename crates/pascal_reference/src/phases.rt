@@ -1,8 +1,9 @@
 // The phases of the compiler, one after another, up to one of them: `bench/phases` tells their shares of the time by it.
 
-use crate::front::{checked, parsed};
+use language_rows::{checked, parsed};
 use pascal_cli::{TEXT_LIMIT, read_standard_input};
 use ps_build::{Refusal, code_of_text};
+use ps_parse::release;
 use ps_scan::scan;
 use ps_text::Source;
 use risc_alloc::placer::Placer;
@@ -47,7 +48,7 @@ fn take_before_checker(alloc: Global, text: &[u8], last: Phase) -> Result<(), Re
     let source = Source::new(text)?;
     match last {
         Phase::Scan => drop(scan(alloc, &source)?),
-        Phase::Parse => drop(parsed(alloc, &source)?),
+        Phase::Parse => release(parsed(alloc, &source)?),
         _ => {}
     }
     Ok(())

@@ -1,7 +1,7 @@
 // Runs of a text: by the two slow runners, that of its meaning and that of its three-address code, and by an image with a slot of the frame for
 // each temporary.
 
-use crate::front::checked;
+use language_rows::checked;
 use ps_build::{
     Budget as ImageBudget, Outcome, Refusal, Trail, build_with, code_of_text, run_image,
 };
@@ -167,8 +167,8 @@ fn ran_of(alloc: Global, report: code::Report) -> Result<Ran, Fault> {
     })
 }
 
-/// The end of a run of code, as that of a run of the meaning.
-pub fn ending_of(ending: code::Ending) -> Result<Ending, Fault> {
+// The end of a run of code, as that of a run of the meaning.
+fn ending_of(ending: code::Ending) -> Result<Ending, Fault> {
     match ending {
         code::Ending::Normal => Ok(Ending::Normal),
         code::Ending::Error { number, line } => Ok(Ending::Error {

@@ -8,8 +8,11 @@
 //! In a text `~` stands for the end of a line, and `\` with two hexadecimal digits for a byte; so they do in an answer.
 #![tactic(auto)]
 
+mod line;
 mod text;
+pub mod words;
 
+pub use line::Line;
 use std::alloc::{AllocError, Global};
 use std::io::{self, BufRead, BufReader};
 use text::{escaped, text_of};

@@ -6,10 +6,10 @@ pub(crate) mod programs;
 mod reports;
 mod transfers;
 
-use crate::rows::line::Line;
-use crate::rows::texts::letters;
 pub(crate) use programs::{Job, untold};
 use std::alloc::{AllocError, Global};
+use tables::Line;
+use tables::words::letters;
 
 /// What is asked of a row.
 #[derive(Clone, Copy)]

@@ -1,8 +1,8 @@
 //! The words of the command line.
 
-use crate::rows::line::Line;
 use pascal_cli::{CommandFault, Job, Task, command};
 use std::alloc::{AllocError, Global};
+use tables::Line;
 
 /// What a task is, in two words and the names of its files behind them.
 fn parts_of(task: Task<'_>) -> [&str; 4] {

@@ -1,11 +1,11 @@
 //! Programs that are built and run, and images that are run.
 
-use crate::rows::line::Line;
-use crate::rows::texts::{u32_of, u64_of};
 use pascal_cli::message;
 use ps_build::{Budget, Built, Outcome, Refusal, build, go, list, run_image};
 use risc_machine::{Fused, Streams};
 use std::alloc::{AllocError, Global};
+use tables::Line;
+use tables::words::{u32_of, u64_of};
 
 /// What is told of a run: its budget, its steps, and the put that fails.
 #[derive(Clone, Copy)]

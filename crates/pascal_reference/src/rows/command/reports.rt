@@ -1,10 +1,10 @@
 //! Statuses and messages.
 
-use crate::rows::line::Line;
-use crate::rows::texts::number;
 use pascal_cli::{message, status};
 use ps_build::{FaultKind, Outcome, Refusal, Rule, Trail};
 use std::alloc::Global;
+use tables::Line;
+use tables::words::number;
 
 fn refusal(name: &str, line: u32) -> Refusal {
     match name {

@@ -2,13 +2,13 @@
 
 use crate::rows::command::devices::{Drip, Narrow};
 use crate::rows::command::programs::put_end;
-use crate::rows::line::Line;
-use crate::rows::texts::{number, u32_of};
 use pascal_cli::{Counted, ReadFault, put_all, read_up_to};
 use ps_build::{Budget, go};
 use risc_machine::Streams;
 use std::alloc::Global;
 use std::io;
+use tables::Line;
+use tables::words::{number, u32_of};
 
 /// Puts what a writer takes of ten digits. The row has the room that it has, and whether it fails then or takes no byte.
 pub(crate) fn put_taken(alloc: Global, line: &mut Line, row: &str) {

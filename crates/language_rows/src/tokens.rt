@@ -1,8 +1,6 @@
 //! Tokens, and what they stand for.
 
-use crate::rows::language::front::put_refusal;
-use crate::rows::line::Line;
-use crate::rows::texts::letters;
+use crate::front::put_refusal;
 use ps_build::Refusal;
 use ps_regions::refusal::CheckRefusal;
 use ps_scan::{
@@ -10,10 +8,12 @@ use ps_scan::{
 };
 use ps_text::Source;
 use std::alloc::Global;
+use tables::Line;
+use tables::words::letters;
 
 /// What is asked of tokens.
 #[derive(Clone, Copy)]
-pub(crate) enum Asked {
+pub enum Asked {
     /// Their kinds.
     Kinds,
     /// Where they begin, and the offsets behind their ends.

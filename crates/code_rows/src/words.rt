@@ -1,9 +1,9 @@
 //! Words of the processor.
 
-use crate::rows::code::texts::hexadecimal;
-use crate::rows::line::Line;
+use crate::texts::hexadecimal;
 use risc_word::{decode, encode, print};
 use std::alloc::Global;
+use tables::Line;
 
 /// Puts the printed form of the instruction that a word is, the word of that instruction again, and its parts.
 pub(crate) fn put_decoded(alloc: Global, line: &mut Line, row: &str) {

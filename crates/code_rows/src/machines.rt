@@ -1,9 +1,9 @@
 //! Machines, and what they hold.
 
-use crate::rows::line::Line;
 use risc_machine::{Flags, Fused, Machine, OutOfMemory};
 use std::alloc::Global;
 use std::fmt::Write;
+use tables::Line;
 
 /// A console with no input and no room.
 pub(crate) fn closed(alloc: Global) -> Result<Fused, OutOfMemory> {

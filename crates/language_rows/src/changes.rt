@@ -1,6 +1,5 @@
 //! What the statements of a program change.
 
-use crate::rows::line::Line;
 use ps_changes::assigned::assigns;
 use ps_changes::control::control_variables;
 use ps_changes::place::Entries;
@@ -8,6 +7,7 @@ use ps_changes::threat::threat;
 use ps_tree::program::Checked;
 use ps_tree::tree::Statement;
 use std::alloc::Global;
+use tables::Line;
 
 /// Programs of these tables have fewer entries in each block.
 const ENTRIES: u32 = 10;

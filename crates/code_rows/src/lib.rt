@@ -1,4 +1,5 @@
-// What three-address code, its homes, and the words, the machine and the images of the processor say of the rows of their tables.
+//! Rows of tables: what three-address code, its homes, and the words, the machine and the images of the processor say of them.
+#![tactic(auto)]
 
 mod devices;
 mod fields;
@@ -7,20 +8,20 @@ mod images;
 mod instructions;
 mod job;
 mod machines;
-pub(crate) mod programs;
+pub mod programs;
 mod runs;
 mod steps;
 mod texts;
 mod words;
 
-use crate::rows::line::Line;
-use crate::rows::texts::letters;
-pub(crate) use job::{Job, untold};
+pub use job::{Job, untold};
 use std::alloc::{AllocError, Global};
+use tables::Line;
+use tables::words::letters;
 
 /// What is asked of a row.
 #[derive(Clone, Copy)]
-pub(crate) enum Table {
+pub enum Table {
     Programs(programs::Asked),
     Words,
     Steps,
@@ -34,7 +35,7 @@ pub(crate) enum Table {
 }
 
 /// Puts what is to be shown of a row. The error is that memory was short.
-pub(crate) fn answer(
+pub fn answer(
     alloc: Global,
     line: &mut Line,
     table: Table,

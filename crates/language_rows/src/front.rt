@@ -1,13 +1,14 @@
 //! What the parser makes of program texts.
 
-use crate::front::parsed;
-use crate::rows::language::blocks;
-use crate::rows::language::shown::Shown;
-use crate::rows::line::Line;
+use crate::blocks;
+use crate::program::parsed;
+use crate::shown::Shown;
 use ps_build::Refusal;
+use ps_parse::release;
 use ps_syntax::{Program, height};
 use ps_text::Source;
 use std::alloc::Global;
+use tables::Line;
 
 /// Puts why a text is refused.
 pub(crate) fn put_refusal(line: &mut Line, refusal: Refusal) {
@@ -21,7 +22,7 @@ pub(crate) fn put_refusal(line: &mut Line, refusal: Refusal) {
 
 /// What is asked of a text's tree.
 #[derive(Clone, Copy)]
-pub(crate) enum Asked {
+pub enum Asked {
     /// Its height.
     Height,
     /// Its statements.
@@ -50,7 +51,7 @@ pub(crate) fn answer(alloc: Global, line: &mut Line, text: &[u8], asked: Asked) 
     match parsed(alloc, &source) {
         Ok(program) => {
             put_asked(alloc, line, &source, &program, asked);
-            drop(program);
+            release(program);
         }
         Err(refusal) => put_refusal(line, refusal),
     }

@@ -1,11 +1,11 @@
 //! The statements of a tree, with brackets round what belongs together.
 
-use crate::rows::line::Line;
 use ps_syntax::{
     Adding, Constant, Direction, Element, Expr, Factor, Member, Multiplying, Parameter, Relation,
     Selector, Sign, Simple, Statement, Term, Variable,
 };
 use ps_text::Span;
+use tables::Line;
 
 /// A text, and the line on which its tree is shown.
 #[derive(Drop)]

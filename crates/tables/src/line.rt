@@ -5,7 +5,7 @@ use std::fmt::{self, Debug, Display, Write};
 
 /// A line, put together piece by piece. What memory is short for is left out; that is told when the line is.
 #[derive(Drop)]
-pub(crate) struct Line {
+pub struct Line {
     text: String,
     is_short: bool,
 }
@@ -20,7 +20,7 @@ impl fmt::Write for Line {
 
 impl Line {
     /// A line on which nothing stands.
-    pub(crate) fn new(alloc: Global) -> Line {
+    pub fn new(alloc: Global) -> Line {
         Line {
             text: String::new(alloc),
             is_short: false,
@@ -28,60 +28,60 @@ impl Line {
     }
 
     /// The text of the line, if memory was never short for it.
-    pub(crate) fn told(self) -> Result<String, AllocError> {
+    pub fn told(self) -> Result<String, AllocError> {
         let Line { text, is_short } = self;
         if is_short { Err(AllocError) } else { Ok(text) }
     }
 
     /// Notes that memory was short for what should stand here.
-    pub(crate) fn fall_short(&mut self) {
+    pub fn fall_short(&mut self) {
         self.is_short = true;
     }
 
     /// Puts a word.
-    pub(crate) fn word(&mut self, word: &str) {
+    pub fn word(&mut self, word: &str) {
         if self.text.push_str(word).is_err() {
             self.is_short = true;
         }
     }
 
     /// Puts words.
-    pub(crate) fn words(&mut self, words: &[&str]) {
+    pub fn words(&mut self, words: &[&str]) {
         for word in words {
             self.word(word);
         }
     }
 
     /// Puts a word where it is to stand.
-    pub(crate) fn word_if(&mut self, word: &str, is_put: bool) {
+    pub fn word_if(&mut self, word: &str, is_put: bool) {
         if is_put {
             self.word(word);
         }
     }
 
     /// Puts a letter.
-    pub(crate) fn letter(&mut self, letter: char) {
+    pub fn letter(&mut self, letter: char) {
         if self.text.push(letter).is_err() {
             self.is_short = true;
         }
     }
 
     /// Puts bytes, each as the letter with its code.
-    pub(crate) fn bytes(&mut self, bytes: &[u8]) {
+    pub fn bytes(&mut self, bytes: &[u8]) {
         for byte in bytes {
             self.letter(char::from(*byte));
         }
     }
 
     /// Puts bytes so, in brackets.
-    pub(crate) fn bracketed(&mut self, bytes: &[u8]) {
+    pub fn bracketed(&mut self, bytes: &[u8]) {
         self.word("[");
         self.bytes(bytes);
         self.word("]");
     }
 
     /// Puts bytes if there was memory for them.
-    pub(crate) fn made(&mut self, bytes: Result<Vec<u8>, AllocError>) {
+    pub fn made(&mut self, bytes: Result<Vec<u8>, AllocError>) {
         match bytes {
             Ok(bytes) => self.bytes(&bytes),
             Err(AllocError) => self.is_short = true,
@@ -89,7 +89,7 @@ impl Line {
     }
 
     /// Puts a text if there was memory for it.
-    pub(crate) fn text(&mut self, text: Result<String, AllocError>) {
+    pub fn text(&mut self, text: Result<String, AllocError>) {
         match text {
             Ok(text) => self.word(text.as_str()),
             Err(AllocError) => self.is_short = true,
@@ -97,44 +97,44 @@ impl Line {
     }
 
     /// Puts a space, unless nothing stands here.
-    pub(crate) fn space(&mut self) {
+    pub fn space(&mut self) {
         if !self.text.is_empty() {
             self.word(" ");
         }
     }
 
     /// Puts `none` where nothing stands.
-    pub(crate) fn none_if_empty(&mut self) {
+    pub fn none_if_empty(&mut self) {
         if self.text.is_empty() {
             self.word("none");
         }
     }
 
     /// Puts a word, and a value behind it as it is displayed.
-    pub(crate) fn valued<T: Display>(&mut self, word: &str, value: &T) {
+    pub fn valued<T: Display>(&mut self, word: &str, value: &T) {
         self.word(word);
         let _ = write!(self, "{value}");
     }
 
     /// Puts a word, and a number behind it.
-    pub(crate) fn numbered(&mut self, word: &str, number: u64) {
+    pub fn numbered(&mut self, word: &str, number: u64) {
         self.valued(word, &number);
     }
 
     /// Puts a number of a list: behind a space, unless nothing stands here.
-    pub(crate) fn listed(&mut self, number: u64) {
+    pub fn listed(&mut self, number: u64) {
         self.space();
         self.numbered("", number);
     }
 
     /// Puts a word, and a value behind it as a programmer sees it.
-    pub(crate) fn seen<T: Debug>(&mut self, word: &str, value: &T) {
+    pub fn seen<T: Debug>(&mut self, word: &str, value: &T) {
         self.word(word);
         let _ = write!(self, "{value:?}");
     }
 
     /// Puts a word, and the eight hexadecimal digits of a number behind it.
-    pub(crate) fn coded(&mut self, word: &str, number: u32) {
+    pub fn coded(&mut self, word: &str, number: u32) {
         self.word(word);
         let _ = write!(self, "{number:08X}");
     }

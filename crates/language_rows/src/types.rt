@@ -1,7 +1,7 @@
 //! Types: how two are related, their sizes, and the fields of records.
 
-use crate::rows::line::Line;
 use ps_tree::types::{Fields, Ty, assignable, compatible};
+use tables::Line;
 
 /// Puts how the type of a value and that of a variable are related.
 pub(crate) fn put_relation(line: &mut Line, value: &Ty, variable: &Ty) {

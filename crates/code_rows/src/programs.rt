@@ -1,20 +1,18 @@
 //! Three-address code: whether it keeps its invariant, its printed form, its runs, and the homes of its temporaries.
 
-use crate::rows::code::homes::{put_placement, put_verdict};
-use crate::rows::code::instructions::instruction;
-use crate::rows::code::job::Job;
-use crate::rows::code::texts::word;
-use crate::rows::endings::put_ending;
-use crate::rows::line::Line;
-use crate::rows::texts::u32_of;
-use crate::runs::ending_of;
+use crate::homes::{put_placement, put_verdict};
+use crate::instructions::instruction;
+use crate::job::Job;
+use crate::texts::word;
 use risc_alloc::placer::{EverySlot, Placer};
 use risc_alloc::scan::Scan;
 use std::alloc::{AllocError, Global};
+use tables::Line;
+use tables::words::u32_of;
 use tac_code::code::{Body, TacRaw, TacRoutine};
 use tac_code::print::print;
 use tac_code::tac::Tac;
-use tac_run::{Budget, Report, run};
+use tac_run::{Budget, Ending, Report, run};
 
 /// A routine with a frame of two words, which begins on line 3. Before a colon stand the counts of its parameters, of its temporaries and of the bytes of its scratch block; behind it
 /// its instructions, with `;` between them.
@@ -52,7 +50,7 @@ fn code(alloc: Global, row: &str) -> Result<Option<Tac>, AllocError> {
 
 /// What is asked of code.
 #[derive(Clone, Copy)]
-pub(crate) enum Asked {
+pub enum Asked {
     /// Whether it is code at all.
     Kept,
     /// Its printed form.
@@ -106,11 +104,23 @@ fn put_numbers(line: &mut Line, numbers: &[u16]) {
     }
 }
 
-fn put_report(line: &mut Line, report: &Report) {
-    match ending_of(report.ending) {
-        Ok(ending) => put_ending(line, ending),
-        Err(_) => line.word("stuck"),
+/// Puts how a run ends.
+fn put_ending(line: &mut Line, ending: Ending) {
+    match ending {
+        Ending::Normal => line.word("normal"),
+        Ending::Error { number, line: at } => {
+            line.numbered("error ", u64::from(number));
+            line.numbered(" at line ", u64::from(at));
+        }
+        Ending::OutOfStack { line: at } => line.numbered("stack at line ", u64::from(at)),
+        Ending::OutOfHeap { line: at } => line.numbered("heap at line ", u64::from(at)),
+        Ending::More => line.word("more"),
+        Ending::Stuck => line.word("stuck"),
     }
+}
+
+fn put_report(line: &mut Line, report: &Report) {
+    put_ending(line, report.ending);
     line.word(", calls");
     put_numbers(line, &report.calls);
     line.word(", transcript");

@@ -1,9 +1,9 @@
 //! Texts within the limits, their lines, and slices of them.
 
-use crate::rows::line::Line;
-use crate::rows::texts::{letters, number, u8_of};
 use ps_text::{LineTable, Source, Span};
 use std::alloc::Global;
+use tables::Line;
+use tables::words::{letters, number, u8_of};
 
 /// Puts whether a text of one byte, over and over, is within the limits. The row has the byte's code, and how many there are.
 pub(crate) fn put_length(alloc: Global, line: &mut Line, row: &[u8]) {

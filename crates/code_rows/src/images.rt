@@ -1,11 +1,11 @@
 //! Images, read, written and loaded.
 
-use crate::rows::code::job::Job;
-use crate::rows::code::runs::put_machine;
-use crate::rows::line::Line;
+use crate::job::Job;
+use crate::runs::put_machine;
 use risc_image::{CallRow, FrameRow, ImageView, Parts, write};
 use risc_load::{Budget, load};
 use std::alloc::{AllocError, Global};
+use tables::Line;
 
 /// Puts the parts of an image: its counts, a row of each table, what is found by a link, and the bytes of its code; or the number of its refusal.
 pub(crate) fn put_read(line: &mut Line, bytes: &[u8], job: &Job) {

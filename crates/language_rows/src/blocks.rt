@@ -1,8 +1,7 @@
 //! What the layers of the checker make of the block of a program, each called by itself. Of the required names only `integer`,
 //! `char` and `Boolean` are known here.
 
-use crate::rows::language::types::{put_fields, put_relation, put_sizes};
-use crate::rows::line::Line;
+use crate::types::{put_fields, put_relation, put_sizes};
 use ps_declare::declarations::declarations;
 use ps_declare::frame::{Declared, Frame};
 use ps_declare::points::add_block;
@@ -21,10 +20,11 @@ use ps_typing::expression::{expr_value, variable_place};
 use ps_typing::site::Site;
 use ps_typing::value::TypedValue;
 use std::alloc::{AllocError, Global};
+use tables::Line;
 
 /// What is asked of a block.
 #[derive(Clone, Copy)]
-pub(crate) enum Asked {
+pub enum Asked {
     /// How many names, domain types and variables it declares.
     Declarations,
     /// The sizes of its variables' types.

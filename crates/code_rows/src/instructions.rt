@@ -1,10 +1,10 @@
 //! Instructions of three-address code: a word that names the form, and then its fields in the order in which the form has them.
 
-use crate::rows::code::fields::{
+use crate::fields::{
     base, bit_operator, bytes, distance, error, integer, line, natural, operand, operands,
     operator, relation,
 };
-use crate::rows::code::texts::word;
+use crate::texts::word;
 use std::alloc::{AllocError, Global};
 use std::str::SplitWhitespace;
 use tac_code::code::Instruction;

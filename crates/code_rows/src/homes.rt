@@ -1,10 +1,10 @@
 //! Homes for the temporaries of three-address code.
 
-use crate::rows::line::Line;
-use crate::rows::texts::{u8_of, u32_of};
 use risc_alloc::homes::{Home, PlaceRefusal, Raw};
 use risc_alloc::placement::Placement;
 use std::alloc::{AllocError, Global};
+use tables::Line;
+use tables::words::{u8_of, u32_of};
 use tac_code::tac::Tac;
 
 /// The home that a word names: `r5` is a register, `s5` a slot.

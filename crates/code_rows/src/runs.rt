@@ -1,11 +1,11 @@
 //! Runs of the processor.
 
-use crate::rows::code::job::Job;
-use crate::rows::code::machines::{NOTHING, State, machine_of, memory_of, put_held, state_of};
-use crate::rows::code::texts::hexadecimals;
-use crate::rows::line::Line;
+use crate::job::Job;
+use crate::machines::{NOTHING, State, machine_of, memory_of, put_held, state_of};
+use crate::texts::hexadecimals;
 use risc_machine::{Fused, Machine, Stop, Streams, run};
 use std::alloc::{AllocError, Global};
+use tables::Line;
 
 /// A run by single steps.
 fn step_by_step(machine: &mut Machine, console: &mut Fused, limit: u64) -> Stop {

@@ -1,12 +1,12 @@
 //! Single steps of the processor.
 
-use crate::rows::code::machines::{closed, machine_of, memory_of, put_held, state_of};
-use crate::rows::code::texts::{hexadecimal, word};
-use crate::rows::line::Line;
-use crate::rows::texts::u32_of;
+use crate::machines::{closed, machine_of, memory_of, put_held, state_of};
+use crate::texts::{hexadecimal, word};
 use risc_machine::{Machine, run};
 use std::alloc::{AllocError, Global};
 use std::str::SplitWhitespace;
+use tables::Line;
+use tables::words::u32_of;
 
 // The word at address 4.
 const DATA: u32 = 0x8765_4380;

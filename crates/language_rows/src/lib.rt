@@ -1,23 +1,26 @@
-// What the front of the compiler, the checker's layers and the reference interpreter say of the texts of their tables.
+//! Rows of tables: what the front of the compiler, the checker's layers and the reference interpreter say of texts.
+#![tactic(auto)]
 
-pub(crate) mod blocks;
+pub mod blocks;
 mod changes;
-pub(crate) mod check;
-pub(crate) mod front;
+pub mod check;
+pub mod front;
+mod program;
 mod regions;
 mod runs;
 mod shown;
 mod texts;
-pub(crate) mod tokens;
+pub mod tokens;
 mod types;
 
-use crate::rows::line::Line;
-pub(crate) use runs::{Job, untold};
+pub use program::{checked, parsed};
+pub use runs::{Job, untold};
 use std::alloc::Global;
+use tables::Line;
 
 /// What is asked of a row's text.
 #[derive(Clone, Copy)]
-pub(crate) enum Table {
+pub enum Table {
     Lengths,
     Lines,
     Slices,
@@ -29,7 +32,7 @@ pub(crate) enum Table {
 }
 
 /// Puts what is to be shown of a row.
-pub(crate) fn answer(alloc: Global, line: &mut Line, table: Table, text: &[u8], job: &Job) {
+pub fn answer(alloc: Global, line: &mut Line, table: Table, text: &[u8], job: &Job) {
     match table {
         Table::Lengths => texts::put_length(alloc, line, text),
         Table::Lines => texts::put_lines(alloc, line, text),

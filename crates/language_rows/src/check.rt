@@ -1,16 +1,16 @@
 //! What the checker says of program texts, and what is asked of the programs that it accepts.
 
-use crate::front::checked;
-use crate::rows::language::changes::put_changes;
-use crate::rows::language::front::put_refusal;
-use crate::rows::language::runs::{Job, put_output, put_run, put_trail};
-use crate::rows::line::Line;
+use crate::changes::put_changes;
+use crate::front::put_refusal;
+use crate::program::checked;
+use crate::runs::{Job, put_output, put_run, put_trail};
 use ps_tree::program::Checked;
 use std::alloc::Global;
+use tables::Line;
 
 /// What is asked of a checked program.
 #[derive(Clone, Copy)]
-pub(crate) enum Asked {
+pub enum Asked {
     /// Whether there is one.
     Verdict,
     /// The nodes and the cells of each of its routines, and how many domain types it has.

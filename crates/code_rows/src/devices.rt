@@ -1,8 +1,8 @@
 //! A console over a reader and a writer that fail in mid-stream.
 
-use crate::rows::line::Line;
 use risc_machine::{Console, Streams};
 use std::io::{self, ErrorKind, Read, Write};
+use tables::Line;
 
 /// Its second read is an error; its second write takes no byte, and its fourth is an error.
 #[derive(Drop)]

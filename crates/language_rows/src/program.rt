@@ -2,7 +2,7 @@
 
 use ps_build::Refusal;
 use ps_check::check;
-use ps_parse::parse;
+use ps_parse::{parse, release};
 use ps_scan::scan;
 use ps_syntax::Program;
 use ps_text::Source;
@@ -21,6 +21,6 @@ pub fn checked(alloc: Global, text: &[u8]) -> Result<Checked, Refusal> {
     let source = Source::new(text)?;
     let program = parsed(alloc, &source)?;
     let checked = check(alloc, &source, &program);
-    drop(program);
+    release(program);
     Ok(checked?)
 }

@@ -1,8 +1,5 @@
 //! What the slow runner shows of runs, and how they end.
 
-use crate::rows::endings::put_ending;
-use crate::rows::line::Line;
-use crate::rows::texts::{number, u64_of};
 use ps_runner::ending::Ending;
 use ps_runner::run::{
     Budget, Ran, Refusal, TranscriptFault, output, reference, reference_to_depth, reference_within,
@@ -10,10 +7,12 @@ use ps_runner::run::{
 };
 use ps_tree::program::Checked;
 use std::alloc::{AllocError, Global};
+use tables::Line;
+use tables::words::{number, u64_of};
 
 /// What is told of a run: its input, its fuel, the levels that it may take, and its costs and budget if it has any.
 #[derive(Drop)]
-pub(crate) struct Job {
+pub struct Job {
     fuel: u64,
     levels: Option<u32>,
     is_within: bool,
@@ -25,7 +24,7 @@ pub(crate) struct Job {
 }
 
 /// A run of which nothing is told.
-pub(crate) fn untold(alloc: Global) -> Job {
+pub fn untold(alloc: Global) -> Job {
     Job {
         fuel: 1_000_000,
         levels: None,
@@ -50,7 +49,7 @@ fn add_costs(costs: &mut Vec<u32>, word: Option<&str>) -> Result<(), AllocError>
 
 impl Job {
     /// Takes what a line tells of the run.
-    pub(crate) fn tell(&mut self, word: &str, rest: &str, text: Vec<u8>) -> Result<(), AllocError> {
+    pub fn tell(&mut self, word: &str, rest: &str, text: Vec<u8>) -> Result<(), AllocError> {
         match word {
             "input" => self.input = text,
             "fuel" => self.fuel = u64_of(rest),
@@ -84,6 +83,20 @@ fn run(alloc: Global, program: &Checked, job: &Job) -> Result<Ran, Refusal> {
     match job.levels {
         None => reference_within(alloc, program, &budget, &job.input, job.fuel),
         Some(levels) => reference_to_depth(alloc, program, &budget, &job.input, job.fuel, levels),
+    }
+}
+
+/// Puts the end of a run.
+fn put_ending(line: &mut Line, ending: Ending) {
+    match ending {
+        Ending::Normal => line.word("normal"),
+        Ending::Error { number, line: at } => {
+            line.numbered("error ", u64::from(number));
+            line.numbered(" at line ", u64::from(at));
+        }
+        Ending::Stack { line: at } => line.numbered("stack at line ", u64::from(at)),
+        Ending::Heap { line: at } => line.numbered("heap at line ", u64::from(at)),
+        Ending::More => line.word("more"),
     }
 }
 

@@ -1,9 +1,9 @@
 //! The fields of instructions, as rows write them.
 
-use crate::rows::code::texts::word;
-use crate::rows::texts::{i32_of, u8_of, u16_of, u32_of, u64_of};
+use crate::texts::word;
 use std::alloc::{AllocError, Global};
 use std::str::SplitWhitespace;
+use tables::words::{i32_of, u8_of, u16_of, u32_of, u64_of};
 use tac_code::code::{Base, BitOperator, Constant, Operand, Operands, Operator, Relation};
 
 /// A temporary, or a number of bytes.

@@ -1,12 +1,12 @@
 //! The search for a name through two regions.
 
-use crate::rows::line::Line;
-use crate::rows::texts::letters;
 use ps_regions::meaning::Meaning;
 use ps_regions::scope::{Found, Lookup, Scope, find};
 use ps_scan::name_spelling;
 use ps_tree::names::Names;
 use std::alloc::{AllocError, Global};
+use tables::Line;
+use tables::words::letters;
 
 /// The names of a region, and what those before the place stand for.
 #[derive(Drop)]

@@ -1,13 +1,13 @@
 //! What is told of a row.
 
-use crate::rows::code::homes::home_of;
-use crate::rows::texts::{u16_of, u32_of, u64_of};
+use crate::homes::home_of;
 use risc_alloc::homes::Home;
 use std::alloc::{AllocError, Global};
+use tables::words::{u16_of, u32_of, u64_of};
 
 /// What is told of a row, by lines before it.
 #[derive(Drop)]
-pub(crate) struct Job {
+pub struct Job {
     /// The input of a run.
     pub(crate) input: Vec<u8>,
     /// The limits of the runs of one machine, in their order.
@@ -31,7 +31,7 @@ pub(crate) struct Job {
 }
 
 /// A row of which nothing is told.
-pub(crate) fn untold(alloc: Global) -> Job {
+pub fn untold(alloc: Global) -> Job {
     Job {
         input: Vec::new(alloc),
         limits: Vec::new(alloc),
@@ -50,7 +50,7 @@ pub(crate) fn untold(alloc: Global) -> Job {
 
 impl Job {
     /// Takes what a line tells.
-    pub(crate) fn tell(&mut self, word: &str, rest: &str, text: Vec<u8>) -> Result<(), AllocError> {
+    pub fn tell(&mut self, word: &str, rest: &str, text: Vec<u8>) -> Result<(), AllocError> {
         match word {
             "input" => self.input = text,
             "steps" => return self.tell_limits(rest),
