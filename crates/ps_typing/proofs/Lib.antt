@@ -1,5 +1,6 @@
 pub mod Equations
 pub mod Judgement
 pub mod ParameterLemmas
+pub mod Refused
 pub mod CallLemmas
 pub mod Examples

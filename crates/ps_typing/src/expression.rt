@@ -1,6 +1,6 @@
 //! The typing of variables and expressions (ISO 7185, 6.5 and 6.7).
 
-ghost use Rattle.std.specs.Prelude.{◌≡◌, List, [], ◌∷◌, ◌++◌, map, option_map, IfOk, IfErr, IsTrue, Some, None};
+ghost use Rattle.std.specs.Prelude.{◌≡◌, ◌⊎◌, List, [], ◌∷◌, ◌++◌, map, option_map, Err, IfOk, IfErr, IsOkAnd, IsTrue, Some, None};
 ghost use Rattle.ps_tree.specs.View.{type_of, expr_of, argument_of, member_of};
 ghost use Rattle.ps_syntax.specs.declared.expression.Simple.{out-Simple};
 ghost use Rattle.ps_syntax.specs.declared.expression.Term.{out-Term};
@@ -21,10 +21,10 @@ use crate::function::{
 };
 use crate::operators::{Operands, added, compared, multiplied, negated, with_sign, wrong_type};
 use crate::parameter::{by_routine, by_value, by_variable, parameters};
-use crate::place::{component, element, left_out, target, variable_found, wrong_kind};
+use crate::place::{component, element, misplaced, target, variable_found, wrong_kind};
 use crate::site::Site;
 use crate::value::{TypedPlace, TypedValue, loaded};
-use ps_regions::answer::paired;
+use ps_regions::answer::{paired, push_answer};
 use ps_regions::constants::{ConstantValue, INTEGER, number_at};
 use ps_regions::meaning::{Meaning, Required, Section};
 use ps_regions::refusal::{Fault, Rule};
@@ -127,7 +127,7 @@ fn result_type(ty: &Option<Ty>, at: u32) -> Result<Ty, Fault>
 }
 
 /// The name that a term is, where it is one alone.
-#[tactic(auto, using(crate::proofs::Judgement::term_name, crate::proofs::Judgement::term_no_name, crate::proofs::Judgement::name_alone, crate::proofs::Judgement::name_selected, crate::proofs::Equations::factor_variable, crate::proofs::Equations::factor_call, crate::proofs::Equations::factor_number, crate::proofs::Equations::factor_text, crate::proofs::Equations::factor_nil, crate::proofs::Equations::factor_set, crate::proofs::Equations::factor_group, crate::proofs::Equations::factor_not))]
+#[tactic(auto, using(crate::proofs::Judgement::term_name, crate::proofs::Equations::factor_call, crate::proofs::Equations::factor_number, crate::proofs::Equations::factor_text, crate::proofs::Equations::factor_nil, crate::proofs::Equations::factor_set, crate::proofs::Equations::factor_group, crate::proofs::Equations::factor_not))]
 fn term_name(x: &Term) -> Option<Span>
     ensures { (c : Context) (Γ : List Region) → (term_operand c Γ x.now).name ≡ result }
 {
@@ -189,32 +189,46 @@ fn is_the_input(site: Site<'_>, x: &Syntax) -> Result<bool, AllocError>
     }
 }
 
-/// The call of a declared function.
-#[tactic(auto, using(crate::proofs::Judgement::arguments_listed, ps_tree::proofs::TreeLemmas::expr_of_Call), unfolding(crate::specs::View::value_of))]
-fn declared_call(routine: u32, up: u32, arguments: Vec<Argument>, line: Line, ty: Ty) -> TypedValue
-    ensures { value_of result ≡ SimpleValue (Tree.Call routine up (argument_list (map argument_of arguments.items)) line.number) (type_of ty) }
+/// The call of a declared function, by the answers of its result type and of its actual parameters.
+fn declared_call(
+    routine: u32,
+    up: u32,
+    line: Line,
+    ty: Result<Ty, Fault>,
+    arguments: Result<Vec<Argument>, Fault>,
+) -> Result<TypedValue, Fault>
+    ensures ok { IfOk result (λ v. IsOkAnd ty (λ t. IsOkAnd arguments (λ list. value_of v ≡ SimpleValue (Tree.Call routine up (argument_list (map argument_of list.items)) line.number) (type_of t)))) }
+    ensures err { IfErr result (λ fault. IsFault fault → (ty ≡ Err fault) ⊎ (arguments ≡ Err fault)) }
 {
+    let (ty, arguments) = paired(ty, arguments)?;
     let call = Expr::Call {
         routine,
         up,
         arguments,
         line,
     };
-    TypedValue::Simple(call, ty)
+    Ok(TypedValue::Simple(call, ty))
 }
 
-/// The call of a functional parameter.
-#[tactic(auto, using(crate::proofs::Judgement::arguments_listed, ps_tree::proofs::TreeLemmas::expr_of_CallFormal), unfolding(crate::specs::View::value_of))]
-fn formal_call(up: u32, index: u32, arguments: Vec<Argument>, line: Line, ty: Ty) -> TypedValue
-    ensures { value_of result ≡ SimpleValue (Tree.CallFormal up index (argument_list (map argument_of arguments.items)) line.number) (type_of ty) }
+/// The call of a functional parameter, by the same answers.
+fn formal_call(
+    up: u32,
+    index: u32,
+    line: Line,
+    ty: Result<Ty, Fault>,
+    arguments: Result<Vec<Argument>, Fault>,
+) -> Result<TypedValue, Fault>
+    ensures ok { IfOk result (λ v. IsOkAnd ty (λ t. IsOkAnd arguments (λ list. value_of v ≡ SimpleValue (Tree.CallFormal up index (argument_list (map argument_of list.items)) line.number) (type_of t)))) }
+    ensures err { IfErr result (λ fault. IsFault fault → (ty ≡ Err fault) ⊎ (arguments ≡ Err fault)) }
 {
+    let (ty, arguments) = paired(ty, arguments)?;
     let call = Expr::CallFormal {
         up,
         index,
         arguments,
         line,
     };
-    TypedValue::Simple(call, ty)
+    Ok(TypedValue::Simple(call, ty))
 }
 
 /// No actual parameters, where there are no formal ones.
@@ -261,27 +275,32 @@ fn call_alone(site: Site<'_>, found: Found<'_>, name: Span) -> Result<TypedValue
     match found {
         Found::Field { .. } => Err(wrong_kind(name.from)),
         Found::Name { up, meaning } => match meaning {
-            Meaning::Routine(heading) => {
-                let ty = result_type(&heading.result, name.from)?;
-                let arguments = no_arguments(site, &heading.sections, name.from)?;
-                Ok(declared_call(heading.number, up, arguments, line, ty))
-            }
+            Meaning::Routine(heading) => declared_call(
+                heading.number,
+                up,
+                line,
+                result_type(&heading.result, name.from),
+                no_arguments(site, &heading.sections, name.from),
+            ),
             Meaning::RoutineParameter {
                 entry,
                 sections,
                 result: outcome,
-            } => {
-                let ty = result_type(outcome, name.from)?;
-                let arguments = no_arguments(site, sections, name.from)?;
-                Ok(formal_call(up, *entry, arguments, line, ty))
-            }
+            } => formal_call(
+                up,
+                *entry,
+                line,
+                result_type(outcome, name.from),
+                no_arguments(site, sections, name.from),
+            ),
             Meaning::Required(required) => look_at_input(site, *required, name),
             Meaning::Constant { .. }
             | Meaning::Text(_)
             | Meaning::Type(_)
             | Meaning::Variable { .. }
-            | Meaning::Parameter { .. } => Err(wrong_kind(name.from)),
-            Meaning::File(_) | Meaning::LeftOut => Err(left_out(name.from)),
+            | Meaning::Parameter { .. }
+            | Meaning::File(_)
+            | Meaning::LeftOut => Err(misplaced(meaning, name.from)),
         },
     }
 }
@@ -334,7 +353,6 @@ fn is_one_factor(x: &Simple) -> bool
 
 /// The value of an expression. One that is a factor alone goes straight to it: parentheses lie in one another hundreds of levels deep.
 #[cycle(expression)]
-#[tactic(auto, using(crate::proofs::Equations::operand_simple, crate::proofs::Equations::operand_compare))]
 pub fn expr_value(x: &Syntax, site: Site<'_>) -> Result<TypedValue, Fault>
     ensures ok { IfOk result (λ v. (operand (context_at site.entry) (regions_at site.entry) x.now).value ≡ Some (value_of v)) }
     ensures err { IfErr result (λ fault. IsFault fault → (operand (context_at site.entry) (regions_at site.entry) x.now).value ≡ None) }
@@ -353,7 +371,6 @@ pub fn expr_value(x: &Syntax, site: Site<'_>) -> Result<TypedValue, Fault>
 
 /// The same, through all levels of operators: that of a relation of two simple expressions (6.7.2.5), or of one alone.
 #[cycle(expression)]
-#[tactic(auto, using(crate::proofs::Equations::operand_simple, crate::proofs::Equations::operand_compare))]
 fn compared_value(x: &Syntax, site: Site<'_>) -> Result<TypedValue, Fault>
     ensures ok { IfOk result (λ v. (operand (context_at site.entry) (regions_at site.entry) x.now).value ≡ Some (value_of v)) }
     ensures err { IfErr result (λ fault. IsFault fault → (operand (context_at site.entry) (regions_at site.entry) x.now).value ≡ None) }
@@ -373,7 +390,6 @@ fn compared_value(x: &Syntax, site: Site<'_>) -> Result<TypedValue, Fault>
 }
 
 #[cycle(expression)]
-#[tactic(auto, using(crate::proofs::Judgement::simple_value))]
 fn simple_value(x: &Simple, site: Site<'_>) -> Result<TypedValue, Fault>
     ensures ok { IfOk result (λ v. (simple_operand (context_at site.entry) (regions_at site.entry) x.now).value ≡ Some (value_of v)) }
     ensures err { IfErr result (λ fault. IsFault fault → (simple_operand (context_at site.entry) (regions_at site.entry) x.now).value ≡ None) }
@@ -402,7 +418,6 @@ fn add_terms(
 }
 
 #[cycle(expression)]
-#[tactic(auto, using(crate::proofs::Equations::add_term_is))]
 fn add_term(
     added_term: &AddedTerm,
     site: Site<'_>,
@@ -422,7 +437,6 @@ fn add_term(
 }
 
 #[cycle(expression)]
-#[tactic(auto, using(crate::proofs::Judgement::term_value))]
 fn term_value(x: &Term, site: Site<'_>) -> Result<TypedValue, Fault>
     ensures ok { IfOk result (λ v. (term_operand (context_at site.entry) (regions_at site.entry) x.now).value ≡ Some (value_of v)) }
     ensures err { IfErr result (λ fault. IsFault fault → (term_operand (context_at site.entry) (regions_at site.entry) x.now).value ≡ None) }
@@ -450,7 +464,6 @@ fn multiply_factors(
 }
 
 #[cycle(expression)]
-#[tactic(auto, using(crate::proofs::Equations::multiply_factor_is))]
 fn multiply_factor(
     by: &MultipliedFactor,
     site: Site<'_>,
@@ -470,7 +483,6 @@ fn multiply_factor(
 }
 
 #[cycle(expression)]
-#[tactic(auto, using(crate::proofs::Equations::factor_variable, crate::proofs::Equations::factor_call, crate::proofs::Equations::factor_number, crate::proofs::Equations::factor_text, crate::proofs::Equations::factor_nil, crate::proofs::Equations::factor_set, crate::proofs::Equations::factor_group, crate::proofs::Equations::factor_not), unfolding(crate::specs::View::value_of, ps_regions::specs::Views::constant_of, ps_tree::specs::View::type_of, ps_tree::specs::View::expr_of))]
 fn factor_value(x: &Factor, site: Site<'_>) -> Result<TypedValue, Fault>
     ensures ok { IfOk result (λ v. (factor_operand (context_at site.entry) (regions_at site.entry) x.now).value ≡ Some (value_of v)) }
     ensures err { IfErr result (λ fault. IsFault fault → (factor_operand (context_at site.entry) (regions_at site.entry) x.now).value ≡ None) }
@@ -522,7 +534,6 @@ fn set_value(members: &[SyntaxMember], site: Site<'_>) -> Result<TypedValue, Fau
 }
 
 #[cycle(expression)]
-#[tactic(auto, using(crate::proofs::Judgement::member_one, crate::proofs::Judgement::member_range), unfolding(ps_tree::specs::View::member_of))]
 fn member_value(x: &SyntaxMember, site: Site<'_>) -> Result<(Member, Ordinal), Fault>
     ensures ok { IfOk result (λ m. member_at (context_at site.entry) (regions_at site.entry) x.now ≡ Some (member_of m.0, m.1)) }
     ensures err { IfErr result (λ fault. IsFault fault → member_at (context_at site.entry) (regions_at site.entry) x.now ≡ None) }
@@ -549,7 +560,6 @@ fn member_value(x: &SyntaxMember, site: Site<'_>) -> Result<(Member, Ordinal), F
 }
 
 #[cycle(expression)]
-#[tactic(auto, using(crate::proofs::Judgement::value_alone, crate::proofs::Judgement::value_selected))]
 fn variable_value(x: &Variable, site: Site<'_>) -> Result<TypedValue, Fault>
     ensures ok { IfOk result (λ v. (variable_operand (context_at site.entry) (regions_at site.entry) x.now).value ≡ Some (value_of v)) }
     ensures err { IfErr result (λ fault. IsFault fault → (variable_operand (context_at site.entry) (regions_at site.entry) x.now).value ≡ None) }
@@ -565,7 +575,6 @@ fn variable_value(x: &Variable, site: Site<'_>) -> Result<TypedValue, Fault>
 
 /// A variable (6.5).
 #[cycle(expression)]
-#[tactic(auto, using(crate::proofs::Judgement::variable_variable))]
 pub fn variable_place(x: &Variable, site: Site<'_>) -> Result<TypedPlace, Fault>
     ensures ok { IfOk result (λ v. (variable_operand (context_at site.entry) (regions_at site.entry) x.now).variable ≡ Some (variable_of v)) }
     ensures err { IfErr result (λ fault. IsFault fault → (variable_operand (context_at site.entry) (regions_at site.entry) x.now).variable ≡ None) }
@@ -594,7 +603,6 @@ fn select_all(
 }
 
 #[cycle(expression)]
-#[tactic(auto, using(crate::proofs::Equations::select_index, crate::proofs::Equations::select_field, crate::proofs::Equations::select_content))]
 fn select(
     selector: &Selector,
     site: Site<'_>,
@@ -636,7 +644,6 @@ fn index_all(
 }
 
 #[cycle(expression)]
-#[tactic(auto, using(crate::proofs::Equations::operand_first))]
 fn index_one(
     index: &Syntax,
     site: Site<'_>,
@@ -658,7 +665,7 @@ fn index_one(
 
 /// The value of a function that a name denotes, with its actual parameters.
 #[cycle(expression)]
-#[tactic(auto, using(crate::proofs::Judgement::actuals_are), unfolding(crate::specs::Calls::called, ps_regions::specs::Views::meaning_of))]
+#[tactic(auto, unfolding(crate::specs::Calls::called, ps_regions::specs::Views::meaning_of))]
 fn call_value(
     operands: &[Syntax],
     site: Site<'_>,
@@ -672,27 +679,32 @@ fn call_value(
     match found {
         Found::Field { .. } => Err(wrong_kind(name.from)),
         Found::Name { up, meaning } => match meaning {
-            Meaning::Routine(heading) => {
-                let ty = result_type(&heading.result, name.from)?;
-                let arguments = argument_all(operands, site, &heading.sections, name.from)?;
-                Ok(declared_call(heading.number, up, arguments, line, ty))
-            }
+            Meaning::Routine(heading) => declared_call(
+                heading.number,
+                up,
+                line,
+                result_type(&heading.result, name.from),
+                argument_all(operands, site, &heading.sections, name.from),
+            ),
             Meaning::RoutineParameter {
                 entry,
                 sections,
                 result: outcome,
-            } => {
-                let ty = result_type(outcome, name.from)?;
-                let arguments = argument_all(operands, site, sections, name.from)?;
-                Ok(formal_call(up, *entry, arguments, line, ty))
-            }
+            } => formal_call(
+                up,
+                *entry,
+                line,
+                result_type(outcome, name.from),
+                argument_all(operands, site, sections, name.from),
+            ),
             Meaning::Required(required) => required_call(operands, site, *required, name),
             Meaning::Constant { .. }
             | Meaning::Text(_)
             | Meaning::Type(_)
             | Meaning::Variable { .. }
-            | Meaning::Parameter { .. } => Err(wrong_kind(name.from)),
-            Meaning::File(_) | Meaning::LeftOut => Err(left_out(name.from)),
+            | Meaning::Parameter { .. }
+            | Meaning::File(_)
+            | Meaning::LeftOut => Err(misplaced(meaning, name.from)),
         },
     }
 }
@@ -753,15 +765,13 @@ pub(crate) fn argument_all(
     }
     let mut list = Vec::new(site.alloc);
     for i in 0..operands.len() {
-        let argument = argument(&operands[i], site, formals[i])?;
-        list.push(argument)?;
+        push_answer(&mut list, argument(&operands[i], site, formals[i]))?;
     }
     Ok(list)
 }
 
 /// The actual parameter for a formal one (6.6.3).
 #[cycle(expression)]
-#[tactic(auto, using(crate::proofs::Equations::operand_first, ps_regions::proofs::ViewLemmas::section_of_Routine), unfolding(crate::specs::Calls::actual, ps_regions::specs::Views::section_of))]
 pub fn argument(x: &Syntax, site: Site<'_>, section: &Section) -> Result<Argument, Fault>
     ensures ok { IfOk result (λ a. actual (context_at site.entry) (regions_at site.entry) (section_of section.now) (operand (context_at site.entry) (regions_at site.entry) x.now) ≡ Some (argument_of a)) }
     ensures err { IfErr result (λ fault. IsFault fault → actual (context_at site.entry) (regions_at site.entry) (section_of section.now) (operand (context_at site.entry) (regions_at site.entry) x.now) ≡ None) }
@@ -791,7 +801,6 @@ pub fn argument(x: &Syntax, site: Site<'_>, section: &Section) -> Result<Argumen
 
 /// An expression that is a variable alone.
 #[cycle(expression)]
-#[tactic(auto, using(crate::proofs::Equations::operand_simple, crate::proofs::Equations::operand_compare, crate::proofs::Judgement::simple_variable, crate::proofs::Judgement::simple_no_variable, crate::proofs::Judgement::signed_no_variable))]
 pub fn referent(x: &Syntax, site: Site<'_>) -> Result<TypedPlace, Fault>
     ensures ok { IfOk result (λ v. (operand (context_at site.entry) (regions_at site.entry) x.now).variable ≡ Some (variable_of v)) }
     ensures err { IfErr result (λ fault. IsFault fault → (operand (context_at site.entry) (regions_at site.entry) x.now).variable ≡ None) }
@@ -813,7 +822,7 @@ pub fn referent(x: &Syntax, site: Site<'_>) -> Result<TypedPlace, Fault>
 
 /// A term that is a variable alone.
 #[cycle(expression)]
-#[tactic(auto, using(crate::proofs::Judgement::term_variable, crate::proofs::Judgement::term_no_variable, crate::proofs::Equations::factor_variable, crate::proofs::Equations::factor_call, crate::proofs::Equations::factor_number, crate::proofs::Equations::factor_text, crate::proofs::Equations::factor_nil, crate::proofs::Equations::factor_set, crate::proofs::Equations::factor_group, crate::proofs::Equations::factor_not))]
+#[tactic(auto, using(crate::proofs::Judgement::term_variable, crate::proofs::Equations::factor_call, crate::proofs::Equations::factor_number, crate::proofs::Equations::factor_text, crate::proofs::Equations::factor_nil, crate::proofs::Equations::factor_set, crate::proofs::Equations::factor_group, crate::proofs::Equations::factor_not))]
 fn term_referent(x: &Term, site: Site<'_>) -> Result<TypedPlace, Fault>
     ensures ok { IfOk result (λ v. (term_operand (context_at site.entry) (regions_at site.entry) x.now).variable ≡ Some (variable_of v)) }
     ensures err { IfErr result (λ fault. IsFault fault → (term_operand (context_at site.entry) (regions_at site.entry) x.now).variable ≡ None) }

@@ -1,7 +1,9 @@
 //! Constants as operands, and the required functions (ISO 7185, 6.6.6).
 
-ghost use Rattle.std.specs.Prelude.{◌≡◌, IfOk, IfErr, Some, None};
+ghost use Rattle.std.specs.Prelude.{◌≡◌, ◌&&◌, not, IfOk, IfErr, Some, None};
+ghost use Rattle.ps_tree.specs.Types.{is_same_host};
 ghost use Rattle.ps_tree.specs.View.{expr_of};
+ghost use Rattle.ps_tree.specs.declared.types.Host.TheVariants.{Integer};
 ghost use Rattle.ps_regions.specs.Refusal.{IsFault, IsToldAt};
 ghost use Rattle.ps_regions.specs.Views.{point_of};
 ghost use Rattle.ps_typing.specs.Values.{ordinal_of};
@@ -152,12 +154,14 @@ pub(crate) fn refused_alone(required: Required, at: u32) -> Fault
     )
 }
 
-/// Whether the operand of a required function has to be an integer.
-pub(crate) fn needs_integer(required: Required) -> bool
-    ensures { result ≡ needs_integer required }
+/// Whether a required function needs an integer, and the host type of its operand is another.
+fn lacks_integer(required: Required, host: Host) -> bool
+    ensures { result ≡ (needs_integer required && not (is_same_host host Integer)) }
 {
     match required {
-        Required::Abs | Required::Sqr | Required::Odd | Required::Chr => true,
+        Required::Abs | Required::Sqr | Required::Odd | Required::Chr => {
+            !same_host(host, Host::Integer)
+        }
         Required::Ord
         | Required::Succ
         | Required::Pred
@@ -224,7 +228,7 @@ pub(crate) fn required_value(
     let Some((function, ty)) = function_of(required, ordinal) else {
         return Err(wrong);
     };
-    if needs_integer(required) && !same_host(ordinal.host, Host::Integer) {
+    if lacks_integer(required, ordinal.host) {
         return Err(wrong);
     }
     let value = Expr::Apply {

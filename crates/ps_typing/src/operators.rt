@@ -135,7 +135,6 @@ pub(crate) fn negated(alloc: Global, operand: TypedValue, at: u32) -> Result<Typ
 }
 
 /// An operator on two integers.
-#[tactic(auto, unfolding(crate::specs::Operators::arithmetic))]
 fn arithmetic(
     alloc: Global,
     operator: ArithmeticOperator,
@@ -203,7 +202,6 @@ fn arithmetic_or_set(
 }
 
 /// An operator on two Boolean operands.
-#[tactic(auto, unfolding(crate::specs::Operators::logic))]
 fn logic(
     alloc: Global,
     operator: BooleanOperator,
@@ -221,7 +219,6 @@ fn logic(
 }
 
 /// An adding operator.
-#[tactic(auto, unfolding(crate::specs::Operators::added))]
 pub(crate) fn added(
     alloc: Global,
     operator: Adding,
@@ -247,7 +244,6 @@ pub(crate) fn added(
 }
 
 /// A multiplying operator.
-#[tactic(auto, unfolding(crate::specs::Operators::multiplied))]
 pub(crate) fn multiplied(
     alloc: Global,
     operator: Multiplying,

@@ -1,6 +1,6 @@
 //! Formal and actual parameters (ISO 7185, 6.6.3).
 
-ghost use Rattle.std.specs.Prelude.{◌≡◌, ◌++◌, [], List, map, option_map, IfOk, IfErr, Some, None};
+ghost use Rattle.std.specs.Prelude.{◌≡◌, ◌&&◌, ◌++◌, [], List, map, option_map, IfOk, IfErr, Some, None};
 ghost use Rattle.ps_tree.specs.View.{type_of, set_of, argument_of};
 ghost use Rattle.ps_regions.specs.Refusal.{IsFault, IsToldAt};
 ghost use Rattle.ps_regions.specs.Regions.{Section as SectionOf};
@@ -10,7 +10,7 @@ ghost use Rattle.ps_typing.specs.Calls.{are_one_type, congruous, are_alike, time
 ghost use Rattle.ps_typing.specs.View.{value_of, variable_of};
 
 use crate::operators::wrong_type;
-use crate::place::{left_out, wrong_kind};
+use crate::place::{misplaced, wrong_kind};
 use crate::value::{TypedPlace, TypedValue, range_of};
 use ps_regions::meaning::{Meaning, Section};
 use ps_regions::refusal::{Fault, Rule};
@@ -169,6 +169,18 @@ pub fn by_variable(ty: &Ty, variable: TypedPlace, at: u32) -> Result<Argument, F
     Ok(Argument::Variable(place))
 }
 
+/// Whether routines with these formal parameters and results may stand for one another (6.6.3.4, 6.6.3.5).
+fn are_exchangeable(
+    sections: &[Section],
+    result_type: &Option<Ty>,
+    others: &[Section],
+    other: &Option<Ty>,
+) -> bool
+    ensures { result ≡ (congruous (sections_of sections.now) (sections_of others.now) && are_one_type (option_map type_of result_type.now) (option_map type_of other.now)) }
+{
+    congruous(sections, others) && are_one_type(result_type, other)
+}
+
 /// Whether a functional parameter's result and a routine's are there or not both.
 fn are_of_one_kind(a: &Option<Ty>, b: &Option<Ty>) -> bool {
     a.is_some() == b.is_some()
@@ -202,9 +214,7 @@ pub fn by_routine(
         Found::Field { .. } => Err(wrong_kind(at)),
         Found::Name { up, meaning } => match meaning {
             Meaning::Routine(heading) => {
-                if !(congruous(sections, &heading.sections)
-                    && are_one_type(result_type, &heading.result))
-                {
+                if !are_exchangeable(sections, result_type, &heading.sections, &heading.result) {
                     return Err(not_congruous(result_type, &heading.result, at));
                 }
                 Ok(Argument::Routine {
@@ -217,7 +227,7 @@ pub fn by_routine(
                 sections: others,
                 result: other,
             } => {
-                if !(congruous(sections, others) && are_one_type(result_type, other)) {
+                if !are_exchangeable(sections, result_type, others, other) {
                     return Err(not_congruous(result_type, other, at));
                 }
                 Ok(Argument::Formal { up, index: *entry })
@@ -227,8 +237,9 @@ pub fn by_routine(
             | Meaning::Type(_)
             | Meaning::Variable { .. }
             | Meaning::Parameter { .. }
-            | Meaning::Required(_) => Err(wrong_kind(at)),
-            Meaning::File(_) | Meaning::LeftOut => Err(left_out(at)),
+            | Meaning::Required(_)
+            | Meaning::File(_)
+            | Meaning::LeftOut => Err(misplaced(meaning, at)),
         },
     }
 }

@@ -5,7 +5,7 @@ ghost use Rattle.ps_tree.specs.Tree as Tree;
 ghost use Rattle.ps_tree.specs.View.{type_of, expr_of, place_of, base_of};
 ghost use Rattle.ps_regions.specs.Refusal.{IsFault, IsToldAt};
 ghost use Rattle.ps_regions.specs.declared.refusal.Fault.TheVariants.{Broken};
-ghost use Rattle.ps_regions.specs.declared.refusal.Rule.TheVariants.{NotInProfile, WrongKind};
+ghost use Rattle.ps_regions.specs.declared.refusal.Rule.TheVariants.{WrongKind};
 ghost use Rattle.ps_regions.specs.Views.{point_of};
 ghost use Rattle.ps_tree.specs.Chains.{selected};
 ghost use Rattle.ps_typing.specs.Values.{is_packed};
@@ -35,15 +35,25 @@ pub fn wrong_kind(at: u32) -> Fault
     }
 }
 
-/// A name that the profile leaves out, there or everywhere: the files stand as first parameters of some required routines
-/// alone.
-pub(crate) fn left_out(at: u32) -> Fault
+/// Why a name that has such a meaning, at `at`, is not what its place needs. The profile leaves some out, there or
+/// everywhere: the files stand as first parameters of some required routines alone.
+pub(crate) fn misplaced(meaning: &Meaning, at: u32) -> Fault
     ensures fault { IsFault result }
-    ensures told { result ≡ Broken NotInProfile at }
+    ensures told { IsToldAt at result }
 {
-    Fault::Broken {
-        rule: Rule::NotInProfile,
-        at,
+    match meaning {
+        Meaning::File(_) | Meaning::LeftOut => Fault::Broken {
+            rule: Rule::NotInProfile,
+            at,
+        },
+        Meaning::Constant { .. }
+        | Meaning::Text(_)
+        | Meaning::Type(_)
+        | Meaning::Variable { .. }
+        | Meaning::Parameter { .. }
+        | Meaning::RoutineParameter { .. }
+        | Meaning::Routine(_)
+        | Meaning::Required(_) => wrong_kind(at),
     }
 }
 
@@ -103,8 +113,9 @@ pub fn variable_found(alloc: Global, found: Found<'_>, at: u32) -> Result<TypedP
             | Meaning::Type(_)
             | Meaning::RoutineParameter { .. }
             | Meaning::Routine(_)
-            | Meaning::Required(_) => Err(wrong_kind(at)),
-            Meaning::File(_) | Meaning::LeftOut => Err(left_out(at)),
+            | Meaning::Required(_)
+            | Meaning::File(_)
+            | Meaning::LeftOut => Err(misplaced(meaning, at)),
         },
     }
 }

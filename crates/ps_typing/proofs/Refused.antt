@@ -1,0 +1,39 @@
+-- A refusal that is handed on.
+use Rattle.std.proofs.Common.{◌≡◌, ◌⊎◌, inl, inr, Ok, Err, Result, Option, Some, None, refl, sym, ap, subst}
+use Rattle.std.specs.Prelude.{IsErrAnd, IfErr}
+use Rattle.std.proofs.lemmas.Result.{IfErr-at_err}
+use Rattle.ps_regions.specs.declared.refusal.Fault.{Fault}
+use Rattle.ps_regions.specs.Refusal.{IsFault}
+use Rattle.ps_regions.specs.Option.{◌>>=◌}
+
+-- what a fault says of what is defined
+abbrev pub Refuses : {A X : Type 0} → Option A → Result X Fault → Type 0
+Refuses o answer = IfErr answer (λ fault. IsFault fault → o ≡ None)
+
+pub refused : {A B : Type 0} (o : Option A) (result : Result B Fault) (e : Fault) → IsErrAnd result (λ y. y ≡ e) → (IsFault e → o ≡ None) → Refuses o result
+refused o (Ok x) e is_e told = absurd is_e
+refused o (Err y) e is_e told = subst (λ (f : Fault). IsFault f → o ≡ None) (sym is_e) told
+
+pub told_by : {A X : Type 0} (o : Option A) (answer : Result X Fault) (fault : Fault) → Refuses o answer → answer ≡ Err fault → IsFault fault → o ≡ None
+told_by o answer fault h e told = IfErr-at_err (λ f. IsFault f → o ≡ None) e h told
+
+-- a fault that is handed on, for what holds of it
+pub refused_as : {B : Type 0} (P : Fault → Type 0) (result : Result B Fault) {e : Fault} → IsErrAnd result (λ y. y ≡ e) → (IsFault e → P e) → IfErr result (λ fault. IsFault fault → P fault)
+refused_as P (Ok x) is_e told = absurd is_e
+refused_as P (Err y) is_e told = subst (λ (f : Fault). IsFault f → P f) (sym is_e) told
+
+-- whatever the first part is
+later_none : {A B : Type 0} (o : Option A) (g : A → Option B) → ((a : A) → g a ≡ None) → (o >>= g) ≡ None
+later_none None g h = refl
+later_none (Some a) g h = h a
+
+-- one of two parts
+pub either_refused : {A B C X Y : Type 0} (o : Option A) (p : Option B) (k : A → B → Option C) (x : Result X Fault) (y : Result Y Fault) (fault : Fault) → (x ≡ Err fault) ⊎ (y ≡ Err fault) → Refuses o x → Refuses p y → IsFault fault → (o >>= (λ a. p >>= k a)) ≡ None
+either_refused o p k x y fault (inl e) f g told = ap (λ o. o >>= (λ a. p >>= k a)) (told_by o x fault f e told)
+either_refused o p k x y fault (inr e) f g told =
+    later_none o (λ a. p >>= k a) (λ a. ap (λ p. p >>= k a) (told_by p y fault g e told))
+
+-- two parts, of which either may be refused
+pub both_refused : {A B C X Y Z : Type 0} (o : Option A) (p : Option B) (k : A → B → Option C) (x : Result X Fault) (y : Result Y Fault) (result : Result Z Fault) → IfErr result (λ fault. IsFault fault → (x ≡ Err fault) ⊎ (y ≡ Err fault)) → Refuses o x → Refuses p y → Refuses (o >>= (λ a. p >>= k a)) result
+both_refused o p k x y (Ok z) h f g = h
+both_refused o p k x y (Err e) h f g = λ told. either_refused o p k x y e (h told) f g told
