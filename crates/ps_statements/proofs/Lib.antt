@@ -4,3 +4,4 @@ pub mod Opening
 pub mod Judgement
 pub mod Loops
 pub mod Paired
+pub mod Lists

@@ -1,22 +1,24 @@
 // Actual parameters of procedures (6.6.3). Widths stand in write and writeln alone.
 
-ghost use Rattle.std.specs.Prelude.{◌≡◌, map, IfOk, IfErr, Some, None};
-ghost use Rattle.ps_tree.specs.View.{argument_of};
+ghost use Rattle.std.specs.Prelude.{◌≡◌, false, map, is_some, option_map, if◌then◌else◌, IfOk, IfErr, Some, None};
+ghost use Rattle.ps_tree.specs.View.{argument_of, type_of};
 ghost use Rattle.ps_regions.specs.Refusal.{IsFault};
 ghost use Rattle.ps_regions.specs.Views.{section_of, sections_of};
-ghost use Rattle.ps_typing.specs.View.{context_at, regions_at, value_of, variable_of};
-ghost use Rattle.ps_statements.specs.Procedures.{first_of_parameter, actual_parameter, actual_parameters, parameter_value, parameter_variable};
+ghost use Rattle.ps_typing.specs.View.{context_at, regions_at, variable_of};
+ghost use Rattle.ps_statements.specs.Procedures.{first_of_parameter, actual_parameter, actual_parameters, parameter_variable};
 
 use ps_regions::answer::push_answer;
 use ps_regions::meaning::Section;
 use ps_regions::refusal::{Fault, Rule};
 use ps_syntax::Parameter;
 use ps_tree::tree::Argument;
-use ps_typing::expression::{argument, expr_value, referent};
+use ps_tree::types::Ty;
+use ps_typing::expression::{argument, referent};
 use ps_typing::operators::wrong_type;
 use ps_typing::parameter::parameters;
+use ps_typing::place::wrong_kind;
 use ps_typing::site::Site;
-use ps_typing::value::{TypedPlace, TypedValue};
+use ps_typing::value::TypedPlace;
 
 /// A wrong number of parameters; the routine's name is at `at`.
 pub(crate) fn wrong_number(at: u32) -> Fault
@@ -35,18 +37,6 @@ pub(crate) fn first_token(parameter: &Parameter) -> u32
 {
     match parameter {
         Parameter::Plain(x) | Parameter::Width(x, _) => x.first_token(),
-    }
-}
-
-/// The value of a parameter.
-#[tactic(auto, unfolding(crate::specs::Procedures::parameter_value))]
-pub(crate) fn parameter_value(parameter: &Parameter, site: Site<'_>) -> Result<TypedValue, Fault>
-    ensures ok { IfOk result (λ v. parameter_value (context_at site.entry) (regions_at site.entry) parameter.now ≡ Some (value_of v)) }
-    ensures err { IfErr result (λ fault. IsFault fault → parameter_value (context_at site.entry) (regions_at site.entry) parameter.now ≡ None) }
-{
-    match parameter {
-        Parameter::Plain(x) => expr_value(x, site),
-        Parameter::Width(_, width) => Err(wrong_type(width.get().first_token())),
     }
 }
 
@@ -78,16 +68,21 @@ fn actual_parameter(
     }
 }
 
-/// The actual parameters of a procedure, whose name is at `at`.
+/// The actual parameters of a procedure, which has no result. Its name is at `at`.
 pub(crate) fn actual_parameters(
     list: &[Parameter],
     site: Site<'_>,
     sections: &[Section],
+    outcome: &Option<Ty>,
     at: u32,
 ) -> Result<Vec<Argument>, Fault>
+    ensures procedure { IfOk result (λ _. is_some (option_map type_of outcome.now) ≡ false) }
     ensures ok { IfOk result (λ arguments. actual_parameters (context_at site.entry) (regions_at site.entry) (sections_of sections.now) list.now ≡ Some (map argument_of arguments.items)) }
-    ensures err { IfErr result (λ fault. IsFault fault → actual_parameters (context_at site.entry) (regions_at site.entry) (sections_of sections.now) list.now ≡ None) }
+    ensures err { IfErr result (λ fault. IsFault fault → (if is_some (option_map type_of outcome.now) then None else actual_parameters (context_at site.entry) (regions_at site.entry) (sections_of sections.now) list.now) ≡ None) }
 {
+    if outcome.is_some() {
+        return Err(wrong_kind(at));
+    }
     let formals = parameters(site.alloc, sections)?;
     if formals.len() != list.len() {
         return Err(wrong_number(at));

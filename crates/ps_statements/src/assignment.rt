@@ -2,6 +2,7 @@
 
 ghost use Rattle.std.specs.Prelude.{◌≡◌, IfOk, IfErr, Some, None};
 ghost use Rattle.ps_tree.specs.View.{place_of, type_of, set_of, statement_of};
+ghost use Rattle.ps_regions.specs.Option.{provided};
 ghost use Rattle.ps_regions.specs.Refusal.{IsFault};
 ghost use Rattle.ps_regions.specs.Views.{scope_of, heading_of, point_of};
 ghost use Rattle.ps_typing.specs.View.{context_at, regions_at, value_of, variable_of};
@@ -95,17 +96,11 @@ fn target_found(site: Site<'_>, found: Found<'_>, at: u32) -> Result<TypedPlace,
                 }
                 result_in(site.alloc, site.scope, up - 1, heading, up - 1, at)
             }
-            Meaning::Constant { .. }
-            | Meaning::Text(_)
-            | Meaning::Type(_)
-            | Meaning::Variable { .. }
-            | Meaning::Parameter { .. }
-            | Meaning::RoutineParameter { .. }
-            | Meaning::Required(_) => variable_found(site.alloc, found, at),
             Meaning::File(_) | Meaning::LeftOut => Err(Fault::Broken {
                 rule: Rule::NotInProfile,
                 at,
             }),
+            _ => variable_found(site.alloc, found, at),
         },
     }
 }
@@ -132,6 +127,18 @@ fn not_assignable(at: u32) -> Fault
     }
 }
 
+/// An assignment, whose `:=` is at `at`, provided that the value fits the variable's type.
+fn fitting(fits: bool, statement: Statement, at: u32) -> Result<Statement, Fault>
+    ensures ok { IfOk result (λ s. provided fits (statement_of statement) ≡ Some (statement_of s)) }
+    ensures err { IfErr result (λ fault. IsFault fault → provided fits (statement_of statement) ≡ None) }
+{
+    if fits {
+        Ok(statement)
+    } else {
+        Err(not_assignable(at))
+    }
+}
+
 /// An assignment of a set; the `:=` is at `at`.
 #[tactic(auto, unfolding(crate::specs::Assignments::set_assigned, ps_tree::specs::View::type_of, ps_tree::specs::View::statement_of))]
 fn set_assigned(
@@ -152,10 +159,7 @@ fn set_assigned(
             value,
             line,
         }),
-        _ => {
-            drop((target, value));
-            Err(not_assignable(at))
-        }
+        _ => Err(not_assignable(at)),
     }
 }
 
@@ -177,35 +181,20 @@ fn assigned(
     } = variable;
     match value {
         TypedValue::Simple(value, from) => {
-            let range = range_of(&ty);
             let fits = assignable(&from, &ty);
-            drop((from, ty));
-            if fits {
-                Ok(Statement::Assign {
-                    target,
-                    range,
-                    value,
-                    line,
-                })
-            } else {
-                drop((target, value));
-                Err(not_assignable(at))
-            }
+            let range = range_of(&ty);
+            let statement = Statement::Assign {
+                target,
+                range,
+                value,
+                line,
+            };
+            fitting(fits, statement, at)
         }
-        TypedValue::Set(value, from) => {
-            let statement = set_assigned((target, &ty), (value, &from), line, at);
-            drop((from, ty));
-            statement
-        }
+        TypedValue::Set(value, from) => set_assigned((target, &ty), (value, &from), line, at),
         TypedValue::Structure(value, from) => {
             let fits = assignable(&from, &ty);
-            drop((from, ty));
-            if fits {
-                Ok(Statement::AssignStructure { target, value })
-            } else {
-                drop((target, value));
-                Err(not_assignable(at))
-            }
+            fitting(fits, Statement::AssignStructure { target, value }, at)
         }
     }
 }

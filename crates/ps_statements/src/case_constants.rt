@@ -1,51 +1,40 @@
 // Case constants (6.8.3.5).
 
-ghost use Rattle.std.specs.Prelude.{◌≡◌, true, false, map, is_none, IfOk, IfErr, Some, None, MatchOption};
-ghost use Rattle.ps_tree.specs.View.{expr_of, statement_of};
+ghost use Rattle.std.specs.Prelude.{◌≡◌, map, is_none, is_some, IfOk, IfErr, Some, None, MatchOption};
 ghost use Rattle.ps_regions.specs.Option.{traverse, steps};
 ghost use Rattle.ps_regions.specs.Refusal.{IsFault};
 ghost use Rattle.ps_regions.specs.Views.{constant_of};
 ghost use Rattle.ps_typing.specs.View.{context_at, regions_at};
-ghost use Rattle.ps_statements.specs.Structured.{case_constant, case_label, fresh, are_distinct};
-ghost use Rattle.ps_statements.specs.Statements.{case_behind};
+ghost use Rattle.ps_statements.specs.Structured.{case_label, fresh, fresh_all, are_distinct};
 ghost use Rattle.ps_statements.specs.View.{element_of};
 
-use crate::answer::beside;
 use indexmap::IndexSet;
+use ps_regions::answer::push_answer;
 use ps_regions::constants::{ConstantValue, constant};
 use ps_regions::refusal::{Fault, Rule};
 use ps_syntax::{Constant, Element};
-use ps_text::Span;
-use ps_tree::tree::{CaseElement, Expr, Statement};
+use ps_tree::tree::CaseElement;
 use ps_tree::types::{Ordinal, same_host};
 use ps_typing::operators::wrong_type;
 use ps_typing::site::Site;
 use std::alloc::{AllocError, Global};
 
-/// The value of a case constant, which begins at `at`; the index is of an ordinal type.
+/// The value of a case constant; the index is of an ordinal type.
 #[tactic(auto, unfolding(crate::specs::Structured::case_constant, ps_regions::specs::Views::constant_of))]
-fn case_constant(value: ConstantValue, index: Ordinal, at: u32) -> Result<i32, Fault>
-    ensures ok { IfOk result (λ n. case_constant index (constant_of value) ≡ Some n) }
-    ensures err { IfErr result (λ fault. IsFault fault → case_constant index (constant_of value) ≡ None) }
-{
-    match value {
-        ConstantValue::Ordinal(ordinal, number) => {
-            if same_host(index.host, ordinal.host) {
-                Ok(number)
-            } else {
-                Err(wrong_type(at))
-            }
-        }
-        ConstantValue::Text(_) => Err(wrong_type(at)),
-    }
-}
-
 fn case_label(site: Site<'_>, index: Ordinal, label: Constant) -> Result<i32, Fault>
     ensures ok { IfOk result (λ n. case_label (context_at site.entry) (regions_at site.entry) index label ≡ Some n) }
     ensures err { IfErr result (λ fault. IsFault fault → case_label (context_at site.entry) (regions_at site.entry) index label ≡ None) }
 {
-    let value = constant(site.reading, site.alloc, site.scope, label)?;
-    case_constant(value, index, label.first_token())
+    match constant(site.reading, site.alloc, site.scope, label)? {
+        ConstantValue::Ordinal(ordinal, number) => {
+            if same_host(index.host, ordinal.host) {
+                Ok(number)
+            } else {
+                Err(wrong_type(label.first_token()))
+            }
+        }
+        ConstantValue::Text(_) => Err(wrong_type(label.first_token())),
+    }
 }
 
 /// The values of a case element's constants; the index is of an ordinal type.
@@ -59,7 +48,7 @@ pub(crate) fn case_labels(
 {
     let mut list = Vec::new(site.alloc);
     for label in labels {
-        list.push(case_label(site, index, *label)?)?;
+        push_answer(&mut list, case_label(site, index, *label))?;
     }
     Ok(list)
 }
@@ -78,15 +67,25 @@ fn add_labels(seen: &mut IndexSet<i32>, labels: &[i32]) -> Result<Option<usize>,
 }
 
 /// The first case constant that stands for a second time: its element and its place there.
-fn repeated_label(
+pub(crate) fn repeated_label(
     alloc: Global,
     elements: &[CaseElement],
 ) -> Result<Option<(usize, usize)>, AllocError>
     ensures { IfOk result (λ repeated. is_none repeated ≡ are_distinct (map element_of elements.now)) }
 {
     let mut seen = IndexSet::new(alloc);
+    repeated_behind(&mut seen, elements)
+}
+
+/// The first case constant that stands among those of elements before it: its element and its place there.
+fn repeated_behind(
+    seen: &mut IndexSet<i32>,
+    elements: &[CaseElement],
+) -> Result<Option<(usize, usize)>, AllocError>
+    ensures { IfOk result (λ repeated. is_none repeated ≡ is_some (steps fresh_all seen.old.keys (map element_of elements.now))) }
+{
     for i in 0..elements.len() {
-        match add_labels(&mut seen, &elements[i].constants)? {
+        match add_labels(seen, &elements[i].constants)? {
             None => {}
             Some(place) => return Ok(Some((i, place))),
         }
@@ -95,7 +94,7 @@ fn repeated_label(
 }
 
 /// The refusal of a case constant that stands for a second time; the `case` is at `at`.
-fn case_twice(elements: &[Element], place: (usize, usize), at: u32) -> Fault
+pub(crate) fn case_twice(elements: &[Element], place: (usize, usize), at: u32) -> Fault
     ensures { IsFault result }
 {
     let label = match elements.get(place.0) {
@@ -109,43 +108,4 @@ fn case_twice(elements: &[Element], place: (usize, usize), at: u32) -> Fault
             Some(label) => label.first_token(),
         },
     }
-}
-
-/// Case elements, of which `list` is the text, where no constant stands for a second time; the `case` is at `at`.
-fn distinct(
-    alloc: Global,
-    list: &[Element],
-    at: u32,
-    elements: Vec<CaseElement>,
-) -> Result<Vec<CaseElement>, Fault>
-    ensures same { IfOk result (λ kept. kept.items ≡ elements.items) }
-    ensures ok { IfOk result (λ _. are_distinct (map element_of elements.items) ≡ true) }
-    ensures err { IfErr result (λ fault. IsFault fault → are_distinct (map element_of elements.items) ≡ false) }
-{
-    match repeated_label(alloc, &elements)? {
-        None => Ok(elements),
-        Some(place) => Err(case_twice(list, place, at)),
-    }
-}
-
-/// A `case` statement of an index and typed elements, of which `list` is the text; its `case` is at `at`. No constant
-/// stands for a second time.
-#[tactic(auto, using(crate::proofs::Equations::elements_listed, ps_tree::proofs::StatementLemmas::statement_of_Case))]
-pub(crate) fn case_behind(
-    site: Site<'_>,
-    list: &[Element],
-    at: Span,
-    index: Expr,
-    elements: Vec<CaseElement>,
-) -> Result<Statement, Fault>
-    ensures ok { IfOk result (λ s. case_behind (context_at site.entry) (expr_of index) (map element_of elements.items) at ≡ Some (statement_of s)) }
-    ensures err { IfErr result (λ fault. IsFault fault → case_behind (context_at site.entry) (expr_of index) (map element_of elements.items) at ≡ None) }
-{
-    let elements = distinct(site.alloc, list, at.from, elements);
-    let (index, elements) = beside(index, elements)?;
-    Ok(Statement::Case {
-        index,
-        elements,
-        line: site.reading.line(at.from),
-    })
 }

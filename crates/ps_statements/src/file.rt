@@ -32,15 +32,7 @@ fn is_file(file: File, found: Found<'_>) -> bool
                     File::Output => true,
                 },
             },
-            Meaning::Constant { .. }
-            | Meaning::Text(_)
-            | Meaning::Type(_)
-            | Meaning::Variable { .. }
-            | Meaning::Parameter { .. }
-            | Meaning::RoutineParameter { .. }
-            | Meaning::Routine(_)
-            | Meaning::Required(_)
-            | Meaning::LeftOut => false,
+            _ => false,
         },
     }
 }
@@ -69,28 +61,27 @@ fn names_file(site: Site<'_>, file: File, parameter: &Parameter) -> Result<bool,
 fn unlisted(site: Site<'_>, parameters: &[Parameter], at: u32) -> Fault
     ensures { IsFault result }
 {
-    let implied = Fault::Broken {
+    let name = match parameters {
+        [Parameter::Plain(first), ..] => name_alone(first),
+        _ => None,
+    };
+    if let Some(name) = name {
+        if let Err(
+            Fault::Broken {
+                rule: Rule::NoInputOutput,
+                at,
+            },
+        ) = site.denoted(name)
+        {
+            return Fault::Broken {
+                rule: Rule::NoInputOutput,
+                at,
+            };
+        }
+    }
+    Fault::Broken {
         rule: Rule::NoInputOutput,
         at,
-    };
-    let [Parameter::Plain(first), ..] = parameters else {
-        return implied;
-    };
-    let Some(name) = name_alone(first) else {
-        return implied;
-    };
-    match site.denoted(name) {
-        Ok(_) => implied,
-        Err(fault) => match fault {
-            Fault::OutOfMemory => implied,
-            Fault::Broken { rule, .. } => {
-                if rule == Rule::NoInputOutput {
-                    fault
-                } else {
-                    implied
-                }
-            }
-        },
     }
 }
 

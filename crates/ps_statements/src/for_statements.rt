@@ -6,8 +6,8 @@ ghost use Rattle.ps_regions.specs.Refusal.{IsFault};
 ghost use Rattle.ps_regions.specs.declared.refusal.Fault.TheVariants.{Broken};
 ghost use Rattle.ps_regions.specs.declared.refusal.Rule.TheVariants.{ControlVariable};
 ghost use Rattle.ps_regions.specs.Views.{point_of};
-ghost use Rattle.ps_typing.specs.View.{context_at, regions_at, value_of};
-ghost use Rattle.ps_statements.specs.Structured.{control_at, bound, bound_at, direction_of, repeated};
+ghost use Rattle.ps_typing.specs.View.{context_at, regions_at};
+ghost use Rattle.ps_statements.specs.Structured.{control_at, bound_at, direction_of, repeated};
 ghost use Rattle.ps_statements.specs.Statements.{for_head};
 ghost use Rattle.ps_statements.specs.View.{head_of};
 
@@ -60,67 +60,43 @@ fn control_found(found: Found<'_>, at: u32) -> Result<(u32, Ordinal), Fault>
     match found {
         Found::Field { .. } => Err(wrong_control(at)),
         Found::Name { up, meaning } => match meaning {
-            Meaning::Variable { entry, ty } => match ty {
-                Ty::Simple(ordinal) => {
-                    if up != 0 {
-                        return Err(wrong_control(at));
-                    }
-                    Ok((*entry, *ordinal))
+            Meaning::Variable { entry, ty } => {
+                let Ty::Simple(ordinal) = ty else {
+                    return Err(wrong_type(at));
+                };
+                if up != 0 {
+                    return Err(wrong_control(at));
                 }
-                Ty::Pointer { .. }
-                | Ty::Nil
-                | Ty::Set { .. }
-                | Ty::EmptySet
-                | Ty::Text { .. }
-                | Ty::Array { .. }
-                | Ty::Record { .. } => Err(wrong_type(at)),
-            },
+                Ok((*entry, *ordinal))
+            }
             Meaning::Parameter { .. } => Err(wrong_control(at)),
-            Meaning::Constant { .. }
-            | Meaning::Text(_)
-            | Meaning::Type(_)
-            | Meaning::RoutineParameter { .. }
-            | Meaning::Routine(_)
-            | Meaning::Required(_) => Err(wrong_kind(at)),
             Meaning::File(_) | Meaning::LeftOut => Err(Fault::Broken {
                 rule: Rule::NotInProfile,
                 at,
             }),
+            _ => Err(wrong_kind(at)),
         },
     }
 }
 
-/// A bound of the type of the control variable, which begins at `at`.
+/// A bound, which is of the type of the control variable.
 #[tactic(auto, unfolding(crate::specs::Structured::bound, ps_typing::specs::View::value_of, ps_tree::specs::View::type_of))]
-fn bound(value: TypedValue, ordinal: Ordinal, at: u32) -> Result<Expr, Fault>
-    ensures ok { IfOk result (λ e. bound ordinal (value_of value) ≡ Some (expr_of e)) }
-    ensures err { IfErr result (λ fault. IsFault fault → bound ordinal (value_of value) ≡ None) }
+fn bound_at(x: &Syntax, site: Site<'_>, ordinal: Ordinal) -> Result<Expr, Fault>
+    ensures ok { IfOk result (λ e. bound_at (context_at site.entry) (regions_at site.entry) ordinal x.now ≡ Some (expr_of e)) }
+    ensures err { IfErr result (λ fault. IsFault fault → bound_at (context_at site.entry) (regions_at site.entry) ordinal x.now ≡ None) }
 {
-    match value {
+    let at = x.first_token();
+    match expr_value(x, site)? {
         TypedValue::Simple(value, ty) => {
-            let control = Ty::Simple(ordinal);
-            let fits = compatible(&ty, &control);
-            drop((ty, control));
-            if fits {
-                Ok(value)
-            } else {
-                drop(value);
-                Err(wrong_type(at))
-            }
+            let fits = compatible(&ty, &Ty::Simple(ordinal));
+            drop(ty);
+            if fits { Ok(value) } else { Err(wrong_type(at)) }
         }
         value @ (TypedValue::Set(..) | TypedValue::Structure(..)) => {
             drop(value);
             Err(wrong_type(at))
         }
     }
-}
-
-fn bound_at(x: &Syntax, site: Site<'_>, ordinal: Ordinal) -> Result<Expr, Fault>
-    ensures ok { IfOk result (λ e. bound_at (context_at site.entry) (regions_at site.entry) ordinal x.now ≡ Some (expr_of e)) }
-    ensures err { IfErr result (λ fault. IsFault fault → bound_at (context_at site.entry) (regions_at site.entry) ordinal x.now ≡ None) }
-{
-    let value = expr_value(x, site)?;
-    bound(value, ordinal, x.first_token())
 }
 
 fn direction_of(way: Way) -> Direction

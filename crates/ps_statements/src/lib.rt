@@ -1,7 +1,6 @@
 //! The typing of statements (ISO 7185, 6.8 and 6.9).
 #![tactic(auto)]
 
-mod answer;
 mod argument;
 mod assignment;
 mod case_constants;

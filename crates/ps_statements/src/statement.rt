@@ -1,17 +1,17 @@
 //! Statements (ISO 7185, 6.8).
 
-ghost use Rattle.std.specs.Prelude.{◌≡◌, ◌++◌, ◌∷◌, [], map, option_and_then, IfOk, IfErr, Some, None};
+ghost use Rattle.std.specs.Prelude.{◌≡◌, map, option_and_then, IfOk, IfErr, Option, Some, None};
 ghost use Rattle.ps_tree.specs.View.{type_of, expr_of, place_of, statement_of, statements_of};
+ghost use Rattle.ps_tree.specs.Tree as Tree;
 ghost use Rattle.ps_regions.specs.Option.{traverse};
 ghost use Rattle.ps_regions.specs.Refusal.{IsFault};
-ghost use Rattle.ps_typing.specs.View.{context_at, regions_at, value_of};
-ghost use Rattle.ps_statements.specs.Structured.{condition, record_at};
+ghost use Rattle.ps_typing.specs.View.{context_at, regions_at};
+ghost use Rattle.ps_statements.specs.Structured.{record_at};
 ghost use Rattle.ps_statements.specs.Statements as spec;
 ghost use Rattle.ps_statements.specs.View.{element_of};
 
-use crate::answer::beside;
 use crate::assignment::assignment;
-use crate::case_constants::{case_behind, case_labels};
+use crate::case_constants::{case_labels, case_twice, repeated_label};
 use crate::for_statements::{for_head, repeated};
 use crate::procedure::procedure_statement;
 use ps_regions::answer::{boxed_answer, paired, push_answer};
@@ -26,22 +26,21 @@ use ps_typing::function::ordinal_of;
 use ps_typing::operators::wrong_type;
 use ps_typing::site::Site;
 use ps_typing::value::{TypedPlace, TypedValue, is_boolean};
-use std::alloc::AllocError;
 
-/// A condition, which begins at `at` (6.8.3.3).
+/// A condition, which is Boolean (6.8.3.3).
 #[tactic(auto, unfolding(crate::specs::Structured::condition, ps_typing::specs::View::value_of))]
-fn condition(value: TypedValue, at: u32) -> Result<Expr, Fault>
-    ensures ok { IfOk result (λ e. condition (value_of value) ≡ Some (expr_of e)) }
-    ensures err { IfErr result (λ fault. IsFault fault → condition (value_of value) ≡ None) }
+fn condition_at(x: &SyntaxExpr, site: Site<'_>) -> Result<Expr, Fault>
+    ensures ok { IfOk result (λ e. spec.condition_at (context_at site.entry) (regions_at site.entry) x.now ≡ Some (expr_of e)) }
+    ensures err { IfErr result (λ fault. IsFault fault → spec.condition_at (context_at site.entry) (regions_at site.entry) x.now ≡ None) }
 {
-    match value {
+    let at = x.first_token();
+    match expr_value(x, site)? {
         TypedValue::Simple(value, ty) => {
             let is_right = is_boolean(&ty);
             drop(ty);
             if is_right {
                 Ok(value)
             } else {
-                drop(value);
                 Err(wrong_type(at))
             }
         }
@@ -52,29 +51,13 @@ fn condition(value: TypedValue, at: u32) -> Result<Expr, Fault>
     }
 }
 
-fn condition_at(x: &SyntaxExpr, site: Site<'_>) -> Result<Expr, Fault>
-    ensures ok { IfOk result (λ e. spec.condition_at (context_at site.entry) (regions_at site.entry) x.now ≡ Some (expr_of e)) }
-    ensures err { IfErr result (λ fault. IsFault fault → spec.condition_at (context_at site.entry) (regions_at site.entry) x.now ≡ None) }
-{
-    let value = expr_value(x, site)?;
-    condition(value, x.first_token())
-}
-
-/// The index of a `case` statement, which is of an ordinal type (6.8.3.5).
-fn index_at(x: &SyntaxExpr, site: Site<'_>) -> Result<(Expr, Ordinal), Fault>
+/// An index, which is of an ordinal type: of a `case` statement (6.8.3.5), or of an array in pack and unpack (6.6.5.4).
+pub(crate) fn index_at(x: &SyntaxExpr, site: Site<'_>) -> Result<(Expr, Ordinal), Fault>
     ensures ok { IfOk result (λ v. spec.index_at (context_at site.entry) (regions_at site.entry) x.now ≡ Some (expr_of v.0, v.1)) }
     ensures err { IfErr result (λ fault. IsFault fault → spec.index_at (context_at site.entry) (regions_at site.entry) x.now ≡ None) }
 {
     let value = expr_value(x, site)?;
     ordinal_of(value, x.first_token())
-}
-
-fn pushed(places: Vec<Place>, place: Place) -> Result<Vec<Place>, AllocError>
-    ensures { IfOk result (λ list. list.items ≡ places.items ++ place ∷ []) }
-{
-    let mut list = places;
-    list.push(place)?;
-    Ok(list)
 }
 
 /// A record that a `with` statement is to open behind others, with its type.
@@ -87,7 +70,9 @@ fn opened_record(
     ensures err { IfErr result (λ fault. IsFault fault → record_at (context_at site.entry) (regions_at site.entry) (map place_of opened.items) x.now ≡ None) }
 {
     let TypedPlace { place, ty, .. } = variable_place(x, site)?;
-    Ok(paired(pushed(opened, place), Ok(ty))?)
+    let mut places = opened;
+    places.push(place)?;
+    Ok((places, ty))
 }
 
 /// A statement.
@@ -100,13 +85,19 @@ fn statement(x: &Syntax, site: Site<'_>) -> Result<Statement, Fault>
         Syntax::Empty => Ok(Statement::Empty),
         Syntax::Assign(variable, at, value) => assignment(variable, site, *at, value.get()),
         Syntax::Call(name, parameters) => procedure_statement(parameters.as_slice(), site, *name),
-        Syntax::Compound(list) => compound(list.as_slice(), site),
-        Syntax::If(x, body) => if_statement(body.get(), site, x.get()),
+        Syntax::Compound(list) => Ok(Statement::Compound(statements(list.as_slice(), site)?)),
+        Syntax::If(x, body) => {
+            let (condition, body) = governed(body.get(), site, x.get())?;
+            Ok(Statement::If { condition, body })
+        }
         Syntax::IfElse(x, body, otherwise) => {
             if_else_statement(body.get(), otherwise.get(), site, x.get())
         }
         Syntax::Case(at, x, elements) => case_statement(elements.as_slice(), site, *at, x.get()),
-        Syntax::While(x, body) => while_statement(body.get(), site, x.get()),
+        Syntax::While(x, body) => {
+            let (condition, body) = governed(body.get(), site, x.get())?;
+            Ok(Statement::While { condition, body })
+        }
         Syntax::Repeat(list, x) => repeat_statement(list.as_slice(), site, x.get()),
         Syntax::For {
             variable,
@@ -149,22 +140,14 @@ pub fn statements(list: &[Syntax], site: Site<'_>) -> Result<Vec<Statement>, Fau
     Ok(typed)
 }
 
+/// A condition, and the statement that it governs.
 #[cycle(statement)]
-fn compound(list: &[Syntax], site: Site<'_>) -> Result<Statement, Fault>
-    ensures ok { IfOk result (λ s. spec.compound_statement (spec.statements (context_at site.entry) (regions_at site.entry) list.now) ≡ Some (statement_of s)) }
-    ensures err { IfErr result (λ fault. IsFault fault → spec.compound_statement (spec.statements (context_at site.entry) (regions_at site.entry) list.now) ≡ None) }
+fn governed(body: &Syntax, site: Site<'_>, x: &SyntaxExpr) -> Result<(Expr, Box<Statement>), Fault>
+    ensures condition { IfOk result (λ p. spec.condition_at (context_at site.entry) (regions_at site.entry) x.now ≡ Some (expr_of p.0)) }
+    ensures body { IfOk result (λ p. spec.statement (context_at site.entry) body.now (regions_at site.entry) ≡ Some (statement_of p.1.value)) }
+    ensures err { IfErr result (λ fault. IsFault fault → (k : Tree.Expr → Tree.Statement → Option Tree.Statement) → option_and_then (λ e. option_and_then (k e) (spec.statement (context_at site.entry) body.now (regions_at site.entry))) (spec.condition_at (context_at site.entry) (regions_at site.entry) x.now) ≡ None) }
 {
-    let body = statements(list, site)?;
-    Ok(Statement::Compound(body))
-}
-
-#[cycle(statement)]
-fn if_statement(body: &Syntax, site: Site<'_>, x: &SyntaxExpr) -> Result<Statement, Fault>
-    ensures ok { IfOk result (λ s. spec.if_statement (context_at site.entry) (regions_at site.entry) x.now (spec.statement (context_at site.entry) body.now) ≡ Some (statement_of s)) }
-    ensures err { IfErr result (λ fault. IsFault fault → spec.if_statement (context_at site.entry) (regions_at site.entry) x.now (spec.statement (context_at site.entry) body.now) ≡ None) }
-{
-    let (condition, body) = paired(condition_at(x, site), boxed(body, site))?;
-    Ok(Statement::If { condition, body })
+    paired(condition_at(x, site), boxed(body, site))
 }
 
 #[cycle(statement)]
@@ -187,15 +170,6 @@ fn if_else_statement(
 }
 
 #[cycle(statement)]
-fn while_statement(body: &Syntax, site: Site<'_>, x: &SyntaxExpr) -> Result<Statement, Fault>
-    ensures ok { IfOk result (λ s. spec.while_statement (context_at site.entry) (regions_at site.entry) x.now (spec.statement (context_at site.entry) body.now) ≡ Some (statement_of s)) }
-    ensures err { IfErr result (λ fault. IsFault fault → spec.while_statement (context_at site.entry) (regions_at site.entry) x.now (spec.statement (context_at site.entry) body.now) ≡ None) }
-{
-    let (condition, body) = paired(condition_at(x, site), boxed(body, site))?;
-    Ok(Statement::While { condition, body })
-}
-
-#[cycle(statement)]
 fn repeat_statement(list: &[Syntax], site: Site<'_>, x: &SyntaxExpr) -> Result<Statement, Fault>
     ensures ok { IfOk result (λ s. spec.repeat_statement (context_at site.entry) (regions_at site.entry) (spec.statements (context_at site.entry) (regions_at site.entry) list.now) x.now ≡ Some (statement_of s)) }
     ensures err { IfErr result (λ fault. IsFault fault → spec.repeat_statement (context_at site.entry) (regions_at site.entry) (spec.statements (context_at site.entry) (regions_at site.entry) list.now) x.now ≡ None) }
@@ -204,7 +178,7 @@ fn repeat_statement(list: &[Syntax], site: Site<'_>, x: &SyntaxExpr) -> Result<S
     Ok(Statement::Repeat { body, condition })
 }
 
-/// A `case` statement (6.8.3.5), with its `case` and its index.
+/// A `case` statement (6.8.3.5), with its `case` and its index. No constant stands for a second time.
 #[cycle(statement)]
 fn case_statement(
     list: &[Element],
@@ -216,8 +190,15 @@ fn case_statement(
     ensures err { IfErr result (λ fault. IsFault fault → spec.case_statement (context_at site.entry) (regions_at site.entry) at x.now (map (spec.element (context_at site.entry)) list.now) ≡ None) }
 {
     let (index, ordinal) = index_at(x, site)?;
-    let (index, elements) = beside(index, elements(list, site, ordinal))?;
-    case_behind(site, list, at, index, elements)
+    let elements = elements(list, site, ordinal)?;
+    match repeated_label(site.alloc, &elements)? {
+        None => Ok(Statement::Case {
+            index,
+            elements,
+            line: site.reading.line(at.from),
+        }),
+        Some(place) => Err(case_twice(list, place, at.from)),
+    }
 }
 
 #[cycle(statement)]
@@ -262,6 +243,7 @@ fn for_statement(
 
 /// A `with` statement (6.8.3.10), of which some records are open already, and others are to be opened.
 #[cycle(statement)]
+#[tactic(auto, unfolding(crate::specs::Structured::record_region, ps_tree::specs::View::type_of))]
 fn with_statement(
     x: &Syntax,
     site: Site<'_>,
@@ -281,31 +263,11 @@ fn with_statement(
         }
         [first, rest @ ..] => {
             let (places, ty) = opened_record(first, site, opened)?;
-            let statement = with_record(x, site, rest, places, &ty, first.name.from);
-            drop(ty);
-            statement
-        }
-    }
-}
-
-/// The same where the last of the records, of type `ty`, is still to be opened; it begins at `at`.
-#[cycle(statement)]
-#[tactic(auto, unfolding(crate::specs::Structured::record_region, ps_tree::specs::View::type_of))]
-fn with_record(
-    x: &Syntax,
-    site: Site<'_>,
-    records: &[Variable],
-    places: Vec<Place>,
-    ty: &Ty,
-    at: u32,
-) -> Result<Statement, Fault>
-    ensures ok { IfOk result (λ s. spec.with_record (context_at site.entry) (regions_at site.entry) (map place_of places.items) (type_of ty.now) records.now (spec.statement (context_at site.entry) x.now) ≡ Some (statement_of s)) }
-    ensures err { IfErr result (λ fault. IsFault fault → spec.with_record (context_at site.entry) (regions_at site.entry) (map place_of places.items) (type_of ty.now) records.now (spec.statement (context_at site.entry) x.now) ≡ None) }
-{
-    match ty {
-        Ty::Record { fields, .. } => {
+            let Ty::Record { fields, .. } = &ty else {
+                return Err(wrong_type(first.name.from));
+            };
             let scope = Scope::Record {
-                ty,
+                ty: &ty,
                 fields,
                 outer: site.scope,
             };
@@ -314,14 +276,7 @@ fn with_record(
                 reading: site.reading,
                 scope: &scope,
             };
-            with_statement(x, inner, records, places)
+            with_statement(x, inner, rest, places)
         }
-        Ty::Simple(_)
-        | Ty::Pointer { .. }
-        | Ty::Nil
-        | Ty::Set { .. }
-        | Ty::EmptySet
-        | Ty::Text { .. }
-        | Ty::Array { .. } => Err(wrong_type(at)),
     }
 }

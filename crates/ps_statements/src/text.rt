@@ -1,12 +1,8 @@
 // The parameters of read, readln, write and writeln (6.9).
 
 ghost use Rattle.std.specs.Prelude.{◌≡◌, map, IfOk, IfErr, Some, None};
-ghost use Rattle.ps_tree.specs.Types.{OrdinalType};
 ghost use Rattle.ps_tree.specs.View.{expr_of, type_of, place_of, read_of, write_of, width_of, statement_of};
-ghost use Rattle.ps_regions.specs.Option.{traverse};
 ghost use Rattle.ps_regions.specs.Refusal.{IsFault};
-ghost use Rattle.ps_regions.specs.Spelling.{line_in};
-ghost use Rattle.ps_regions.specs.declared.meaning.Required.TheVariants as Required;
 ghost use Rattle.ps_typing.specs.View.{context_at, regions_at, value_of};
 ghost use Rattle.ps_statements.specs.Procedures as spec;
 
@@ -16,27 +12,30 @@ use ps_regions::answer::{paired, push_answer};
 use ps_regions::meaning::File;
 use ps_regions::refusal::Fault;
 use ps_syntax::{Expr as Syntax, Parameter};
-use ps_text::Span;
 use ps_tree::line::Line;
-use ps_tree::tree::{Expr, Place, ReadVariable, Statement, Width, WriteParameter};
+use ps_tree::tree::{Expr, ReadVariable, Statement, Width, WriteParameter};
 use ps_tree::types::{Host, Ordinal, Ty};
 use ps_typing::expression::expr_value;
 use ps_typing::operators::wrong_type;
 use ps_typing::site::Site;
 use ps_typing::value::{TypedPlace, TypedValue, is_integer};
 
-/// A variable of an ordinal type that is read, which begins at `at`.
-#[tactic(auto, unfolding(crate::specs::Procedures::read_variable, ps_tree::specs::View::read_of))]
-fn ordinal_read(place: Place, ordinal: Ordinal, line: Line, at: u32) -> Result<ReadVariable, Fault>
-    ensures ok { IfOk result (λ v. spec.read_variable (place_of place) (OrdinalType ordinal) line.number ≡ Some (read_of v)) }
-    ensures err { IfErr result (λ fault. IsFault fault → spec.read_variable (place_of place) (OrdinalType ordinal) line.number ≡ None) }
+/// A variable that is read, which begins at `at`.
+#[tactic(auto, unfolding(crate::specs::Procedures::read_variable, ps_tree::specs::View::type_of, ps_tree::specs::View::read_of))]
+fn read_variable(variable: TypedPlace, line: Line, at: u32) -> Result<ReadVariable, Fault>
+    ensures ok { IfOk result (λ v. spec.read_variable (place_of variable.place) (type_of variable.ty) line.number ≡ Some (read_of v)) }
+    ensures err { IfErr result (λ fault. IsFault fault → spec.read_variable (place_of variable.place) (type_of variable.ty) line.number ≡ None) }
 {
+    let TypedPlace { place, ty, .. } = variable;
+    let Ty::Simple(ordinal) = &ty else {
+        return Err(wrong_type(at));
+    };
     let Ordinal {
         host,
         low,
         high,
         ..
-    } = ordinal;
+    } = *ordinal;
     match host {
         Host::Char => Ok(ReadVariable::Char {
             place,
@@ -50,29 +49,7 @@ fn ordinal_read(place: Place, ordinal: Ordinal, line: Line, at: u32) -> Result<R
             high,
             line,
         }),
-        Host::Boolean | Host::Enumeration { .. } => {
-            drop(place);
-            Err(wrong_type(at))
-        }
-    }
-}
-
-/// A variable that is read, which begins at `at`.
-#[tactic(auto, unfolding(crate::specs::Procedures::read_variable, ps_tree::specs::View::type_of, ps_tree::specs::View::read_of))]
-fn read_variable(variable: TypedPlace, line: Line, at: u32) -> Result<ReadVariable, Fault>
-    ensures ok { IfOk result (λ v. spec.read_variable (place_of variable.place) (type_of variable.ty) line.number ≡ Some (read_of v)) }
-    ensures err { IfErr result (λ fault. IsFault fault → spec.read_variable (place_of variable.place) (type_of variable.ty) line.number ≡ None) }
-{
-    let TypedPlace { place, ty, .. } = variable;
-    match &ty {
-        Ty::Simple(ordinal) => ordinal_read(place, *ordinal, line, at),
-        Ty::Pointer { .. }
-        | Ty::Nil
-        | Ty::Set { .. }
-        | Ty::EmptySet
-        | Ty::Text { .. }
-        | Ty::Array { .. }
-        | Ty::Record { .. } => Err(wrong_type(at)),
+        Host::Boolean | Host::Enumeration { .. } => Err(wrong_type(at)),
     }
 }
 
@@ -86,20 +63,8 @@ fn read_parameter(parameter: &Parameter, site: Site<'_>) -> Result<ReadVariable,
     read_variable(variable, site.reading.line(at), at)
 }
 
-/// The parameters of read or readln behind the file.
-fn variables_read(parameters: &[Parameter], site: Site<'_>) -> Result<Vec<ReadVariable>, Fault>
-    ensures ok { IfOk result (λ list. traverse (spec.read_parameter (context_at site.entry) (regions_at site.entry)) parameters.now ≡ Some (map read_of list.items)) }
-    ensures err { IfErr result (λ fault. IsFault fault → traverse (spec.read_parameter (context_at site.entry) (regions_at site.entry)) parameters.now ≡ None) }
-{
-    let mut list = Vec::new(site.alloc);
-    for parameter in parameters {
-        push_answer(&mut list, read_parameter(parameter, site))?;
-    }
-    Ok(list)
-}
-
-/// The parameters of read or readln, whose name is at `at`.
-fn read_parameters(
+/// The parameters of read or readln behind the file. The routine's name is at `at`.
+pub(crate) fn read_parameters(
     parameters: &[Parameter],
     site: Site<'_>,
     at: u32,
@@ -108,35 +73,23 @@ fn read_parameters(
     ensures err { IfErr result (λ fault. IsFault fault → spec.read_parameters (context_at site.entry) (regions_at site.entry) parameters.now ≡ None) }
 {
     let rest = behind_file(site, File::Input, site.reading.has_input, parameters, at)?;
-    variables_read(rest, site)
+    let mut list = Vec::new(site.alloc);
+    for parameter in rest {
+        push_answer(&mut list, read_parameter(parameter, site))?;
+    }
+    Ok(list)
 }
 
-/// read, which has at least one variable.
-#[tactic(auto, unfolding(crate::specs::Procedures::required_procedure, crate::specs::Procedures::read_of, ps_tree::specs::View::statement_of))]
-pub(crate) fn read(parameters: &[Parameter], site: Site<'_>, name: Span) -> Result<Statement, Fault>
-    ensures ok { IfOk result (λ s. spec.required_procedure (context_at site.entry) (regions_at site.entry) (line_in (context_at site.entry).text name.from) Required.Read parameters.now ≡ Some (statement_of s)) }
-    ensures err { IfErr result (λ fault. IsFault fault → spec.required_procedure (context_at site.entry) (regions_at site.entry) (line_in (context_at site.entry).text name.from) Required.Read parameters.now ≡ None) }
+/// read, which has at least one variable. Its name is at `at`.
+#[tactic(auto, unfolding(crate::specs::Procedures::read_of, ps_tree::specs::View::statement_of))]
+pub(crate) fn read(variables: Vec<ReadVariable>, at: u32) -> Result<Statement, Fault>
+    ensures ok { IfOk result (λ s. spec.read_of (map read_of variables.items) ≡ Some (statement_of s)) }
+    ensures err { IfErr result (λ fault. IsFault fault → spec.read_of (map read_of variables.items) ≡ None) }
 {
-    let variables = read_parameters(parameters, site, name.from)?;
     if variables.is_empty() {
-        return Err(wrong_number(name.from));
+        return Err(wrong_number(at));
     }
     Ok(Statement::Read { variables })
-}
-
-/// readln
-#[tactic(auto, unfolding(crate::specs::Procedures::required_procedure, crate::specs::Procedures::read_of, ps_tree::specs::View::statement_of))]
-pub(crate) fn readln(
-    parameters: &[Parameter],
-    site: Site<'_>,
-    name: Span,
-) -> Result<Statement, Fault>
-    ensures ok { IfOk result (λ s. spec.required_procedure (context_at site.entry) (regions_at site.entry) (line_in (context_at site.entry).text name.from) Required.Readln parameters.now ≡ Some (statement_of s)) }
-    ensures err { IfErr result (λ fault. IsFault fault → spec.required_procedure (context_at site.entry) (regions_at site.entry) (line_in (context_at site.entry).text name.from) Required.Readln parameters.now ≡ None) }
-{
-    let variables = read_parameters(parameters, site, name.from)?;
-    let line = site.reading.line(name.from);
-    Ok(Statement::Readln { variables, line })
 }
 
 /// A value that is written, which begins at `at`.
@@ -154,10 +107,7 @@ fn ordinal_written(
         Host::Integer => Ok(WriteParameter::Integer { value, width }),
         Host::Char => Ok(WriteParameter::Char { value, width }),
         Host::Boolean => Ok(WriteParameter::Boolean { value, width }),
-        Host::Enumeration { .. } => {
-            drop((value, width));
-            Err(wrong_type(at))
-        }
+        Host::Enumeration { .. } => Err(wrong_type(at)),
     }
 }
 
@@ -170,16 +120,7 @@ fn written(value: TypedValue, width: Width, at: u32) -> Result<WriteParameter, F
     match value {
         TypedValue::Simple(value, ty) => match &ty {
             Ty::Simple(ordinal) => ordinal_written(value, *ordinal, width, at),
-            Ty::Pointer { .. }
-            | Ty::Nil
-            | Ty::Set { .. }
-            | Ty::EmptySet
-            | Ty::Text { .. }
-            | Ty::Array { .. }
-            | Ty::Record { .. } => {
-                drop((value, width));
-                Err(wrong_type(at))
-            }
+            _ => Err(wrong_type(at)),
         },
         TypedValue::Structure(value, ty) => {
             let is_string = ty.string_length().is_some();
@@ -187,31 +128,31 @@ fn written(value: TypedValue, width: Width, at: u32) -> Result<WriteParameter, F
             if is_string {
                 Ok(WriteParameter::Text { value, width })
             } else {
-                drop((value, width));
                 Err(wrong_type(at))
             }
         }
         value @ TypedValue::Set(..) => {
-            drop((value, width));
+            drop(value);
             Err(wrong_type(at))
         }
     }
 }
 
-/// A width, which begins at `at`.
+/// A width, which is an integer.
 #[tactic(auto, unfolding(crate::specs::Procedures::width_of, ps_typing::specs::View::value_of, ps_tree::specs::View::width_of))]
-fn width_of(value: TypedValue, line: Line, at: u32) -> Result<Width, Fault>
-    ensures ok { IfOk result (λ w. spec.width_of (value_of value) line.number ≡ Some (width_of w)) }
-    ensures err { IfErr result (λ fault. IsFault fault → spec.width_of (value_of value) line.number ≡ None) }
+fn width_at(x: &Syntax, site: Site<'_>) -> Result<Width, Fault>
+    ensures ok { IfOk result (λ w. spec.width_at (context_at site.entry) (regions_at site.entry) x.now ≡ Some (width_of w)) }
+    ensures err { IfErr result (λ fault. IsFault fault → spec.width_at (context_at site.entry) (regions_at site.entry) x.now ≡ None) }
 {
-    match value {
+    let at = x.first_token();
+    match expr_value(x, site)? {
         TypedValue::Simple(value, ty) => {
             let is_right = is_integer(&ty);
             drop(ty);
             if is_right {
+                let line = site.reading.line(at);
                 Ok(Width::Given { value, line })
             } else {
-                drop(value);
                 Err(wrong_type(at))
             }
         }
@@ -220,15 +161,6 @@ fn width_of(value: TypedValue, line: Line, at: u32) -> Result<Width, Fault>
             Err(wrong_type(at))
         }
     }
-}
-
-fn width_at(x: &Syntax, site: Site<'_>) -> Result<Width, Fault>
-    ensures ok { IfOk result (λ w. spec.width_at (context_at site.entry) (regions_at site.entry) x.now ≡ Some (width_of w)) }
-    ensures err { IfErr result (λ fault. IsFault fault → spec.width_at (context_at site.entry) (regions_at site.entry) x.now ≡ None) }
-{
-    let at = x.first_token();
-    let value = expr_value(x, site)?;
-    width_of(value, site.reading.line(at), at)
 }
 
 /// A parameter of write or writeln.
@@ -250,20 +182,8 @@ fn write_parameter(parameter: &Parameter, site: Site<'_>) -> Result<WriteParamet
     }
 }
 
-/// The parameters of write or writeln behind the file.
-fn values_written(parameters: &[Parameter], site: Site<'_>) -> Result<Vec<WriteParameter>, Fault>
-    ensures ok { IfOk result (λ list. traverse (spec.write_parameter (context_at site.entry) (regions_at site.entry)) parameters.now ≡ Some (map write_of list.items)) }
-    ensures err { IfErr result (λ fault. IsFault fault → traverse (spec.write_parameter (context_at site.entry) (regions_at site.entry)) parameters.now ≡ None) }
-{
-    let mut list = Vec::new(site.alloc);
-    for parameter in parameters {
-        push_answer(&mut list, write_parameter(parameter, site))?;
-    }
-    Ok(list)
-}
-
-/// The parameters of write or writeln, whose name is at `at`.
-fn write_parameters(
+/// The parameters of write or writeln behind the file. The routine's name is at `at`.
+pub(crate) fn write_parameters(
     parameters: &[Parameter],
     site: Site<'_>,
     at: u32,
@@ -272,36 +192,21 @@ fn write_parameters(
     ensures err { IfErr result (λ fault. IsFault fault → spec.write_parameters (context_at site.entry) (regions_at site.entry) parameters.now ≡ None) }
 {
     let rest = behind_file(site, File::Output, site.reading.has_output, parameters, at)?;
-    values_written(rest, site)
+    let mut list = Vec::new(site.alloc);
+    for parameter in rest {
+        push_answer(&mut list, write_parameter(parameter, site))?;
+    }
+    Ok(list)
 }
 
-/// write, which has at least one parameter.
-#[tactic(auto, unfolding(crate::specs::Procedures::required_procedure, crate::specs::Procedures::write_of, ps_tree::specs::View::statement_of))]
-pub(crate) fn write(
-    parameters: &[Parameter],
-    site: Site<'_>,
-    name: Span,
-) -> Result<Statement, Fault>
-    ensures ok { IfOk result (λ s. spec.required_procedure (context_at site.entry) (regions_at site.entry) (line_in (context_at site.entry).text name.from) Required.Write parameters.now ≡ Some (statement_of s)) }
-    ensures err { IfErr result (λ fault. IsFault fault → spec.required_procedure (context_at site.entry) (regions_at site.entry) (line_in (context_at site.entry).text name.from) Required.Write parameters.now ≡ None) }
+/// write, which has at least one parameter. Its name is at `at`.
+#[tactic(auto, unfolding(crate::specs::Procedures::write_of, ps_tree::specs::View::statement_of))]
+pub(crate) fn write(parameters: Vec<WriteParameter>, at: u32) -> Result<Statement, Fault>
+    ensures ok { IfOk result (λ s. spec.write_of (map write_of parameters.items) ≡ Some (statement_of s)) }
+    ensures err { IfErr result (λ fault. IsFault fault → spec.write_of (map write_of parameters.items) ≡ None) }
 {
-    let parameters = write_parameters(parameters, site, name.from)?;
     if parameters.is_empty() {
-        return Err(wrong_number(name.from));
+        return Err(wrong_number(at));
     }
     Ok(Statement::Write { parameters })
-}
-
-/// writeln
-#[tactic(auto, unfolding(crate::specs::Procedures::required_procedure, crate::specs::Procedures::write_of, ps_tree::specs::View::statement_of))]
-pub(crate) fn writeln(
-    parameters: &[Parameter],
-    site: Site<'_>,
-    name: Span,
-) -> Result<Statement, Fault>
-    ensures ok { IfOk result (λ s. spec.required_procedure (context_at site.entry) (regions_at site.entry) (line_in (context_at site.entry).text name.from) Required.Writeln parameters.now ≡ Some (statement_of s)) }
-    ensures err { IfErr result (λ fault. IsFault fault → spec.required_procedure (context_at site.entry) (regions_at site.entry) (line_in (context_at site.entry).text name.from) Required.Writeln parameters.now ≡ None) }
-{
-    let parameters = write_parameters(parameters, site, name.from)?;
-    Ok(Statement::Writeln { parameters })
 }

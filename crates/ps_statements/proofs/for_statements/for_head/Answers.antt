@@ -1,4 +1,4 @@
-use Rattle.std.proofs.Common.{◌≡◌, Option, Some, None}
+use Rattle.std.proofs.Common.{◌≡◌, Option, Some, None, refl}
 use Rattle.std.proofs.lemmas.Result.{err_from_is_err_and}
 use Rattle.ps_regions.specs.Refusal.{IsFault}
 use Rattle.ps_typing.specs.View.{context_at, regions_at}
@@ -15,3 +15,9 @@ returns-in_err-first-clause-err c =
     let k : Tree.Expr → Tree.Expr → Option Head = λ first last. Some (record { variable = c.in_ok-variable.variable; type = c.in_ok-variable.ordinal; first = first; first_line = spec.line_of (context_at c.args.site) c.args.x.now; direction = direction_of c.args.way; last = last; last_line = spec.line_of (context_at c.args.site) c.args.y.now }) in
     rw (c.in_ok-found.ensures.ok, c.in_ok-variable.ensures.ok) (two_none (bound_at (context_at c.args.site) (regions_at c.args.site) c.in_ok-variable.ordinal c.args.x.now) (bound_at (context_at c.args.site) (regions_at c.args.site) c.in_ok-variable.ordinal c.args.y.now) k c.bound_at.result c.bound_at-2.result c.in_err-first.field-0.0 c.in_err-first.ensures.err c.bound_at.ensures.err c.bound_at-2.ensures.err) in
     rw (p.1, p.2) parts
+
+pub returns-clause-ok : goal.returns-clause-ok
+returns-clause-ok c =
+    let h = rw c.in_ok-first.ensures.first at c.bound_at.ensures.ok in
+    let k = rw c.in_ok-first.ensures.second at c.bound_at-2.ensures.ok in
+    rw (c.in_ok-found.ensures.ok, c.in_ok-variable.ensures.ok, h, k, c.line-first_line.ensures, c.line-last_line.ensures, c.first_token.ensures, c.first_token-2.ensures, c.direction_of-direction.ensures) refl

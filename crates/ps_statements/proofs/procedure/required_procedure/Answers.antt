@@ -1,29 +1,21 @@
 use Rattle.ps_statements.specs.Procedures as spec
 use Rattle.ps_statements.proofs.procedure.required_procedure.Goals as goal
 
-pub returns-in-Read-clause-ok : goal.returns-in-Read-clause-ok
-returns-in-Read-clause-ok c = rw c.in-Read.is c.read.ensures.ok
+pub returns-in_ok-variables-in-Read-clause-ok : goal.returns-in_ok-variables-in-Read-clause-ok
+unfolding spec.required_procedure
+returns-in_ok-variables-in-Read-clause-ok c = rw (c.in-Read.is, c.in_ok-variables-in-Read.ensures.ok) c.read.ensures.ok
 
-pub returns-in-Read-clause-err : goal.returns-in-Read-clause-err
-returns-in-Read-clause-err c = rw c.in-Read.is c.read.ensures.err
+pub returns-in_ok-variables-in-Read-clause-err : goal.returns-in_ok-variables-in-Read-clause-err
+unfolding spec.required_procedure
+returns-in_ok-variables-in-Read-clause-err c = rw (c.in-Read.is, c.in_ok-variables-in-Read.ensures.ok) c.read.ensures.err
 
-pub returns-in-Readln-clause-ok : goal.returns-in-Readln-clause-ok
-returns-in-Readln-clause-ok c = rw c.in-Readln.is c.readln.ensures.ok
+pub returns-in_ok-parameters-in-Write-clause-ok : goal.returns-in_ok-parameters-in-Write-clause-ok
+unfolding spec.required_procedure
+returns-in_ok-parameters-in-Write-clause-ok c = rw (c.in-Write.is, c.in_ok-parameters-in-Write.ensures.ok) c.write.ensures.ok
 
-pub returns-in-Readln-clause-err : goal.returns-in-Readln-clause-err
-returns-in-Readln-clause-err c = rw c.in-Readln.is c.readln.ensures.err
-
-pub returns-in-Write-clause-ok : goal.returns-in-Write-clause-ok
-returns-in-Write-clause-ok c = rw c.in-Write.is c.write.ensures.ok
-
-pub returns-in-Write-clause-err : goal.returns-in-Write-clause-err
-returns-in-Write-clause-err c = rw c.in-Write.is c.write.ensures.err
-
-pub returns-in-Writeln-clause-ok : goal.returns-in-Writeln-clause-ok
-returns-in-Writeln-clause-ok c = rw c.in-Writeln.is c.writeln.ensures.ok
-
-pub returns-in-Writeln-clause-err : goal.returns-in-Writeln-clause-err
-returns-in-Writeln-clause-err c = rw c.in-Writeln.is c.writeln.ensures.err
+pub returns-in_ok-parameters-in-Write-clause-err : goal.returns-in_ok-parameters-in-Write-clause-err
+unfolding spec.required_procedure
+returns-in_ok-parameters-in-Write-clause-err c = rw (c.in-Write.is, c.in_ok-parameters-in-Write.ensures.ok) c.write.ensures.err
 
 pub returns-in-New-clause-ok : goal.returns-in-New-clause-ok
 unfolding spec.required_procedure

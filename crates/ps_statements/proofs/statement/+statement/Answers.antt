@@ -1,10 +1,11 @@
-use Rattle.std.proofs.Common.{◌≡◌, List, Option, Some, None, map, refl, sym, ap}
+use Rattle.std.proofs.Common.{◌≡◌, List, Option, Some, None, map, refl, sym, ap, arith}
+use Rattle.std.proofs.lemmas.Grind.{common_steps}
 use Rattle.std.proofs.lemmas.Result.{err_from_is_err_and}
 use Rattle.ps_syntax.specs.declared.statement.Element.{out-Element}
 use Rattle.ps_tree.specs.Tree as Tree
 use Rattle.ps_tree.specs.TypeView.{type_of}
 use Rattle.ps_tree.specs.View.{expr_of, place_of, statement_of}
-use Rattle.ps_tree.proofs.StatementLemmas.{statement_of_Compound, statement_of_Repeat}
+use Rattle.ps_tree.proofs.StatementLemmas.{statement_of_Case, statement_of_Compound, statement_of_Repeat}
 use Rattle.ps_regions.specs.Option.{◌>>=◌, traverse}
 use Rattle.ps_regions.specs.Refusal.{IsFault}
 use Rattle.ps_regions.specs.Views.{scope_of}
@@ -13,9 +14,9 @@ use Rattle.ps_regions.proofs.Lists.{reached_start, reached_end}
 use Rattle.ps_statements.specs.Statements as spec
 use Rattle.ps_statements.specs.Structured.{case_label, record_region, repeated}
 use Rattle.ps_statements.specs.View.{element_of}
-use Rattle.ps_statements.proofs.Equations.{statement_empty, statement_assign, statement_call, statement_compound, statement_if, statement_if_else, statement_case, statement_while, statement_repeat, statement_for, statement_with, element_is}
+use Rattle.ps_statements.proofs.Equations.{statement_empty, statement_assign, statement_call, statement_compound, statement_if, statement_if_else, statement_case, statement_while, statement_repeat, statement_for, statement_with, element_is, elements_listed}
 use Rattle.ps_statements.proofs.Loops.{added_next, added_fault}
-use Rattle.ps_statements.proofs.Paired.{two_none, three_none, put_is, put_none}
+use Rattle.ps_statements.proofs.Paired.{two_none, three_none, put_is, put_none, part_is, both_none}
 use Rattle.ps_statements.proofs.Judgement.{statements_end, case_at, case_fault, case_no_index}
 use Rattle.ps_statements.proofs.Opening.{with_empty, with_next, with_fault}
 use Rattle.ps_statements.proofs.statement.+statement.Goals as goal
@@ -30,25 +31,22 @@ pub statements-returns-clause-ok : goal.statements-returns-clause-ok
 statements-returns-clause-ok t c =
     statements_end (context_at c.args.site) (regions_at c.args.site) c.args.list.now c.loop-x.x-index c.loop-x.typed.items c.loop-x-test.false c.loop-x.invariant
 
-pub case_statement-returns-in_err-index-2-clause-err : goal.case_statement-returns-in_err-index-2-clause-err
-case_statement-returns-in_err-index-2-clause-err t c =
-    let p = err_from_is_err_and c.from_residual-in_err-index-2.result c.from_residual-in_err-index-2.ensures.1 in
-    let h = rw c.in_err-index-2.ensures.err at c.elements.ensures.err in
-    let parts : IsFault c.in_err-index-2.field-0.0 → spec.case_statement (context_at c.args.site) (regions_at c.args.site) c.args.at c.args.x.now (map (spec.element (context_at c.args.site)) c.args.list.now) ≡ None =
-    λ fault. case_fault (context_at c.args.site) (regions_at c.args.site) c.args.at c.args.x.now c.args.list.now (expr_of c.in_ok-index.index) c.in_ok-index.ordinal c.in_ok-index.ensures.ok (h fault) in
+pub case_statement-returns-in_err-elements-clause-err : goal.case_statement-returns-in_err-elements-clause-err
+case_statement-returns-in_err-elements-clause-err t c =
+    let p = err_from_is_err_and c.from_residual-in_err-elements.result c.from_residual-in_err-elements.ensures.1 in
+    let parts : IsFault c.in_err-elements.field-0.0 → spec.case_statement (context_at c.args.site) (regions_at c.args.site) c.args.at c.args.x.now (map (spec.element (context_at c.args.site)) c.args.list.now) ≡ None =
+    λ told. case_fault (context_at c.args.site) (regions_at c.args.site) c.args.at c.args.x.now c.args.list.now (expr_of c.in_ok-index.index) c.in_ok-index.ordinal c.in_ok-index.ensures.ok (c.in_err-elements.ensures.err told) in
     rw (p.1, p.2) parts
 
-pub case_statement-returns-clause-ok : goal.case_statement-returns-clause-ok
-case_statement-returns-clause-ok t c =
-    let h = rw c.in_ok-index-2.ensures.second at c.elements.ensures.ok in
-    let k = rw c.in_ok-index-2.ensures.first at c.in_ok-index.ensures.ok in
-    rw (case_at (context_at c.args.site) (regions_at c.args.site) c.args.at c.args.x.now c.args.list.now (expr_of c.in_ok-index-2.index) c.in_ok-index.ordinal (map element_of c.in_ok-index-2.elements.items) k h) c.case_behind.ensures.ok
+pub case_statement-returns-in-None-clause-ok : goal.case_statement-returns-in-None-clause-ok
+case_statement-returns-in-None-clause-ok t c =
+    let d = rw (c.in-None.is, c.deref.ensures.value) at c.in_ok-repeated_label.ensures in
+    rw (case_at (context_at c.args.site) (regions_at c.args.site) c.args.at c.args.x.now c.args.list.now (expr_of c.in_ok-index.index) c.in_ok-index.ordinal (map element_of c.in_ok-elements.elements.items) c.in_ok-index.ensures.ok c.in_ok-elements.ensures.ok, ← d, statement_of_Case, elements_listed, c.line.ensures) refl
 
-pub case_statement-returns-clause-err : goal.case_statement-returns-clause-err
-case_statement-returns-clause-err t c =
-    let h = rw c.in_ok-index-2.ensures.second at c.elements.ensures.ok in
-    let k = rw c.in_ok-index-2.ensures.first at c.in_ok-index.ensures.ok in
-    rw (case_at (context_at c.args.site) (regions_at c.args.site) c.args.at c.args.x.now c.args.list.now (expr_of c.in_ok-index-2.index) c.in_ok-index.ordinal (map element_of c.in_ok-index-2.elements.items) k h) c.case_behind.ensures.err
+pub case_statement-returns-in-Some-clause-err : goal.case_statement-returns-in-Some-clause-err
+case_statement-returns-in-Some-clause-err t c =
+    let d = rw (c.in-Some.is, c.deref.ensures.value) at c.in_ok-repeated_label.ensures in
+    λ told. rw (case_at (context_at c.args.site) (regions_at c.args.site) c.args.at c.args.x.now c.args.list.now (expr_of c.in_ok-index.index) c.in_ok-index.ordinal (map element_of c.in_ok-elements.elements.items) c.in_ok-index.ensures.ok c.in_ok-elements.ensures.ok, ← d) refl
 
 pub with_statement-returns-in_err-places-in-len1-up-clause-err : goal.with_statement-returns-in_err-places-in-len1-up-clause-err
 with_statement-returns-in_err-places-in-len1-up-clause-err t c =
@@ -57,13 +55,21 @@ with_statement-returns-in_err-places-in-len1-up-clause-err t c =
     λ fault. with_fault (context_at c.args.site) (regions_at c.args.site) (map place_of c.args.opened.items) (spec.statement (context_at c.args.site) c.args.x.now) c.args.records.now c.first-item.result c.in-len1-up.len_at_least c.first-item.is (c.in_err-places-in-len1-up.ensures.err fault) in
     rw (p.1, p.2) parts
 
-pub with_statement-returns-in_ok-places-in-len1-up-clause-ok : goal.with_statement-returns-in_ok-places-in-len1-up-clause-ok
-with_statement-returns-in_ok-places-in-len1-up-clause-ok t c =
-    rw (with_next (context_at c.args.site) (regions_at c.args.site) (map place_of c.args.opened.items) (spec.statement (context_at c.args.site) c.args.x.now) c.args.records.now c.first-item.result (map place_of c.in_ok-places-in-len1-up.places.items) (type_of c.in_ok-places-in-len1-up.ty) c.in-len1-up.len_at_least c.first-item.is c.in_ok-places-in-len1-up.ensures.ok) c.with_record-statement.ensures.ok
+pub with_statement-returns-in-Record-clause-ok : goal.with_statement-returns-in-Record-clause-ok
+unfolding record_region scope_of type_of
+with_statement-returns-in-Record-clause-ok t c =
+    let h = rw (c.in-Record.is, c.deref.ensures) at c.with_statement.ensures.ok in
+    rw (with_next (context_at c.args.site) (regions_at c.args.site) (map place_of c.args.opened.items) (spec.statement (context_at c.args.site) c.args.x.now) c.args.records.now c.first-item.result (map place_of c.in_ok-places-in-len1-up.places.items) (type_of c.in_ok-places-in-len1-up.ty) c.in-len1-up.len_at_least c.first-item.is c.in_ok-places-in-len1-up.ensures.ok, c.in-Record.is) h
 
-pub with_statement-returns-in_ok-places-in-len1-up-clause-err : goal.with_statement-returns-in_ok-places-in-len1-up-clause-err
-with_statement-returns-in_ok-places-in-len1-up-clause-err t c =
-    rw (with_next (context_at c.args.site) (regions_at c.args.site) (map place_of c.args.opened.items) (spec.statement (context_at c.args.site) c.args.x.now) c.args.records.now c.first-item.result (map place_of c.in_ok-places-in-len1-up.places.items) (type_of c.in_ok-places-in-len1-up.ty) c.in-len1-up.len_at_least c.first-item.is c.in_ok-places-in-len1-up.ensures.ok) c.with_record-statement.ensures.err
+pub with_statement-returns-in-Record-clause-err : goal.with_statement-returns-in-Record-clause-err
+unfolding record_region scope_of type_of
+with_statement-returns-in-Record-clause-err t c =
+    let h = rw (c.in-Record.is, c.deref.ensures) at c.with_statement.ensures.err in
+    rw (with_next (context_at c.args.site) (regions_at c.args.site) (map place_of c.args.opened.items) (spec.statement (context_at c.args.site) c.args.x.now) c.args.records.now c.first-item.result (map place_of c.in_ok-places-in-len1-up.places.items) (type_of c.in_ok-places-in-len1-up.ty) c.in-len1-up.len_at_least c.first-item.is c.in_ok-places-in-len1-up.ensures.ok, c.in-Record.is) h
+
+pub with_statement-returns-in_default-clause-err : goal.with_statement-returns-in_default-clause-err
+unfolding record_region type_of
+with_statement-returns-in_default-clause-err t c = λ told. rw (with_next (context_at c.args.site) (regions_at c.args.site) (map place_of c.args.opened.items) (spec.statement (context_at c.args.site) c.args.x.now) c.args.records.now c.first-item.result (map place_of c.in_ok-places-in-len1-up.places.items) (type_of c.in_ok-places-in-len1-up.ty) c.in-len1-up.len_at_least c.first-item.is c.in_ok-places-in-len1-up.ensures.ok) (grind (arith, common_steps))
 
 -- ---- lists
 
@@ -93,33 +99,14 @@ elements-returns-in_err-push_answer-clause-err t c =
 
 -- ---- two parts
 
-pub if_statement-returns-in_err-condition-clause-err : goal.if_statement-returns-in_err-condition-clause-err
-if_statement-returns-in_err-condition-clause-err t c =
-    let p = err_from_is_err_and c.from_residual.result c.from_residual.ensures.1 in
-    let parts : IsFault c.in_err-condition.field-0.0 → spec.if_statement (context_at c.args.site) (regions_at c.args.site) c.args.x.now (spec.statement (context_at c.args.site) c.args.body.now) ≡ None =
-    two_none (spec.condition_at (context_at c.args.site) (regions_at c.args.site) c.args.x.now) (spec.statement (context_at c.args.site) c.args.body.now (regions_at c.args.site)) (λ e s. Some (Tree.If e s)) c.condition_at.result c.boxed.result c.in_err-condition.field-0.0 c.in_err-condition.ensures.err c.condition_at.ensures.err c.boxed.ensures.err in
-    rw (p.1, p.2) parts
+pub governed-returns-clause-condition : goal.governed-returns-clause-condition
+governed-returns-clause-condition t c = part_is (spec.condition_at (context_at c.args.site) (regions_at c.args.site) c.args.x.now) expr_of (λ p. p.0) c.condition_at.result c.paired.result c.paired.ensures.first c.condition_at.ensures.ok
 
-pub if_statement-returns-clause-ok : goal.if_statement-returns-clause-ok
-unfolding statement_of
-if_statement-returns-clause-ok t c =
-    let h = rw c.in_ok-condition.ensures.first at c.condition_at.ensures.ok in
-    let k = rw c.in_ok-condition.ensures.second at c.boxed.ensures.ok in
-    rw (h, k) refl
+pub governed-returns-clause-body : goal.governed-returns-clause-body
+governed-returns-clause-body t c = part_is (spec.statement (context_at c.args.site) c.args.body.now (regions_at c.args.site)) (λ s. statement_of s.value) (λ p. p.1) c.boxed.result c.paired.result c.paired.ensures.second c.boxed.ensures.ok
 
-pub while_statement-returns-in_err-condition-clause-err : goal.while_statement-returns-in_err-condition-clause-err
-while_statement-returns-in_err-condition-clause-err t c =
-    let p = err_from_is_err_and c.from_residual.result c.from_residual.ensures.1 in
-    let parts : IsFault c.in_err-condition.field-0.0 → spec.while_statement (context_at c.args.site) (regions_at c.args.site) c.args.x.now (spec.statement (context_at c.args.site) c.args.body.now) ≡ None =
-    two_none (spec.condition_at (context_at c.args.site) (regions_at c.args.site) c.args.x.now) (spec.statement (context_at c.args.site) c.args.body.now (regions_at c.args.site)) (λ e s. Some (Tree.While e s)) c.condition_at.result c.boxed.result c.in_err-condition.field-0.0 c.in_err-condition.ensures.err c.condition_at.ensures.err c.boxed.ensures.err in
-    rw (p.1, p.2) parts
-
-pub while_statement-returns-clause-ok : goal.while_statement-returns-clause-ok
-unfolding statement_of
-while_statement-returns-clause-ok t c =
-    let h = rw c.in_ok-condition.ensures.first at c.condition_at.ensures.ok in
-    let k = rw c.in_ok-condition.ensures.second at c.boxed.ensures.ok in
-    rw (h, k) refl
+pub governed-returns-clause-err : goal.governed-returns-clause-err
+governed-returns-clause-err t c = both_none Tree.Statement (spec.condition_at (context_at c.args.site) (regions_at c.args.site) c.args.x.now) (spec.statement (context_at c.args.site) c.args.body.now (regions_at c.args.site)) c.condition_at.result c.boxed.result c.paired.result c.paired.ensures.err c.condition_at.ensures.err c.boxed.ensures.err
 
 pub repeat_statement-returns-in_err-body-clause-err : goal.repeat_statement-returns-in_err-body-clause-err
 repeat_statement-returns-in_err-body-clause-err t c =
@@ -177,17 +164,26 @@ statement-returns-in-Call-clause-ok t c = rw (c.in-Call.is, statement_call, ← 
 pub statement-returns-in-Call-clause-err : goal.statement-returns-in-Call-clause-err
 statement-returns-in-Call-clause-err t c = rw (c.in-Call.is, statement_call, ← c.as_slice.ensures) c.procedure_statement.ensures.err
 
-pub statement-returns-in-Compound-clause-ok : goal.statement-returns-in-Compound-clause-ok
-statement-returns-in-Compound-clause-ok t c = rw (c.in-Compound.is, statement_compound, ← c.as_slice-in-Compound.ensures) c.compound.ensures.ok
+pub statement-returns-in_ok-statements-in-Compound-clause-ok : goal.statement-returns-in_ok-statements-in-Compound-clause-ok
+statement-returns-in_ok-statements-in-Compound-clause-ok t c = rw (c.in-Compound.is, statement_compound, ← c.as_slice-in-Compound.ensures, c.in_ok-statements-in-Compound.ensures.ok) (ap Some (sym (statement_of_Compound _)))
 
-pub statement-returns-in-Compound-clause-err : goal.statement-returns-in-Compound-clause-err
-statement-returns-in-Compound-clause-err t c = rw (c.in-Compound.is, statement_compound, ← c.as_slice-in-Compound.ensures) c.compound.ensures.err
+pub statement-returns-in_err-statements-in-Compound-clause-err : goal.statement-returns-in_err-statements-in-Compound-clause-err
+statement-returns-in_err-statements-in-Compound-clause-err t c =
+    let p = err_from_is_err_and c.from_residual.result c.from_residual.ensures.1 in
+    let parts : IsFault c.in_err-statements-in-Compound.field-0.0 → spec.statement (context_at c.args.site) c.args.x.now (regions_at c.args.site) ≡ None =
+    λ told. rw (c.in-Compound.is, statement_compound, ← c.as_slice-in-Compound.ensures, c.in_err-statements-in-Compound.ensures.err told) refl in
+    rw (p.1, p.2) parts
 
-pub statement-returns-in-If-clause-ok : goal.statement-returns-in-If-clause-ok
-statement-returns-in-If-clause-ok t c = rw (c.in-If.is, statement_if, ← c.get-in-If.ensures, ← c.get-in-If-2.ensures) c.if_statement.ensures.ok
+pub statement-returns-in_ok-condition-in-If-clause-ok : goal.statement-returns-in_ok-condition-in-If-clause-ok
+unfolding statement_of
+statement-returns-in_ok-condition-in-If-clause-ok t c = rw (c.in-If.is, statement_if, ← c.get-in-If.ensures, ← c.get-in-If-2.ensures, c.in_ok-condition-in-If.ensures.condition, c.in_ok-condition-in-If.ensures.body) refl
 
-pub statement-returns-in-If-clause-err : goal.statement-returns-in-If-clause-err
-statement-returns-in-If-clause-err t c = rw (c.in-If.is, statement_if, ← c.get-in-If.ensures, ← c.get-in-If-2.ensures) c.if_statement.ensures.err
+pub statement-returns-in_err-condition-in-If-clause-err : goal.statement-returns-in_err-condition-in-If-clause-err
+statement-returns-in_err-condition-in-If-clause-err t c =
+    let p = err_from_is_err_and c.from_residual-in_err-condition-in-If.result c.from_residual-in_err-condition-in-If.ensures.1 in
+    let parts : IsFault c.in_err-condition-in-If.field-0.0 → spec.statement (context_at c.args.site) c.args.x.now (regions_at c.args.site) ≡ None =
+    λ told. rw (c.in-If.is, statement_if, ← c.get-in-If.ensures, ← c.get-in-If-2.ensures) (c.in_err-condition-in-If.ensures.err told (λ e s. Some (Tree.If e s))) in
+    rw (p.1, p.2) parts
 
 pub statement-returns-in-IfElse-clause-ok : goal.statement-returns-in-IfElse-clause-ok
 statement-returns-in-IfElse-clause-ok t c = rw (c.in-IfElse.is, statement_if_else, ← c.get-in-IfElse.ensures, ← c.get-in-IfElse-2.ensures, ← c.get-in-IfElse-3.ensures) c.if_else_statement.ensures.ok
@@ -201,11 +197,16 @@ statement-returns-in-Case-clause-ok t c = rw (c.in-Case.is, statement_case, ← 
 pub statement-returns-in-Case-clause-err : goal.statement-returns-in-Case-clause-err
 statement-returns-in-Case-clause-err t c = rw (c.in-Case.is, statement_case, ← c.as_slice-in-Case.ensures, ← c.get-in-Case.ensures) c.case_statement.ensures.err
 
-pub statement-returns-in-While-clause-ok : goal.statement-returns-in-While-clause-ok
-statement-returns-in-While-clause-ok t c = rw (c.in-While.is, statement_while, ← c.get-in-While.ensures, ← c.get-in-While-2.ensures) c.while_statement.ensures.ok
+pub statement-returns-in_ok-condition-in-While-clause-ok : goal.statement-returns-in_ok-condition-in-While-clause-ok
+unfolding statement_of
+statement-returns-in_ok-condition-in-While-clause-ok t c = rw (c.in-While.is, statement_while, ← c.get-in-While.ensures, ← c.get-in-While-2.ensures, c.in_ok-condition-in-While.ensures.condition, c.in_ok-condition-in-While.ensures.body) refl
 
-pub statement-returns-in-While-clause-err : goal.statement-returns-in-While-clause-err
-statement-returns-in-While-clause-err t c = rw (c.in-While.is, statement_while, ← c.get-in-While.ensures, ← c.get-in-While-2.ensures) c.while_statement.ensures.err
+pub statement-returns-in_err-condition-in-While-clause-err : goal.statement-returns-in_err-condition-in-While-clause-err
+statement-returns-in_err-condition-in-While-clause-err t c =
+    let p = err_from_is_err_and c.from_residual-in_err-condition-in-While.result c.from_residual-in_err-condition-in-While.ensures.1 in
+    let parts : IsFault c.in_err-condition-in-While.field-0.0 → spec.statement (context_at c.args.site) c.args.x.now (regions_at c.args.site) ≡ None =
+    λ told. rw (c.in-While.is, statement_while, ← c.get-in-While.ensures, ← c.get-in-While-2.ensures) (c.in_err-condition-in-While.ensures.err told (λ e s. Some (Tree.While e s))) in
+    rw (p.1, p.2) parts
 
 pub statement-returns-in-Repeat-clause-ok : goal.statement-returns-in-Repeat-clause-ok
 statement-returns-in-Repeat-clause-ok t c = rw (c.in-Repeat.is, statement_repeat, ← c.as_slice-in-Repeat.ensures, ← c.get-in-Repeat.ensures) c.repeat_statement.ensures.ok
@@ -256,16 +257,6 @@ boxed-returns-clause-ok t c = put_is (spec.statement (context_at c.args.site) c.
 pub boxed-returns-clause-err : goal.boxed-returns-clause-err
 boxed-returns-clause-err t c = put_none (spec.statement (context_at c.args.site) c.args.x.now (regions_at c.args.site)) c.statement.result c.boxed_answer.result c.boxed_answer.ensures.err c.statement.ensures.err
 
-pub compound-returns-in_err-body-clause-err : goal.compound-returns-in_err-body-clause-err
-compound-returns-in_err-body-clause-err t c =
-    let p = err_from_is_err_and c.from_residual.result c.from_residual.ensures.1 in
-    let parts : IsFault c.in_err-body.field-0.0 → spec.compound_statement (spec.statements (context_at c.args.site) (regions_at c.args.site) c.args.list.now) ≡ None =
-    λ told. ap spec.compound_statement (c.in_err-body.ensures.err told) in
-    rw (p.1, p.2) parts
-
-pub compound-returns-clause-ok : goal.compound-returns-clause-ok
-compound-returns-clause-ok t c = rw c.in_ok-body.ensures.ok (ap Some (sym (statement_of_Compound c.in_ok-body.body)))
-
 pub case_statement-returns-in_err-index-clause-err : goal.case_statement-returns-in_err-index-clause-err
 case_statement-returns-in_err-index-clause-err t c =
     let p = err_from_is_err_and c.from_residual.result c.from_residual.ensures.1 in
@@ -290,15 +281,3 @@ with_statement-returns-in_err-body-in-empty-clause-err t c =
     let parts : IsFault c.in_err-body-in-empty.field-0.0 → spec.with_behind (context_at c.args.site) (map place_of c.args.opened.items, regions_at c.args.site) c.args.records.now (spec.statement (context_at c.args.site) c.args.x.now) ≡ None =
     λ told. rw (with_empty (context_at c.args.site) (regions_at c.args.site) (map place_of c.args.opened.items) (spec.statement (context_at c.args.site) c.args.x.now) c.args.records.now c.in-empty.len_below, c.in_err-body-in-empty.ensures.err told) refl in
     rw (p.1, p.2) parts
-
-pub with_record-returns-in-Record-clause-ok : goal.with_record-returns-in-Record-clause-ok
-unfolding record_region scope_of type_of
-with_record-returns-in-Record-clause-ok t c =
-    let h = rw (c.in-Record.is, c.deref.ensures) at c.with_statement.ensures.ok in
-    rw c.in-Record.is h
-
-pub with_record-returns-in-Record-clause-err : goal.with_record-returns-in-Record-clause-err
-unfolding record_region scope_of type_of
-with_record-returns-in-Record-clause-err t c =
-    let h = rw (c.in-Record.is, c.deref.ensures) at c.with_statement.ensures.err in
-    rw c.in-Record.is h

@@ -14,7 +14,7 @@ abbrev pub invariant-elements-loop-x : goal.invariant-elements-loop-x
 invariant-elements-loop-x l = Reached (λ e. element (context_at l.site) e (regions_at l.site) l.index) l.list l.x-index (map element_of l.typed.items)
 
 -- The depth of the statement, and then what is called for one of the same depth. A `with` goes down its records, of which there are
--- less than 2 to the 64th, in two calls for each.
+-- less than 2 to the 64th.
 
 abbrev pub decreases-statement : goal.decreases-statement
 decreases-statement l = goal.size-statement l * 36893488147419103240
@@ -25,17 +25,11 @@ decreases-boxed l = goal.size-boxed l * 36893488147419103240 + 1
 abbrev pub decreases-statements : goal.decreases-statements
 decreases-statements l = goal.size-statements l * 36893488147419103240 + 1
 
-abbrev pub decreases-compound : goal.decreases-compound
-decreases-compound l = goal.size-compound l * 36893488147419103240 + 2
-
-abbrev pub decreases-if_statement : goal.decreases-if_statement
-decreases-if_statement l = goal.size-if_statement l * 36893488147419103240 + 2
+abbrev pub decreases-governed : goal.decreases-governed
+decreases-governed l = goal.size-governed l * 36893488147419103240 + 2
 
 abbrev pub decreases-if_else_statement : goal.decreases-if_else_statement
 decreases-if_else_statement l = max (goal.size-if_else_statement l) (size-Statement l.otherwise.now) * 36893488147419103240 + 2
-
-abbrev pub decreases-while_statement : goal.decreases-while_statement
-decreases-while_statement l = goal.size-while_statement l * 36893488147419103240 + 2
 
 abbrev pub decreases-repeat_statement : goal.decreases-repeat_statement
 decreases-repeat_statement l = goal.size-repeat_statement l * 36893488147419103240 + 2
@@ -53,7 +47,4 @@ abbrev pub decreases-for_statement : goal.decreases-for_statement
 decreases-for_statement l = goal.size-for_statement l * 36893488147419103240 + 2
 
 abbrev pub decreases-with_statement : goal.decreases-with_statement
-decreases-with_statement l = goal.size-with_statement l * 36893488147419103240 + 2 * length l.records.now + 2
-
-abbrev pub decreases-with_record : goal.decreases-with_record
-decreases-with_record l = goal.size-with_record l * 36893488147419103240 + 2 * length l.records.now + 3
+decreases-with_statement l = goal.size-with_statement l * 36893488147419103240 + length l.records.now + 2
