@@ -157,3 +157,16 @@ mutual
   pub local_negated : (n : ℕ) → Local (read.read_negated n)
   local_negated zero = local_refuse
   local_negated (suc n) = local_factor _ (local_expr n) _ (local_negated n)
+
+-- ---- the items of the loops
+pub operand_turn : (n : ℕ) → Turn (read.multiplied (read.read_factor n))
+operand_turn n = multiplied_turn (read.read_factor n) (local_factor (read.read_expr n) (local_expr n) (read.read_negated n) (local_negated n))
+
+pub summand_turn : (n : ℕ) → Turn (read.added (read.term (read.read_factor n)))
+summand_turn n = added_turn (read.term (read.read_factor n)) (local_term (read.read_factor n) (local_factor (read.read_expr n) (local_expr n) (read.read_negated n) (local_negated n)))
+
+pub selection_turn : (n : ℕ) → Turn (read.selector (read.read_expr n))
+selection_turn n = selector_turn (read.read_expr n) (local_expr n)
+
+pub member_looks : (n : ℕ) → Local (read.member (read.read_expr n))
+member_looks n = local_member (read.read_expr n) (local_expr n)

@@ -25,7 +25,7 @@ same_parts (t ∷ c) r (u ∷ d) q e l =
     head u [] = u
     head u (t ∷ ts) = t
 
-same_steps : {A B : Type 0} (o : Outcome A) (f g : A → Parser B) → ((x : A) (m : Tokens) → o ≡ Ok (x, m) → f x m ≡ g x m) → and_then o f ≡ and_then o g
+pub same_steps : {A B : Type 0} (o : Outcome A) (f g : A → Parser B) → ((x : A) (m : Tokens) → o ≡ Ok (x, m) → f x m ≡ g x m) → and_then o f ≡ and_then o g
 same_steps (Err n) f g h = refl
 same_steps (Ok p) f g h = h p.0 p.1 refl
 
@@ -66,7 +66,7 @@ module _ {A : Type 0} (f : ℕ → Parser A) (h : (n : ℕ) → Local (f n)) (e 
   pub local_turns : Local (λ ts. f (length ts) ts)
   local_turns = record { reads = turns_read; refuses = turns_refuse }
 
-after_shorter : (k : Kind) (ts : Tokens) → sees k ts ≡ true → length (after k ts) < length ts
+pub after_shorter : (k : Kind) (ts : Tokens) → sees k ts ≡ true → length (after k ts) < length ts
 after_shorter k [] e = cc
 after_shorter k (t ∷ ts) e = rw e (omega arith)
 
@@ -90,6 +90,9 @@ module _ {A : Type 0} (separator : Kind) (item : Parser A) (h : Local item) wher
   from_same (suc n) zero found [] l k = refl
   from_same (suc n) zero found (t ∷ ts) l k = absurd (omega arith)
   from_same (suc n) (suc m) found ts l k = from_step n m found (from_same n m) (sees separator ts) (after separator ts) (λ e. let shorter = after_shorter separator ts e in (omega (arith, shorter), omega (arith, shorter)))
+
+  pub separated_enough : (n : ℕ) (found : List A) (ts : Tokens) → length ts ≤ n → separated_from separator item n found ts ≡ separated_from separator item (length ts) found ts
+  separated_enough n found ts le = from_same n (length ts) found ts le (omega arith)
 
   local_more : (x : A) → Local (λ ts. separated_from separator item (length ts) (x ∷ []) ts)
   local_more x = local_turns (λ n. separated_from separator item n (x ∷ [])) (λ n. local_from n (x ∷ [])) (λ n m ts. from_same n m (x ∷ []) ts)
@@ -135,6 +138,10 @@ module _ {A : Type 0} (separator stop : Kind) (item : Parser A) (h : Local item)
   run_same (suc n) zero found (t ∷ ts) l k = absurd (omega arith)
   run_same (suc n) (suc m) found ts l k = run_step n m found (run_same n m) (sees separator ts) (after separator ts) (λ e. let shorter = after_shorter separator ts e in (omega (arith, shorter), omega (arith, shorter)))
 
+  pub terminated_enough : (n : ℕ) (found : List A) (ts : Tokens) → length ts ≤ n → terminated_from separator stop item n found ts ≡ terminated_from separator stop item (length ts) found ts
+  unfolding Same
+  terminated_enough n found ts le = run_same n (length ts) found ts le (omega arith)
+
   pub local_terminated : Local (terminated separator stop item)
   unfolding terminated Same
   local_terminated = local_bind item _ h (λ x. local_turns (λ n. terminated_from separator stop item n (x ∷ [])) (λ n. local_run n (x ∷ [])) (λ n m ts. run_same n m (x ∷ []) ts))
@@ -170,6 +177,10 @@ module _ {A : Type 0} (item : Parser (Option A)) (h : Turn item) where
   as_many (suc n) zero found [] l k = rw h.ends refl
   as_many (suc n) zero found (t ∷ ts) l k = absurd (omega arith)
   as_many (suc n) (suc m) found ts l k = same_steps (item ts) _ _ (next_step n m found ts (as_many n m) l k)
+
+  pub many_enough : (n : ℕ) (found : List A) (ts : Tokens) → length ts ≤ n → many_from item n found ts ≡ many_from item (length ts) found ts
+  unfolding AsMany
+  many_enough n found ts le = as_many n (length ts) found ts le (omega arith)
 
   pub local_many_from : (found : List A) → Local (λ ts. many_from item (length ts) found ts)
   unfolding AsMany

@@ -22,7 +22,7 @@ use Rattle.ps_parse.specs.Steps.{Parser, if_some, first, skip, sees, ◌>>=◌, 
 use Rattle.ps_parse.specs.ReadStatements.{constant, read_statement}
 use Rattle.ps_parse.specs.ReadPrograms as read
 use Rattle.ps_parse.proofs.Local.{Local, local_pure, local_refuse, local_bind, local_map, local_past, local_next, local_by, local_same, local_if, local_if_some, local_eat, local_accept, local_expect, local_choice, seen, sees_shown, Takes, expect_takes, first_takes, last_takes, starts_with}
-use Rattle.ps_parse.proofs.LocalLists.{local_separated, separated_takes, local_terminated, local_many, local_part, turn_begins}
+use Rattle.ps_parse.proofs.LocalLists.{Turn, local_separated, separated_takes, local_terminated, local_many, local_part, turn_begins}
 use Rattle.ps_parse.proofs.LocalStatements.{local_constant, local_statement}
 
 local_names : Local read.names
@@ -91,7 +91,7 @@ module _ (index : Parser Ordinal) (type : Parser TypeDenoter) (h : Local index) 
   unfolding read.any_type
   local_any_type = local_next (λ t. read.type_by index type t.kind t.span) refuse (λ t. local_type_by t.kind t.span) local_refuse
 
-local_index : (n : ℕ) → Local (read.read_index n)
+pub local_index : (n : ℕ) → Local (read.read_index n)
 unfolding read.read_index
 local_index zero = local_refuse
 local_index (suc n) = local_ordinal
@@ -148,7 +148,7 @@ local_formals zero = local_refuse
 local_formals (suc n) = local_formal_list (read.read_formals n) (local_formals n)
 
 -- ---- definitions
-looks_at_constant : Local read.constant_definition × Takes read.constant_definition
+pub looks_at_constant : Local read.constant_definition × Takes read.constant_definition
 unfolding read.constant_definition
 looks_at_constant =
     starts_with (expect k.Name) _ (local_expect k.Name) (expect_takes k.Name) (λ at. local_bind (expect k.Equal) _ (local_expect k.Equal) (λ _. local_bind constant _ local_constant (λ c. local_bind (expect k.Semicolon) _ (local_expect k.Semicolon) (λ _. local_pure _))))
@@ -277,3 +277,27 @@ module _ (is_forward : Span → Bool) where
     local_program =
         local_bind (expect k.Program) _ (local_expect k.Program) (λ _. local_bind (expect k.Name) _ (local_expect k.Name) (λ at. local_bind (read.program_names is_forward block) _ local_program_names (λ xs.
         local_bind (expect k.Semicolon) _ (local_expect k.Semicolon) (λ _. local_bind block _ h (λ b. local_bind (expect k.Dot) _ (local_expect k.Dot) (λ _. local_pure _))))))
+
+-- ---- the items of the loops
+pub fields_look : (n : ℕ) → Local (read.fields (read.read_index n) (read.read_type n))
+fields_look n = local_fields (read.read_index n) (read.read_type n) (local_index n) (local_type n)
+
+pub section_looks : (n : ℕ) → Local (read.section (read.read_formals n))
+section_looks n = local_section (read.read_formals n) (local_formals n)
+
+pub type_looks : (n : ℕ) → Local (read.type_definition (read.read_type n)) × Takes (read.type_definition (read.read_type n))
+type_looks n = looks_at_type (read.read_type n) (local_type n)
+
+pub variables_look : (n : ℕ) → Local (read.variables (read.read_type n)) × Takes (read.variables (read.read_type n))
+variables_look n = looks_at_variables (read.read_type n) (local_type n)
+
+pub named_turn : {A : Type 0} (item : Parser A) → Local item × Takes item → Turn (if_begins read.begins_name item)
+named_turn item look = turn_begins read.begins_name (seen k.Name) (sees_shown k.Name) refl item look.0 look.1
+
+pub routine_takes : (is_forward : Span → Bool) (n : ℕ) → Takes (read.routine is_forward (read.read_formals n) (read.read_block is_forward n))
+routine_takes is_forward n = (let look = looks_at_routine is_forward (read.read_formals n) (read.read_block is_forward n) (local_formals n) (local_block is_forward n) in look.1)
+
+pub routine_turn : (is_forward : Span → Bool) (n : ℕ) → Turn (if_begins read.begins_routine (read.routine is_forward (read.read_formals n) (read.read_block is_forward n)))
+routine_turn is_forward n =
+    let look = looks_at_routine is_forward (read.read_formals n) (read.read_block is_forward n) (local_formals n) (local_block is_forward n) in
+    turn_begins read.begins_routine (begins_word k.Procedure k.Function) routine_shown refl (read.routine is_forward (read.read_formals n) (read.read_block is_forward n)) look.0 look.1

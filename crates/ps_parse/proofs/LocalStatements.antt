@@ -121,3 +121,13 @@ pub local_statement : (n : ℕ) → Local (read.read_statement n)
 unfolding read.read_statement
 local_statement zero = local_refuse
 local_statement (suc n) = local_any_statement (read_expr n) (local_expr n) (read.read_statement n) (local_statement n)
+
+-- ---- the items of the loops
+pub parameter_looks : (n : ℕ) → Local (read.parameter (read_expr n))
+parameter_looks n = local_parameter (read_expr n) (local_expr n)
+
+pub variable_looks : (n : ℕ) → Local (read.named_variable (read_expr n))
+variable_looks n = local_named_variable (read_expr n) (local_expr n)
+
+pub element_looks : (n : ℕ) → Local (read.element (read_expr n) (read.read_statement n))
+element_looks n = local_element (read_expr n) (local_expr n) (read.read_statement n) (local_statement n)

@@ -287,10 +287,7 @@ impl<'a> Parser<'a> {
         ensures { Reads (many (read.added (read.term (read.read_factor depth))) self.old.rest.now) result self.new.rest.now }
     {
         let mut found = Items::new(self.alloc);
-        for _turn in 0..self.left() {
-            let Some((operator, at)) = self.adding() else {
-                return Ok(found);
-            };
+        while let Some((operator, at)) = self.adding() {
             let term = self.term(depth)?;
             found.push(AddedTerm { operator, at, term })?;
         }
@@ -320,10 +317,7 @@ impl<'a> Parser<'a> {
         ensures { Reads (many (read.multiplied (read.read_factor depth)) self.old.rest.now) result self.new.rest.now }
     {
         let mut found = Items::new(self.alloc);
-        for _turn in 0..self.left() {
-            let Some((operator, at)) = self.multiplying() else {
-                return Ok(found);
-            };
+        while let Some((operator, at)) = self.multiplying() {
             let factor = self.factor(depth)?;
             found.push(MultipliedFactor {
                 operator,
@@ -461,10 +455,7 @@ impl<'a> Parser<'a> {
         ensures { Reads (many (read.selector (read.read_expr depth)) self.old.rest.now) result self.new.rest.now }
     {
         let mut found = Items::new(self.alloc);
-        for _turn in 0..self.left() {
-            let Some(selector) = self.selector(depth)? else {
-                return Ok(found);
-            };
+        while let Some(selector) = self.selector(depth)? {
             found.push(selector)?;
         }
         Ok(found)
@@ -502,14 +493,12 @@ impl<'a> Parser<'a> {
         ensures { Reads (separated k.Comma (read.read_expr depth) self.old.rest.now) result self.new.rest.now }
     {
         let mut found = Items::new(self.alloc);
-        push_answer(&mut found, self.expr(depth))?;
-        for _turn in 0..self.left() {
+        loop {
+            push_answer(&mut found, self.expr(depth))?;
             if !self.eat(Kind::Comma) {
                 return Ok(found);
             }
-            push_answer(&mut found, self.expr(depth))?;
         }
-        Ok(found)
     }
 
     #[cycle(expression)]
@@ -517,13 +506,11 @@ impl<'a> Parser<'a> {
         ensures { Reads (separated k.Comma (read.member (read.read_expr depth)) self.old.rest.now) result self.new.rest.now }
     {
         let mut found = Items::new(self.alloc);
-        push_answer(&mut found, self.member(depth))?;
-        for _turn in 0..self.left() {
+        loop {
+            push_answer(&mut found, self.member(depth))?;
             if !self.eat(Kind::Comma) {
                 return Ok(found);
             }
-            push_answer(&mut found, self.member(depth))?;
         }
-        Ok(found)
     }
 }

@@ -103,14 +103,12 @@ impl<'a> Parser<'a> {
         ensures { Reads (separated k.Semicolon (read.section (read.read_formals depth)) self.old.rest.now) result self.new.rest.now }
     {
         let mut found = Items::new(self.alloc);
-        push_answer(&mut found, self.section(depth))?;
-        for _turn in 0..self.left() {
+        loop {
+            push_answer(&mut found, self.section(depth))?;
             if !self.eat(Kind::Semicolon) {
                 return Ok(found);
             }
-            push_answer(&mut found, self.section(depth))?;
         }
-        Ok(found)
     }
 
     #[cycle(heading)]
@@ -164,15 +162,10 @@ impl<'a> Parser<'a> {
         ensures { Reads (part k.Const read.begins_name read.constant_definition self.old.rest.now) result self.new.rest.now }
     {
         let mut found = Items::new(self.alloc);
-        if !self.eat(Kind::Const) {
-            return Ok(found);
-        }
-        push_answer(&mut found, self.constant_definition())?;
-        for _turn in 0..self.left() {
-            if !self.sees(Kind::Name) {
-                return Ok(found);
-            }
+        let mut is_more = self.eat(Kind::Const);
+        while is_more {
             push_answer(&mut found, self.constant_definition())?;
+            is_more = self.sees(Kind::Name);
         }
         Ok(found)
     }
@@ -181,15 +174,10 @@ impl<'a> Parser<'a> {
         ensures { Reads (part k.Type read.begins_name (read.type_definition (read.read_type depth)) self.old.rest.now) result self.new.rest.now }
     {
         let mut found = Items::new(self.alloc);
-        if !self.eat(Kind::Type) {
-            return Ok(found);
-        }
-        push_answer(&mut found, self.type_definition(depth))?;
-        for _turn in 0..self.left() {
-            if !self.sees(Kind::Name) {
-                return Ok(found);
-            }
+        let mut is_more = self.eat(Kind::Type);
+        while is_more {
             push_answer(&mut found, self.type_definition(depth))?;
+            is_more = self.sees(Kind::Name);
         }
         Ok(found)
     }
@@ -198,15 +186,10 @@ impl<'a> Parser<'a> {
         ensures { Reads (part k.Var read.begins_name (read.variables (read.read_type depth)) self.old.rest.now) result self.new.rest.now }
     {
         let mut found = Items::new(self.alloc);
-        if !self.eat(Kind::Var) {
-            return Ok(found);
-        }
-        push_answer(&mut found, self.declared_variables(depth))?;
-        for _turn in 0..self.left() {
-            if !self.sees(Kind::Name) {
-                return Ok(found);
-            }
+        let mut is_more = self.eat(Kind::Var);
+        while is_more {
             push_answer(&mut found, self.declared_variables(depth))?;
+            is_more = self.sees(Kind::Name);
         }
         Ok(found)
     }
@@ -310,10 +293,7 @@ impl<'a> Parser<'a> {
         ensures { Reads (many (if_begins read.begins_routine (read.routine (is_forward text.now) (read.read_formals depth) (read.read_block (is_forward text.now) depth))) self.old.rest.now) result self.new.rest.now }
     {
         let mut found = Items::new(self.alloc);
-        for _turn in 0..self.left() {
-            if !self.sees_routine() {
-                return Ok(found);
-            }
+        while self.sees_routine() {
             push_answer(&mut found, self.routine(text, depth))?;
         }
         Ok(found)

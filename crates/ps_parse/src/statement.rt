@@ -65,14 +65,12 @@ impl<'a> Parser<'a> {
         ensures { Reads (separated k.Comma read.constant self.old.rest.now) result self.new.rest.now }
     {
         let mut found = Items::new(self.alloc);
-        push_answer(&mut found, self.constant())?;
-        for _turn in 0..self.left() {
+        loop {
+            push_answer(&mut found, self.constant())?;
             if !self.eat(Kind::Comma) {
                 return Ok(found);
             }
-            push_answer(&mut found, self.constant())?;
         }
-        Ok(found)
     }
 
     #[tactic(auto, unfolding(crate::specs::ReadStatements::parameter, crate::specs::Steps::eat))]
@@ -94,14 +92,12 @@ impl<'a> Parser<'a> {
         ensures { Reads (separated k.Comma (read.parameter (expression.read_expr depth)) self.old.rest.now) result self.new.rest.now }
     {
         let mut found = Items::new(self.alloc);
-        push_answer(&mut found, self.parameter(depth))?;
-        for _turn in 0..self.left() {
+        loop {
+            push_answer(&mut found, self.parameter(depth))?;
             if !self.eat(Kind::Comma) {
                 return Ok(found);
             }
-            push_answer(&mut found, self.parameter(depth))?;
         }
-        Ok(found)
     }
 
     #[tactic(auto, unfolding(crate::specs::ReadStatements::named_variable, crate::specs::ReadExpressions::variable))]
@@ -117,14 +113,12 @@ impl<'a> Parser<'a> {
         ensures { Reads (separated k.Comma (read.named_variable (expression.read_expr depth)) self.old.rest.now) result self.new.rest.now }
     {
         let mut found = Items::new(self.alloc);
-        push_answer(&mut found, self.named_variable(depth))?;
-        for _turn in 0..self.left() {
+        loop {
+            push_answer(&mut found, self.named_variable(depth))?;
             if !self.eat(Kind::Comma) {
                 return Ok(found);
             }
-            push_answer(&mut found, self.named_variable(depth))?;
         }
-        Ok(found)
     }
 
     #[tactic(auto, using(crate::proofs::Closed::closed), unfolding(crate::specs::ReadStatements::after_name, crate::specs::Steps::eat))]
@@ -233,14 +227,12 @@ impl<'a> Parser<'a> {
         ensures { Reads (separated k.Semicolon (read.read_statement depth) self.old.rest.now) result self.new.rest.now }
     {
         let mut found = Items::new(self.alloc);
-        push_answer(&mut found, self.statement(depth))?;
-        for _turn in 0..self.left() {
+        loop {
+            push_answer(&mut found, self.statement(depth))?;
             if !self.eat(Kind::Semicolon) {
                 return Ok(found);
             }
-            push_answer(&mut found, self.statement(depth))?;
         }
-        Ok(found)
     }
 
     #[cycle(statement)]
@@ -287,17 +279,15 @@ impl<'a> Parser<'a> {
         ensures { Reads (terminated k.Semicolon k.End (read.element (expression.read_expr depth) (read.read_statement depth)) self.old.rest.now) result self.new.rest.now }
     {
         let mut found = Items::new(self.alloc);
-        push_answer(&mut found, self.element(depth))?;
-        for _turn in 0..self.left() {
+        loop {
+            push_answer(&mut found, self.element(depth))?;
             if !self.eat(Kind::Semicolon) {
                 return Ok(found);
             }
             if self.sees(Kind::End) {
                 return Ok(found);
             }
-            push_answer(&mut found, self.element(depth))?;
         }
-        Ok(found)
     }
 
     #[cycle(statement)]

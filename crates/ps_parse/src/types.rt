@@ -53,14 +53,12 @@ impl<'a> Parser<'a> {
         ensures { Reads (read.names self.old.rest.now) result self.new.rest.now }
     {
         let mut found = Items::new(self.alloc);
-        push_answer(&mut found, self.expect(Kind::Name))?;
-        for _turn in 0..self.left() {
+        loop {
+            push_answer(&mut found, self.expect(Kind::Name))?;
             if !self.eat(Kind::Comma) {
                 return Ok(found);
             }
-            push_answer(&mut found, self.expect(Kind::Name))?;
         }
-        Ok(found)
     }
 
     #[tactic(auto, unfolding(crate::specs::Steps::eat))]
@@ -116,14 +114,12 @@ impl<'a> Parser<'a> {
         ensures { Reads (separated k.Comma (read.read_index depth) self.old.rest.now) result self.new.rest.now }
     {
         let mut found = Items::new(self.alloc);
-        push_answer(&mut found, self.index(depth))?;
-        for _turn in 0..self.left() {
+        loop {
+            push_answer(&mut found, self.index(depth))?;
             if !self.eat(Kind::Comma) {
                 return Ok(found);
             }
-            push_answer(&mut found, self.index(depth))?;
         }
-        Ok(found)
     }
 
     #[cycle(ty)]
@@ -231,16 +227,14 @@ impl<'a> Parser<'a> {
         ensures { Reads (terminated k.Semicolon k.End (read.fields (read.read_index depth) (read.read_type depth)) self.old.rest.now) result self.new.rest.now }
     {
         let mut found = Items::new(self.alloc);
-        push_answer(&mut found, self.fields(depth))?;
-        for _turn in 0..self.left() {
+        loop {
+            push_answer(&mut found, self.fields(depth))?;
             if !self.eat(Kind::Semicolon) {
                 return Ok(found);
             }
             if self.sees(Kind::End) {
                 return Ok(found);
             }
-            push_answer(&mut found, self.fields(depth))?;
         }
-        Ok(found)
     }
 }

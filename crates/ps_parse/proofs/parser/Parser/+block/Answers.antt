@@ -1,26 +1,27 @@
 use Rattle.std.proofs.Common.{◌≡◌, suc, ◌-◌, arith, sym, ◌∙◌, refl}
 use Rattle.std.proofs.lemmas.Result.{err_from_is_err_and}
-use Rattle.ps_parse.specs.Steps.{if_begins, eat}
+use Rattle.ps_parse.specs.Steps.{many_from, if_begins, eat}
 use Rattle.ps_grammar.specs.Forward.{is_forward}
 use Rattle.ps_parse.specs.ReadPrograms as program
-use Rattle.ps_parse.proofs.Loops.{many_begun, begins_none, begun_refused, begun_read, no_item}
+use Rattle.ps_parse.proofs.Loops.{next_refused, next_put, item_shorter, many_begun, begins_one, begins_none}
+use Rattle.ps_parse.proofs.LocalPrograms.{routine_takes, routine_turn}
 use Rattle.ps_parse.proofs.Closed.{closed, refused}
 use Rattle.ps_parse.proofs.parser.Parser.+block.Goals as goal
 
-pub routines-loop-turn-init : goal.routines-loop-turn-init
-routines-loop-turn-init t c = many_begun (if_begins program.begins_routine (program.routine (is_forward c.args.text.now) (program.read_formals c.args.depth) (program.read_block (is_forward c.args.text.now) c.args.depth))) _ _ _ c.new-found.ensures c.left-turn-end.ensures
-
-pub routines-returns-then-not-sees_routine : goal.routines-returns-then-not-sees_routine
-routines-returns-then-not-sees_routine t c = begins_none program.begins_routine (program.routine (is_forward c.args.text.now) (program.read_formals c.args.depth) (program.read_block (is_forward c.args.text.now) c.args.depth)) _ c.loop-turn._turn c.loop-turn.found c.loop-turn.self.rest.now c.loop-turn-test.true c.loop-turn.invariant (sym c.sees_routine.ensures ∙ c.if-not-sees_routine.true)
+pub routines-loop-found-init : goal.routines-loop-found-init
+routines-loop-found-init t c = many_begun (if_begins program.begins_routine (program.routine (is_forward c.args.text.now) (program.read_formals c.args.depth) (program.read_block (is_forward c.args.text.now) c.args.depth))) (routine_turn (is_forward c.args.text.now) c.args.depth) _ _ c.new-found.ensures
 
 pub routines-returns-in_err-push_answer : goal.routines-returns-in_err-push_answer
-routines-returns-in_err-push_answer t c = (let p = err_from_is_err_and c.from_residual.result c.from_residual.ensures.1 in rw (p.1, p.2) (begun_refused program.begins_routine (program.routine (is_forward c.args.text.now) (program.read_formals c.args.depth) (program.read_block (is_forward c.args.text.now) c.args.depth)) _ c.loop-turn._turn c.loop-turn.found c.loop-turn.self.rest.now _ _ _ c.loop-turn-test.true c.loop-turn.invariant (sym c.sees_routine.ensures ∙ c.if-not-sees_routine.false) c.routine.ensures c.in_err-push_answer.ensures.err))
+routines-returns-in_err-push_answer t c = refused _ _ _ _ c.from_residual.ensures.1 (next_refused (program.routine (is_forward c.args.text.now) (program.read_formals c.args.depth) (program.read_block (is_forward c.args.text.now) c.args.depth)) (many_from (if_begins program.begins_routine (program.routine (is_forward c.args.text.now) (program.read_formals c.args.depth) (program.read_block (is_forward c.args.text.now) c.args.depth)))) c.loop-found.found c.loop-found.self.rest.now _ _ _ (begins_one program.begins_routine (program.routine (is_forward c.args.text.now) (program.read_formals c.args.depth) (program.read_block (is_forward c.args.text.now) c.args.depth)) refl (routine_takes (is_forward c.args.text.now) c.args.depth) (routine_turn (is_forward c.args.text.now) c.args.depth) c.loop-found.found c.loop-found.self.rest.now c.loop-found.invariant (sym c.sees_routine.ensures ∙ c.loop-found-test.true)) c.routine.ensures c.in_err-push_answer.ensures.err)
 
-pub routines-loop-turn-preserved : goal.routines-loop-turn-preserved
-routines-loop-turn-preserved t c = begun_read program.begins_routine (program.routine (is_forward c.args.text.now) (program.read_formals c.args.depth) (program.read_block (is_forward c.args.text.now) c.args.depth)) _ c.loop-turn._turn c.loop-turn.found c.loop-turn.self.rest.now _ _ _ c.loop-turn-test.true c.loop-turn.invariant (sym c.sees_routine.ensures ∙ c.if-not-sees_routine.false) c.routine.ensures c.in_ok-push_answer.ensures.ok
+pub routines-loop-found-preserved : goal.routines-loop-found-preserved
+routines-loop-found-preserved t c = next_put (program.routine (is_forward c.args.text.now) (program.read_formals c.args.depth) (program.read_block (is_forward c.args.text.now) c.args.depth)) (many_from (if_begins program.begins_routine (program.routine (is_forward c.args.text.now) (program.read_formals c.args.depth) (program.read_block (is_forward c.args.text.now) c.args.depth)))) c.loop-found.found c.loop-found.self.rest.now _ _ _ (begins_one program.begins_routine (program.routine (is_forward c.args.text.now) (program.read_formals c.args.depth) (program.read_block (is_forward c.args.text.now) c.args.depth)) refl (routine_takes (is_forward c.args.text.now) c.args.depth) (routine_turn (is_forward c.args.text.now) c.args.depth) c.loop-found.found c.loop-found.self.rest.now c.loop-found.invariant (sym c.sees_routine.ensures ∙ c.loop-found-test.true)) c.routine.ensures c.in_ok-push_answer.ensures.ok
+
+pub routines-loop-found-smaller : goal.routines-loop-found-smaller
+routines-loop-found-smaller t c = item_shorter (program.routine (is_forward c.args.text.now) (program.read_formals c.args.depth) (program.read_block (is_forward c.args.text.now) c.args.depth)) (routine_takes (is_forward c.args.text.now) c.args.depth) c.loop-found.found _ c.loop-found.self.rest.now _ _ c.routine.ensures c.in_ok-push_answer.ensures.ok
 
 pub routines-returns : goal.routines-returns
-routines-returns t c = no_item (if_begins program.begins_routine (program.routine (is_forward c.args.text.now) (program.read_formals c.args.depth) (program.read_block (is_forward c.args.text.now) c.args.depth))) _ c.loop-turn._turn c.loop-turn.found c.loop-turn.self.rest.now c.loop-turn-test.false c.loop-turn.invariant
+routines-returns t c = begins_none program.begins_routine (program.routine (is_forward c.args.text.now) (program.read_formals c.args.depth) (program.read_block (is_forward c.args.text.now) c.args.depth)) refl (routine_takes (is_forward c.args.text.now) c.args.depth) (routine_turn (is_forward c.args.text.now) c.args.depth) c.loop-found.found c.loop-found.self.rest.now c.loop-found.invariant (sym c.sees_routine.ensures ∙ c.loop-found-test.false)
 
 pub block-returns : goal.block-returns
 unfolding program.read_block

@@ -1,4 +1,4 @@
-use Rattle.std.proofs.Common.{◌≡◌, ◌+◌, ◌-◌, ◌*◌}
+use Rattle.std.proofs.Common.{◌≡◌, ◌+◌, ◌*◌, length}
 use Rattle.ps_parse.specs.Steps.{if_begins, many, many_from}
 use Rattle.ps_grammar.specs.Forward.{is_forward}
 use Rattle.ps_parse.specs.ReadPrograms as program
@@ -28,6 +28,8 @@ decreases-routines l = 16 * l.depth + 5
 abbrev pub decreases-any_block : goal.decreases-any_block
 decreases-any_block l = 16 * l.depth + 6
 
-abbrev pub invariant-routines-loop-turn : goal.invariant-routines-loop-turn
-invariant-routines-loop-turn l =
-    many (if_begins program.begins_routine (program.routine (is_forward l.text) (program.read_formals l.depth) (program.read_block (is_forward l.text) l.depth))) l.fn.self.rest.now ≡ many_from (if_begins program.begins_routine (program.routine (is_forward l.text) (program.read_formals l.depth) (program.read_block (is_forward l.text) l.depth))) (l._turn-end - l._turn) l.found l.self.rest.now
+abbrev pub invariant-routines-loop-found : goal.invariant-routines-loop-found
+invariant-routines-loop-found l = many (if_begins program.begins_routine (program.routine (is_forward l.text) (program.read_formals l.depth) (program.read_block (is_forward l.text) l.depth))) l.fn.self.rest.now ≡ many_from (if_begins program.begins_routine (program.routine (is_forward l.text) (program.read_formals l.depth) (program.read_block (is_forward l.text) l.depth))) (length l.self.rest.now) l.found l.self.rest.now
+
+abbrev pub decreases-routines-loop-found : goal.decreases-routines-loop-found
+decreases-routines-loop-found l = length l.self.rest.now
