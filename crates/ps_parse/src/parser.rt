@@ -1,6 +1,7 @@
 //! The tokens that are left, and the steps that every rule is made of.
 
-ghost use Rattle.std.specs.Prelude.{◌≡◌, ◌≢◌, if◌then◌else◌, length, Some};
+ghost use Rattle.std.specs.Prelude.{◌≡◌, ◌≢◌, ◌⊎◌, if◌then◌else◌, length, Some, Ok, Err, IfOk, IfErr};
+ghost use Rattle.ps_text.specs.declared.Span.{Span};
 ghost use Rattle.ps_parse.specs.Steps as spec;
 ghost use Rattle.ps_parse.specs.Steps.{Reads};
 ghost use Rattle.ps_parse.specs.Refusals.{begins_label, refusal_at, left_out_by};
@@ -156,6 +157,20 @@ impl<'a> Parser<'a> {
                 Ok(token.span)
             }
             _ => Err(self.refusal()),
+        }
+    }
+
+    /// What was read, if a token of this kind comes next, which is taken.
+    pub fn followed_by<A: Drop>(&mut self, kind: Kind, read: Result<A, Fault>) -> Result<A, Fault>
+        ensures ok { IfOk result (λ value. (read ≡ Ok value) × (at : Span) × (spec.expect kind self.old.rest.now ≡ Ok (at, self.new.rest.now))) }
+        ensures err { IfErr result (λ fault. fault ≢ OutOfMemory → (read ≡ Err fault) ⊎ ((value : A) × (read ≡ Ok value) × (spec.expect kind self.old.rest.now ≡ Err (spec.left_of fault)))) }
+    {
+        match read {
+            Ok(value) => {
+                let end = self.expect(kind);
+                end.and(Ok(value))
+            }
+            Err(fault) => Err(fault),
         }
     }
 }

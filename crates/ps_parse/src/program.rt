@@ -45,8 +45,8 @@ impl<'a> Parser<'a> {
     fn function_named(&mut self, depth: u32, name: Span) -> Result<Heading, Fault>
         ensures { Reads (read.function_named (read.read_formals depth) name self.old.rest.now) result self.new.rest.now }
     {
-        let formals = self.optional_formals(depth)?;
-        self.expect(Kind::Colon)?;
+        let read = self.optional_formals(depth);
+        let formals = self.followed_by(Kind::Colon, read)?;
         Ok(Heading::Function(name, formals, self.expect(Kind::Name)?))
     }
 
@@ -63,8 +63,8 @@ impl<'a> Parser<'a> {
     fn plain_section(&mut self, depth: u32, are_variable: bool) -> Result<Section, Fault>
         ensures { Reads (read.plain_section (read.read_formals depth) (if are_variable then x.Variable else x.Value) self.old.rest.now) result self.new.rest.now }
     {
-        let names = self.names()?;
-        self.expect(Kind::Colon)?;
+        let read = self.names();
+        let names = self.followed_by(Kind::Colon, read)?;
         let ty = self.expect(Kind::Name)?;
         if are_variable {
             Ok(Section::Variable(names, ty))
@@ -129,8 +129,8 @@ impl<'a> Parser<'a> {
     fn constant_definition(&mut self) -> Result<ConstantDefinition, Fault>
         ensures { Reads (read.constant_definition self.old.rest.now) result self.new.rest.now }
     {
-        let name = self.expect(Kind::Name)?;
-        self.expect(Kind::Equal)?;
+        let read = self.expect(Kind::Name);
+        let name = self.followed_by(Kind::Equal, read)?;
         let value = self.constant()?;
         let end = self.expect(Kind::Semicolon);
         end.and(Ok(ConstantDefinition { name, value }))
@@ -140,8 +140,8 @@ impl<'a> Parser<'a> {
     fn type_definition(&mut self, depth: u32) -> Result<TypeDefinition, Fault>
         ensures { Reads (read.type_definition (read.read_type depth) self.old.rest.now) result self.new.rest.now }
     {
-        let name = self.expect(Kind::Name)?;
-        self.expect(Kind::Equal)?;
+        let read = self.expect(Kind::Name);
+        let name = self.followed_by(Kind::Equal, read)?;
         let ty = self.type_denoter(depth)?;
         let end = self.expect(Kind::Semicolon);
         end.and(Ok(TypeDefinition { name, ty }))
@@ -151,8 +151,8 @@ impl<'a> Parser<'a> {
     fn declared_variables(&mut self, depth: u32) -> Result<Variables, Fault>
         ensures { Reads (read.variables (read.read_type depth) self.old.rest.now) result self.new.rest.now }
     {
-        let names = self.names()?;
-        self.expect(Kind::Colon)?;
+        let read = self.names();
+        let names = self.followed_by(Kind::Colon, read)?;
         let ty = self.type_denoter(depth)?;
         let end = self.expect(Kind::Semicolon);
         end.and(Ok(Variables { names, ty }))
@@ -238,8 +238,8 @@ impl<'a> Parser<'a> {
     fn procedure_routine(&mut self, text: &[u8], depth: u32) -> Result<Routine, Fault>
         ensures { Reads (read.procedure_routine (is_forward text.now) (read.read_formals depth) (read.read_block (is_forward text.now) depth) self.old.rest.now) result self.new.rest.now }
     {
-        let heading = self.procedure(depth)?;
-        self.expect(Kind::Semicolon)?;
+        let read = self.procedure(depth);
+        let heading = self.followed_by(Kind::Semicolon, read)?;
         self.after_heading(text, depth, heading)
     }
 
@@ -252,8 +252,8 @@ impl<'a> Parser<'a> {
         if self.eat(Kind::Semicolon) {
             return Ok(Routine::Completion(name, self.block(text, depth)?));
         }
-        let heading = self.function_named(depth, name)?;
-        self.expect(Kind::Semicolon)?;
+        let read = self.function_named(depth, name);
+        let heading = self.followed_by(Kind::Semicolon, read)?;
         self.after_heading(text, depth, heading)
     }
 
@@ -350,8 +350,8 @@ impl<'a> Parser<'a> {
     {
         self.expect(Kind::Program)?;
         let name = self.expect(Kind::Name)?;
-        let parameters = self.program_names(text, depth)?;
-        self.expect(Kind::Semicolon)?;
+        let read = self.program_names(text, depth);
+        let parameters = self.followed_by(Kind::Semicolon, read)?;
         let block = self.block(text, depth)?;
         let end = self.expect(Kind::Dot);
         end.and(Ok(Program {

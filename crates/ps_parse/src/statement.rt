@@ -265,8 +265,8 @@ impl<'a> Parser<'a> {
     fn element(&mut self, depth: u32) -> Result<Element, Fault>
         ensures { Reads (read.element (expression.read_expr depth) (read.read_statement depth) self.old.rest.now) result self.new.rest.now }
     {
-        let constants = self.constants()?;
-        self.expect(Kind::Colon)?;
+        let read = self.constants();
+        let constants = self.followed_by(Kind::Colon, read)?;
         let statement = self.statement(depth)?;
         Ok(Element {
             constants,
@@ -295,8 +295,8 @@ impl<'a> Parser<'a> {
     fn case_statement(&mut self, depth: u32, at: Span) -> Result<Statement, Fault>
         ensures { Reads (read.case_statement (expression.read_expr depth) (read.read_statement depth) at self.old.rest.now) result self.new.rest.now }
     {
-        let index = self.boxed_expr(depth)?;
-        self.expect(Kind::Of)?;
+        let read = self.boxed_expr(depth);
+        let index = self.followed_by(Kind::Of, read)?;
         let elements = self.elements(depth)?;
         let end = self.expect(Kind::End);
         end.and(Ok(Statement::Case(at, index, elements)))
@@ -307,8 +307,8 @@ impl<'a> Parser<'a> {
     fn while_statement(&mut self, depth: u32) -> Result<Statement, Fault>
         ensures { Reads (read.while_statement (expression.read_expr depth) (read.read_statement depth) self.old.rest.now) result self.new.rest.now }
     {
-        let condition = self.boxed_expr(depth)?;
-        self.expect(Kind::Do)?;
+        let read = self.boxed_expr(depth);
+        let condition = self.followed_by(Kind::Do, read)?;
         let body = self.boxed_statement(depth)?;
         Ok(Statement::While(condition, body))
     }
@@ -318,8 +318,8 @@ impl<'a> Parser<'a> {
     fn repeat_statement(&mut self, depth: u32) -> Result<Statement, Fault>
         ensures { Reads (read.repeat_statement (expression.read_expr depth) (read.read_statement depth) self.old.rest.now) result self.new.rest.now }
     {
-        let statements = self.sequence(depth)?;
-        self.expect(Kind::Until)?;
+        let read = self.sequence(depth);
+        let statements = self.followed_by(Kind::Until, read)?;
         let condition = self.boxed_expr(depth)?;
         Ok(Statement::Repeat(statements, condition))
     }
@@ -329,14 +329,14 @@ impl<'a> Parser<'a> {
     fn for_statement(&mut self, depth: u32) -> Result<Statement, Fault>
         ensures { Reads (read.for_statement (expression.read_expr depth) (read.read_statement depth) self.old.rest.now) result self.new.rest.now }
     {
-        let variable = self.expect(Kind::Name)?;
-        self.expect(Kind::Assign)?;
+        let read = self.expect(Kind::Name);
+        let variable = self.followed_by(Kind::Assign, read)?;
         let first = self.boxed_expr(depth)?;
         let Some((direction, _)) = self.direction() else {
             return Err(self.refusal());
         };
-        let last = self.boxed_expr(depth)?;
-        self.expect(Kind::Do)?;
+        let read = self.boxed_expr(depth);
+        let last = self.followed_by(Kind::Do, read)?;
         let body = self.boxed_statement(depth)?;
         Ok(Statement::For {
             variable,
@@ -352,8 +352,8 @@ impl<'a> Parser<'a> {
     fn with_statement(&mut self, depth: u32) -> Result<Statement, Fault>
         ensures { Reads (read.with_statement (expression.read_expr depth) (read.read_statement depth) self.old.rest.now) result self.new.rest.now }
     {
-        let records = self.variables(depth)?;
-        self.expect(Kind::Do)?;
+        let read = self.variables(depth);
+        let records = self.followed_by(Kind::Do, read)?;
         let body = self.boxed_statement(depth)?;
         Ok(Statement::With(records, body))
     }

@@ -180,8 +180,8 @@ impl<'a> Parser<'a> {
         ensures { Reads (read.array (read.read_index depth) (read.read_type depth) at self.old.rest.now) result self.new.rest.now }
     {
         self.expect(Kind::LeftBracket)?;
-        let indices = self.indices(depth)?;
-        self.expect(Kind::RightBracket)?;
+        let read = self.indices(depth);
+        let indices = self.followed_by(Kind::RightBracket, read)?;
         self.expect(Kind::Of)?;
         let item = boxed_answer(self.alloc, self.type_denoter(depth))?;
         Ok(Structure::Array(at, indices, item))

@@ -1,10 +1,11 @@
-use Rattle.std.proofs.Common.{◌≡◌, suc, ◌-◌, arith, sym, ◌∙◌, refl}
+use Rattle.std.proofs.Common.{inl, inr, ◌≡◌, suc, ◌-◌, arith, sym, ◌∙◌, refl}
 use Rattle.std.proofs.lemmas.Result.{err_from_is_err_and}
 use Rattle.ps_parse.specs.Steps.{many_from, if_begins, eat}
 use Rattle.ps_grammar.specs.Forward.{is_forward}
 use Rattle.ps_parse.specs.ReadPrograms as program
 use Rattle.ps_parse.proofs.Loops.{next_refused, next_put, item_shorter, many_begun, begins_one, begins_none}
 use Rattle.ps_parse.proofs.LocalPrograms.{routine_takes, routine_turn}
+use Rattle.ps_parse.proofs.Handed.{was_read, was_refused}
 use Rattle.ps_parse.proofs.Closed.{closed, refused}
 use Rattle.ps_parse.proofs.parser.Parser.+block.Goals as goal
 
@@ -78,27 +79,19 @@ function_routine-returns-then-eat t c = rw (c.in_ok-name.ensures.read, sym c.eat
 
 pub function_routine-returns-in_err-heading : goal.function_routine-returns-in_err-heading
 unfolding program.function_routine eat
-function_routine-returns-in_err-heading t c = refused _ _ _ _ c.from_residual-in_err-heading.ensures.1 (λ ne. rw (c.in_ok-name.ensures.read, sym c.eat.ensures.found ∙ c.if-eat.false, ← c.eat.ensures.after, c.in_err-heading.ensures ne) refl)
-
-pub function_routine-returns-in_err-expect : goal.function_routine-returns-in_err-expect
-unfolding program.function_routine eat
-function_routine-returns-in_err-expect t c = refused _ _ _ _ c.from_residual-in_err-expect.ensures.1 (λ ne. rw (c.in_ok-name.ensures.read, sym c.eat.ensures.found ∙ c.if-eat.false, ← c.eat.ensures.after, c.in_ok-heading.ensures, c.in_err-expect.ensures.read ne) refl)
+function_routine-returns-in_err-heading t c = refused _ _ _ _ c.from_residual-in_err-heading.ensures.1 (λ ne. elim (c.in_err-heading.ensures.err ne) [ inl e ↦ rw (c.in_ok-name.ensures.read, sym c.eat.ensures.found ∙ c.if-eat.false, ← c.eat.ensures.after, was_refused _ _ _ _ c.function_named-read.ensures (λ _. e) ne) refl | inr s ↦ rw (c.in_ok-name.ensures.read, sym c.eat.ensures.found ∙ c.if-eat.false, ← c.eat.ensures.after, was_read _ _ _ _ c.function_named-read.ensures s.1, s.2) refl ])
 
 pub function_routine-returns : goal.function_routine-returns
 unfolding program.function_routine eat
-function_routine-returns t c = rw (c.in_ok-name.ensures.read, sym c.eat.ensures.found ∙ c.if-eat.false, ← c.eat.ensures.after, c.in_ok-heading.ensures, c.in_ok-expect.ensures.read) c.after_heading.ensures
+function_routine-returns t c = rw (c.in_ok-name.ensures.read, sym c.eat.ensures.found ∙ c.if-eat.false, ← c.eat.ensures.after, was_read _ _ _ _ c.function_named-read.ensures c.in_ok-heading.ensures.ok.0, c.in_ok-heading.ensures.ok.2) c.after_heading.ensures
 
 pub procedure_routine-returns-in_err-heading : goal.procedure_routine-returns-in_err-heading
 unfolding program.procedure_routine
-procedure_routine-returns-in_err-heading t c = refused _ _ _ _ c.from_residual.ensures.1 (λ ne. rw (c.in_err-heading.ensures ne) refl)
-
-pub procedure_routine-returns-in_err-expect : goal.procedure_routine-returns-in_err-expect
-unfolding program.procedure_routine
-procedure_routine-returns-in_err-expect t c = refused _ _ _ _ c.from_residual-in_err-expect.ensures.1 (λ ne. rw (c.in_ok-heading.ensures, c.in_err-expect.ensures.read ne) refl)
+procedure_routine-returns-in_err-heading t c = refused _ _ _ _ c.from_residual.ensures.1 (λ ne. elim (c.in_err-heading.ensures.err ne) [ inl e ↦ rw (was_refused _ _ _ _ c.procedure-read.ensures (λ _. e) ne) refl | inr s ↦ rw (was_read _ _ _ _ c.procedure-read.ensures s.1, s.2) refl ])
 
 pub procedure_routine-returns : goal.procedure_routine-returns
 unfolding program.procedure_routine
-procedure_routine-returns t c = rw (c.in_ok-heading.ensures, c.in_ok-expect.ensures.read) c.after_heading.ensures
+procedure_routine-returns t c = rw (was_read _ _ _ _ c.procedure-read.ensures c.in_ok-heading.ensures.ok.0, c.in_ok-heading.ensures.ok.2) c.after_heading.ensures
 
 pub routine-returns-in_err-routine : goal.routine-returns-in_err-routine
 unfolding program.routine
