@@ -31,3 +31,6 @@ pub was_followed : {A : Type 0} (read : Result A Fault) (value : A) (o : Outcome
     → IfOk (result_and end (Ok value)) (λ v. (read ≡ Ok v) × (at : Span) × (o ≡ Ok (at, r))) × IfErr (result_and end (Ok value)) (λ e. e ≢ OutOfMemory → (read ≡ Err e) ⊎ ((v : A) × (read ≡ Ok v) × (o ≡ Err (left_of e))))
 was_followed read value o (Ok at) r is h = ((is, at, h), tt)
 was_followed read value o (Err e) r is h = (tt, λ ne. inr (value, is, h ne))
+
+pub boxed_of : {A : Type 0} (o : Outcome A) (answer result : Result A Fault) (r : Tokens) → IfOk result (λ x. answer ≡ Ok x) → IfErr result (λ e. e ≢ OutOfMemory → answer ≡ Err e) → Reads o answer r → Reads o result r
+boxed_of o answer result r ok err h = boxed o answer result r h ok err

@@ -32,16 +32,6 @@ fn relation_of(kind: Kind) -> Option<Relation>
     }
 }
 
-fn sign_of(kind: Kind) -> Option<Sign>
-    ensures { result ≡ read.sign_of kind }
-{
-    match kind {
-        Kind::Plus => Some(Sign::Plus),
-        Kind::Minus => Some(Sign::Minus),
-        _ => None,
-    }
-}
-
 #[inline]
 fn adding_of(kind: Kind) -> Option<Adding>
     ensures { result ≡ read.adding_of kind }
@@ -65,13 +55,6 @@ fn multiplying_of(kind: Kind) -> Option<Multiplying>
         Kind::And => Some(Multiplying::And),
         _ => None,
     }
-}
-
-/// Whether a token goes on with an expression after a factor.
-fn is_operator(kind: Kind) -> bool
-    ensures { result ≡ read.is_operator kind }
-{
-    multiplying_of(kind).is_some() || adding_of(kind).is_some() || relation_of(kind).is_some()
 }
 
 impl<'a> Parser<'a> {
@@ -123,7 +106,11 @@ impl<'a> Parser<'a> {
         let [token, rest @ ..] = self.rest else {
             return None;
         };
-        let sign = sign_of(token.kind)?;
+        let sign = match token.kind {
+            Kind::Plus => Sign::Plus,
+            Kind::Minus => Sign::Minus,
+            _ => return None,
+        };
         self.rest = rest;
         Some((sign, token.span))
     }
@@ -154,13 +141,15 @@ impl<'a> Parser<'a> {
         Some((operator, token.span))
     }
 
+    /// Whether the next token goes on with an expression after a factor.
     fn sees_operator(&self) -> bool
         ensures { result ≡ read.sees_operator self.now.rest.now }
     {
-        match self.rest {
-            [token, ..] => is_operator(token.kind),
-            [] => false,
-        }
+        let [token, ..] = self.rest else {
+            return false;
+        };
+        let kind = token.kind;
+        multiplying_of(kind).is_some() || adding_of(kind).is_some() || relation_of(kind).is_some()
     }
 
     #[cycle(expression)]
@@ -249,7 +238,7 @@ impl<'a> Parser<'a> {
             more: Items::new(self.alloc),
         };
         let more = Items::new(self.alloc);
-        Ok(Boxed::new(self.alloc, Expr::Simple(Simple { sign, first, more }))?)
+        boxed_answer(self.alloc, Ok(Expr::Simple(Simple { sign, first, more })))
     }
 
     /// As `expr_from`, where the value goes to the heap. Inlined, it would make the frame of each level of
@@ -288,19 +277,11 @@ impl<'a> Parser<'a> {
     {
         let mut found = Items::new(self.alloc);
         while let Some((operator, at)) = self.adding() {
-            let term = self.term(depth)?;
+            let first = self.factor(depth)?;
+            let term = self.term_from(depth, first)?;
             found.push(AddedTerm { operator, at, term })?;
         }
         Ok(found)
-    }
-
-    #[cycle(expression)]
-    #[tactic(auto, unfolding(crate::specs::ReadExpressions::term))]
-    fn term(&mut self, depth: u32) -> Result<Term, Fault>
-        ensures { Reads (read.term (read.read_factor depth) self.old.rest.now) result self.new.rest.now }
-    {
-        let first = self.factor(depth)?;
-        self.term_from(depth, first)
     }
 
     /// A term of which the first factor was read.

@@ -13,16 +13,6 @@ use ps_scan::{Kind, Token};
 use ps_syntax::{Boxed, Constant, Direction, Element, Expr, Items, Parameter, Statement, Variable};
 use ps_text::Span;
 
-fn direction_of(kind: Kind) -> Option<Direction>
-    ensures { result ≡ read.direction_of kind }
-{
-    match kind {
-        Kind::To => Some(Direction::Up),
-        Kind::Downto => Some(Direction::Down),
-        _ => None,
-    }
-}
-
 impl<'a> Parser<'a> {
     #[tactic(auto, unfolding(crate::specs::ReadExpressions::eat_operator))]
     fn direction(&mut self) -> Option<(Direction, Span)>
@@ -32,7 +22,11 @@ impl<'a> Parser<'a> {
         let [token, rest @ ..] = self.rest else {
             return None;
         };
-        let direction = direction_of(token.kind)?;
+        let direction = match token.kind {
+            Kind::To => Direction::Up,
+            Kind::Downto => Direction::Down,
+            _ => return None,
+        };
         self.rest = rest;
         Some((direction, token.span))
     }

@@ -80,21 +80,14 @@ impl<'a> Parser<'a> {
         }
     }
 
-    #[tactic(auto, using(crate::proofs::Closed::closed), unfolding(crate::specs::ReadPrograms::enumeration))]
-    fn enumeration(&mut self, at: Span) -> Result<Ordinal, Fault>
-        ensures { Reads (read.enumeration at self.old.rest.now) result self.new.rest.now }
-    {
-        let names = self.names()?;
-        let end = self.expect(Kind::RightParen);
-        end.and(Ok(Ordinal::Enumeration(at, names)))
-    }
-
-    #[tactic(auto, unfolding(crate::specs::ReadPrograms::ordinal))]
+    #[tactic(auto, using(crate::proofs::Closed::closed), unfolding(crate::specs::ReadPrograms::ordinal, crate::specs::ReadPrograms::enumeration))]
     fn ordinal(&mut self) -> Result<Ordinal, Fault>
         ensures { Reads (read.ordinal self.old.rest.now) result self.new.rest.now }
     {
         if let Some(at) = self.accept(Kind::LeftParen) {
-            return self.enumeration(at);
+            let names = self.names()?;
+            let end = self.expect(Kind::RightParen);
+            return end.and(Ok(Ordinal::Enumeration(at, names)));
         }
         let first = self.constant()?;
         self.after_constant(first)
@@ -150,7 +143,7 @@ impl<'a> Parser<'a> {
     }
 
     #[cycle(ty)]
-    #[tactic(auto, unfolding(crate::specs::ReadPrograms::structure))]
+    #[tactic(auto, unfolding(crate::specs::ReadPrograms::structure, crate::specs::ReadPrograms::set_of))]
     fn structure(&mut self, depth: u32) -> Result<Structure, Fault>
         ensures { Reads (read.structure (read.read_index depth) (read.read_type depth) self.old.rest.now) result self.new.rest.now }
     {
@@ -168,7 +161,8 @@ impl<'a> Parser<'a> {
             }
             Kind::Set => {
                 self.skip();
-                self.set_type(depth, token.span)
+                self.expect(Kind::Of)?;
+                Ok(Structure::Set(token.span, self.index(depth)?))
             }
             _ => Err(self.refusal()),
         }
@@ -198,14 +192,6 @@ impl<'a> Parser<'a> {
         let sections = self.sections_of_record(depth)?;
         let end = self.expect(Kind::End);
         end.and(Ok(Structure::Record(at, sections)))
-    }
-
-    #[tactic(auto, unfolding(crate::specs::ReadPrograms::set_of))]
-    fn set_type(&mut self, depth: u32, at: Span) -> Result<Structure, Fault>
-        ensures { Reads (read.set_of (read.read_index depth) (read.read_type depth) at self.old.rest.now) result self.new.rest.now }
-    {
-        self.expect(Kind::Of)?;
-        Ok(Structure::Set(at, self.index(depth)?))
     }
 
     #[cycle(ty)]
