@@ -37,6 +37,11 @@ pub both_steps : {A B : Type 0} (o : Outcome A) (f : A → Parser B) (y : B) (r 
 both_steps (Err n) f y r e = cc
 both_steps (Ok p) f y r e = (p.0, p.1, refl, e)
 
+-- the same, where what the first step read has a name of its own
+pub in_steps : {A B C : Type 0} (o : Outcome A) (f : A → Parser B) (y : B) (r : Tokens) → and_then o f ≡ Ok (y, r) → ((x : A) (m : Tokens) → o ≡ Ok (x, m) → f x m ≡ Ok (y, r) → C) → C
+in_steps (Err n) f y r e go = cc
+in_steps (Ok p) f y r e go = go p.0 p.1 refl e
+
 pub first_part : {A : Type 0} (x y : A) (m r : Tokens) → ◌≡◌ {A = Outcome A} (Ok (x, m)) (Ok (y, r)) → x ≡ y
 first_part {A} x y m r e = ap (λ (o : Outcome A). elim o [ Err n ↦ x | Ok q ↦ q.0 ]) e
 

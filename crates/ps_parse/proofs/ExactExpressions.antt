@@ -26,7 +26,7 @@ use Rattle.ps_grammar.specs.Symbols.{Tokens, Symbol, nothing, token, Many, Separ
 use Rattle.ps_grammar.specs.Expressions.{IsMember, single, range, IsSelector, index, field, content, IsVariable, selected, IsFactor, variable, call, number, text, nil, empty, set, group, not, IsMultiplied, multiplied, IsTerm, term, IsAdded, added, IsSimple, plain, signed, IsExpr, alone, compare, multiplying_kind, adding_kind, relation_kind, sign_kind, factor_within, expr_within}
 use Rattle.ps_parse.specs.Steps.{Parser, and_then, sees, expect, separated, many, refuse}
 use Rattle.ps_parse.specs.ReadExpressions as read
-use Rattle.ps_parse.proofs.Exact.{Exact, Perhaps, both_steps, at_last, expect_sound, expect_complete, eat_found, eat_missed, eat_sound, operator_found, operator_missed, operator_ended, refused, operator_sound}
+use Rattle.ps_parse.proofs.Exact.{Exact, Perhaps, both_steps, in_steps, at_last, expect_sound, expect_complete, eat_found, eat_missed, eat_sound, operator_found, operator_missed, operator_ended, refused, operator_sound}
 use Rattle.ps_parse.proofs.Lists.{many_exact, separated_exact}
 use Rattle.ps_parse.proofs.Ends.{Ends, binds, ends_weaker, unseen, loose}
 
@@ -95,9 +95,9 @@ module _ (E : Symbol Expr) (p : Parser Expr) (h : Exact (Ends 1) E p) where
   index_sound : (ts : Tokens) (at : Span) (y : Selector) (r : Tokens) → read.index p ts ≡ Ok (y, r) → IsSelector E y (token k.LeftBracket at ∷ ts) r
   unfolding read.index
   index_sound ts at y r e =
-      let b = both_steps (separated k.Comma p ts) _ y r e in
-      let c = both_steps (expect k.RightBracket b.1) _ y r b.3 in
-      at_last (IsSelector E) _ _ y c.1 r c.3 (index (subst (λ q. Separated k.Comma E b.0 ts q) (expect_sound k.RightBracket b.1 c.0 c.1 c.2) (exprs_exact.sound ts b.0 b.1 b.2)))
+      in_steps (separated k.Comma p ts) _ y r e (λ b0 b1 b2 b3.
+      in_steps (expect k.RightBracket b1) _ y r b3 (λ c0 c1 c2 c3.
+      at_last (IsSelector E) _ _ y c1 r c3 (index (subst (λ q. Separated k.Comma E b0 ts q) (expect_sound k.RightBracket b1 c0 c1 c2) (exprs_exact.sound ts b0 b1 b2)))))
 
   selector_by_sound : (kind : Kind) (at : Span) (ts : Tokens) (o : Option Selector) (r : Tokens) → read.selector_by p kind at (token kind at ∷ ts) ≡ Ok (o, r) → Perhaps (IsSelector E) o (token kind at ∷ ts) r
   selector_by_sound k.LeftBracket at ts o r e = let b = both_steps (read.index p ts) _ o r e in at_last (Perhaps (IsSelector E)) _ (Some b.0) o b.1 r b.3 (index_sound ts at b.0 b.1 b.2)
@@ -157,9 +157,9 @@ module _ (E : Symbol Expr) (p : Parser Expr) (h : Exact (Ends 1) E p) where
     call_sound : (at left : Span) (ts : Tokens) (y : Factor) (r : Tokens) → read.call p at ts ≡ Ok (y, r) → IsFactor E F y (token k.Name at ∷ token k.LeftParen left ∷ ts) r
     unfolding read.call
     call_sound at left ts y r e =
-        let b = both_steps (separated k.Comma p ts) _ y r e in
-        let c = both_steps (expect k.RightParen b.1) _ y r b.3 in
-        at_last (IsFactor E F) _ _ y c.1 r c.3 (call (subst (λ z. Separated k.Comma E b.0 ts z) (expect_sound k.RightParen b.1 c.0 c.1 c.2) (exprs_exact.sound ts b.0 b.1 b.2)))
+        in_steps (separated k.Comma p ts) _ y r e (λ b0 b1 b2 b3.
+        in_steps (expect k.RightParen b1) _ y r b3 (λ c0 c1 c2 c3.
+        at_last (IsFactor E F) _ _ y c1 r c3 (call (subst (λ z. Separated k.Comma E b0 ts z) (expect_sound k.RightParen b1 c0 c1 c2) (exprs_exact.sound ts b0 b1 b2)))))
 
     named_sound : (at : Span) (ts : Tokens) (y : Factor) (r : Tokens) → read.named p at ts ≡ Ok (y, r) → IsFactor E F y (token k.Name at ∷ ts) r
     unfolding read.named read.variable
@@ -184,9 +184,9 @@ module _ (E : Symbol Expr) (p : Parser Expr) (h : Exact (Ends 1) E p) where
     group_sound : (at : Span) (ts : Tokens) (y : Factor) (r : Tokens) → read.group p at ts ≡ Ok (y, r) → IsFactor E F y (token k.LeftParen at ∷ ts) r
     unfolding read.group
     group_sound at ts y r e =
-        let b = both_steps (p ts) _ y r e in
-        let c = both_steps (expect k.RightParen b.1) _ y r b.3 in
-        at_last (IsFactor E F) _ _ y c.1 r c.3 (group (subst (λ z. E b.0 ts z) (expect_sound k.RightParen b.1 c.0 c.1 c.2) (h.sound ts b.0 b.1 b.2)))
+        in_steps (p ts) _ y r e (λ b0 b1 b2 b3.
+        in_steps (expect k.RightParen b1) _ y r b3 (λ c0 c1 c2 c3.
+        at_last (IsFactor E F) _ _ y c1 r c3 (group (subst (λ z. E b0 ts z) (expect_sound k.RightParen b1 c0 c1 c2) (h.sound ts b0 b1 b2)))))
 
     factor_by_sound : (kind : Kind) (at : Span) (ts : Tokens) (y : Factor) (r : Tokens) → read.factor_by p q kind at (token kind at ∷ ts) ≡ Ok (y, r) → IsFactor E F y (token kind at ∷ ts) r
     factor_by_sound k.Name at ts y r e = named_sound at ts y r e
@@ -397,9 +397,9 @@ module _ (F : Symbol Factor) (q : Parser Factor) (i : Exact (Ends 4) F q) where
   term_sound : (ts : Tokens) (y : Term) (r : Tokens) → read.term q ts ≡ Ok (y, r) → IsTerm F y ts r
   unfolding read.term
   term_sound ts y r e =
-      let b = both_steps (q ts) _ y r e in
-      let c = both_steps (many (read.multiplied q) b.1) _ y r b.3 in
-      at_last (IsTerm F) _ _ y c.1 r c.3 (term b.0 c.0 (i.sound ts b.0 b.1 b.2) (factors_exact.sound b.1 c.0 c.1 c.2))
+      in_steps (q ts) _ y r e (λ b0 b1 b2 b3.
+      in_steps (many (read.multiplied q) b1) _ y r b3 (λ c0 c1 c2 c3.
+      at_last (IsTerm F) _ _ y c1 r c3 (term b0 c0 (i.sound ts b0 b1 b2) (factors_exact.sound b1 c0 c1 c2))))
 
   factors_begin : (xs : List MultipliedFactor) (ts r : Tokens) → Many (IsMultiplied F) xs ts r → Ends 3 r → Ends 4 ts
   factors_begin xs ts r none o = ends_weaker 3 4 r (omega arith) o

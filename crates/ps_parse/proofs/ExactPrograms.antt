@@ -23,7 +23,7 @@ use Rattle.ps_parse.specs.Steps.{Parser, sees, expect, separated, many, part, if
 use Rattle.ps_parse.specs.ReadStatements.{read_statement}
 use Rattle.ps_parse.specs.ReadStatements as st
 use Rattle.ps_parse.specs.ReadPrograms as read
-use Rattle.ps_parse.proofs.Exact.{Exact, same_is, first_part, second_part, both_steps, at_last, expect_sound, expect_complete, eat_found, eat_missed, eat_sound, accept_found, accept_missed, accept_sound, refused}
+use Rattle.ps_parse.proofs.Exact.{Exact, same_is, first_part, second_part, both_steps, in_steps, at_last, expect_sound, expect_complete, eat_found, eat_missed, eat_sound, accept_found, accept_missed, accept_sound, refused}
 use Rattle.ps_parse.proofs.Lists.{separated_exact, many_exact, option_exact, part_exact}
 use Rattle.ps_parse.proofs.ExactStatements.{Anything, EndsSequence, constant_exact, sequence_exact_within}
 use Rattle.ps_parse.proofs.ExactTypes.{names_exact, names_begin, colon_no_comma, paren_no_comma, NoRange, type_exact_within}
@@ -70,18 +70,18 @@ module _ (F : Symbol (List Section)) (p : Parser (List Section)) (i : Exact Anyt
   procedure_sound : (word : Span) (ts : Tokens) (y : Heading) (r : Tokens) → read.procedure p ts ≡ Ok (y, r) → IsHeading F y (token k.Procedure word ∷ ts) r
   unfolding read.procedure
   procedure_sound word ts y r e =
-      let a = both_steps (expect k.Name ts) _ y r e in
-      let b = both_steps (read.optional_formals p a.1) _ y r a.3 in
-      subst (λ z. IsHeading F y (token k.Procedure word ∷ z) r) (sym (expect_sound k.Name ts a.0 a.1 a.2)) (at_last (IsHeading F) _ _ y b.1 r b.3 (procedure (optional_sound a.1 b.0 b.1 b.2)))
+      in_steps (expect k.Name ts) _ y r e (λ a0 a1 a2 a3.
+      in_steps (read.optional_formals p a1) _ y r a3 (λ b0 b1 b2 b3.
+      subst (λ z. IsHeading F y (token k.Procedure word ∷ z) r) (sym (expect_sound k.Name ts a0 a1 a2)) (at_last (IsHeading F) _ _ y b1 r b3 (procedure (optional_sound a1 b0 b1 b2)))))
 
   named_sound : (word at : Span) (ts : Tokens) (y : Heading) (r : Tokens) → read.function_named p at ts ≡ Ok (y, r) → IsHeading F y (token k.Function word ∷ token k.Name at ∷ ts) r
   unfolding read.function_named
   named_sound word at ts y r e =
-      let b = both_steps (read.optional_formals p ts) _ y r e in
-      let f = both_steps (expect k.Colon b.1) _ y r b.3 in
-      let g = both_steps (expect k.Name f.1) _ y r f.3 in
-      let end = expect_sound k.Colon b.1 f.0 f.1 f.2 ∙ ap (λ (z : Tokens). token k.Colon f.0 ∷ z) (expect_sound k.Name f.1 g.0 g.1 g.2) in
-      at_last (IsHeading F) _ _ y g.1 r g.3 (function (subst (λ z. IsFormals F b.0 ts z) end (optional_sound ts b.0 b.1 b.2)))
+      in_steps (read.optional_formals p ts) _ y r e (λ b0 b1 b2 b3.
+      in_steps (expect k.Colon b1) _ y r b3 (λ f0 f1 f2 f3.
+      in_steps (expect k.Name f1) _ y r f3 (λ g0 g1 g2 g3.
+      let end = expect_sound k.Colon b1 f0 f1 f2 ∙ ap (λ (z : Tokens). token k.Colon f0 ∷ z) (expect_sound k.Name f1 g0 g1 g2) in
+      at_last (IsHeading F) _ _ y g1 r g3 (function (subst (λ z. IsFormals F b0 ts z) end (optional_sound ts b0 b1 b2))))))
 
   function_sound : (word : Span) (ts : Tokens) (y : Heading) (r : Tokens) → read.function p ts ≡ Ok (y, r) → IsHeading F y (token k.Function word ∷ ts) r
   unfolding read.function
@@ -110,20 +110,20 @@ module _ (F : Symbol (List Section)) (p : Parser (List Section)) (i : Exact Anyt
   value_sound : (ts : Tokens) (y : Section) (r : Tokens) → read.value_section p ts ≡ Ok (y, r) → IsSection (IsHeading F) y ts r
   unfolding read.value_section
   value_sound ts y r e =
-      let b = both_steps (read.names ts) _ y r e in
-      let f = both_steps (expect k.Colon b.1) _ y r b.3 in
-      let g = both_steps (expect k.Name f.1) _ y r f.3 in
-      let end = expect_sound k.Colon b.1 f.0 f.1 f.2 ∙ ap (λ (z : Tokens). token k.Colon f.0 ∷ z) (expect_sound k.Name f.1 g.0 g.1 g.2) in
-      at_last (IsSection (IsHeading F)) _ _ y g.1 r g.3 (value (subst (λ z. IsNames b.0 ts z) end (names_exact.sound ts b.0 b.1 b.2)))
+      in_steps (read.names ts) _ y r e (λ b0 b1 b2 b3.
+      in_steps (expect k.Colon b1) _ y r b3 (λ f0 f1 f2 f3.
+      in_steps (expect k.Name f1) _ y r f3 (λ g0 g1 g2 g3.
+      let end = expect_sound k.Colon b1 f0 f1 f2 ∙ ap (λ (z : Tokens). token k.Colon f0 ∷ z) (expect_sound k.Name f1 g0 g1 g2) in
+      at_last (IsSection (IsHeading F)) _ _ y g1 r g3 (value (subst (λ z. IsNames b0 ts z) end (names_exact.sound ts b0 b1 b2))))))
 
   variable_sound : (at : Span) (ts : Tokens) (y : Section) (r : Tokens) → read.variable_section p ts ≡ Ok (y, r) → IsSection (IsHeading F) y (token k.Var at ∷ ts) r
   unfolding read.variable_section
   variable_sound at ts y r e =
-      let b = both_steps (read.names ts) _ y r e in
-      let f = both_steps (expect k.Colon b.1) _ y r b.3 in
-      let g = both_steps (expect k.Name f.1) _ y r f.3 in
-      let end = expect_sound k.Colon b.1 f.0 f.1 f.2 ∙ ap (λ (z : Tokens). token k.Colon f.0 ∷ z) (expect_sound k.Name f.1 g.0 g.1 g.2) in
-      at_last (IsSection (IsHeading F)) _ _ y g.1 r g.3 (variable (subst (λ z. IsNames b.0 ts z) end (names_exact.sound ts b.0 b.1 b.2)))
+      in_steps (read.names ts) _ y r e (λ b0 b1 b2 b3.
+      in_steps (expect k.Colon b1) _ y r b3 (λ f0 f1 f2 f3.
+      in_steps (expect k.Name f1) _ y r f3 (λ g0 g1 g2 g3.
+      let end = expect_sound k.Colon b1 f0 f1 f2 ∙ ap (λ (z : Tokens). token k.Colon f0 ∷ z) (expect_sound k.Name f1 g0 g1 g2) in
+      at_last (IsSection (IsHeading F)) _ _ y g1 r g3 (variable (subst (λ z. IsNames b0 ts z) end (names_exact.sound ts b0 b1 b2))))))
 
   section_by_sound : (kind : Kind) (at : Span) (ts : Tokens) (y : Section) (r : Tokens) → read.section_by p kind (token kind at ∷ ts) ≡ Ok (y, r) → IsSection (IsHeading F) y (token kind at ∷ ts) r
   section_by_sound k.Var at ts y r e = variable_sound at ts y r e
@@ -238,12 +238,12 @@ seen_other k j (t ∷ ts) ne e = go (same t.kind j) refl
 definition_sound : (ts : Tokens) (y : ConstantDefinition) (r : Tokens) → read.constant_definition ts ≡ Ok (y, r) → IsConstantDefinition y ts r
 unfolding read.constant_definition
 definition_sound ts y r e =
-    let a = both_steps (expect k.Name ts) _ y r e in
-    let b = both_steps (expect k.Equal a.1) _ y r a.3 in
-    let f = both_steps (st.constant b.1) _ y r b.3 in
-    let g = both_steps (expect k.Semicolon f.1) _ y r f.3 in
-    let head = expect_sound k.Name ts a.0 a.1 a.2 ∙ ap (λ (z : Tokens). token k.Name a.0 ∷ z) (expect_sound k.Equal a.1 b.0 b.1 b.2) in
-    subst (λ z. IsConstantDefinition y z r) (sym head) (at_last IsConstantDefinition _ _ y g.1 r g.3 (constant (subst (λ z. IsConstant f.0 b.1 z) (expect_sound k.Semicolon f.1 g.0 g.1 g.2) (constant_exact.sound b.1 f.0 f.1 f.2))))
+    in_steps (expect k.Name ts) _ y r e (λ a0 a1 a2 a3.
+    in_steps (expect k.Equal a1) _ y r a3 (λ b0 b1 b2 b3.
+    in_steps (st.constant b1) _ y r b3 (λ f0 f1 f2 f3.
+    in_steps (expect k.Semicolon f1) _ y r f3 (λ g0 g1 g2 g3.
+    let head = expect_sound k.Name ts a0 a1 a2 ∙ ap (λ (z : Tokens). token k.Name a0 ∷ z) (expect_sound k.Equal a1 b0 b1 b2) in
+    subst (λ z. IsConstantDefinition y z r) (sym head) (at_last IsConstantDefinition _ _ y g1 r g3 (constant (subst (λ z. IsConstant f0 b1 z) (expect_sound k.Semicolon f1 g0 g1 g2) (constant_exact.sound b1 f0 f1 f2))))))))
 
 definition_complete : (y : ConstantDefinition) (ts r : Tokens) → IsConstantDefinition y ts r → Anything r → read.constant_definition ts ≡ Ok (y, r)
 unfolding read.constant_definition
@@ -272,12 +272,12 @@ module _ (T : Symbol TypeDenoter) (pt : Parser TypeDenoter) (ht : Exact NoRange 
   type_sound : (ts : Tokens) (y : TypeDefinition) (r : Tokens) → read.type_definition pt ts ≡ Ok (y, r) → IsTypeDefinition T y ts r
   unfolding read.type_definition
   type_sound ts y r e =
-      let a = both_steps (expect k.Name ts) _ y r e in
-      let b = both_steps (expect k.Equal a.1) _ y r a.3 in
-      let f = both_steps (pt b.1) _ y r b.3 in
-      let g = both_steps (expect k.Semicolon f.1) _ y r f.3 in
-      let head = expect_sound k.Name ts a.0 a.1 a.2 ∙ ap (λ (z : Tokens). token k.Name a.0 ∷ z) (expect_sound k.Equal a.1 b.0 b.1 b.2) in
-      subst (λ z. IsTypeDefinition T y z r) (sym head) (at_last (IsTypeDefinition T) _ _ y g.1 r g.3 (definition (subst (λ z. T f.0 b.1 z) (expect_sound k.Semicolon f.1 g.0 g.1 g.2) (ht.sound b.1 f.0 f.1 f.2))))
+      in_steps (expect k.Name ts) _ y r e (λ a0 a1 a2 a3.
+      in_steps (expect k.Equal a1) _ y r a3 (λ b0 b1 b2 b3.
+      in_steps (pt b1) _ y r b3 (λ f0 f1 f2 f3.
+      in_steps (expect k.Semicolon f1) _ y r f3 (λ g0 g1 g2 g3.
+      let head = expect_sound k.Name ts a0 a1 a2 ∙ ap (λ (z : Tokens). token k.Name a0 ∷ z) (expect_sound k.Equal a1 b0 b1 b2) in
+      subst (λ z. IsTypeDefinition T y z r) (sym head) (at_last (IsTypeDefinition T) _ _ y g1 r g3 (definition (subst (λ z. T f0 b1 z) (expect_sound k.Semicolon f1 g0 g1 g2) (ht.sound b1 f0 f1 f2))))))))
 
   type_complete : (y : TypeDefinition) (ts r : Tokens) → IsTypeDefinition T y ts r → Anything r → read.type_definition pt ts ≡ Ok (y, r)
   unfolding read.type_definition
@@ -298,11 +298,11 @@ module _ (T : Symbol TypeDenoter) (pt : Parser TypeDenoter) (ht : Exact NoRange 
   variables_sound : (ts : Tokens) (y : Variables) (r : Tokens) → read.variables pt ts ≡ Ok (y, r) → IsVariables T y ts r
   unfolding read.variables
   variables_sound ts y r e =
-      let a = both_steps (read.names ts) _ y r e in
-      let b = both_steps (expect k.Colon a.1) _ y r a.3 in
-      let f = both_steps (pt b.1) _ y r b.3 in
-      let g = both_steps (expect k.Semicolon f.1) _ y r f.3 in
-      at_last (IsVariables T) _ _ y g.1 r g.3 (variables (subst (λ z. IsNames a.0 ts z) (expect_sound k.Colon a.1 b.0 b.1 b.2) (names_exact.sound ts a.0 a.1 a.2)) (subst (λ z. T f.0 b.1 z) (expect_sound k.Semicolon f.1 g.0 g.1 g.2) (ht.sound b.1 f.0 f.1 f.2)))
+      in_steps (read.names ts) _ y r e (λ a0 a1 a2 a3.
+      in_steps (expect k.Colon a1) _ y r a3 (λ b0 b1 b2 b3.
+      in_steps (pt b1) _ y r b3 (λ f0 f1 f2 f3.
+      in_steps (expect k.Semicolon f1) _ y r f3 (λ g0 g1 g2 g3.
+      at_last (IsVariables T) _ _ y g1 r g3 (variables (subst (λ z. IsNames a0 ts z) (expect_sound k.Colon a1 b0 b1 b2) (names_exact.sound ts a0 a1 a2)) (subst (λ z. T f0 b1 z) (expect_sound k.Semicolon f1 g0 g1 g2) (ht.sound b1 f0 f1 f2)))))))
 
   variables_complete : (y : Variables) (ts r : Tokens) → IsVariables T y ts r → Anything r → read.variables pt ts ≡ Ok (y, r)
   unfolding read.variables
@@ -375,9 +375,9 @@ module _ (is_forward : Span → Bool) (F : Symbol (List Section)) (p : Parser (L
   routine_sound : (ts : Tokens) (y : Routine) (r : Tokens) → read.routine is_forward p pb ts ≡ Ok (y, r) → IsRoutine is_forward Heads B y ts r
   unfolding read.routine
   routine_sound ts y r e =
-      let a = both_steps (read.routine_head is_forward p pb ts) _ y r e in
-      let b = both_steps (expect k.Semicolon a.1) _ y r a.3 in
-      at_last (IsRoutine is_forward Heads B) ts a.0 y b.1 r b.3 (routine_head_sound ts a.0 a.1 a.2 b.0 b.1 (expect_sound k.Semicolon a.1 b.0 b.1 b.2))
+      in_steps (read.routine_head is_forward p pb ts) _ y r e (λ a0 a1 a2 a3.
+      in_steps (expect k.Semicolon a1) _ y r a3 (λ b0 b1 b2 b3.
+      at_last (IsRoutine is_forward Heads B) ts a0 y b1 r b3 (routine_head_sound ts a0 a1 a2 b0 b1 (expect_sound k.Semicolon a1 b0 b1 b2))))
 
   formals_no_semicolon : (xs : List Section) (colon : Span) (ts m : Tokens) → IsFormals F xs ts (token k.Colon colon ∷ m) → sees k.Semicolon ts ≡ false
   unfolding same
@@ -470,16 +470,16 @@ module _ (is_forward : Span → Bool) (n : ℕ) (B : Symbol Block) (pb : Parser 
   block_sound : (ts : Tokens) (y : Block) (r : Tokens) → read_whole ts ≡ Ok (y, r) → Whole y ts r
   unfolding read.any_block
   block_sound ts y r e =
-      let a = both_steps (part k.Const read.begins_name read.constant_definition ts) _ y r e in
-      let b = both_steps (part k.Type read.begins_name (read.type_definition (read.read_type n)) a.1) _ y r a.3 in
-      let c = both_steps (part k.Var read.begins_name (read.variables (read.read_type n)) b.1) _ y r b.3 in
-      let d = both_steps (many (if_begins read.begins_routine (read.routine is_forward (read.read_formals n) pb)) c.1) _ y r c.3 in
-      let f = both_steps (expect k.Begin d.1) _ y r d.3 in
-      let g = both_steps (separated k.Semicolon (read_statement n) f.1) _ y r f.3 in
-      let u = both_steps (expect k.End g.1) _ y r g.3 in
-      at_last Whole ts _ y u.1 r u.3 (parts a.0 b.0 c.0 d.0 f.0 g.0 (constants_exact.sound ts a.0 a.1 a.2) (ts_exact.sound a.1 b.0 b.1 b.2) (vs_exact.sound b.1 c.0 c.1 c.2)
-      (subst (λ z. Many (IsRoutine is_forward (heading_within n) B) d.0 c.1 z) (expect_sound k.Begin d.1 f.0 f.1 f.2) (rs.sound c.1 d.0 d.1 d.2))
-      (subst (λ z. IsSequence (statement_within n) g.0 f.1 z) (expect_sound k.End g.1 u.0 u.1 u.2) ((sequence_exact_within n).sound f.1 g.0 g.1 g.2)))
+      in_steps (part k.Const read.begins_name read.constant_definition ts) _ y r e (λ a0 a1 a2 a3.
+      in_steps (part k.Type read.begins_name (read.type_definition (read.read_type n)) a1) _ y r a3 (λ b0 b1 b2 b3.
+      in_steps (part k.Var read.begins_name (read.variables (read.read_type n)) b1) _ y r b3 (λ c0 c1 c2 c3.
+      in_steps (many (if_begins read.begins_routine (read.routine is_forward (read.read_formals n) pb)) c1) _ y r c3 (λ d0 d1 d2 d3.
+      in_steps (expect k.Begin d1) _ y r d3 (λ f0 f1 f2 f3.
+      in_steps (separated k.Semicolon (read_statement n) f1) _ y r f3 (λ g0 g1 g2 g3.
+      in_steps (expect k.End g1) _ y r g3 (λ u0 u1 u2 u3.
+      at_last Whole ts _ y u1 r u3 (parts a0 b0 c0 d0 f0 g0 (constants_exact.sound ts a0 a1 a2) (ts_exact.sound a1 b0 b1 b2) (vs_exact.sound b1 c0 c1 c2)
+      (subst (λ z. Many (IsRoutine is_forward (heading_within n) B) d0 c1 z) (expect_sound k.Begin d1 f0 f1 f2) (rs.sound c1 d0 d1 d2))
+      (subst (λ z. IsSequence (statement_within n) g0 f1 z) (expect_sound k.End g1 u0 u1 u2) ((sequence_exact_within n).sound f1 g0 g1 g2))))))))))
 
   begin_later : (at : Span) (m : Tokens) → Later 5 (token k.Begin at ∷ m)
   begin_later at m = omega arith
@@ -537,15 +537,15 @@ module _ (is_forward : Span → Bool) (B : Symbol Block) (pb : Parser Block) (hb
   program_sound : (ts : Tokens) (y : Program) (r : Tokens) → read.program is_forward pb ts ≡ Ok (y, r) → IsProgram is_forward B y ts r
   unfolding read.program
   program_sound ts y r e =
-      let a = both_steps (expect k.Program ts) _ y r e in
-      let b = both_steps (expect k.Name a.1) _ y r a.3 in
-      let c = both_steps (read.program_names is_forward pb b.1) _ y r b.3 in
-      let d = both_steps (expect k.Semicolon c.1) _ y r c.3 in
-      let f = both_steps (pb d.1) _ y r d.3 in
-      let g = both_steps (expect k.Dot f.1) _ y r f.3 in
-      let head = expect_sound k.Program ts a.0 a.1 a.2 ∙ ap (λ (z : Tokens). token k.Program a.0 ∷ z) (expect_sound k.Name a.1 b.0 b.1 b.2) in
-      subst (λ z. IsProgram is_forward B y z r) (sym head) (at_last (IsProgram is_forward B) _ _ y g.1 r g.3
-      (program_names_sound b.0 b.1 c.0 c.1 d.0 d.1 f.0 g.1 a.0 g.0 c.2 (expect_sound k.Semicolon c.1 d.0 d.1 d.2) (subst (λ z. B f.0 d.1 z) (expect_sound k.Dot f.1 g.0 g.1 g.2) (hb.sound d.1 f.0 f.1 f.2))))
+      in_steps (expect k.Program ts) _ y r e (λ a0 a1 a2 a3.
+      in_steps (expect k.Name a1) _ y r a3 (λ b0 b1 b2 b3.
+      in_steps (read.program_names is_forward pb b1) _ y r b3 (λ c0 c1 c2 c3.
+      in_steps (expect k.Semicolon c1) _ y r c3 (λ d0 d1 d2 d3.
+      in_steps (pb d1) _ y r d3 (λ f0 f1 f2 f3.
+      in_steps (expect k.Dot f1) _ y r f3 (λ g0 g1 g2 g3.
+      let head = expect_sound k.Program ts a0 a1 a2 ∙ ap (λ (z : Tokens). token k.Program a0 ∷ z) (expect_sound k.Name a1 b0 b1 b2) in
+      subst (λ z. IsProgram is_forward B y z r) (sym head) (at_last (IsProgram is_forward B) _ _ y g1 r g3
+      (program_names_sound b0 b1 c0 c1 d0 d1 f0 g1 a0 g0 c2 (expect_sound k.Semicolon c1 d0 d1 d2) (subst (λ z. B f0 d1 z) (expect_sound k.Dot f1 g0 g1 g2) (hb.sound d1 f0 f1 f2))))))))))
 
   no_names : (semicolon : Span) (m : Tokens) → read.program_names is_forward pb (token k.Semicolon semicolon ∷ m) ≡ Ok ([], token k.Semicolon semicolon ∷ m)
   unfolding read.program_names same

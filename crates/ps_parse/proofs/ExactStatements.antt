@@ -22,7 +22,7 @@ use Rattle.ps_grammar.specs.Statements.{IsConstant, number, signed_number, name,
 use Rattle.ps_parse.specs.Steps.{Parser, sees, accept, expect, separated, terminated, many}
 use Rattle.ps_parse.specs.ReadExpressions.{eat_operator, sign_of, selector, variable, read_expr}
 use Rattle.ps_parse.specs.ReadStatements as read
-use Rattle.ps_parse.proofs.Exact.{Exact, both_steps, at_last, expect_sound, expect_complete, eat_found, eat_missed, eat_sound, eat_either, accept_found, accept_missed, accept_sound, operator_found, operator_sound}
+use Rattle.ps_parse.proofs.Exact.{Exact, both_steps, in_steps, at_last, expect_sound, expect_complete, eat_found, eat_missed, eat_sound, eat_either, accept_found, accept_missed, accept_sound, operator_found, operator_sound}
 use Rattle.ps_parse.proofs.Lists.{separated_exact, terminated_exact, many_nil}
 use Rattle.ps_parse.proofs.Ends.{Ends, binds, loose, Follows, follow, follows_ends, follows_unseen}
 use Rattle.ps_parse.proofs.ExactExpressions.{sign_back, sign_forth, selectors_exact, no_call, expr_exact_within}
@@ -200,9 +200,9 @@ module _ (E : Symbol Expr) (p : Parser Expr) (h : Exact (Ends 1) E p) where
   variable_sound : (ts : Tokens) (y : Variable) (r : Tokens) → read.named_variable p ts ≡ Ok (y, r) → IsVariable E y ts r
   unfolding read.named_variable variable
   variable_sound ts y r e =
-      let b = both_steps (expect k.Name ts) _ y r e in
-      let c = both_steps (many (selector p) b.1) _ y r b.3 in
-      subst (λ z. IsVariable E y z r) (sym (expect_sound k.Name ts b.0 b.1 b.2)) (at_last (IsVariable E) _ _ y c.1 r c.3 (selected ((selectors_exact E p h).sound b.1 c.0 c.1 c.2)))
+      in_steps (expect k.Name ts) _ y r e (λ b0 b1 b2 b3.
+      in_steps (many (selector p) b1) _ y r b3 (λ c0 c1 c2 c3.
+      subst (λ z. IsVariable E y z r) (sym (expect_sound k.Name ts b0 b1 b2)) (at_last (IsVariable E) _ _ y c1 r c3 (selected ((selectors_exact E p h).sound b1 c0 c1 c2)))))
 
   variable_complete : (y : Variable) (ts r : Tokens) → IsVariable E y ts r → Ends 4 r → read.named_variable p ts ≡ Ok (y, r)
   unfolding read.named_variable variable
@@ -239,11 +239,11 @@ module _ (E : Symbol Expr) (p : Parser Expr) (h : Exact (Ends 1) E p) where
     element_sound : (ts : Tokens) (y : Element) (r : Tokens) → read.element p q ts ≡ Ok (y, r) → IsElement S y ts r
     unfolding read.element
     element_sound ts y r e =
-        let b = both_steps (separated k.Comma read.constant ts) _ y r e in
-        let c = both_steps (expect k.Colon b.1) _ y r b.3 in
-        let d = both_steps (q c.1) _ y r c.3 in
-        let g = i.sound c.1 d.0 d.1 d.2 in
-        at_last (IsElement S) _ _ y d.1 r d.3 (element b.0 d.0 {ends = g.0} (subst (λ z. Separated k.Comma IsConstant b.0 ts z) (expect_sound k.Colon b.1 c.0 c.1 c.2) (constants_exact.sound ts b.0 b.1 b.2)) g.1)
+        in_steps (separated k.Comma read.constant ts) _ y r e (λ b0 b1 b2 b3.
+        in_steps (expect k.Colon b1) _ y r b3 (λ c0 c1 c2 c3.
+        in_steps (q c1) _ y r c3 (λ d0 d1 d2 d3.
+        let g = i.sound c1 d0 d1 d2 in
+        at_last (IsElement S) _ _ y d1 r d3 (element b0 d0 {ends = g.0} (subst (λ z. Separated k.Comma IsConstant b0 ts z) (expect_sound k.Colon b1 c0 c1 c2) (constants_exact.sound ts b0 b1 b2)) g.1))))
 
     element_complete : (y : Element) (ts r : Tokens) → IsElement S y ts r → EndsInSequence r → read.element p q ts ≡ Ok (y, r)
     unfolding read.element
@@ -293,9 +293,9 @@ module _ (E : Symbol Expr) (p : Parser Expr) (h : Exact (Ends 1) E p) where
     compound_sound : (at : Span) (ts : Tokens) (y : Statement) (r : Tokens) → read.compound p q ts ≡ Ok (y, r) → Greedy (IsStatement E S) y (token k.Begin at ∷ ts) r
     unfolding read.compound read.sequence
     compound_sound at ts y r e =
-        let b = both_steps (separated k.Semicolon q ts) _ y r e in
-        let c = both_steps (expect k.End b.1) _ y r b.3 in
-        at_last (Greedy (IsStatement E S)) _ _ y c.1 r c.3 (unelsed (compound (subst (λ z. Separated k.Semicolon (InSequence S) b.0 ts z) (expect_sound k.End b.1 c.0 c.1 c.2) (sequence_exact.sound ts b.0 b.1 b.2))))
+        in_steps (separated k.Semicolon q ts) _ y r e (λ b0 b1 b2 b3.
+        in_steps (expect k.End b1) _ y r b3 (λ c0 c1 c2 c3.
+        at_last (Greedy (IsStatement E S)) _ _ y c1 r c3 (unelsed (compound (subst (λ z. Separated k.Semicolon (InSequence S) b0 ts z) (expect_sound k.End b1 c0 c1 c2) (sequence_exact.sound ts b0 b1 b2))))))
 
     closed_before_else : (x : Statement) (l : Tokens) (other : Span) (m : Tokens) → Greedy S x l (token k.Else other ∷ m) → S false x l (token k.Else other ∷ m)
     unfolding same
@@ -305,71 +305,71 @@ module _ (E : Symbol Expr) (p : Parser Expr) (h : Exact (Ends 1) E p) where
     if_sound : (at : Span) (ts : Tokens) (y : Statement) (r : Tokens) → read.if_statement p q ts ≡ Ok (y, r) → Greedy (IsStatement E S) y (token k.If at ∷ ts) r
     unfolding read.if_statement
     if_sound at ts y r e =
-        let b = both_steps (p ts) _ y r e in
-        let c = both_steps (expect k.Then b.1) _ y r b.3 in
-        let d = both_steps (q c.1) _ y r c.3 in
-        let condition = subst (λ z. E b.0 ts z) (expect_sound k.Then b.1 c.0 c.1 c.2) (h.sound ts b.0 b.1 b.2) in
-        let g = i.sound c.1 d.0 d.1 d.2 in
-        elim (eat_either k.Else d.1 _ y r d.3) [
+        in_steps (p ts) _ y r e (λ b0 b1 b2 b3.
+        in_steps (expect k.Then b1) _ y r b3 (λ c0 c1 c2 c3.
+        in_steps (q c1) _ y r c3 (λ d0 d1 d2 d3.
+        let condition = subst (λ z. E b0 ts z) (expect_sound k.Then b1 c0 c1 c2) (h.sound ts b0 b1 b2) in
+        let g = i.sound c1 d0 d1 d2 in
+        elim (eat_either k.Else d1 _ y r d3) [
           | inl w ↦ (let f = both_steps (q w.1) _ y r w.3 in
               let t = i.sound w.1 f.0 f.1 f.2 in
-              let first = closed_before_else d.0 c.1 w.0 w.1 (subst (λ z. Greedy S d.0 c.1 z) w.2 g) in
+              let first = closed_before_else d0 c1 w.0 w.1 (subst (λ z. Greedy S d0 c1 z) w.2 g) in
               at_last (Greedy (IsStatement E S)) _ _ y f.1 r f.3 (t.0, if_else condition first t.1, t.2))
-          | inr w ↦ at_last (Greedy (IsStatement E S)) _ _ y d.1 r w.1 (true, if_then condition g.1, λ e. w.0)
-        ]
+          | inr w ↦ at_last (Greedy (IsStatement E S)) _ _ y d1 r w.1 (true, if_then condition g.1, λ e. w.0)
+        ])))
 
     case_sound : (at : Span) (ts : Tokens) (y : Statement) (r : Tokens) → read.case_statement p q at ts ≡ Ok (y, r) → Greedy (IsStatement E S) y (token k.Case at ∷ ts) r
     unfolding read.case_statement
     case_sound at ts y r e =
-        let b = both_steps (p ts) _ y r e in
-        let c = both_steps (expect k.Of b.1) _ y r b.3 in
-        let d = both_steps (terminated k.Semicolon k.End (read.element p q) c.1) _ y r c.3 in
-        let f = both_steps (expect k.End d.1) _ y r d.3 in
-        at_last (Greedy (IsStatement E S)) _ _ y f.1 r f.3 (unelsed (case (subst (λ z. E b.0 ts z) (expect_sound k.Of b.1 c.0 c.1 c.2) (h.sound ts b.0 b.1 b.2))
-        (subst (λ z. Terminated k.Semicolon (IsElement S) d.0 c.1 z) (expect_sound k.End d.1 f.0 f.1 f.2) (elements_exact.sound c.1 d.0 d.1 d.2))))
+        in_steps (p ts) _ y r e (λ b0 b1 b2 b3.
+        in_steps (expect k.Of b1) _ y r b3 (λ c0 c1 c2 c3.
+        in_steps (terminated k.Semicolon k.End (read.element p q) c1) _ y r c3 (λ d0 d1 d2 d3.
+        in_steps (expect k.End d1) _ y r d3 (λ f0 f1 f2 f3.
+        at_last (Greedy (IsStatement E S)) _ _ y f1 r f3 (unelsed (case (subst (λ z. E b0 ts z) (expect_sound k.Of b1 c0 c1 c2) (h.sound ts b0 b1 b2))
+        (subst (λ z. Terminated k.Semicolon (IsElement S) d0 c1 z) (expect_sound k.End d1 f0 f1 f2) (elements_exact.sound c1 d0 d1 d2))))))))
 
     while_sound : (at : Span) (ts : Tokens) (y : Statement) (r : Tokens) → read.while_statement p q ts ≡ Ok (y, r) → Greedy (IsStatement E S) y (token k.While at ∷ ts) r
     unfolding read.while_statement
     while_sound at ts y r e =
-        let b = both_steps (p ts) _ y r e in
-        let c = both_steps (expect k.Do b.1) _ y r b.3 in
-        let d = both_steps (q c.1) _ y r c.3 in
-        let g = i.sound c.1 d.0 d.1 d.2 in
-        at_last (Greedy (IsStatement E S)) _ _ y d.1 r d.3 (g.0, while (subst (λ z. E b.0 ts z) (expect_sound k.Do b.1 c.0 c.1 c.2) (h.sound ts b.0 b.1 b.2)) g.1, g.2)
+        in_steps (p ts) _ y r e (λ b0 b1 b2 b3.
+        in_steps (expect k.Do b1) _ y r b3 (λ c0 c1 c2 c3.
+        in_steps (q c1) _ y r c3 (λ d0 d1 d2 d3.
+        let g = i.sound c1 d0 d1 d2 in
+        at_last (Greedy (IsStatement E S)) _ _ y d1 r d3 (g.0, while (subst (λ z. E b0 ts z) (expect_sound k.Do b1 c0 c1 c2) (h.sound ts b0 b1 b2)) g.1, g.2))))
 
     repeat_sound : (at : Span) (ts : Tokens) (y : Statement) (r : Tokens) → read.repeat_statement p q ts ≡ Ok (y, r) → Greedy (IsStatement E S) y (token k.Repeat at ∷ ts) r
     unfolding read.repeat_statement read.sequence
     repeat_sound at ts y r e =
-        let b = both_steps (separated k.Semicolon q ts) _ y r e in
-        let c = both_steps (expect k.Until b.1) _ y r b.3 in
-        let d = both_steps (p c.1) _ y r c.3 in
-        at_last (Greedy (IsStatement E S)) _ _ y d.1 r d.3 (unelsed (repeat (subst (λ z. Separated k.Semicolon (InSequence S) b.0 ts z) (expect_sound k.Until b.1 c.0 c.1 c.2) (sequence_exact.sound ts b.0 b.1 b.2)) (h.sound c.1 d.0 d.1 d.2)))
+        in_steps (separated k.Semicolon q ts) _ y r e (λ b0 b1 b2 b3.
+        in_steps (expect k.Until b1) _ y r b3 (λ c0 c1 c2 c3.
+        in_steps (p c1) _ y r c3 (λ d0 d1 d2 d3.
+        at_last (Greedy (IsStatement E S)) _ _ y d1 r d3 (unelsed (repeat (subst (λ z. Separated k.Semicolon (InSequence S) b0 ts z) (expect_sound k.Until b1 c0 c1 c2) (sequence_exact.sound ts b0 b1 b2)) (h.sound c1 d0 d1 d2))))))
 
     for_sound : (at : Span) (ts : Tokens) (y : Statement) (r : Tokens) → read.for_statement p q ts ≡ Ok (y, r) → Greedy (IsStatement E S) y (token k.For at ∷ ts) r
     unfolding read.for_statement
     for_sound at ts y r e =
-        let a = both_steps (expect k.Name ts) _ y r e in
-        let b = both_steps (expect k.Assign a.1) _ y r a.3 in
-        let c = both_steps (p b.1) _ y r b.3 in
-        let head = expect_sound k.Name ts a.0 a.1 a.2 ∙ ap (λ (z : Tokens). token k.Name a.0 ∷ z) (expect_sound k.Assign a.1 b.0 b.1 b.2) in
-        elim (operator_sound read.direction_of direction_kind direction_back direction_forth c.1 _ y r c.3) [
+        in_steps (expect k.Name ts) _ y r e (λ a0 a1 a2 a3.
+        in_steps (expect k.Assign a1) _ y r a3 (λ b0 b1 b2 b3.
+        in_steps (p b1) _ y r b3 (λ c0 c1 c2 c3.
+        let head = expect_sound k.Name ts a0 a1 a2 ∙ ap (λ (z : Tokens). token k.Name a0 ∷ z) (expect_sound k.Assign a1 b0 b1 b2) in
+        elim (operator_sound read.direction_of direction_kind direction_back direction_forth c1 _ y r c3) [
           | inl w ↦ (let d = both_steps (p w.2) _ y r w.4 in
               let f = both_steps (expect k.Do d.1) _ y r d.3 in
               let g = both_steps (q f.1) _ y r f.3 in
               let t = i.sound f.1 g.0 g.1 g.2 in
               subst (λ z. Greedy (IsStatement E S) y (token k.For at ∷ z) r) (sym head) (at_last (Greedy (IsStatement E S)) _ _ y g.1 r g.3
-              (t.0, for w.0 (subst (λ z. E c.0 b.1 z) w.3 (h.sound b.1 c.0 c.1 c.2)) (subst (λ z. E d.0 w.2 z) (expect_sound k.Do d.1 f.0 f.1 f.2) (h.sound w.2 d.0 d.1 d.2)) t.1, t.2)))
+              (t.0, for w.0 (subst (λ z. E c0 b1 z) w.3 (h.sound b1 c0 c1 c2)) (subst (λ z. E d.0 w.2 z) (expect_sound k.Do d.1 f.0 f.1 f.2) (h.sound w.2 d.0 d.1 d.2)) t.1, t.2)))
           | inr w ↦ cc
-        ]
+        ])))
 
     with_sound : (at : Span) (ts : Tokens) (y : Statement) (r : Tokens) → read.with_statement p q ts ≡ Ok (y, r) → Greedy (IsStatement E S) y (token k.With at ∷ ts) r
     unfolding read.with_statement
     with_sound at ts y r e =
-        let b = both_steps (separated k.Comma (read.named_variable p) ts) _ y r e in
-        let c = both_steps (expect k.Do b.1) _ y r b.3 in
-        let d = both_steps (q c.1) _ y r c.3 in
-        let g = i.sound c.1 d.0 d.1 d.2 in
-        at_last (Greedy (IsStatement E S)) _ _ y d.1 r d.3 (g.0, with (subst (λ z. Separated k.Comma (IsVariable E) b.0 ts z) (expect_sound k.Do b.1 c.0 c.1 c.2) (variables_exact.sound ts b.0 b.1 b.2)) g.1, g.2)
+        in_steps (separated k.Comma (read.named_variable p) ts) _ y r e (λ b0 b1 b2 b3.
+        in_steps (expect k.Do b1) _ y r b3 (λ c0 c1 c2 c3.
+        in_steps (q c1) _ y r c3 (λ d0 d1 d2 d3.
+        let g = i.sound c1 d0 d1 d2 in
+        at_last (Greedy (IsStatement E S)) _ _ y d1 r d3 (g.0, with (subst (λ z. Separated k.Comma (IsVariable E) b0 ts z) (expect_sound k.Do b1 c0 c1 c2) (variables_exact.sound ts b0 b1 b2)) g.1, g.2))))
 
     statement_by_sound : (kind : Kind) (at : Span) (ts : Tokens) (y : Statement) (r : Tokens) → read.statement_by p q kind at (token kind at ∷ ts) ≡ Ok (y, r) → Greedy (IsStatement E S) y (token kind at ∷ ts) r
     statement_by_sound k.Name at ts y r e = after_name_sound at ts y r e

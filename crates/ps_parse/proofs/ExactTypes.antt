@@ -20,7 +20,7 @@ use Rattle.ps_grammar.specs.Programs.{IsName, name, IsNames, IsOrdinal, named, e
 use Rattle.ps_parse.specs.Steps.{Parser, and_then, sees, expect, separated, terminated, pure}
 use Rattle.ps_parse.specs.ReadStatements.{constant}
 use Rattle.ps_parse.specs.ReadPrograms as read
-use Rattle.ps_parse.proofs.Exact.{Exact, both_steps, at_last, expect_sound, expect_complete, eat_found, eat_missed, eat_sound, accept_found, accept_missed, accept_sound, refused}
+use Rattle.ps_parse.proofs.Exact.{Exact, both_steps, in_steps, at_last, expect_sound, expect_complete, eat_found, eat_missed, eat_sound, accept_found, accept_missed, accept_sound, refused}
 use Rattle.ps_parse.proofs.Lists.{separated_exact, terminated_exact}
 use Rattle.ps_parse.proofs.ExactStatements.{Anything, NoComma, constant_exact}
 
@@ -69,9 +69,9 @@ plain_name x at ts m text e = cc
 
 dotted_sound : (x : Constant) (ts m : Tokens) (y : Ordinal) (r : Tokens) → IsConstant x ts m → and_then (expect k.DotDot m) (λ at n. and_then (constant n) (λ z. pure (o.Subrange x z))) ≡ Ok (y, r) → IsOrdinal y ts r
 dotted_sound x ts m y r d e =
-    let b = both_steps (expect k.DotDot m) _ y r e in
-    let f = both_steps (constant b.1) _ y r b.3 in
-    at_last IsOrdinal ts _ y f.1 r f.3 (subrange (subst (λ z. IsConstant x ts z) (expect_sound k.DotDot m b.0 b.1 b.2) d) (constant_exact.sound b.1 f.0 f.1 f.2))
+    in_steps (expect k.DotDot m) _ y r e (λ b0 b1 b2 b3.
+    in_steps (constant b1) _ y r b3 (λ f0 f1 f2 f3.
+    at_last IsOrdinal ts _ y f1 r f3 (subrange (subst (λ z. IsConstant x ts z) (expect_sound k.DotDot m b0 b1 b2) d) (constant_exact.sound b1 f0 f1 f2))))
 
 after_constant_sound : (x : Constant) (ts m : Tokens) (y : Ordinal) (r : Tokens) → IsConstant x ts m → read.after_constant x m ≡ Ok (y, r) → IsOrdinal y ts r
 after_constant_sound (c.Name None at) ts m y r d e =
@@ -87,9 +87,9 @@ after_constant_sound (c.Text at) ts m y r d e = dotted_sound (c.Text at) ts m y 
 enumeration_sound : (at : Span) (ts : Tokens) (y : Ordinal) (r : Tokens) → read.enumeration at ts ≡ Ok (y, r) → IsOrdinal y (token k.LeftParen at ∷ ts) r
 unfolding read.enumeration
 enumeration_sound at ts y r e =
-    let b = both_steps (read.names ts) _ y r e in
-    let f = both_steps (expect k.RightParen b.1) _ y r b.3 in
-    at_last IsOrdinal _ _ y f.1 r f.3 (enumeration (subst (λ z. IsNames b.0 ts z) (expect_sound k.RightParen b.1 f.0 f.1 f.2) (names_exact.sound ts b.0 b.1 b.2)))
+    in_steps (read.names ts) _ y r e (λ b0 b1 b2 b3.
+    in_steps (expect k.RightParen b1) _ y r b3 (λ f0 f1 f2 f3.
+    at_last IsOrdinal _ _ y f1 r f3 (enumeration (subst (λ z. IsNames b0 ts z) (expect_sound k.RightParen b1 f0 f1 f2) (names_exact.sound ts b0 b1 b2)))))
 
 ordinal_sound : (ts : Tokens) (y : Ordinal) (r : Tokens) → read.ordinal ts ≡ Ok (y, r) → IsOrdinal y ts r
 unfolding read.ordinal
@@ -171,10 +171,10 @@ module _ (I : Symbol Ordinal) (pi : Parser Ordinal) (hi : Exact NoRange I pi) (T
   fields_sound : (ts : Tokens) (y : Fields) (r : Tokens) → read.fields pi pt ts ≡ Ok (y, r) → IsFields T y ts r
   unfolding read.fields
   fields_sound ts y r e =
-      let b = both_steps (read.names ts) _ y r e in
-      let f = both_steps (expect k.Colon b.1) _ y r b.3 in
-      let g = both_steps (pt f.1) _ y r f.3 in
-      at_last (IsFields T) _ _ y g.1 r g.3 (fields b.0 g.0 (subst (λ z. IsNames b.0 ts z) (expect_sound k.Colon b.1 f.0 f.1 f.2) (names_exact.sound ts b.0 b.1 b.2)) (ht.sound f.1 g.0 g.1 g.2))
+      in_steps (read.names ts) _ y r e (λ b0 b1 b2 b3.
+      in_steps (expect k.Colon b1) _ y r b3 (λ f0 f1 f2 f3.
+      in_steps (pt f1) _ y r f3 (λ g0 g1 g2 g3.
+      at_last (IsFields T) _ _ y g1 r g3 (fields b0 g0 (subst (λ z. IsNames b0 ts z) (expect_sound k.Colon b1 f0 f1 f2) (names_exact.sound ts b0 b1 b2)) (ht.sound f1 g0 g1 g2)))))
 
   fields_complete : (y : Fields) (ts r : Tokens) → IsFields T y ts r → NoRange r → read.fields pi pt ts ≡ Ok (y, r)
   unfolding read.fields
@@ -192,14 +192,14 @@ module _ (I : Symbol Ordinal) (pi : Parser Ordinal) (hi : Exact NoRange I pi) (T
   array_sound : (at : Span) (ts : Tokens) (y : Structure) (r : Tokens) → read.array pi pt at ts ≡ Ok (y, r) → IsStructure I T y (token k.Array at ∷ ts) r
   unfolding read.array
   array_sound at ts y r e =
-      let a = both_steps (expect k.LeftBracket ts) _ y r e in
-      let b = both_steps (separated k.Comma pi a.1) _ y r a.3 in
-      let f = both_steps (expect k.RightBracket b.1) _ y r b.3 in
-      let g = both_steps (expect k.Of f.1) _ y r f.3 in
-      let l = both_steps (pt g.1) _ y r g.3 in
-      let middle = expect_sound k.RightBracket b.1 f.0 f.1 f.2 ∙ ap (λ (z : Tokens). token k.RightBracket f.0 ∷ z) (expect_sound k.Of f.1 g.0 g.1 g.2) in
-      subst (λ z. IsStructure I T y (token k.Array at ∷ z) r) (sym (expect_sound k.LeftBracket ts a.0 a.1 a.2))
-      (at_last (IsStructure I T) _ _ y l.1 r l.3 (array (subst (λ z. Separated k.Comma I b.0 a.1 z) middle (indices_exact.sound a.1 b.0 b.1 b.2)) (ht.sound g.1 l.0 l.1 l.2)))
+      in_steps (expect k.LeftBracket ts) _ y r e (λ a0 a1 a2 a3.
+      in_steps (separated k.Comma pi a1) _ y r a3 (λ b0 b1 b2 b3.
+      in_steps (expect k.RightBracket b1) _ y r b3 (λ f0 f1 f2 f3.
+      in_steps (expect k.Of f1) _ y r f3 (λ g0 g1 g2 g3.
+      in_steps (pt g1) _ y r g3 (λ l0 l1 l2 l3.
+      let middle = expect_sound k.RightBracket b1 f0 f1 f2 ∙ ap (λ (z : Tokens). token k.RightBracket f0 ∷ z) (expect_sound k.Of f1 g0 g1 g2) in
+      subst (λ z. IsStructure I T y (token k.Array at ∷ z) r) (sym (expect_sound k.LeftBracket ts a0 a1 a2))
+      (at_last (IsStructure I T) _ _ y l1 r l3 (array (subst (λ z. Separated k.Comma I b0 a1 z) middle (indices_exact.sound a1 b0 b1 b2)) (ht.sound g1 l0 l1 l2))))))))
 
   record_sound : (at : Span) (ts : Tokens) (y : Structure) (r : Tokens) → read.record_of pi pt at ts ≡ Ok (y, r) → IsStructure I T y (token k.Record at ∷ ts) r
   unfolding read.record_of
@@ -214,9 +214,9 @@ module _ (I : Symbol Ordinal) (pi : Parser Ordinal) (hi : Exact NoRange I pi) (T
   set_sound : (at : Span) (ts : Tokens) (y : Structure) (r : Tokens) → read.set_of pi pt at ts ≡ Ok (y, r) → IsStructure I T y (token k.Set at ∷ ts) r
   unfolding read.set_of
   set_sound at ts y r e =
-      let a = both_steps (expect k.Of ts) _ y r e in
-      let b = both_steps (pi a.1) _ y r a.3 in
-      subst (λ z. IsStructure I T y (token k.Set at ∷ z) r) (sym (expect_sound k.Of ts a.0 a.1 a.2)) (at_last (IsStructure I T) _ _ y b.1 r b.3 (set (hi.sound a.1 b.0 b.1 b.2)))
+      in_steps (expect k.Of ts) _ y r e (λ a0 a1 a2 a3.
+      in_steps (pi a1) _ y r a3 (λ b0 b1 b2 b3.
+      subst (λ z. IsStructure I T y (token k.Set at ∷ z) r) (sym (expect_sound k.Of ts a0 a1 a2)) (at_last (IsStructure I T) _ _ y b1 r b3 (set (hi.sound a1 b0 b1 b2)))))
 
   structure_by_sound : (kind : Kind) (at : Span) (ts : Tokens) (y : Structure) (r : Tokens) → read.structure_by pi pt kind at (token kind at ∷ ts) ≡ Ok (y, r) → IsStructure I T y (token kind at ∷ ts) r
   structure_by_sound k.Array at ts y r e = array_sound at ts y r e

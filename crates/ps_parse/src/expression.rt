@@ -16,47 +16,6 @@ use ps_syntax::{
 };
 use ps_text::Span;
 
-#[inline]
-fn relation_of(kind: Kind) -> Option<Relation>
-    ensures { result ≡ read.relation_of kind }
-{
-    match kind {
-        Kind::Equal => Some(Relation::Equal),
-        Kind::NotEqual => Some(Relation::NotEqual),
-        Kind::Less => Some(Relation::Less),
-        Kind::Greater => Some(Relation::Greater),
-        Kind::LessEqual => Some(Relation::LessEqual),
-        Kind::GreaterEqual => Some(Relation::GreaterEqual),
-        Kind::In => Some(Relation::In),
-        _ => None,
-    }
-}
-
-#[inline]
-fn adding_of(kind: Kind) -> Option<Adding>
-    ensures { result ≡ read.adding_of kind }
-{
-    match kind {
-        Kind::Plus => Some(Adding::Plus),
-        Kind::Minus => Some(Adding::Minus),
-        Kind::Or => Some(Adding::Or),
-        _ => None,
-    }
-}
-
-#[inline]
-fn multiplying_of(kind: Kind) -> Option<Multiplying>
-    ensures { result ≡ read.multiplying_of kind }
-{
-    match kind {
-        Kind::Star => Some(Multiplying::Times),
-        Kind::Div => Some(Multiplying::Div),
-        Kind::Mod => Some(Multiplying::Mod),
-        Kind::And => Some(Multiplying::And),
-        _ => None,
-    }
-}
-
 impl<'a> Parser<'a> {
     fn begins_factor(&self) -> bool
         ensures { result ≡ refusals.begins_factor self.now.rest.now }
@@ -93,7 +52,16 @@ impl<'a> Parser<'a> {
         let [token, rest @ ..] = self.rest else {
             return None;
         };
-        let relation = relation_of(token.kind)?;
+        let relation = match token.kind {
+            Kind::Equal => Relation::Equal,
+            Kind::NotEqual => Relation::NotEqual,
+            Kind::Less => Relation::Less,
+            Kind::Greater => Relation::Greater,
+            Kind::LessEqual => Relation::LessEqual,
+            Kind::GreaterEqual => Relation::GreaterEqual,
+            Kind::In => Relation::In,
+            _ => return None,
+        };
         self.rest = rest;
         Some((relation, token.span))
     }
@@ -123,7 +91,12 @@ impl<'a> Parser<'a> {
         let [token, rest @ ..] = self.rest else {
             return None;
         };
-        let operator = adding_of(token.kind)?;
+        let operator = match token.kind {
+            Kind::Plus => Adding::Plus,
+            Kind::Minus => Adding::Minus,
+            Kind::Or => Adding::Or,
+            _ => return None,
+        };
         self.rest = rest;
         Some((operator, token.span))
     }
@@ -136,7 +109,13 @@ impl<'a> Parser<'a> {
         let [token, rest @ ..] = self.rest else {
             return None;
         };
-        let operator = multiplying_of(token.kind)?;
+        let operator = match token.kind {
+            Kind::Star => Multiplying::Times,
+            Kind::Div => Multiplying::Div,
+            Kind::Mod => Multiplying::Mod,
+            Kind::And => Multiplying::And,
+            _ => return None,
+        };
         self.rest = rest;
         Some((operator, token.span))
     }
@@ -145,11 +124,29 @@ impl<'a> Parser<'a> {
     fn sees_operator(&self) -> bool
         ensures { result ≡ read.sees_operator self.now.rest.now }
     {
-        let [token, ..] = self.rest else {
-            return false;
-        };
-        let kind = token.kind;
-        multiplying_of(kind).is_some() || adding_of(kind).is_some() || relation_of(kind).is_some()
+        matches!(
+            self.rest,
+            [
+                Token {
+                    kind: Kind::Star
+                        | Kind::Div
+                        | Kind::Mod
+                        | Kind::And
+                        | Kind::Plus
+                        | Kind::Minus
+                        | Kind::Or
+                        | Kind::Equal
+                        | Kind::NotEqual
+                        | Kind::Less
+                        | Kind::Greater
+                        | Kind::LessEqual
+                        | Kind::GreaterEqual
+                        | Kind::In,
+                    ..
+                },
+                ..
+            ]
+        )
     }
 
     #[cycle(expression)]

@@ -9,7 +9,7 @@ ghost use Rattle.ps_parse.specs.ReadPrograms as read;
 ghost use Rattle.ps_grammar.specs.Forward.{is_forward};
 ghost use Rattle.ps_parse.specs.Refusals as refusals;
 
-use crate::answer::push_answer;
+use crate::answer::{beside, push_answer};
 use crate::error::Fault;
 use crate::parser::Parser;
 use ps_scan::{Kind, Token};
@@ -229,7 +229,10 @@ impl<'a> Parser<'a> {
         match self.accept(Kind::Name) {
             Some(at) if names_forward(text, at) => Ok(Routine::Forward(heading)),
             Some(_) => Err(Fault::Unexpected(left)),
-            None => Ok(Routine::Whole(heading, self.block(text, depth)?)),
+            None => {
+                let (heading, block) = beside(heading, self.block(text, depth))?;
+                Ok(Routine::Whole(heading, block))
+            }
         }
     }
 

@@ -29,14 +29,6 @@ unfolding program.read_block
 block-returns t c =
     let d : c.args.depth ≡ suc (c.args.depth - 1) = omega arith in rw d c.any_block.ensures
 
-pub after_heading-returns-in_err-block-in-None : goal.after_heading-returns-in_err-block-in-None
-unfolding program.after_heading
-after_heading-returns-in_err-block-in-None t c = refused _ _ _ _ c.from_residual.ensures.1 (λ ne. rw (c.in-None.ensures.read, c.in_err-block-in-None.ensures ne) refl)
-
-pub after_heading-returns-in_ok-block-in-None : goal.after_heading-returns-in_ok-block-in-None
-unfolding program.after_heading
-after_heading-returns-in_ok-block-in-None t c = rw (c.in-None.ensures.read, c.in_ok-block-in-None.ensures) refl
-
 pub any_block-returns-in_err-constants : goal.any_block-returns-in_err-constants
 unfolding program.any_block
 any_block-returns-in_err-constants t c = refused _ _ _ _ c.from_residual.ensures.1 (λ ne. rw (c.in_err-constants.ensures ne) refl)
@@ -112,3 +104,11 @@ routine_head-returns-in-Procedure t c = rw (← c.in-Some.ensures, c.in-Procedur
 pub routine_head-returns-in-Function : goal.routine_head-returns-in-Function
 unfolding program.routine_head
 routine_head-returns-in-Function t c = rw (← c.in-Some.ensures, c.in-Function.is, ← c.skip-in-Function.ensures.after) c.function_routine.ensures
+
+pub after_heading-returns-in_err-heading-in-None : goal.after_heading-returns-in_err-heading-in-None
+unfolding program.after_heading
+after_heading-returns-in_err-heading-in-None t c = refused _ _ _ _ c.from_residual.ensures.1 (λ ne. rw (c.in-None.ensures.read, was_refused _ _ _ _ c.block.ensures (λ _. c.in_err-heading-in-None.ensures.err) ne) refl)
+
+pub after_heading-returns-in_ok-heading-in-None : goal.after_heading-returns-in_ok-heading-in-None
+unfolding program.after_heading
+after_heading-returns-in_ok-heading-in-None t c = rw (c.in-None.ensures.read, was_read _ _ _ _ c.block.ensures c.in_ok-heading-in-None.ensures.second, c.in_ok-heading-in-None.ensures.first) refl
