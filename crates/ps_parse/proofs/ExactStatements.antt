@@ -353,12 +353,12 @@ module _ (E : Symbol Expr) (p : Parser Expr) (h : Exact (Ends 1) E p) where
         in_steps (p b1) _ y r b3 (λ c0 c1 c2 c3.
         let head = expect_sound k.Name ts a0 a1 a2 ∙ ap (λ (z : Tokens). token k.Name a0 ∷ z) (expect_sound k.Assign a1 b0 b1 b2) in
         elim (operator_sound read.direction_of direction_kind direction_back direction_forth c1 _ y r c3) [
-          | inl w ↦ (let d = both_steps (p w.2) _ y r w.4 in
-              let f = both_steps (expect k.Do d.1) _ y r d.3 in
-              let g = both_steps (q f.1) _ y r f.3 in
-              let t = i.sound f.1 g.0 g.1 g.2 in
-              subst (λ z. Greedy (IsStatement E S) y (token k.For at ∷ z) r) (sym head) (at_last (Greedy (IsStatement E S)) _ _ y g.1 r g.3
-              (t.0, for w.0 (subst (λ z. E c0 b1 z) w.3 (h.sound b1 c0 c1 c2)) (subst (λ z. E d.0 w.2 z) (expect_sound k.Do d.1 f.0 f.1 f.2) (h.sound w.2 d.0 d.1 d.2)) t.1, t.2)))
+          | inl w ↦ in_steps (p w.2) _ y r w.4 (λ d0 d1 d2 d3.
+              in_steps (expect k.Do d1) _ y r d3 (λ f0 f1 f2 f3.
+              in_steps (q f1) _ y r f3 (λ g0 g1 g2 g3.
+              let t = i.sound f1 g0 g1 g2 in
+              subst (λ z. Greedy (IsStatement E S) y (token k.For at ∷ z) r) (sym head) (at_last (Greedy (IsStatement E S)) _ _ y g1 r g3
+              (t.0, for w.0 (subst (λ z. E c0 b1 z) w.3 (h.sound b1 c0 c1 c2)) (subst (λ z. E d0 w.2 z) (expect_sound k.Do d1 f0 f1 f2) (h.sound w.2 d0 d1 d2)) t.1, t.2)))))
           | inr w ↦ cc
         ])))
 

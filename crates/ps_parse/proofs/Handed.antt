@@ -22,15 +22,12 @@ was_put o (Ok x) r P h p = (x, h, p)
 was_put o (Err e) r P h p = absurd p
 
 -- what went to the heap
-pub boxed : {A : Type 0} (o : Outcome A) (answer result : Result A Fault) (r : Tokens) → Reads o answer r → IfOk result (λ x. answer ≡ Ok x) → IfErr result (λ e. e ≢ OutOfMemory → answer ≡ Err e) → Reads o result r
-boxed o answer (Ok x) r h ok err = was_read o answer r x h ok
-boxed o answer (Err e) r h ok err = was_refused o answer r e h err
+pub boxed : {A : Type 0} (o : Outcome A) (answer result : Result A Fault) (r : Tokens) → IfOk result (λ x. answer ≡ Ok x) → IfErr result (λ e. e ≢ OutOfMemory → answer ≡ Err e) → Reads o answer r → Reads o result r
+boxed o answer (Ok x) r ok err h = was_read o answer r x h ok
+boxed o answer (Err e) r ok err h = was_refused o answer r e h err
 
 -- what a token had to follow, by what became of it
 pub was_followed : {A : Type 0} (read : Result A Fault) (value : A) (o : Outcome Span) (end : Result Span Fault) (r : Tokens) → read ≡ Ok value → Reads o end r
     → IfOk (result_and end (Ok value)) (λ v. (read ≡ Ok v) × (at : Span) × (o ≡ Ok (at, r))) × IfErr (result_and end (Ok value)) (λ e. e ≢ OutOfMemory → (read ≡ Err e) ⊎ ((v : A) × (read ≡ Ok v) × (o ≡ Err (left_of e))))
 was_followed read value o (Ok at) r is h = ((is, at, h), tt)
 was_followed read value o (Err e) r is h = (tt, λ ne. inr (value, is, h ne))
-
-pub boxed_of : {A : Type 0} (o : Outcome A) (answer result : Result A Fault) (r : Tokens) → IfOk result (λ x. answer ≡ Ok x) → IfErr result (λ e. e ≢ OutOfMemory → answer ≡ Err e) → Reads o answer r → Reads o result r
-boxed_of o answer result r ok err h = boxed o answer result r h ok err

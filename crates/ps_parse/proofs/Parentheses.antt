@@ -1,5 +1,6 @@
 -- Parentheses that come one after the other are taken at once, and closed one by one.
-use Rattle.std.proofs.Common.{◌≡◌, ℕ, zero, suc, ◌+◌, ◌-◌, ◌<◌, ◌≤◌, Bool, true, false, List, [], ◌∷◌, ◌++◌, length, drop, get_or, Option, Some, None, Ok, Err, ◌⊎◌, inl, inr, refl, sym, ap, ◌∙◌, subst, arith}
+use Rattle.std.proofs.Common.{◌≡◌, ℕ, zero, suc, ◌+◌, ◌-◌, ◌<◌, ◌≤◌, Bool, true, false, List, [], ◌∷◌, ◌++◌, length, drop, get_or, Option, Some, None, Ok, Err, Result, ◌⊎◌, inl, inr, refl, sym, ap, ◌∙◌, subst, arith}
+use Rattle.std.specs.Result.{result_and}
 use Rattle.std.proofs.lemmas.List.{drop-drop}
 use Rattle.ps_text.specs.declared.Span.{Span}
 use Rattle.ps_scan.specs.declared.token.Kind.{Kind}
@@ -20,8 +21,10 @@ use Rattle.ps_syntax.specs.declared.expression.Factor.TheVariants as f
 use Rattle.ps_grammar.specs.Groups.{inside, stripped, grouped}
 use Rattle.ps_grammar.specs.Symbols.{Tokens, token}
 use Rattle.ps_grammar.proofs.Groups.{inside_compare, inside_added, inside_multiplied, within_begins, stripped_none, stripped_group}
-use Rattle.ps_parse.specs.Steps.{Outcome, Parser, and_then, if_some, sees, after, expect, many, many_from, ◌>>=◌, ◌>>◌, ◌<$>◌, pure}
+use Rattle.ps_parse.specs.declared.error.Fault.{Fault}
+use Rattle.ps_parse.specs.Steps.{Reads, Outcome, Parser, and_then, if_some, sees, after, expect, many, many_from, ◌>>=◌, ◌>>◌, ◌<$>◌, pure}
 use Rattle.ps_parse.specs.ReadExpressions.{multiplying_of, adding_of, relation_of, is_operator, sees_operator, eat_operator, group, factor, multiplied, term_from, term, added, simple_from, simple, compared_from, compared, simple_after, expr_after, parentheses, read_expr, read_factor}
+use Rattle.ps_parse.proofs.Closed.{closed as closed_by}
 use Rattle.ps_parse.proofs.Exact.{same_is, bool_cases, both_steps, first_part, second_part}
 use Rattle.ps_parse.proofs.ExactExpressions.{expr_exact_within}
 use Rattle.ps_parse.proofs.Sides.{lone_factor}
@@ -312,11 +315,8 @@ module _ (n : ℕ) (at : Span) (ts : Tokens) (t : Token) (o c m : ℕ) (x : Expr
   unfolding close
   last_level done = let none : o - c ≡ 0 = omega arith in is ∙ ap (λ (i : ℕ). close n at ts t i (m, x) r) none
 
-  pub last_refused : {P : Type 0} (l : ℕ) → o ≤ c → (P → expect k.RightParen r ≡ Err l) → P → g ≡ Err l
-  last_refused l done h some = last_level done ∙ ap (λ (p : Outcome Span). and_then p (λ _. pure (f.Group at m x))) (h some)
-
-  pub last_closed : (s : Span) (r' : Tokens) → o ≤ c → expect k.RightParen r ≡ Ok (s, r') → g ≡ Ok (f.Group at m x, r')
-  last_closed s r' done h = last_level done ∙ ap (λ (p : Outcome Span). and_then p (λ _. pure (f.Group at m x))) h
+  pub last_ends : (end : Result Span Fault) (r' : Tokens) → o ≤ c → Reads (expect k.RightParen r) end r' → Reads g (result_and end (Ok (f.Group at m x))) r'
+  last_ends end r' done h = subst (λ (z : Outcome Factor). Reads z (result_and end (Ok (f.Group at m x))) r') (sym (last_level done)) (closed_by (expect k.RightParen r) end (f.Group at m x) r' h)
 
   -- the expression that begins with the parenthesis of this turn, after it
   abbrev pub behind : Tokens → Outcome Expr

@@ -394,8 +394,8 @@ impl<'a> Parser<'a> {
             inner = self.boxed_from(depth - open - 1, None, first)?;
             redundant = 0;
         }
-        self.expect(Kind::RightParen)?;
-        Ok(Factor::Group(at, redundant, inner))
+        let end = self.expect(Kind::RightParen);
+        end.and(Ok(Factor::Group(at, redundant, inner)))
     }
 
     #[cycle(expression)]
@@ -403,12 +403,17 @@ impl<'a> Parser<'a> {
     fn set(&mut self, depth: u32, at: Span) -> Result<Factor, Fault>
         ensures { Reads (read.set (read.read_expr depth) at self.old.rest.now) result self.new.rest.now }
     {
+        let mut members = Items::new(self.alloc);
         if self.eat(Kind::RightBracket) {
-            return Ok(Factor::Set(at, Items::new(self.alloc)));
+            return Ok(Factor::Set(at, members));
         }
-        let members = self.members(depth)?;
-        let end = self.expect(Kind::RightBracket);
-        end.and(Ok(Factor::Set(at, members)))
+        loop {
+            push_answer(&mut members, self.member(depth))?;
+            if !self.eat(Kind::Comma) {
+                let end = self.expect(Kind::RightBracket);
+                return end.and(Ok(Factor::Set(at, members)));
+            }
+        }
     }
 
     #[cycle(expression)]
@@ -473,19 +478,6 @@ impl<'a> Parser<'a> {
         let mut found = Items::new(self.alloc);
         loop {
             push_answer(&mut found, self.expr(depth))?;
-            if !self.eat(Kind::Comma) {
-                return Ok(found);
-            }
-        }
-    }
-
-    #[cycle(expression)]
-    fn members(&mut self, depth: u32) -> Result<Items<Member>, Fault>
-        ensures { Reads (separated k.Comma (read.member (read.read_expr depth)) self.old.rest.now) result self.new.rest.now }
-    {
-        let mut found = Items::new(self.alloc);
-        loop {
-            push_answer(&mut found, self.member(depth))?;
             if !self.eat(Kind::Comma) {
                 return Ok(found);
             }

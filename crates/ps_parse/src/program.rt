@@ -3,7 +3,7 @@
 ghost use Rattle.std.specs.Prelude.{◌≡◌, ◌||◌, if◌then◌else◌};
 ghost use Rattle.ps_scan.specs.declared.token.Kind.TheVariants as k;
 ghost use Rattle.ps_syntax.specs.declared.program.Section.TheVariants as x;
-ghost use Rattle.ps_parse.specs.Steps.{Reads, separated, many, part, if_begins};
+ghost use Rattle.ps_parse.specs.Steps.{Reads, many, part, if_begins};
 ghost use Rattle.ps_parse.specs.ReadStatements.{read_statement};
 ghost use Rattle.ps_parse.specs.ReadPrograms as read;
 ghost use Rattle.ps_grammar.specs.Forward.{is_forward};
@@ -50,15 +50,6 @@ impl<'a> Parser<'a> {
         Ok(Heading::Function(name, formals, self.expect(Kind::Name)?))
     }
 
-    #[cycle(heading)]
-    #[tactic(auto, unfolding(crate::specs::ReadPrograms::function))]
-    fn function(&mut self, depth: u32) -> Result<Heading, Fault>
-        ensures { Reads (read.function (read.read_formals depth) self.old.rest.now) result self.new.rest.now }
-    {
-        let name = self.expect(Kind::Name)?;
-        self.function_named(depth, name)
-    }
-
     /// A section of names and their type, after the word `var` if they are variable parameters.
     fn plain_section(&mut self, depth: u32, are_variable: bool) -> Result<Section, Fault>
         ensures { Reads (read.plain_section (read.read_formals depth) (if are_variable then x.Variable else x.Value) self.old.rest.now) result self.new.rest.now }
@@ -74,7 +65,7 @@ impl<'a> Parser<'a> {
     }
 
     #[cycle(heading)]
-    #[tactic(auto, unfolding(crate::specs::ReadPrograms::section, crate::specs::ReadPrograms::value_section, crate::specs::ReadPrograms::variable_section))]
+    #[tactic(auto, unfolding(crate::specs::ReadPrograms::section, crate::specs::ReadPrograms::function, crate::specs::ReadPrograms::value_section, crate::specs::ReadPrograms::variable_section))]
     fn section(&mut self, depth: u32) -> Result<Section, Fault>
         ensures { Reads (read.section (read.read_formals depth) self.old.rest.now) result self.new.rest.now }
     {
@@ -92,22 +83,10 @@ impl<'a> Parser<'a> {
             }
             Kind::Function => {
                 self.skip();
-                Ok(Section::Routine(self.function(depth)?))
+                let name = self.expect(Kind::Name)?;
+                Ok(Section::Routine(self.function_named(depth, name)?))
             }
             _ => self.plain_section(depth, false),
-        }
-    }
-
-    #[cycle(heading)]
-    fn sections(&mut self, depth: u32) -> Result<Items<Section>, Fault>
-        ensures { Reads (separated k.Semicolon (read.section (read.read_formals depth)) self.old.rest.now) result self.new.rest.now }
-    {
-        let mut found = Items::new(self.alloc);
-        loop {
-            push_answer(&mut found, self.section(depth))?;
-            if !self.eat(Kind::Semicolon) {
-                return Ok(found);
-            }
         }
     }
 
@@ -120,9 +99,14 @@ impl<'a> Parser<'a> {
             return Err(Fault::TooDeep(self.left()));
         }
         self.expect(Kind::LeftParen)?;
-        let sections = self.sections(depth - 1)?;
-        let end = self.expect(Kind::RightParen);
-        end.and(Ok(sections))
+        let mut sections = Items::new(self.alloc);
+        loop {
+            push_answer(&mut sections, self.section(depth - 1))?;
+            if !self.eat(Kind::Semicolon) {
+                let end = self.expect(Kind::RightParen);
+                return end.and(Ok(sections));
+            }
+        }
     }
 
     #[tactic(auto, using(crate::proofs::Closed::closed), unfolding(crate::specs::ReadPrograms::constant_definition))]

@@ -10,7 +10,7 @@ use crate::answer::{beside, boxed_answer, push_answer};
 use crate::error::Fault;
 use crate::parser::Parser;
 use ps_scan::{Kind, Token};
-use ps_syntax::{Boxed, Constant, Direction, Element, Expr, Items, Parameter, Statement, Variable};
+use ps_syntax::{Boxed, Constant, Direction, Element, Items, Parameter, Statement, Variable};
 use ps_text::Span;
 
 impl<'a> Parser<'a> {

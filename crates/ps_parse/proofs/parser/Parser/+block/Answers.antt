@@ -1,5 +1,4 @@
 use Rattle.std.proofs.Common.{inl, inr, ◌≡◌, suc, ◌-◌, arith, sym, ◌∙◌, refl}
-use Rattle.std.proofs.lemmas.Result.{err_from_is_err_and}
 use Rattle.ps_parse.specs.Steps.{many_from, if_begins, eat}
 use Rattle.ps_grammar.specs.Forward.{is_forward}
 use Rattle.ps_parse.specs.ReadPrograms as program
