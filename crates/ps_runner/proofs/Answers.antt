@@ -1,5 +1,6 @@
 -- Acts after one another.
-use Rattle.std.proofs.Common.{◌≡◌, ℕ, suc, ◌+◌, ◌-◌, Vec, Global, ◌<◌, ◌≤◌, Bool, ◌||◌, List, [], ◌∷◌, ◌++◌, length, get_or, drop, Result, Ok, Err, refl, sym, ap, subst, ◌∙◌, append_assoc, append-nil, true, false, arith}
+use Rattle.std.proofs.Common.{◌≡◌, ℕ, suc, ◌+◌, ◌-◌, Vec, Global, ◌<◌, ◌≤◌, Bool, ◌||◌, List, [], ◌∷◌, ◌++◌, length, get_or, max, drop, Result, Ok, Err, refl, sym, ap, subst, ◌∙◌, append_assoc, append-nil, true, false, arith}
+use Rattle.std.specs.Prelude.{IsErrAnd}
 use mathlib.Core.Path.{fun_ext}
 use Rattle.ps_tree.specs.declared.tree.SetOperator.TheVariants.{Union}
 use Rattle.ps_tree.specs.declared.tree.Member.{Member}
@@ -58,6 +59,27 @@ stopped_halts a TooDeep w d n h = absurd h
 -- and ends the whole
 pub stopped_halts_then : {A B : Type 0} (a : m.Answer A) (f : A → m.Act B) (halt : Halt) (w : World) (d n : ℕ) → Stopped a halt w → Halted (m.and_then a f) d n halt w
 stopped_halts_then a f halt w d n h = stopped_halts (m.and_then a f) halt w d n (stopped_then a f halt w h)
+
+-- an end that is handed on
+pub handed_on : {A R : Type 0} (view : R → A) (a : m.Answer A) (result : Result R Halt) (halt : Halt) (w : World) (d n : ℕ) → IsErrAnd result (λ other. other ≡ halt) → Halted a d n halt w → Runs view a d n result w
+handed_on view a (Ok r) halt w d n is h = absurd is
+handed_on view a (Err other) halt w d n is h = subst (λ (k : Halt). Halted a d n k w) (sym is) h
+
+-- a part that is the only one, or one of two or of three
+pub halted_alone : {A B : Type 0} (job : Job) (n : ℕ) (a : m.Answer A) (f : A → m.Act B) (halt : Halt) (w : World) (d k : ℕ) → Halted a d (levels job n k) halt w → Halted (m.and_then a f) d (levels job n k) halt w
+halted_alone job n a f halt w d k is = halted_then a f halt w d (levels job n k) d (levels job n k) is (omega arith)
+
+pub halted_left : {A B : Type 0} (job : Job) (n : ℕ) (a : m.Answer A) (f : A → m.Act B) (halt : Halt) (w : World) (d k g : ℕ) → Halted a d (levels job n k) halt w → Halted (m.and_then a f) d (levels job n (max k g)) halt w
+halted_left job n a f halt w d k g is = halted_then a f halt w d (levels job n k) d (levels job n (max k g)) is (omega arith)
+
+pub halted_right : {A B : Type 0} (job : Job) (n : ℕ) (a : m.Answer A) (f : A → m.Act B) (halt : Halt) (w : World) (d k g : ℕ) → Halted a d (levels job n k) halt w → Halted (m.and_then a f) d (levels job n (max g k)) halt w
+halted_right job n a f halt w d k g is = halted_then a f halt w d (levels job n k) d (levels job n (max g k)) is (omega arith)
+
+pub halted_middle : {A B : Type 0} (job : Job) (n : ℕ) (a : m.Answer A) (f : A → m.Act B) (halt : Halt) (w : World) (d k g h : ℕ) → Halted a d (levels job n k) halt w → Halted (m.and_then a f) d (levels job n (max g (max k h))) halt w
+halted_middle job n a f halt w d k g h is = halted_then a f halt w d (levels job n k) d (levels job n (max g (max k h))) is (omega arith)
+
+pub halted_last : {A B : Type 0} (job : Job) (n : ℕ) (a : m.Answer A) (f : A → m.Act B) (halt : Halt) (w : World) (d k g h : ℕ) → Halted a d (levels job n k) halt w → Halted (m.and_then a f) d (levels job n (max g (max h k))) halt w
+halted_last job n a f halt w d k g h is = halted_then a f halt w d (levels job n k) d (levels job n (max g (max h k))) is (omega arith)
 
 -- what a part that takes no levels answers
 pub answers_run : {A R : Type 0} (view : R → A) (a : m.Answer A) (result : Result R Halt) (w : World) (d n : ℕ) → Answers view a result w → Runs view a d n result w

@@ -14,7 +14,7 @@ use Rattle.ps_tree.specs.declared.tree.WriteParameter.{WriteParameter}
 use Rattle.ps_tree.specs.declared.tree.SetExpr.{SetExpr}
 use Rattle.ps_tree.specs.declared.tree.Structure.{Structure}
 use Rattle.ps_tree.specs.declared.tree.Expr.{Expr, Plus, Compare, ComparePointers, CompareSets, CompareStrings, In}
-use Rattle.ps_tree.specs.declared.tree.Statement.{Statement, Assign, AssignStructure, Call, CallFormal, Compound, If, IfElse, While, With, New, Pack, Unpack, Read, Write}
+use Rattle.ps_tree.specs.declared.tree.Statement.{Statement, Assign, AssignStructure, Call, CallFormal, Compound, If, IfElse, While, With, New, Pack, Unpack, Read, Readln, Write, Writeln}
 use Rattle.ps_tree.specs.View.{type_of, place_of, expr_of, set_of, structure_of, arguments_of, statement_of, statements_of, read_of, write_of}
 use Rattle.ps_meaning.specs.Worlds as m
 use Rattle.ps_meaning.specs.Expressions as e
@@ -113,6 +113,14 @@ pub read_is : (x : Statement) (variables_items : Vec ReadVariable Global) (varia
 unfolding statement_of
 read_is x variables_items variables is h0 = ap (λ k. t.Read (map read_of k)) h0 ∙ sym (ap statement_of is)
 
+pub readln_is : (x : Statement) (variables_items : Vec ReadVariable Global) (variables : List ReadVariable) (line : Line) → x ≡ Readln variables_items line → variables ≡ variables_items.items → t.Readln (map read_of variables) line.number ≡ statement_of x
+unfolding statement_of
+readln_is x variables_items variables line is h0 = ap (λ k. t.Readln (map read_of k) line.number) h0 ∙ sym (ap statement_of is)
+
 pub write_is : (x : Statement) (parameters_items : Vec WriteParameter Global) (parameters : List WriteParameter) → x ≡ Write parameters_items → parameters ≡ parameters_items.items → t.Write (map write_of parameters) ≡ statement_of x
 unfolding statement_of
 write_is x parameters_items parameters is h0 = ap (λ k. t.Write (map write_of k)) h0 ∙ sym (ap statement_of is)
+
+pub writeln_is : (x : Statement) (parameters_items : Vec WriteParameter Global) (parameters : List WriteParameter) → x ≡ Writeln parameters_items → parameters ≡ parameters_items.items → t.Writeln (map write_of parameters) ≡ statement_of x
+unfolding statement_of
+writeln_is x parameters_items parameters is h0 = ap (λ k. t.Writeln (map write_of k)) h0 ∙ sym (ap statement_of is)

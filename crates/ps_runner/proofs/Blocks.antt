@@ -68,6 +68,13 @@ routine_past [] domains r le = refl
 routine_past (x ∷ rest) domains zero le = absurd (omega arith)
 routine_past (x ∷ rest) domains (suc r) le = routine_past rest domains r (omega arith)
 
+-- the routine with a number, and a number past those of all routines
+pub numbered : (job : Job) (routines : List Routine) (number : ℕ) (called : Routine) → routines ≡ job.program.now.routines → number < length routines → called ≡ get_or routines number called → Tree.routine_at (r.program_of job) number ≡ routine_of called
+numbered job routines number called is lt at = ap (λ l. Tree.routine_at (program_of l job.program.now.domains) number) (sym is) ∙ routine_found routines job.program.now.domains number called lt at
+
+pub not_numbered : (job : Job) (routines : List Routine) (number : ℕ) → routines ≡ job.program.now.routines → length routines ≤ number → Tree.routine_at (r.program_of job) number ≡ Tree.no_routine
+not_numbered job routines number is le = ap (λ l. Tree.routine_at (program_of l job.program.now.domains) number) (sym is) ∙ routine_past routines job.program.now.domains number le
+
 if_true_at : {A B : Type 0} (b : Bool) (f g : A → B) (w : A) → b ≡ true → (if b then f else g) w ≡ f w
 if_true_at b f g w is = ap (λ k. (if k then f else g) w) is
 

@@ -11,7 +11,7 @@ use Rattle.ps_tree.specs.declared.types.Ty.{Ty}
 use Rattle.ps_tree.specs.declared.tree.Selector.{Selector}
 use Rattle.ps_tree.specs.declared.tree.ArithmeticStep.{ArithmeticStep, out-ArithmeticStep}
 use Rattle.ps_tree.specs.declared.tree.SetStep.{SetStep, out-SetStep}
-use Rattle.ps_tree.specs.View.{type_of, place_of, structure_of, selector_of, selectors_of, expr_of, arithmetic_of, operands_of, set_of, set_steps_of}
+use Rattle.ps_tree.specs.View.{type_of, base_of, place_of, structure_of, selector_of, selectors_of, expr_of, arithmetic_of, operands_of, set_of, set_steps_of}
 use Rattle.ps_tree.proofs.TreeLemmas as lemma
 use Rattle.ps_meaning.specs.Values as v
 use Rattle.ps_meaning.specs.Operators.{compute, combine_truths, combine_sets, is_true, truth}
@@ -53,6 +53,16 @@ pub selectors_halt : (job : Job) (n : ℕ) (c : m.Context) (xs : List Selector) 
 selectors_halt job n c xs i x spot halt w u all d is h at lt =
     let le : selector_height (selector_of x) ≤ selectors_height (selectors_of xs) = selector_within xs i x at lt in
     halted_by (e.at_selector (caller job n) (selector_of x) spot c w) all halt u d (levels job n (selector_height (selector_of x))) d (levels job n (selectors_height (selectors_of xs))) (λ stop s. stopped_same _ all stop u (sym (ap (λ l. e.accesses (caller job n) l spot c w) (selectors_at xs i x lt at)) ∙ is) (stopped_then (e.at_selector (caller job n) (selector_of x) spot c w) (λ y. e.accesses (caller job n) (selectors_of (drop (i + 1) xs)) y c) stop u s)) h (omega arith)
+
+-- a variable from its first selector on, and where one of them ends the run
+pub access_begins : (call : e.Caller) (c : m.Context) (p : PlaceInTree) (xs : List Selector) (spot : v.Spot) (w : m.World) → xs ≡ p.selectors.items → spot ≡ e.denoted (base_of p.base) c → e.accesses call (selectors_of (drop 0 xs)) spot c w ≡ e.access call (place_of p) c w
+access_begins call c p xs spot w whole at = ap (λ l. e.accesses call (selectors_of l) spot c w) whole ∙ ap (λ s. e.accesses call (selectors_of p.selectors.items) s c w) at
+
+pub access_halts : (job : Job) (n : ℕ) (c : m.Context) (p : PlaceInTree) (xs : List Selector) (i : ℕ) (x : Selector) (spot : v.Spot) (halt : Halt) (first w : m.World) (u : World) (d : ℕ) → xs ≡ p.selectors.items → e.accesses (caller job n) (selectors_of (drop i xs)) spot c w ≡ e.access (caller job n) (place_of p) c first → Halted (e.at_selector (caller job n) (selector_of x) spot c w) (d - 1) (levels job n (selector_height (selector_of x))) halt u → x ≡ get_or xs i x → i < length xs → Halted (e.access (caller job n) (place_of p) c first) d (levels job n (place_height (place_of p))) halt u
+access_halts job n c p xs i x spot halt first w u d whole is h at lt =
+    let all : m.Answer v.Spot = e.access (caller job n) (place_of p) c first in
+    let needed : ℕ = levels job n (selectors_height (selectors_of xs)) in
+    subst (λ l. Halted all d (levels job n (suc (selectors_height (selectors_of l)))) halt u) whole (halted_by all all halt u (d - 1) needed d (levels job n (suc (selectors_height (selectors_of xs)))) (λ stop s. s) (selectors_halt job n c xs i x spot halt w u all (d - 1) is h at lt) (omega arith))
 
 -- ---- operators on integers
 

@@ -109,18 +109,19 @@ impl<'a> World<'a> {
         Ok(())
     }
 
-    /// The frame of a routine that is called with these actual parameters.
+    /// The frame of a routine with a result and variables of these types that is called with these actual parameters.
     fn bind(
         &mut self,
         alloc: Global,
-        called: &Called,
+        result_ty: Option<&Ty>,
         actuals: &[Actual],
+        variables: &[Ty],
     ) -> Result<Vec<Entry>, AllocError>
-        ensures { IfOk result (λ frame. d.bind (option_map type_of (option_copied called.now.result)) (map actual_of actuals.now) (map type_of called.now.variables.now) (world_of self.old) ≡ bound_in frame.items (world_of self.new)) }
+        ensures { IfOk result (λ frame. d.bind (option_map type_of (option_copied result_ty.entry)) (map actual_of actuals.now) (map type_of variables.now) (world_of self.old) ≡ bound_in frame.items (world_of self.new)) }
     {
-        let mut frame = self.bind_result(alloc, called.result)?;
+        let mut frame = self.bind_result(alloc, result_ty)?;
         self.bind_actuals(alloc, actuals, &mut frame)?;
-        self.bind_variables(alloc, called.variables, &mut frame)?;
+        self.bind_variables(alloc, variables, &mut frame)?;
         Ok(frame)
     }
 }
@@ -181,7 +182,7 @@ impl<'a> World<'a> {
             let ending = Ending::Stack { line: called.line };
             return Err(self.ended(ending, &calls, job.alloc));
         }
-        let frame = self.bind(job.alloc, &called, actuals)?;
+        let frame = self.bind(job.alloc, called.result, actuals, called.variables)?;
         let env = env_within(job.alloc, frame, parent)?;
         let opened = Vec::new(job.alloc);
         let context = Context {
@@ -198,17 +199,17 @@ impl<'a> World<'a> {
     pub fn enter<'b>(
         &mut self,
         callee: Callee,
-        actuals: &[Actual],
+        actuals: Vec<Actual>,
         line: u16,
         c: &Context,
         job: &'b Job<'b>,
     ) -> Result<(&'b [Statement], Context), Halt>
-        ensures entered { IfOk result (λ b. (n : ℕ) → caller job.now n (callee_routine callee (context_of c.now)) (callee_env callee (context_of c.now)) (map actual_of actuals.now) (m.calling line (context_of c.now)) (world_of self.old) ≡ next job.now n (Block (statements_of b.0.now)) (context_of b.1) (world_of self.new)) }
+        ensures entered { IfOk result (λ b. (n : ℕ) → caller job.now n (callee_routine callee (context_of c.now)) (callee_env callee (context_of c.now)) (map actual_of actuals.items) (m.calling line (context_of c.now)) (world_of self.old) ≡ next job.now n (Block (statements_of b.0.now)) (context_of b.1) (world_of self.new)) }
         ensures body { IfOk result (λ b. statements_of b.0.now ≡ (routine_at (program_of job.now) (callee_routine callee (context_of c.now))).body) }
-        ensures stopped { IfErr result (λ stop. (n : ℕ) → Stopped (caller job.now n (callee_routine callee (context_of c.now)) (callee_env callee (context_of c.now)) (map actual_of actuals.now) (m.calling line (context_of c.now)) (world_of self.old)) stop self.new) }
+        ensures stopped { IfErr result (λ stop. (n : ℕ) → Stopped (caller job.now n (callee_routine callee (context_of c.now)) (callee_env callee (context_of c.now)) (map actual_of actuals.items) (m.calling line (context_of c.now)) (world_of self.old)) stop self.new) }
     {
         let (routine, parent) = callee.found(c)?;
         let calls = Numbers::before(c.alloc, u32::from(line), &c.calls)?;
-        self.enter_with(routine, parent, actuals, calls, c, job)
+        self.enter_with(routine, parent, actuals.as_slice(), calls, c, job)
     }
 }

@@ -59,7 +59,7 @@ pub fn call_procedure(
     ensures { Runs done_of (called here.entry.job.now here.entry.fuel callee (arguments_of arguments.now) line (context_of here.entry.context.now) (world_of world.old)) here.entry.depth (levels here.entry.job.now here.entry.fuel (arguments_height (arguments_of arguments.now))) result world.new }
 {
     let actuals = take_actuals(world, arguments, here)?;
-    let (body, inner) = world.enter(callee, actuals.as_slice(), line, here.context, here.job)?;
+    let (body, inner) = world.enter(callee, actuals, line, here.context, here.job)?;
     let inside = Here {
         context: &inner,
         ..here
@@ -81,7 +81,7 @@ pub fn call_value(
 {
     let actuals = take_actuals(world, arguments, here)?;
     let name = world.next;
-    let (body, inner) = world.enter(callee, actuals.as_slice(), line, here.context, here.job)?;
+    let (body, inner) = world.enter(callee, actuals, line, here.context, here.job)?;
     let inside = Here {
         context: &inner,
         ..here

@@ -5,9 +5,9 @@ ghost use Rattle.ps_tree.specs.Tree as Tree;
 ghost use Rattle.ps_tree.specs.View.{place_of, selector_of, selectors_of, expr_of, set_of, set_steps_of, member_of, members_of, structure_of, argument_of, arguments_of};
 ghost use Rattle.ps_meaning.specs.Expressions as m;
 ghost use Rattle.ps_meaning.specs.Values as v;
-ghost use Rattle.ps_meaning.specs.Worlds.{contents_in};
+ghost use Rattle.ps_meaning.specs.Worlds.{contents, contents_in, Gives};
 ghost use Rattle.ps_runner.specs.View.{members_of_set, value_of, spot_of};
-ghost use Rattle.ps_runner.specs.Worlds.{caller, context_of, world_of, actual_of, actuals_in, held_of};
+ghost use Rattle.ps_runner.specs.Worlds.{Answers, caller, context_of, world_of, actual_of, actuals_in, held_of};
 ghost use Rattle.ps_runner.specs.Heights.{place_height, selector_height, selectors_height, expr_height, set_height, set_steps_height, member_height, members_height, structure_height, argument_height, arguments_height};
 ghost use Rattle.ps_runner.specs.Runs.{Runs, levels, truth_in, truth_of};
 
@@ -23,37 +23,22 @@ use ps_tree::tree::{
 };
 use std::alloc::AllocError;
 
-/// Accesses a variable: what its name denotes, then its selectors.
+/// Accesses a variable: what its name denotes, then its selectors, one after another.
 #[cycle(run)]
-#[tactic(auto, using(crate::proofs::Answers::runs_deeper))]
+#[tactic(auto)]
 pub fn access(world: &mut World, place: &Place, here: Here) -> Result<Spot, Halt>
     ensures { Runs spot_of (m.access (caller here.entry.job.now here.entry.fuel) (place_of place.now) (context_of here.entry.context.now) (world_of world.old)) here.entry.depth (levels here.entry.job.now here.entry.fuel (place_height (place_of place.now))) result world.new }
 {
     if here.depth == 0 {
         return Err(Halt::TooDeep);
     }
-    let spot = world.denoted(&place.base, here.context)?;
     let below = Here {
         depth: here.depth - 1,
         ..here
     };
-    select_all(world, &place.selectors, spot, below)
-}
-
-/// Goes on from a variable by its selectors, one after another.
-#[cycle(run)]
-#[tactic(auto)]
-fn select_all(
-    world: &mut World,
-    selectors: &[Selector],
-    base: Spot,
-    here: Here,
-) -> Result<Spot, Halt>
-    ensures { Runs spot_of (m.accesses (caller here.entry.job.now here.entry.fuel) (selectors_of selectors.now) (spot_of base) (context_of here.entry.context.now) (world_of world.old)) here.entry.depth (levels here.entry.job.now here.entry.fuel (selectors_height (selectors_of selectors.now))) result world.new }
-{
-    let mut spot = base;
-    for selector in selectors {
-        spot = select(world, selector, spot, here)?;
+    let mut spot = world.denoted(&place.base, here.context)?;
+    for selector in place.selectors.as_slice() {
+        spot = select(world, selector, spot, below)?;
     }
     Ok(spot)
 }
@@ -92,7 +77,7 @@ pub fn evaluate(world: &mut World, e: &Expr, here: Here) -> Result<Value, Halt>
         Expr::Nil => Ok(Value::Nil),
         Expr::Load(place) => {
             let spot = access(world, place, below)?;
-            Ok(world.contents(here.context.alloc, &spot)?)
+            world.loaded(&spot, here.context)
         }
         Expr::Plus(operand) => evaluate(world, operand, below),
         Expr::Minus { operand, line } => {
@@ -185,11 +170,18 @@ pub fn evaluate_truth(world: &mut World, e: &Expr, here: Here) -> Result<bool, H
 
 impl<'a> World<'a> {
     /// The set in the variable at a spot.
-    fn set_at(&self, spot: &Spot, c: &Context) -> Result<Vec<bool>, AllocError>
-        ensures { IfOk result (λ s. members_of_set s ≡ v.set_of (contents_in (world_of self.now) (spot_of spot.now))) }
+    fn set_at(&self, spot: &Spot, c: &Context) -> Result<Vec<bool>, Halt>
+        ensures { Answers members_of_set (Gives (v.set_of (contents_in (world_of self.now) (spot_of spot.now))) (world_of self.now)) result self.now }
     {
         let value = self.contents(c.alloc, spot)?;
-        Vec::from_slice(c.alloc, value.members())
+        Ok(Vec::from_slice(c.alloc, value.members())?)
+    }
+
+    /// The value in the variable at a spot.
+    fn loaded(&self, spot: &Spot, c: &Context) -> Result<Value, Halt>
+        ensures { Answers value_of (contents (spot_of spot.now) (world_of self.now)) result self.now }
+    {
+        Ok(self.contents(c.alloc, spot)?)
     }
 }
 
@@ -209,7 +201,7 @@ pub fn evaluate_set(world: &mut World, e: &SetExpr, here: Here) -> Result<Vec<bo
     match e {
         SetExpr::Load(place) => {
             let spot = access(world, place, below)?;
-            Ok(world.set_at(&spot, here.context)?)
+            world.set_at(&spot, here.context)
         }
         SetExpr::Constructor(members) => evaluate_members(world, members, below),
         SetExpr::Combine { first, steps } => { combine_all(world, first, steps, below) }
@@ -299,7 +291,7 @@ fn take_actual(world: &mut World, argument: &Argument, here: Here) -> Result<Act
     match argument {
         Argument::Value { value, range, line } => {
             let x = evaluate(world, value, here)?;
-            Ok(Actual::Value(world.fitting(*range, x, line.number, here.context)?))
+            world.value_passed(*range, x, line.number, here.context)
         }
         Argument::Set {
             value,
@@ -308,11 +300,11 @@ fn take_actual(world: &mut World, argument: &Argument, here: Here) -> Result<Act
             line,
         } => {
             let s = evaluate_set(world, value, here)?;
-            Ok(Actual::Value(world.fitting_set(*low, *high, s, line.number, here.context)?))
+            world.set_passed(*low, *high, s, line.number, here.context)
         }
         Argument::Copy { value, .. } => {
             let held = take_operand(world, value, here)?;
-            Ok(Actual::Value(world.contents_of(&held, here.context)?))
+            world.copy_passed(&held, here.context)
         }
         Argument::Variable(place) => { Ok(Actual::Variable(access(world, place, here)?)) }
         Argument::Routine { routine, up } => {

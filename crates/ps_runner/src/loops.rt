@@ -8,7 +8,7 @@ ghost use Rattle.ps_meaning.specs.Expressions.{fitting};
 ghost use Rattle.ps_meaning.specs.Statements as m;
 ghost use Rattle.ps_meaning.specs.Statements.{own_spot};
 ghost use Rattle.ps_meaning.specs.Worlds.{Gives, put};
-ghost use Rattle.ps_runner.specs.View.{value_of, spot_of};
+ghost use Rattle.ps_runner.specs.View.{value_of};
 ghost use Rattle.ps_runner.specs.Worlds as r;
 ghost use Rattle.ps_runner.specs.Worlds.{Answers, Stopped, context_of, world_of, done_of, acting, turning};
 ghost use Rattle.ps_runner.specs.Heights.{expr_height, statement_height, statements_height};
@@ -19,7 +19,7 @@ use crate::expressions::{evaluate, evaluate_truth};
 use crate::operators::{fits, is_equal};
 use crate::statements::{act, act_all};
 use crate::stop::Halt;
-use crate::value::{Spot, Value};
+use crate::value::Value;
 use crate::world::{Context, Here, World, spot_in};
 use ps_tree::tree::{Direction, Expr, Range, Statement};
 use std::alloc::AllocError;
@@ -186,7 +186,6 @@ fn turns(
 ) -> Result<(), Halt>
     ensures { Runs done_of (turning here.entry.job.now here.entry.fuel variable direction (number_of (value_of last.now)) (statement_of body.now) (context_of here.entry.context.now) (world_of world.old)) here.entry.depth (levels here.entry.job.now here.entry.fuel (statement_height (statement_of body.now))) result world.new }
 {
-    let spot = spot_in(here.context.alloc, &here.context.env, variable)?;
     let mut left = here.fuel;
     loop {
         let turn = Here { fuel: left, ..here };
@@ -195,7 +194,7 @@ fn turns(
             return Err(used_up(world, here.context));
         }
         left -= 1;
-        if !advance(world, &spot, direction, last, here.context)? {
+        if !advance(world, variable, direction, last, here.context)? {
             return Ok(());
         }
     }
@@ -205,17 +204,18 @@ fn turns(
 #[tactic(auto, unfolding(crate::specs::View::value_of))]
 fn advance(
     world: &mut World,
-    spot: &Spot,
+    variable: u32,
     direction: Direction,
     last: &Value,
     c: &Context,
 ) -> Result<bool, Halt>
-    ensures { Answers truth_of (advancing (spot_of spot.now) direction (number_of (value_of last.now)) (world_of world.old)) result world.new }
+    ensures { Answers truth_of (advancing (own_spot variable (context_of c.now)) direction (number_of (value_of last.now)) (world_of world.old)) result world.new }
 {
-    let x = world.contents(c.alloc, spot)?.number();
+    let spot = spot_in(c.alloc, &c.env, variable)?;
+    let x = world.contents(c.alloc, &spot)?.number();
     if is_equal(x, last.number()) {
         return Ok(false);
     }
-    world.put(spot, Value::Ordinal(succeeding(direction, x)))?;
+    world.put(&spot, Value::Ordinal(succeeding(direction, x)))?;
     Ok(true)
 }

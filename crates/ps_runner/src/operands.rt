@@ -2,7 +2,7 @@
 
 ghost use Rattle.std.specs.Prelude.{◌≡◌, ◌++◌, ◌∷◌, [], map, get_or, IfOk, OnOk};
 ghost use Rattle.ps_tree.specs.View.{type_of, base_of};
-ghost use Rattle.ps_meaning.specs.Worlds.{contents_in, settled, no_spot, Gives, done};
+ghost use Rattle.ps_meaning.specs.Worlds.{contents_in, settled, no_spot, Gives, and_then, give, done};
 ghost use Rattle.ps_meaning.specs.Expressions as m;
 ghost use Rattle.ps_meaning.specs.Statements.{index_place};
 ghost use Rattle.ps_runner.specs.View.{listed, members_of_set, number_of_place, value_of, spot_of, computed_of};
@@ -97,6 +97,43 @@ pub fn index_of(ty: &Ty) -> Ordinal
 }
 
 impl<'a> World<'a> {
+    /// The actual parameter of a value parameter of this range; error 4 for a value outside it.
+    #[tactic(auto, using(crate::proofs::Answers::stopped_then), unfolding(crate::specs::Worlds::actual_of))]
+    pub fn value_passed(
+        &self,
+        range: Range,
+        value: Value,
+        line: u16,
+        c: &Context,
+    ) -> Result<Actual, Halt>
+        ensures { Answers actual_of (and_then (m.fitting range (value_of value) line (context_of c.now) (world_of self.now)) (λ x. give (m.ValueActual x))) result self.now }
+    {
+        Ok(Actual::Value(self.fitting(range, value, line, c)?))
+    }
+
+    /// The actual parameter of a value parameter of a set type; error 8 for a member outside its base.
+    #[tactic(auto, using(crate::proofs::Answers::stopped_then), unfolding(crate::specs::Worlds::actual_of))]
+    pub fn set_passed(
+        &self,
+        low: i32,
+        high: i32,
+        tests: Vec<bool>,
+        line: u16,
+        c: &Context,
+    ) -> Result<Actual, Halt>
+        ensures { Answers actual_of (and_then (m.fitting_set low high (members_of_set tests) line (context_of c.now) (world_of self.now)) (λ x. give (m.ValueActual x))) result self.now }
+    {
+        Ok(Actual::Value(self.fitting_set(low, high, tests, line, c)?))
+    }
+
+    /// The actual parameter of a value parameter that takes a copy of an operand's contents.
+    #[tactic(auto, unfolding(crate::specs::Worlds::actual_of))]
+    pub fn copy_passed(&self, held: &Held, c: &Context) -> Result<Actual, Halt>
+        ensures { Answers actual_of (and_then (m.contents_of (held_of held.now) (world_of self.now)) (λ x. give (m.ValueActual x))) result self.now }
+    {
+        Ok(Actual::Value(self.contents_of(held, c)?))
+    }
+
     /// The actual parameter that passes on a routine.
     #[tactic(auto, unfolding(crate::specs::Worlds::actual_of))]
     pub fn passed(&self, callee: Callee, c: &Context) -> Result<Actual, Halt>

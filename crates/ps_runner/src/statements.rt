@@ -118,7 +118,10 @@ pub fn act(world: &mut World, statement: &Statement, here: Here) -> Result<(), H
             place,
             pointer,
             line,
-        } => make(world, place, *pointer, line.number, below),
+        } => {
+            let spot = access(world, place, below)?;
+            world.put_object(&spot, *pointer, line.number, here.context, here.job)
+        }
         Statement::Pack {
             from,
             from_ty,
@@ -232,16 +235,6 @@ fn act_with(world: &mut World, places: &[Place], body: &Statement, here: Here) -
         ..here
     };
     act(world, body, inside)
-}
-
-/// new.
-#[cycle(run)]
-#[tactic(auto, using(crate::proofs::Answers::halted_then))]
-fn make(world: &mut World, place: &Place, pointer: u32, line: u16, here: Here) -> Result<(), Halt>
-    ensures { Runs done_of (acting here.entry.job.now here.entry.fuel (Tree.New (place_of place.now) pointer line) (context_of here.entry.context.now) (world_of world.old)) here.entry.depth (levels here.entry.job.now here.entry.fuel (place_height (place_of place.now))) result world.new }
-{
-    let spot = access(world, place, here)?;
-    world.put_object(&spot, pointer, line, here.context, here.job)
 }
 
 /// pack.

@@ -5,14 +5,17 @@ ghost use Rattle.ps_tree.specs.Tree as Tree;
 ghost use Rattle.ps_tree.specs.View.{expr_of, place_of, read_of, structure_of, write_of, width_of};
 ghost use Rattle.ps_meaning.specs.Statements as m;
 ghost use Rattle.ps_meaning.specs.Text as text;
-ghost use Rattle.ps_meaning.specs.Worlds.{write_text};
+ghost use Rattle.ps_meaning.specs.Expressions.{contents_of};
+ghost use Rattle.ps_meaning.specs.Values.{components_of};
+ghost use Rattle.ps_meaning.specs.Worlds.{and_then, write_text};
 ghost use Rattle.ps_runner.specs.View.{value_of, values_of, spot_of};
 ghost use Rattle.ps_runner.specs.Worlds as r;
-ghost use Rattle.ps_runner.specs.Worlds.{Answers, acting, context_of, world_of, done_of, reading_all, width_in, width_checked, writing, writing_all};
+ghost use Rattle.ps_runner.specs.Worlds.{Answers, acting, context_of, world_of, done_of, held_of, reading_all, width_in, width_checked, writing, writing_all};
 ghost use Rattle.ps_runner.specs.Heights.{expr_height, structure_height, reads_height, width_height, write_height, writes_height};
 ghost use Rattle.ps_runner.specs.Runs.{Runs, levels};
 
 use crate::expressions::{access, evaluate, take_operand};
+use crate::operands::Held;
 use crate::operators::is_true;
 use crate::stop::Halt;
 use crate::text::{boolean_text, fitted, integer_text, right_aligned};
@@ -164,8 +167,7 @@ fn write_contents(
 {
     let held = take_operand(world, value, here)?;
     let n = evaluate_width(world, width, here)?;
-    let text = world.contents_of(&held, here.context)?;
-    write_string(world, here.context.alloc, text.components(), n)
+    write_string(world, &held, n, here.context)
 }
 
 /// The byte of a character.
@@ -229,19 +231,16 @@ fn write_value(
     }
 }
 
-/// Writes a string, in a field of its length where no width is given (6.9.3.6).
-fn write_string(
-    world: &mut World,
-    alloc: Global,
-    values: &[Value],
-    width: Option<u32>,
-) -> Result<(), Halt>
-    ensures { Answers done_of (write_text (text.fitted (unwrap_or (r.width_of width) (length (m.characters (values_of values.now)))) (m.characters (values_of values.now))) (world_of world.old)) result world.new }
+/// Writes the contents of an operand that is a string, in a field of its length where no width is given (6.9.3.6).
+fn write_string(world: &mut World, held: &Held, width: Option<u32>, c: &Context) -> Result<(), Halt>
+    ensures { Answers done_of (and_then (contents_of (held_of held.now) (world_of world.old)) (λ v. write_text (text.fitted (unwrap_or (r.width_of width) (length (m.characters (components_of v)))) (m.characters (components_of v))))) result world.new }
 {
-    let text = characters(alloc, values)?;
+    let value = world.contents_of(held, c)?;
+    let text = characters(c.alloc, value.components())?;
+    drop(value);
     let Some(count) = width.or(u32::try_from(text.len()).ok()) else {
         return Err(Halt::OutOfMemory);
     };
-    let field = fitted(alloc, count, text.as_slice())?;
+    let field = fitted(c.alloc, count, text.as_slice())?;
     world.write(field.as_slice())
 }

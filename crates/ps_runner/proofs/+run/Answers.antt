@@ -2,12 +2,12 @@ use Rattle.std.proofs.Common.{◌≡◌, ◌≤◌, ◌-◌, max, ◌+◌, ◌�
 use Rattle.std.proofs.Math.Facts.{to_z-of_z}
 use Rattle.ps_tree.specs.Tree as Tree
 use Rattle.ps_tree.specs.View.{structure_of, selectors_of, arithmetic_of, operands_of, set_steps_of, expr_of, set_of, members_of, arguments_of, elements_of, statements_of, statement_of, read_of, write_of, place_of, selector_of, member_of, argument_of, width_of}
-use Rattle.ps_meaning.specs.Expressions.{operand, accesses, value, combined, set_value, members_value, actuals_of, calling}
-use Rattle.ps_meaning.specs.Statements.{Block, own_spot, with_opened}
+use Rattle.ps_meaning.specs.Expressions.{operand, access as accessed, value, combined, set_value, members_value, actuals_of, calling}
+use Rattle.ps_meaning.specs.Statements.{Block, with_opened}
 use Rattle.ps_meaning.specs.Values.{number_of}
 use Rattle.ps_meaning.specs.Worlds as m
 use Rattle.ps_runner.specs.declared.operands.Actual.{Actual}
-use Rattle.ps_runner.specs.Heights.{structure_height, selectors_height, expr_height, steps_height, operands_height, set_height, set_steps_height, statement_height, statements_height, members_height, arguments_height, places_height, reads_height, writes_height}
+use Rattle.ps_runner.specs.Heights.{structure_height, place_height, expr_height, steps_height, operands_height, set_height, set_steps_height, statement_height, statements_height, members_height, arguments_height, places_height, reads_height, writes_height}
 use Rattle.ps_runner.specs.Runs.{Halted, levels}
 use Rattle.ps_runner.proofs.Heights.{place_is_high, expr_is_high, set_is_high, statement_is_high, block_levels}
 use Rattle.ps_runner.proofs.Acts as a
@@ -15,7 +15,7 @@ use Rattle.ps_runner.proofs.Chains as chain
 use Rattle.ps_runner.proofs.Arms as arm
 use Rattle.ps_runner.specs.View.{listed, value_of, spot_of, integer_of}
 use Rattle.ps_runner.specs.Worlds.{Stopped, caller, next, context_of, world_of, actual_of, actuals_in, callee_env, callee_routine, called, called_value, acting, acting_all, turning, reading_all, writing_all, opening_all, opened_in, done_of}
-use Rattle.ps_runner.proofs.Answers.{members_halt, actuals_halt, call_runs, call_formal_runs, stopped_halts, halted_then, answers_run, runs_deeper, stopped_halts_then, members_start, members_next, members_end, actuals_start, actuals_next, actuals_end}
+use Rattle.ps_runner.proofs.Answers.{handed_on, halted_alone, halted_left, halted_right, halted_middle, halted_last, members_halt, actuals_halt, call_runs, call_formal_runs, stopped_halts, halted_then, answers_run, runs_deeper, members_start, members_next, members_end, actuals_start, actuals_next, actuals_end}
 use Rattle.ps_runner.proofs.Acts.{acts_next, acts_end}
 use Rattle.ps_runner.proofs.Trees.{set_of_Constructor}
 use Rattle.ps_tree.proofs.TreeLemmas.{expr_of_Load, set_of_Load, argument_of_Variable}
@@ -42,12 +42,12 @@ expressions::evaluate-returns-in-CallFormal t c = call_formal_runs c.args.here.j
 pub expressions::evaluate_members-returns-in_err-more : goal.expressions::evaluate_members-returns-in_err-more
 expressions::evaluate_members-returns-in_err-more t c =
     let h : Halted (members_value (caller c.args.here.job.now c.args.here.fuel) (members_of c.args.members.now) (context_of c.args.here.context.now) (world_of c.args.world.now)) c.args.here.depth (levels c.args.here.job.now c.args.here.fuel (members_height (members_of c.args.members.now))) c.in_err-more.field-0.0 c.evaluate_member.new.world = members_halt c.args.here.job.now c.args.here.fuel (context_of c.args.here.context.now) c.args.members.now c.loop-member.member-index c.loop-member.tests.items c.member-item.result _ (world_of c.loop-member.world) c.evaluate_member.new.world _ c.args.here.depth c.loop-member.invariant c.in_err-more.ensures c.member-item.is c.loop-member-test.true in
-    search (rules, h)
+    handed_on _ _ _ _ _ _ _ c.from_residual.ensures.1 h
 
 pub expressions::take_actuals-returns-in_err-actual : goal.expressions::take_actuals-returns-in_err-actual
 expressions::take_actuals-returns-in_err-actual t c =
     let h : Halted (actuals_of (caller c.args.here.job.now c.args.here.fuel) (arguments_of c.args.arguments.now) (context_of c.args.here.context.now) (world_of c.args.world.now)) c.args.here.depth (levels c.args.here.job.now c.args.here.fuel (arguments_height (arguments_of c.args.arguments.now))) c.in_err-actual.field-0.0 c.take_actual.new.world = actuals_halt c.args.here.job.now c.args.here.fuel (context_of c.args.here.context.now) c.args.arguments.now c.loop-argument.argument-index (map actual_of c.loop-argument.actuals.items) c.argument-item.result _ (world_of c.loop-argument.world) c.take_actual.new.world _ c.args.here.depth c.loop-argument.invariant c.in_err-actual.ensures c.argument-item.is c.loop-argument-test.true in
-    search (rules, h)
+    handed_on _ _ _ _ _ _ _ c.from_residual.ensures.1 h
 
 pub statements::act-returns-in-Case : goal.statements::act-returns-in-Case
 statements::act-returns-in-Case t c = a.case_runs c.args.here.job.now c.args.here.fuel (context_of c.args.here.context.now) (world_of c.args.world.now) c.args.statement.now _ _ _ _ c.choose.result c.choose.new.world c.args.here.depth c.in-Case.is c.deref-in-Case.ensures.value c.choose.ensures
@@ -57,30 +57,30 @@ statements::act-returns-in-Repeat t c = a.repeat_runs c.args.here.job.now c.args
 
 pub calls::call_procedure-returns-in_err-body : goal.calls::call_procedure-returns-in_err-body
 calls::call_procedure-returns-in_err-body t c =
-    let stopped : Stopped (caller c.args.here.job.now c.args.here.fuel (callee_routine c.args.callee (context_of c.args.here.context.now)) (callee_env c.args.callee (context_of c.args.here.context.now)) (map actual_of c.in_ok-actuals.actuals.items) (calling c.args.line (context_of c.args.here.context.now)) (world_of c.take_actuals.new.world)) c.in_err-body.field-0.0 c.enter.new.self = subst (λ (l : List Actual). Stopped (caller c.args.here.job.now c.args.here.fuel (callee_routine c.args.callee (context_of c.args.here.context.now)) (callee_env c.args.callee (context_of c.args.here.context.now)) (map actual_of l) (calling c.args.line (context_of c.args.here.context.now)) (world_of c.take_actuals.new.world)) c.in_err-body.field-0.0 c.enter.new.self) c.as_slice.ensures.value (c.in_err-body.ensures.stopped c.args.here.fuel) in
+    let stopped : Stopped (caller c.args.here.job.now c.args.here.fuel (callee_routine c.args.callee (context_of c.args.here.context.now)) (callee_env c.args.callee (context_of c.args.here.context.now)) (map actual_of c.in_ok-actuals.actuals.items) (calling c.args.line (context_of c.args.here.context.now)) (world_of c.take_actuals.new.world)) c.in_err-body.field-0.0 c.enter.new.self = c.in_err-body.ensures.stopped c.args.here.fuel in
     let h : Halted (called c.args.here.job.now c.args.here.fuel c.args.callee (arguments_of c.args.arguments.now) c.args.line (context_of c.args.here.context.now) (world_of c.args.world.now)) c.args.here.depth (levels c.args.here.job.now c.args.here.fuel (arguments_height (arguments_of c.args.arguments.now))) c.in_err-body.field-0.0 c.enter.new.self = a.called_stops c.args.here.job.now c.args.here.fuel c.args.callee (arguments_of c.args.arguments.now) c.args.line (context_of c.args.here.context.now) (actuals_in c.in_ok-actuals.actuals) (world_of c.args.world.now) (world_of c.take_actuals.new.world) _ c.enter.new.self c.args.here.depth _ c.in_ok-actuals.ensures stopped in
-    search (rules, h)
+    handed_on _ _ _ _ _ _ _ c.from_residual-in_err-body.ensures.1 h
 
 pub calls::call_procedure-returns : goal.calls::call_procedure-returns
 calls::call_procedure-returns t c =
-    let same : caller c.args.here.job.now c.args.here.fuel (callee_routine c.args.callee (context_of c.args.here.context.now)) (callee_env c.args.callee (context_of c.args.here.context.now)) (map actual_of c.in_ok-actuals.actuals.items) (calling c.args.line (context_of c.args.here.context.now)) (world_of c.take_actuals.new.world) ≡ next c.args.here.job.now c.args.here.fuel (Block (statements_of c.in_ok-body.body.now)) (context_of c.in_ok-body.inner) (world_of c.enter.new.self) = ap (λ (l : List Actual). caller c.args.here.job.now c.args.here.fuel (callee_routine c.args.callee (context_of c.args.here.context.now)) (callee_env c.args.callee (context_of c.args.here.context.now)) (map actual_of l) (calling c.args.line (context_of c.args.here.context.now)) (world_of c.take_actuals.new.world)) (sym c.as_slice.ensures.value) ∙ c.in_ok-body.ensures.entered c.args.here.fuel in
+    let same : caller c.args.here.job.now c.args.here.fuel (callee_routine c.args.callee (context_of c.args.here.context.now)) (callee_env c.args.callee (context_of c.args.here.context.now)) (map actual_of c.in_ok-actuals.actuals.items) (calling c.args.line (context_of c.args.here.context.now)) (world_of c.take_actuals.new.world) ≡ next c.args.here.job.now c.args.here.fuel (Block (statements_of c.in_ok-body.body.now)) (context_of c.in_ok-body.inner) (world_of c.enter.new.self) = c.in_ok-body.ensures.entered c.args.here.fuel in
     a.called_runs c.args.here.job.now c.args.here.fuel c.args.callee (arguments_of c.args.arguments.now) c.args.line (context_of c.args.here.context.now) (actuals_in c.in_ok-actuals.actuals) (world_of c.args.world.now) (world_of c.take_actuals.new.world) _ c.do_block.result c.do_block.new.world c.args.here.depth c.in_ok-actuals.ensures same c.do_block.ensures
 
 pub calls::call_value-returns-in_err-body : goal.calls::call_value-returns-in_err-body
 calls::call_value-returns-in_err-body t c =
-    let stopped : Stopped (caller c.args.here.job.now c.args.here.fuel (callee_routine c.args.callee (context_of c.args.here.context.now)) (callee_env c.args.callee (context_of c.args.here.context.now)) (map actual_of c.in_ok-actuals.actuals.items) (calling c.args.line (context_of c.args.here.context.now)) (world_of c.take_actuals.new.world)) c.in_err-body.field-0.0 c.enter.new.self = subst (λ (l : List Actual). Stopped (caller c.args.here.job.now c.args.here.fuel (callee_routine c.args.callee (context_of c.args.here.context.now)) (callee_env c.args.callee (context_of c.args.here.context.now)) (map actual_of l) (calling c.args.line (context_of c.args.here.context.now)) (world_of c.take_actuals.new.world)) c.in_err-body.field-0.0 c.enter.new.self) c.as_slice.ensures.value (c.in_err-body.ensures.stopped c.args.here.fuel) in
+    let stopped : Stopped (caller c.args.here.job.now c.args.here.fuel (callee_routine c.args.callee (context_of c.args.here.context.now)) (callee_env c.args.callee (context_of c.args.here.context.now)) (map actual_of c.in_ok-actuals.actuals.items) (calling c.args.line (context_of c.args.here.context.now)) (world_of c.take_actuals.new.world)) c.in_err-body.field-0.0 c.enter.new.self = c.in_err-body.ensures.stopped c.args.here.fuel in
     let h : Halted (called_value c.args.here.job.now c.args.here.fuel c.args.callee (arguments_of c.args.arguments.now) c.args.line (context_of c.args.here.context.now) (world_of c.args.world.now)) c.args.here.depth (levels c.args.here.job.now c.args.here.fuel (arguments_height (arguments_of c.args.arguments.now))) c.in_err-body.field-0.0 c.enter.new.self = a.valued_stops c.args.here.job.now c.args.here.fuel c.args.callee (arguments_of c.args.arguments.now) c.args.line (context_of c.args.here.context.now) (actuals_in c.in_ok-actuals.actuals) (world_of c.args.world.now) (world_of c.take_actuals.new.world) _ c.enter.new.self c.args.here.depth _ c.in_ok-actuals.ensures stopped in
-    search (rules, h)
+    handed_on _ _ _ _ _ _ _ c.from_residual-in_err-body.ensures.1 h
 
 pub calls::call_value-returns-in_err-do_block : goal.calls::call_value-returns-in_err-do_block
 calls::call_value-returns-in_err-do_block t c =
-    let same : caller c.args.here.job.now c.args.here.fuel (callee_routine c.args.callee (context_of c.args.here.context.now)) (callee_env c.args.callee (context_of c.args.here.context.now)) (map actual_of c.in_ok-actuals.actuals.items) (calling c.args.line (context_of c.args.here.context.now)) (world_of c.take_actuals.new.world) ≡ next c.args.here.job.now c.args.here.fuel (Block (statements_of c.in_ok-body.body.now)) (context_of c.in_ok-body.inner) (world_of c.enter.new.self) = ap (λ (l : List Actual). caller c.args.here.job.now c.args.here.fuel (callee_routine c.args.callee (context_of c.args.here.context.now)) (callee_env c.args.callee (context_of c.args.here.context.now)) (map actual_of l) (calling c.args.line (context_of c.args.here.context.now)) (world_of c.take_actuals.new.world)) (sym c.as_slice.ensures.value) ∙ c.in_ok-body.ensures.entered c.args.here.fuel in
+    let same : caller c.args.here.job.now c.args.here.fuel (callee_routine c.args.callee (context_of c.args.here.context.now)) (callee_env c.args.callee (context_of c.args.here.context.now)) (map actual_of c.in_ok-actuals.actuals.items) (calling c.args.line (context_of c.args.here.context.now)) (world_of c.take_actuals.new.world) ≡ next c.args.here.job.now c.args.here.fuel (Block (statements_of c.in_ok-body.body.now)) (context_of c.in_ok-body.inner) (world_of c.enter.new.self) = c.in_ok-body.ensures.entered c.args.here.fuel in
     let h : Halted (called_value c.args.here.job.now c.args.here.fuel c.args.callee (arguments_of c.args.arguments.now) c.args.line (context_of c.args.here.context.now) (world_of c.args.world.now)) c.args.here.depth (levels c.args.here.job.now c.args.here.fuel (arguments_height (arguments_of c.args.arguments.now))) c.in_err-do_block.field-0.0 c.do_block.new.world = a.valued_halts c.args.here.job.now c.args.here.fuel c.args.callee (arguments_of c.args.arguments.now) c.args.line (context_of c.args.here.context.now) (actuals_in c.in_ok-actuals.actuals) (world_of c.args.world.now) (world_of c.take_actuals.new.world) _ _ c.do_block.new.world c.args.here.depth c.in_ok-actuals.ensures same c.in_err-do_block.ensures in
-    search (rules, h)
+    handed_on _ _ _ _ _ _ _ c.from_residual-in_err-do_block.ensures.1 h
 
 pub calls::call_value-returns : goal.calls::call_value-returns
 calls::call_value-returns t c =
-    let same : caller c.args.here.job.now c.args.here.fuel (callee_routine c.args.callee (context_of c.args.here.context.now)) (callee_env c.args.callee (context_of c.args.here.context.now)) (map actual_of c.in_ok-actuals.actuals.items) (calling c.args.line (context_of c.args.here.context.now)) (world_of c.take_actuals.new.world) ≡ next c.args.here.job.now c.args.here.fuel (Block (statements_of c.in_ok-body.body.now)) (context_of c.in_ok-body.inner) (world_of c.enter.new.self) = ap (λ (l : List Actual). caller c.args.here.job.now c.args.here.fuel (callee_routine c.args.callee (context_of c.args.here.context.now)) (callee_env c.args.callee (context_of c.args.here.context.now)) (map actual_of l) (calling c.args.line (context_of c.args.here.context.now)) (world_of c.take_actuals.new.world)) (sym c.as_slice.ensures.value) ∙ c.in_ok-body.ensures.entered c.args.here.fuel in
+    let same : caller c.args.here.job.now c.args.here.fuel (callee_routine c.args.callee (context_of c.args.here.context.now)) (callee_env c.args.callee (context_of c.args.here.context.now)) (map actual_of c.in_ok-actuals.actuals.items) (calling c.args.line (context_of c.args.here.context.now)) (world_of c.take_actuals.new.world) ≡ next c.args.here.job.now c.args.here.fuel (Block (statements_of c.in_ok-body.body.now)) (context_of c.in_ok-body.inner) (world_of c.enter.new.self) = c.in_ok-body.ensures.entered c.args.here.fuel in
     a.valued_runs c.args.here.job.now c.args.here.fuel c.args.callee (arguments_of c.args.arguments.now) c.args.line (context_of c.args.here.context.now) (actuals_in c.in_ok-actuals.actuals) (world_of c.args.world.now) (world_of c.take_actuals.new.world) (world_of c.do_block.new.world) c.result_at.result c.do_block.new.world c.args.here.depth _ c.in_ok-actuals.ensures (same ∙ c.in_ok-do_block.ensures) c.result_at.ensures
 
 pub calls::do_block-returns-then-here-eq0 : goal.calls::do_block-returns-then-here-eq0
@@ -94,7 +94,7 @@ calls::do_block-returns-else-here-eq0 t c =
 pub statements::act_all-returns-in_err-act : goal.statements::act_all-returns-in_err-act
 statements::act_all-returns-in_err-act t c =
     let h : Halted (acting_all c.args.here.job.now c.args.here.fuel (statements_of c.args.statements.now) (context_of c.args.here.context.now) (world_of c.args.world.now)) c.args.here.depth (levels c.args.here.job.now c.args.here.fuel (statements_height (statements_of c.args.statements.now))) c.in_err-act.field-0.0 c.act.new.world = a.acts_halt c.args.here.job.now c.args.here.fuel (context_of c.args.here.context.now) c.args.statements.now c.loop-statement.statement-index c.statement-item.result _ (world_of c.loop-statement.world) c.act.new.world _ c.args.here.depth c.loop-statement.invariant c.in_err-act.ensures c.statement-item.is c.loop-statement-test.true in
-    search (rules, h)
+    handed_on _ _ _ _ _ _ _ c.from_residual.ensures.1 h
 
 pub choices::choose-returns-in-Some : goal.choices::choose-returns-in-Some
 choices::choose-returns-in-Some t c = a.case_chosen c.args.here.job.now c.args.here.fuel (expr_of c.args.index.now) (elements_of c.args.elements.now) c.args.line (context_of c.args.here.context.now) (value_of c.in_ok-x.x) (statement_of c.in-Some.body.now) (world_of c.args.world.now) (world_of c.evaluate.new.world) c.act.result c.act.new.world c.args.here.depth c.in_ok-x.ensures (c.in-Some.ensures.chosen c.args.here.job.now c.args.here.fuel c.args.line (context_of c.args.here.context.now) (world_of c.evaluate.new.world)) c.in-Some.ensures.within c.act.ensures
@@ -105,12 +105,12 @@ choices::choose-returns t c = a.case_none c.args.here.job.now c.args.here.fuel (
 pub transfers::read_all-returns-in_err-spot : goal.transfers::read_all-returns-in_err-spot
 transfers::read_all-returns-in_err-spot t c =
     let h : Halted (reading_all c.args.here.job.now c.args.here.fuel (map read_of c.args.variables.now) (context_of c.args.here.context.now) (world_of c.args.world.now)) c.args.here.depth (levels c.args.here.job.now c.args.here.fuel (reads_height (map read_of c.args.variables.now))) c.in_err-spot.field-0.0 c.access.new.world = a.reads_halt_at c.args.here.job.now c.args.here.fuel (context_of c.args.here.context.now) c.args.variables.now c.loop-variable.variable-index c.variable-item.result _ _ (world_of c.loop-variable.world) c.access.new.world _ c.args.here.depth c.loop-variable.invariant c.place_read.ensures c.in_err-spot.ensures c.variable-item.is c.loop-variable-test.true in
-    search (rules, h)
+    handed_on _ _ _ _ _ _ _ c.from_residual.ensures.1 h
 
 pub transfers::read_all-returns-in_err-read_into : goal.transfers::read_all-returns-in_err-read_into
 transfers::read_all-returns-in_err-read_into t c =
     let h : Halted (reading_all c.args.here.job.now c.args.here.fuel (map read_of c.args.variables.now) (context_of c.args.here.context.now) (world_of c.args.world.now)) c.args.here.depth (levels c.args.here.job.now c.args.here.fuel (reads_height (map read_of c.args.variables.now))) c.in_err-read_into.field-0.0 c.read_into.new.self = a.reads_halt_into c.args.here.job.now c.args.here.fuel (context_of c.args.here.context.now) c.args.variables.now c.loop-variable.variable-index c.variable-item.result _ (spot_of c.in_ok-spot.spot) _ (world_of c.loop-variable.world) (world_of c.access.new.world) c.read_into.new.self _ c.args.here.depth c.loop-variable.invariant c.place_read.ensures c.in_ok-spot.ensures c.in_err-read_into.ensures c.variable-item.is c.loop-variable-test.true in
-    search (rules, h)
+    handed_on _ _ _ _ _ _ _ c.from_residual-in_err-read_into.ensures.1 h
 
 pub transfers::read_all-returns : goal.transfers::read_all-returns
 transfers::read_all-returns t c = a.reads_end c.args.here.job.now c.args.here.fuel (context_of c.args.here.context.now) c.args.variables.now c.loop-variable.variable-index (world_of c.loop-variable.world) _ c.loop-variable.invariant (omega arith)
@@ -121,7 +121,7 @@ transfers::read_all-loop-variable-preserved t c = a.reads_next c.args.here.job.n
 pub transfers::write_all-returns-in_err-write_one : goal.transfers::write_all-returns-in_err-write_one
 transfers::write_all-returns-in_err-write_one t c =
     let h : Halted (writing_all c.args.here.job.now c.args.here.fuel (map write_of c.args.parameters.now) (context_of c.args.here.context.now) (world_of c.args.world.now)) c.args.here.depth (levels c.args.here.job.now c.args.here.fuel (writes_height (map write_of c.args.parameters.now))) c.in_err-write_one.field-0.0 c.write_one.new.world = a.writes_halt c.args.here.job.now c.args.here.fuel (context_of c.args.here.context.now) c.args.parameters.now c.loop-parameter.parameter-index c.parameter-item.result _ (world_of c.loop-parameter.world) c.write_one.new.world _ c.args.here.depth c.loop-parameter.invariant c.in_err-write_one.ensures c.parameter-item.is c.loop-parameter-test.true in
-    search (rules, h)
+    handed_on _ _ _ _ _ _ _ c.from_residual.ensures.1 h
 
 pub transfers::write_all-returns : goal.transfers::write_all-returns
 transfers::write_all-returns t c = a.writes_end c.args.here.job.now c.args.here.fuel (context_of c.args.here.context.now) c.args.parameters.now c.loop-parameter.parameter-index (world_of c.loop-parameter.world) _ c.loop-parameter.invariant (omega arith)
@@ -132,7 +132,7 @@ transfers::write_all-loop-parameter-preserved t c = a.writes_next c.args.here.jo
 pub statements::act_with-returns-in_err-spot : goal.statements::act_with-returns-in_err-spot
 statements::act_with-returns-in_err-spot t c =
     let h : Halted (acting c.args.here.job.now c.args.here.fuel (Tree.With (map place_of c.args.places.now) (statement_of c.args.body.now)) (context_of c.args.here.context.now) (world_of c.args.world.now)) c.args.here.depth (levels c.args.here.job.now c.args.here.fuel (max (places_height (map place_of c.args.places.now)) (statement_height (statement_of c.args.body.now)))) c.in_err-spot.field-0.0 c.access.new.world = a.with_halt c.args.here.job.now c.args.here.fuel (statement_of c.args.body.now) (context_of c.args.here.context.now) (context_of c.loop-place.inner) c.args.places.now c.loop-place.place-index c.place-item.result _ (world_of c.args.world.now) (world_of c.loop-place.world) c.access.new.world c.args.here.depth c.loop-place.invariant.rest c.in_err-spot.ensures c.place-item.is c.loop-place-test.true in
-    search (rules, h)
+    handed_on _ _ _ _ _ _ _ c.from_residual-in_err-spot.ensures.1 h
 
 pub statements::act_with-loop-place-preserved : goal.statements::act_with-loop-place-preserved
 statements::act_with-loop-place-preserved t c =
@@ -149,12 +149,12 @@ statements::act_with-returns t c =
 pub loops::count-returns-in_err-x : goal.loops::count-returns-in_err-x
 loops::count-returns-in_err-x t c =
     let h : Halted (acting c.args.here.job.now c.args.here.fuel (Tree.For c.args.variable c.args.low c.args.high (expr_of c.args.from.now) c.args.from_line c.args.direction (expr_of c.args.to.now) c.args.to_line (statement_of c.args.body.now)) (context_of c.args.here.context.now) (world_of c.args.world.now)) c.args.here.depth (levels c.args.here.job.now c.args.here.fuel (max (expr_height (expr_of c.args.from.now)) (max (expr_height (expr_of c.args.to.now)) (statement_height (statement_of c.args.body.now))))) c.in_err-x.field-0.0 c.evaluate.new.world = a.for_halt c.args.here.job.now c.args.here.fuel c.args.variable c.args.low c.args.high (expr_of c.args.from.now) c.args.from_line c.args.direction (expr_of c.args.to.now) c.args.to_line (statement_of c.args.body.now) (context_of c.args.here.context.now) _ (world_of c.args.world.now) c.evaluate.new.world c.args.here.depth c.in_err-x.ensures in
-    search (rules, h)
+    handed_on _ _ _ _ _ _ _ c.from_residual.ensures.1 h
 
 pub loops::count-returns-in_err-y : goal.loops::count-returns-in_err-y
 loops::count-returns-in_err-y t c =
     let h : Halted (acting c.args.here.job.now c.args.here.fuel (Tree.For c.args.variable c.args.low c.args.high (expr_of c.args.from.now) c.args.from_line c.args.direction (expr_of c.args.to.now) c.args.to_line (statement_of c.args.body.now)) (context_of c.args.here.context.now) (world_of c.args.world.now)) c.args.here.depth (levels c.args.here.job.now c.args.here.fuel (max (expr_height (expr_of c.args.from.now)) (max (expr_height (expr_of c.args.to.now)) (statement_height (statement_of c.args.body.now))))) c.in_err-y.field-0.0 c.evaluate-2.new.world = a.for_halt_second c.args.here.job.now c.args.here.fuel c.args.variable c.args.low c.args.high (expr_of c.args.from.now) c.args.from_line c.args.direction (expr_of c.args.to.now) c.args.to_line (statement_of c.args.body.now) (context_of c.args.here.context.now) (value_of c.in_ok-x.x) _ (world_of c.args.world.now) (world_of c.evaluate.new.world) c.evaluate-2.new.world c.args.here.depth c.in_ok-x.ensures c.in_err-y.ensures in
-    search (rules, h)
+    handed_on _ _ _ _ _ _ _ c.from_residual-in_err-y.ensures.1 h
 
 pub loops::count-returns-then-is_past : goal.loops::count-returns-then-is_past
 loops::count-returns-then-is_past t c = a.for_past c.args.here.job.now c.args.here.fuel c.args.variable c.args.low c.args.high (expr_of c.args.from.now) c.args.from_line c.args.direction (expr_of c.args.to.now) c.args.to_line (statement_of c.args.body.now) (context_of c.args.here.context.now) (value_of c.in_ok-x.x) (value_of c.in_ok-y.y) (world_of c.args.world.now) (world_of c.evaluate.new.world) (world_of c.evaluate-2.new.world) c.in_ok-x.ensures c.in_ok-y.ensures (sym c.is_past.ensures ∙ c.if-is_past.true)
@@ -162,7 +162,7 @@ loops::count-returns-then-is_past t c = a.for_past c.args.here.job.now c.args.he
 pub loops::count-returns-in_err-begin_turns : goal.loops::count-returns-in_err-begin_turns
 loops::count-returns-in_err-begin_turns t c =
     let h : Halted (acting c.args.here.job.now c.args.here.fuel (Tree.For c.args.variable c.args.low c.args.high (expr_of c.args.from.now) c.args.from_line c.args.direction (expr_of c.args.to.now) c.args.to_line (statement_of c.args.body.now)) (context_of c.args.here.context.now) (world_of c.args.world.now)) c.args.here.depth (levels c.args.here.job.now c.args.here.fuel (max (expr_height (expr_of c.args.from.now)) (max (expr_height (expr_of c.args.to.now)) (statement_height (statement_of c.args.body.now))))) c.in_err-begin_turns.field-0.0 c.begin_turns.new.world = a.for_stops c.args.here.job.now c.args.here.fuel c.args.variable c.args.low c.args.high (expr_of c.args.from.now) c.args.from_line c.args.direction (expr_of c.args.to.now) c.args.to_line (statement_of c.args.body.now) (context_of c.args.here.context.now) (value_of c.in_ok-x.x) (value_of c.in_ok-y.y) (world_of c.args.world.now) (world_of c.evaluate.new.world) (world_of c.evaluate-2.new.world) _ c.begin_turns.new.world c.args.here.depth _ c.in_ok-x.ensures c.in_ok-y.ensures (sym c.is_past.ensures ∙ c.if-is_past.false) _ (a.within_is c.args.low c.args.high _ _ (to_z-of_z c.ranges.low) (to_z-of_z c.ranges.high)) c.in_err-begin_turns.ensures in
-    search (rules, h)
+    handed_on _ _ _ _ _ _ _ c.from_residual-in_err-begin_turns.ensures.1 h
 
 pub loops::count-returns : goal.loops::count-returns
 loops::count-returns t c = a.for_runs c.args.here.job.now c.args.here.fuel c.args.variable c.args.low c.args.high (expr_of c.args.from.now) c.args.from_line c.args.direction (expr_of c.args.to.now) c.args.to_line (statement_of c.args.body.now) (context_of c.args.here.context.now) (value_of c.in_ok-x.x) (value_of c.in_ok-y.y) (world_of c.args.world.now) (world_of c.evaluate.new.world) (world_of c.evaluate-2.new.world) (world_of c.begin_turns.new.world) c.turns.result c.turns.new.world c.args.here.depth c.in_ok-x.ensures c.in_ok-y.ensures (sym c.is_past.ensures ∙ c.if-is_past.false) _ (a.within_is c.args.low c.args.high _ _ (to_z-of_z c.ranges.low) (to_z-of_z c.ranges.high)) c.in_ok-begin_turns.ensures c.turns.ensures
@@ -170,13 +170,13 @@ loops::count-returns t c = a.for_runs c.args.here.job.now c.args.here.fuel c.arg
 pub loops::repeat_while-returns-in_err-evaluate_truth : goal.loops::repeat_while-returns-in_err-evaluate_truth
 loops::repeat_while-returns-in_err-evaluate_truth t c =
     let h : Halted (acting c.args.here.job.now c.args.here.fuel (Tree.While (expr_of c.args.condition.now) (statement_of c.args.body.now)) (context_of c.args.here.context.now) (world_of c.args.world.now)) c.args.here.depth (levels c.args.here.job.now c.args.here.fuel (max (expr_height (expr_of c.args.condition.now)) (statement_height (statement_of c.args.body.now)))) c.in_err-evaluate_truth.field-0.0 c.evaluate_truth.new.world = a.while_halt c.args.here.job.now c.loop-world.left c.args.here.fuel (expr_of c.args.condition.now) (statement_of c.args.body.now) (context_of c.args.here.context.now) _ (world_of c.loop-world.world) c.evaluate_truth.new.world _ c.args.here.depth c.loop-world.invariant.left c.loop-world.invariant.same c.in_err-evaluate_truth.ensures in
-    search (rules, h)
+    handed_on _ _ _ _ _ _ _ c.from_residual.ensures.1 h
 
 pub loops::repeat_while-returns-in_err-act : goal.loops::repeat_while-returns-in_err-act
 loops::repeat_while-returns-in_err-act t c =
     let k : c.in_ok-evaluate_truth.field-0 ≡ true = search (rules, c.if-not-branch.false) in
     let h : Halted (acting c.args.here.job.now c.args.here.fuel (Tree.While (expr_of c.args.condition.now) (statement_of c.args.body.now)) (context_of c.args.here.context.now) (world_of c.args.world.now)) c.args.here.depth (levels c.args.here.job.now c.args.here.fuel (max (expr_height (expr_of c.args.condition.now)) (statement_height (statement_of c.args.body.now)))) c.in_err-act.field-0.0 c.act.new.world = a.while_body_halt c.args.here.job.now c.loop-world.left c.args.here.fuel (expr_of c.args.condition.now) (statement_of c.args.body.now) (context_of c.args.here.context.now) c.in_ok-evaluate_truth.field-0 _ (world_of c.loop-world.world) (world_of c.evaluate_truth.new.world) c.act.new.world _ c.args.here.depth c.loop-world.invariant.left c.loop-world.invariant.same c.in_ok-evaluate_truth.ensures k c.in_err-act.ensures in
-    search (rules, h)
+    handed_on _ _ _ _ _ _ _ c.from_residual-in_err-act.ensures.1 h
 
 pub loops::repeat_while-returns-then-left-eq0 : goal.loops::repeat_while-returns-then-left-eq0
 loops::repeat_while-returns-then-left-eq0 t c =
@@ -194,12 +194,12 @@ loops::repeat_while-loop-world-preserved t c =
 pub loops::repeat_until-returns-in_err-act_all : goal.loops::repeat_until-returns-in_err-act_all
 loops::repeat_until-returns-in_err-act_all t c =
     let h : Halted (acting c.args.here.job.now c.args.here.fuel (Tree.Repeat (statements_of c.args.body.now) (expr_of c.args.condition.now)) (context_of c.args.here.context.now) (world_of c.args.world.now)) c.args.here.depth (levels c.args.here.job.now c.args.here.fuel (max (statements_height (statements_of c.args.body.now)) (expr_height (expr_of c.args.condition.now)))) c.in_err-act_all.field-0.0 c.act_all.new.world = a.repeat_halt c.args.here.job.now c.loop-world.left c.args.here.fuel (statements_of c.args.body.now) (expr_of c.args.condition.now) (context_of c.args.here.context.now) _ (world_of c.loop-world.world) c.act_all.new.world _ c.args.here.depth c.loop-world.invariant.left c.loop-world.invariant.same c.in_err-act_all.ensures in
-    search (rules, h)
+    handed_on _ _ _ _ _ _ _ c.from_residual.ensures.1 h
 
 pub loops::repeat_until-returns-in_err-evaluate_truth : goal.loops::repeat_until-returns-in_err-evaluate_truth
 loops::repeat_until-returns-in_err-evaluate_truth t c =
     let h : Halted (acting c.args.here.job.now c.args.here.fuel (Tree.Repeat (statements_of c.args.body.now) (expr_of c.args.condition.now)) (context_of c.args.here.context.now) (world_of c.args.world.now)) c.args.here.depth (levels c.args.here.job.now c.args.here.fuel (max (statements_height (statements_of c.args.body.now)) (expr_height (expr_of c.args.condition.now)))) c.in_err-evaluate_truth.field-0.0 c.evaluate_truth.new.world = a.repeat_until_halt c.args.here.job.now c.loop-world.left c.args.here.fuel (statements_of c.args.body.now) (expr_of c.args.condition.now) (context_of c.args.here.context.now) _ (world_of c.loop-world.world) (world_of c.act_all.new.world) c.evaluate_truth.new.world _ c.args.here.depth c.loop-world.invariant.left c.loop-world.invariant.same c.in_ok-act_all.ensures c.in_err-evaluate_truth.ensures in
-    search (rules, h)
+    handed_on _ _ _ _ _ _ _ c.from_residual-in_err-evaluate_truth.ensures.1 h
 
 pub loops::repeat_until-returns-then-left-eq0 : goal.loops::repeat_until-returns-then-left-eq0
 loops::repeat_until-returns-then-left-eq0 t c =
@@ -214,56 +214,54 @@ loops::repeat_until-loop-world-preserved t c =
 
 pub loops::turns-returns-in_err-act : goal.loops::turns-returns-in_err-act
 loops::turns-returns-in_err-act t c =
-    let h : Halted (turning c.args.here.job.now c.args.here.fuel c.args.variable c.args.direction (number_of (value_of c.args.last.now)) (statement_of c.args.body.now) (context_of c.args.here.context.now) (world_of c.args.world.now)) c.args.here.depth (levels c.args.here.job.now c.args.here.fuel (statement_height (statement_of c.args.body.now))) c.in_err-act.field-0.0 c.act.new.world = a.turns_halt c.args.here.job.now c.loop-spot.left c.args.here.fuel c.args.variable c.args.direction (number_of (value_of c.args.last.now)) (statement_of c.args.body.now) (context_of c.args.here.context.now) _ (world_of c.loop-spot.world) c.act.new.world _ c.args.here.depth c.loop-spot.invariant.left c.loop-spot.invariant.same c.in_err-act.ensures in
-    search (rules, h)
+    let h : Halted (turning c.args.here.job.now c.args.here.fuel c.args.variable c.args.direction (number_of (value_of c.args.last.now)) (statement_of c.args.body.now) (context_of c.args.here.context.now) (world_of c.args.world.now)) c.args.here.depth (levels c.args.here.job.now c.args.here.fuel (statement_height (statement_of c.args.body.now))) c.in_err-act.field-0.0 c.act.new.world = a.turns_halt c.args.here.job.now c.loop-world.left c.args.here.fuel c.args.variable c.args.direction (number_of (value_of c.args.last.now)) (statement_of c.args.body.now) (context_of c.args.here.context.now) _ (world_of c.loop-world.world) c.act.new.world _ c.args.here.depth c.loop-world.invariant.left c.loop-world.invariant.same c.in_err-act.ensures in
+    handed_on _ _ _ _ _ _ _ c.from_residual.ensures.1 h
 
 pub loops::turns-returns-then-left-eq0 : goal.loops::turns-returns-then-left-eq0
 loops::turns-returns-then-left-eq0 t c =
-    a.halts_same _ _ c.used_up.result c.act.new.world _ _ (a.turns_over c.args.here.job.now c.loop-spot.left c.args.variable c.args.direction (number_of (value_of c.args.last.now)) (statement_of c.args.body.now) (context_of c.args.here.context.now) (world_of c.loop-spot.world) (world_of c.act.new.world) _ c.loop-spot.invariant.same c.in_ok-act.ensures c.if-left-eq0.true) c.used_up.ensures
+    a.halts_same _ _ c.used_up.result c.act.new.world _ _ (a.turns_over c.args.here.job.now c.loop-world.left c.args.variable c.args.direction (number_of (value_of c.args.last.now)) (statement_of c.args.body.now) (context_of c.args.here.context.now) (world_of c.loop-world.world) (world_of c.act.new.world) _ c.loop-world.invariant.same c.in_ok-act.ensures c.if-left-eq0.true) c.used_up.ensures
 
 pub loops::turns-returns-then-not-branch : goal.loops::turns-returns-then-not-branch
 loops::turns-returns-then-not-branch t c =
-    let own : spot_of c.in_ok-spot.spot ≡ own_spot c.args.variable (context_of c.args.here.context.now) = search (rules, c.in_ok-spot.ensures, c.deref.ensures) in
     let k : c.in_ok-advance.field-0 ≡ false = search (rules, c.if-not-branch.true) in
-    a.turns_done c.args.here.job.now c.loop-spot.left c.args.variable c.args.direction (number_of (value_of c.args.last.now)) (statement_of c.args.body.now) (context_of c.args.here.context.now) (spot_of c.in_ok-spot.spot) c.in_ok-advance.field-0 (world_of c.loop-spot.world) (world_of c.act.new.world) (world_of c.advance.new.world) _ c.loop-spot.invariant.same c.in_ok-act.ensures c.if-left-eq0.false own c.in_ok-advance.ensures k
+    a.turns_done c.args.here.job.now c.loop-world.left c.args.variable c.args.direction (number_of (value_of c.args.last.now)) (statement_of c.args.body.now) (context_of c.args.here.context.now) _ c.in_ok-advance.field-0 (world_of c.loop-world.world) (world_of c.act.new.world) (world_of c.advance.new.world) _ c.loop-world.invariant.same c.in_ok-act.ensures c.if-left-eq0.false refl c.in_ok-advance.ensures k
 
-pub loops::turns-loop-spot-preserved : goal.loops::turns-loop-spot-preserved
-loops::turns-loop-spot-preserved t c =
-    let own : spot_of c.in_ok-spot.spot ≡ own_spot c.args.variable (context_of c.args.here.context.now) = search (rules, c.in_ok-spot.ensures, c.deref.ensures) in
+pub loops::turns-loop-world-preserved : goal.loops::turns-loop-world-preserved
+loops::turns-loop-world-preserved t c =
     let k : c.in_ok-advance.field-0 ≡ true = search (rules, c.if-not-branch.false) in
     record {
-      same = a.turns_next c.args.here.job.now c.loop-spot.left c.args.variable c.args.direction (number_of (value_of c.args.last.now)) (statement_of c.args.body.now) (context_of c.args.here.context.now) (spot_of c.in_ok-spot.spot) c.in_ok-advance.field-0 (world_of c.loop-spot.world) (world_of c.act.new.world) (world_of c.advance.new.world) _ c.loop-spot.invariant.same c.in_ok-act.ensures c.if-left-eq0.false own c.in_ok-advance.ensures k;
-      left = let le : c.loop-spot.left ≤ c.args.here.fuel = c.loop-spot.invariant.left in omega arith;
+      same = a.turns_next c.args.here.job.now c.loop-world.left c.args.variable c.args.direction (number_of (value_of c.args.last.now)) (statement_of c.args.body.now) (context_of c.args.here.context.now) _ c.in_ok-advance.field-0 (world_of c.loop-world.world) (world_of c.act.new.world) (world_of c.advance.new.world) _ c.loop-world.invariant.same c.in_ok-act.ensures c.if-left-eq0.false refl c.in_ok-advance.ensures k;
+      left = let le : c.loop-world.left ≤ c.args.here.fuel = c.loop-world.invariant.left in omega arith;
     }
-
-pub statements::make-returns : goal.statements::make-returns
-statements::make-returns t c =
-    a.new_runs c.args.here.job.now c.args.here.fuel (place_of c.args.place.now) c.args.pointer c.args.line (context_of c.args.here.context.now) (spot_of c.in_ok-spot.spot) (world_of c.args.world.now) (world_of c.access.new.world) c.put_object.result c.put_object.new.self c.args.here.depth _ c.in_ok-spot.ensures (c.put_object.ensures c.args.here.fuel)
 
 -- chains
 
-pub expressions::select_all-returns-in_err-spot : goal.expressions::select_all-returns-in_err-spot
-expressions::select_all-returns-in_err-spot t c =
-    let h : Halted (accesses (caller c.args.here.job.now c.args.here.fuel) (selectors_of c.args.selectors.now) (spot_of c.args.base) (context_of c.args.here.context.now) (world_of c.args.world.now)) c.args.here.depth (levels c.args.here.job.now c.args.here.fuel (selectors_height (selectors_of c.args.selectors.now))) c.in_err-spot.field-0.0 c.select.new.world = chain.selectors_halt c.args.here.job.now c.args.here.fuel (context_of c.args.here.context.now) c.args.selectors.now c.loop-selector.selector-index c.selector-item.result (spot_of c.loop-selector.spot) _ (world_of c.loop-selector.world) c.select.new.world _ c.args.here.depth c.loop-selector.invariant c.in_err-spot.ensures c.selector-item.is c.loop-selector-test.true in
-    search (rules, h)
+pub expressions::access-returns-in_err-spot-2 : goal.expressions::access-returns-in_err-spot-2
+expressions::access-returns-in_err-spot-2 t c =
+    let h : Halted (accessed (caller c.args.here.job.now c.args.here.fuel) (place_of c.args.place.now) (context_of c.args.here.context.now) (world_of c.args.world.now)) c.args.here.depth (levels c.args.here.job.now c.args.here.fuel (place_height (place_of c.args.place.now))) c.in_err-spot-2.field-0.0 c.select.new.world = chain.access_halts c.args.here.job.now c.args.here.fuel (context_of c.args.here.context.now) c.args.place.now c.as_slice-selector-items.result.now c.loop-selector.selector-index c.selector-item.result (spot_of c.loop-selector.spot) _ (world_of c.args.world.now) (world_of c.loop-selector.world) c.select.new.world c.args.here.depth c.as_slice-selector-items.ensures.value c.loop-selector.invariant c.in_err-spot-2.ensures c.selector-item.is c.loop-selector-test.true in
+    handed_on _ _ _ _ _ _ _ c.from_residual-in_err-spot-2.ensures.1 h
 
-pub expressions::select_all-returns : goal.expressions::select_all-returns
-expressions::select_all-returns t c =
-    chain.selectors_end (caller c.args.here.job.now c.args.here.fuel) (context_of c.args.here.context.now) c.args.selectors.now c.loop-selector.selector-index (spot_of c.loop-selector.spot) (world_of c.loop-selector.world) _ c.loop-selector.invariant (omega arith)
+pub expressions::access-returns : goal.expressions::access-returns
+expressions::access-returns t c =
+    chain.selectors_end (caller c.args.here.job.now c.args.here.fuel) (context_of c.args.here.context.now) c.as_slice-selector-items.result.now c.loop-selector.selector-index (spot_of c.loop-selector.spot) (world_of c.loop-selector.world) _ c.loop-selector.invariant (omega arith)
 
-pub expressions::select_all-loop-selector-preserved : goal.expressions::select_all-loop-selector-preserved
-expressions::select_all-loop-selector-preserved t c =
-    chain.selectors_next (caller c.args.here.job.now c.args.here.fuel) (context_of c.args.here.context.now) c.args.selectors.now c.loop-selector.selector-index c.selector-item.result (spot_of c.loop-selector.spot) _ (world_of c.loop-selector.world) (world_of c.select.new.world) _ c.loop-selector.invariant c.in_ok-spot.ensures c.selector-item.is c.loop-selector-test.true
+pub expressions::access-loop-selector-preserved : goal.expressions::access-loop-selector-preserved
+expressions::access-loop-selector-preserved t c =
+    chain.selectors_next (caller c.args.here.job.now c.args.here.fuel) (context_of c.args.here.context.now) c.as_slice-selector-items.result.now c.loop-selector.selector-index c.selector-item.result (spot_of c.loop-selector.spot) _ (world_of c.loop-selector.world) (world_of c.select.new.world) _ c.loop-selector.invariant c.in_ok-spot-2.ensures c.selector-item.is c.loop-selector-test.true
+
+pub expressions::access-loop-selector-init : goal.expressions::access-loop-selector-init
+expressions::access-loop-selector-init t c =
+    chain.access_begins (caller c.args.here.job.now c.args.here.fuel) (context_of c.args.here.context.now) c.args.place.now c.as_slice-selector-items.result.now (spot_of c.in_ok-spot.spot) (world_of c.args.world.now) c.as_slice-selector-items.ensures.value c.in_ok-spot.ensures
 
 pub expressions::combine_all-returns-in_err-tests : goal.expressions::combine_all-returns-in_err-tests
 expressions::combine_all-returns-in_err-tests t c =
     let h : Halted (set_value (caller c.args.here.job.now c.args.here.fuel) (Tree.Combine (set_of c.args.first.now) (set_steps_of c.args.steps.now)) (context_of c.args.here.context.now) (world_of c.args.world.now)) c.args.here.depth (levels c.args.here.job.now c.args.here.fuel (max (set_height (set_of c.args.first.now)) (set_steps_height (set_steps_of c.args.steps.now)))) c.in_err-tests.field-0.0 c.evaluate_set.new.world = chain.sets_halt_first c.args.here.job.now c.args.here.fuel (context_of c.args.here.context.now) (set_of c.args.first.now) (set_steps_of c.args.steps.now) _ (world_of c.args.world.now) c.evaluate_set.new.world c.args.here.depth c.in_err-tests.ensures in
-    search (rules, h)
+    handed_on _ _ _ _ _ _ _ c.from_residual.ensures.1 h
 
 pub expressions::combine_all-returns-in_err-more : goal.expressions::combine_all-returns-in_err-more
 expressions::combine_all-returns-in_err-more t c =
     let h : Halted (set_value (caller c.args.here.job.now c.args.here.fuel) (Tree.Combine (set_of c.args.first.now) (set_steps_of c.args.steps.now)) (context_of c.args.here.context.now) (world_of c.args.world.now)) c.args.here.depth (levels c.args.here.job.now c.args.here.fuel (max (set_height (set_of c.args.first.now)) (set_steps_height (set_steps_of c.args.steps.now)))) c.in_err-more.field-0.0 c.evaluate_set-in-loop-step.new.world = chain.sets_halt c.args.here.job.now c.args.here.fuel (context_of c.args.here.context.now) c.args.steps.now c.loop-step.step-index c.step-item.result (listed c.loop-step.tests.items) _ (world_of c.loop-step.world) c.evaluate_set-in-loop-step.new.world _ c.args.here.depth (set_height (set_of c.args.first.now)) c.loop-step.invariant c.in_err-more.ensures c.step-item.is c.loop-step-test.true in
-    search (rules, h)
+    handed_on _ _ _ _ _ _ _ c.from_residual-in_err-more.ensures.1 h
 
 pub expressions::combine_all-loop-step-init : goal.expressions::combine_all-loop-step-init
 expressions::combine_all-loop-step-init t c =
@@ -280,18 +278,18 @@ expressions::combine_all-returns t c =
 pub operations::calculate-returns-in_err-x : goal.operations::calculate-returns-in_err-x
 operations::calculate-returns-in_err-x t c =
     let h : Halted (value (caller c.args.here.job.now c.args.here.fuel) (Tree.Arithmetic (expr_of c.args.first.now) (arithmetic_of c.args.steps.now)) (context_of c.args.here.context.now) (world_of c.args.world.now)) c.args.here.depth (levels c.args.here.job.now c.args.here.fuel (max (expr_height (expr_of c.args.first.now)) (steps_height (arithmetic_of c.args.steps.now)))) c.in_err-x.field-0.0 c.evaluate.new.world = chain.steps_halt_first c.args.here.job.now c.args.here.fuel (context_of c.args.here.context.now) (expr_of c.args.first.now) (arithmetic_of c.args.steps.now) _ (world_of c.args.world.now) c.evaluate.new.world c.args.here.depth c.in_err-x.ensures in
-    search (rules, h)
+    handed_on _ _ _ _ _ _ _ c.from_residual.ensures.1 h
 
 pub operations::calculate-returns-in_err-y : goal.operations::calculate-returns-in_err-y
 operations::calculate-returns-in_err-y t c =
     let h : Halted (value (caller c.args.here.job.now c.args.here.fuel) (Tree.Arithmetic (expr_of c.args.first.now) (arithmetic_of c.args.steps.now)) (context_of c.args.here.context.now) (world_of c.args.world.now)) c.args.here.depth (levels c.args.here.job.now c.args.here.fuel (max (expr_height (expr_of c.args.first.now)) (steps_height (arithmetic_of c.args.steps.now)))) c.in_err-y.field-0.0 c.evaluate-in-loop-step.new.world = chain.steps_halt c.args.here.job.now c.args.here.fuel (context_of c.args.here.context.now) c.args.steps.now c.loop-step.step-index c.step-item.result (number_of (value_of c.loop-step.x)) _ (world_of c.loop-step.world) c.evaluate-in-loop-step.new.world _ c.args.here.depth (expr_height (expr_of c.args.first.now)) c.loop-step.invariant c.in_err-y.ensures c.step-item.is c.loop-step-test.true in
-    search (rules, h)
+    handed_on _ _ _ _ _ _ _ c.from_residual-in_err-y.ensures.1 h
 
 pub operations::calculate-returns-in_err-x-2 : goal.operations::calculate-returns-in_err-x-2
 operations::calculate-returns-in_err-x-2 t c =
     let stopped : Stopped (value (caller c.args.here.job.now c.args.here.fuel) (Tree.Arithmetic (expr_of c.args.first.now) (arithmetic_of c.args.steps.now)) (context_of c.args.here.context.now) (world_of c.args.world.now)) c.in_err-x-2.field-0.0 c.evaluate-in-loop-step.new.world = chain.steps_stop (caller c.args.here.job.now c.args.here.fuel) (context_of c.args.here.context.now) c.args.steps.now c.loop-step.step-index c.step-item.result (number_of (value_of c.loop-step.x)) (value_of c.in_ok-y.y) _ (world_of c.loop-step.world) (world_of c.evaluate-in-loop-step.new.world) c.evaluate-in-loop-step.new.world _ c.loop-step.invariant c.in_ok-y.ensures c.in_err-x-2.ensures c.step-item.is c.loop-step-test.true in
     let h : Halted (value (caller c.args.here.job.now c.args.here.fuel) (Tree.Arithmetic (expr_of c.args.first.now) (arithmetic_of c.args.steps.now)) (context_of c.args.here.context.now) (world_of c.args.world.now)) c.args.here.depth (levels c.args.here.job.now c.args.here.fuel (max (expr_height (expr_of c.args.first.now)) (steps_height (arithmetic_of c.args.steps.now)))) c.in_err-x-2.field-0.0 c.evaluate-in-loop-step.new.world = stopped_halts _ _ _ _ _ stopped in
-    search (rules, h)
+    handed_on _ _ _ _ _ _ _ c.from_residual-in_err-x-2.ensures.1 h
 
 pub operations::calculate-loop-step-init : goal.operations::calculate-loop-step-init
 operations::calculate-loop-step-init t c =
@@ -308,12 +306,12 @@ operations::calculate-returns t c =
 pub operations::combine-returns-in_err-x : goal.operations::combine-returns-in_err-x
 operations::combine-returns-in_err-x t c =
     let h : Halted (value (caller c.args.here.job.now c.args.here.fuel) (Tree.Logic c.args.operator (expr_of c.args.first.now) (operands_of c.args.rest.now)) (context_of c.args.here.context.now) (world_of c.args.world.now)) c.args.here.depth (levels c.args.here.job.now c.args.here.fuel (max (expr_height (expr_of c.args.first.now)) (operands_height (operands_of c.args.rest.now)))) c.in_err-x.field-0.0 c.evaluate_truth.new.world = chain.operands_halt_first c.args.here.job.now c.args.here.fuel (context_of c.args.here.context.now) c.args.operator (expr_of c.args.first.now) (operands_of c.args.rest.now) _ (world_of c.args.world.now) c.evaluate_truth.new.world c.args.here.depth c.in_err-x.ensures in
-    search (rules, h)
+    handed_on _ _ _ _ _ _ _ c.from_residual.ensures.1 h
 
 pub operations::combine-returns-in_err-y : goal.operations::combine-returns-in_err-y
 operations::combine-returns-in_err-y t c =
     let h : Halted (value (caller c.args.here.job.now c.args.here.fuel) (Tree.Logic c.args.operator (expr_of c.args.first.now) (operands_of c.args.rest.now)) (context_of c.args.here.context.now) (world_of c.args.world.now)) c.args.here.depth (levels c.args.here.job.now c.args.here.fuel (max (expr_height (expr_of c.args.first.now)) (operands_height (operands_of c.args.rest.now)))) c.in_err-y.field-0.0 c.evaluate_truth-in-loop-operand.new.world = chain.operands_halt c.args.here.job.now c.args.here.fuel (context_of c.args.here.context.now) c.args.operator c.args.rest.now c.loop-operand.operand-index c.operand-item.result c.loop-operand.x _ (world_of c.loop-operand.world) c.evaluate_truth-in-loop-operand.new.world _ c.args.here.depth (expr_height (expr_of c.args.first.now)) c.loop-operand.invariant c.in_err-y.ensures c.operand-item.is c.loop-operand-test.true in
-    search (rules, h)
+    handed_on _ _ _ _ _ _ _ c.from_residual-in_err-y.ensures.1 h
 
 pub operations::combine-loop-operand-init : goal.operations::combine-loop-operand-init
 operations::combine-loop-operand-init t c =
@@ -383,8 +381,11 @@ statements::act-returns-in-While t c = arm.statement_runs c.args.here.job.now c.
 pub statements::act-returns-in-With : goal.statements::act-returns-in-With
 statements::act-returns-in-With t c = arm.statement_runs c.args.here.job.now c.args.here.fuel (context_of c.args.here.context.now) (world_of c.args.world.now) c.args.statement.now _ _ c.act_with.result c.act_with.new.world c.args.here.depth (arm.with_is _ _ _ _ _ c.in-With.is c.deref-in-With.ensures.value c.deref-in-With-2.ensures) refl c.act_with.ensures
 
-pub statements::act-returns-in-New : goal.statements::act-returns-in-New
-statements::act-returns-in-New t c = arm.statement_runs c.args.here.job.now c.args.here.fuel (context_of c.args.here.context.now) (world_of c.args.world.now) c.args.statement.now _ _ c.make.result c.make.new.world c.args.here.depth (arm.new_is _ _ _ _ c.in-New.is) refl c.make.ensures
+pub statements::act-returns-in_err-spot-in-New : goal.statements::act-returns-in_err-spot-in-New
+statements::act-returns-in_err-spot-in-New t c = arm.statement_runs c.args.here.job.now c.args.here.fuel (context_of c.args.here.context.now) (world_of c.args.world.now) c.args.statement.now _ _ _ _ c.args.here.depth (arm.new_is _ _ _ _ c.in-New.is) refl (handed_on _ _ _ _ _ _ _ c.from_residual.ensures.1 (halted_alone c.args.here.job.now c.args.here.fuel _ _ _ _ _ _ c.in_err-spot-in-New.ensures))
+
+pub statements::act-returns-in_ok-spot-in-New : goal.statements::act-returns-in_ok-spot-in-New
+statements::act-returns-in_ok-spot-in-New t c = arm.statement_runs c.args.here.job.now c.args.here.fuel (context_of c.args.here.context.now) (world_of c.args.world.now) c.args.statement.now _ _ c.put_object.result c.put_object.new.self c.args.here.depth (arm.new_is _ _ _ _ c.in-New.is) refl (a.new_runs c.args.here.job.now c.args.here.fuel (place_of c.in-New.place) _ _ (context_of c.args.here.context.now) (spot_of c.in_ok-spot-in-New.spot) (world_of c.args.world.now) (world_of c.access.new.world) c.put_object.result c.put_object.new.self (c.args.here.depth - 1) (levels c.args.here.job.now c.args.here.fuel (place_height (place_of c.in-New.place))) c.in_ok-spot-in-New.ensures (c.put_object.ensures c.args.here.fuel))
 
 pub statements::act-returns-in-Pack : goal.statements::act-returns-in-Pack
 statements::act-returns-in-Pack t c = arm.statement_runs c.args.here.job.now c.args.here.fuel (context_of c.args.here.context.now) (world_of c.args.world.now) c.args.statement.now _ _ c.pack.result c.pack.new.world c.args.here.depth (arm.pack_is _ _ _ _ _ _ _ _ _ c.in-Pack.is c.deref-in-Pack.ensures c.deref-in-Pack-2.ensures) refl c.pack.ensures
@@ -401,26 +402,26 @@ statements::act-returns-in-Write t c = arm.statement_runs c.args.here.job.now c.
 pub expressions::take_operand-returns-in_err-access-in-Contents : goal.expressions::take_operand-returns-in_err-access-in-Contents
 expressions::take_operand-returns-in_err-access-in-Contents t c =
     let h : Halted (operand (caller c.args.here.job.now c.args.here.fuel) (structure_of c.args.e.now) (context_of c.args.here.context.now) (world_of c.args.world.now)) c.args.here.depth (levels c.args.here.job.now c.args.here.fuel (structure_height (structure_of c.args.e.now))) c.in_err-access-in-Contents.field-0.0 c.access.new.world = chain.contents_halt c.args.here.job.now c.args.here.fuel (context_of c.args.here.context.now) (world_of c.args.world.now) c.args.e.now _ _ _ _ c.access.new.world c.args.here.depth c.in-Contents.is c.deref.ensures c.in_err-access-in-Contents.ensures in
-    search (rules, h)
+    handed_on _ _ _ _ _ _ _ c.from_residual.ensures.1 h
 
 pub expressions::take_operand-returns-in_ok-access-in-Contents : goal.expressions::take_operand-returns-in_ok-access-in-Contents
 expressions::take_operand-returns-in_ok-access-in-Contents t c =
     chain.contents_gives c.args.here.job.now c.args.here.fuel (context_of c.args.here.context.now) (world_of c.args.world.now) (world_of c.access.new.world) c.args.e.now _ _ _ c.in_ok-access-in-Contents.field-0 c.in-Contents.is c.deref.ensures c.in_ok-access-in-Contents.ensures
 
 pub calls::call_procedure-returns-in_err-actuals : goal.calls::call_procedure-returns-in_err-actuals
-calls::call_procedure-returns-in_err-actuals t c = grind (arith, halted_then)
+calls::call_procedure-returns-in_err-actuals t c = handed_on _ _ _ _ _ _ _ c.from_residual.ensures.1 (halted_alone c.args.here.job.now c.args.here.fuel _ _ _ _ _ _ c.in_err-actuals.ensures)
 
 pub calls::call_value-returns-in_err-actuals : goal.calls::call_value-returns-in_err-actuals
-calls::call_value-returns-in_err-actuals t c = grind (arith, halted_then)
+calls::call_value-returns-in_err-actuals t c = handed_on _ _ _ _ _ _ _ c.from_residual.ensures.1 (halted_alone c.args.here.job.now c.args.here.fuel _ _ _ _ _ _ c.in_err-actuals.ensures)
 
 pub choices::act_if-returns-in_err-x : goal.choices::act_if-returns-in_err-x
-choices::act_if-returns-in_err-x t c = grind (arith, halted_then)
+choices::act_if-returns-in_err-x t c = handed_on _ _ _ _ _ _ _ c.from_residual.ensures.1 (halted_left c.args.here.job.now c.args.here.fuel _ _ _ _ _ _ _ c.in_err-x.ensures)
 
 pub choices::act_if-returns-then-is_true : goal.choices::act_if-returns-then-is_true
 choices::act_if-returns-then-is_true t c = grind (arith, runs_deeper)
 
 pub choices::act_if_else-returns-in_err-x : goal.choices::act_if_else-returns-in_err-x
-choices::act_if_else-returns-in_err-x t c = grind (arith, halted_then)
+choices::act_if_else-returns-in_err-x t c = handed_on _ _ _ _ _ _ _ c.from_residual.ensures.1 (halted_left c.args.here.job.now c.args.here.fuel _ _ _ _ _ _ _ c.in_err-x.ensures)
 
 pub choices::act_if_else-returns-then-is_true : goal.choices::act_if_else-returns-then-is_true
 choices::act_if_else-returns-then-is_true t c = grind (arith, runs_deeper)
@@ -429,10 +430,7 @@ pub choices::act_if_else-returns : goal.choices::act_if_else-returns
 choices::act_if_else-returns t c = grind (arith, runs_deeper)
 
 pub choices::choose-returns-in_err-x : goal.choices::choose-returns-in_err-x
-choices::choose-returns-in_err-x t c = grind (arith, halted_then)
-
-pub expressions::access-returns : goal.expressions::access-returns
-expressions::access-returns t c = grind (arith, runs_deeper)
+choices::choose-returns-in_err-x t c = handed_on _ _ _ _ _ _ _ c.from_residual.ensures.1 (halted_left c.args.here.job.now c.args.here.fuel _ _ _ _ _ _ _ c.in_err-x.ensures)
 
 pub expressions::evaluate-returns-in-Eof : goal.expressions::evaluate-returns-in-Eof
 unfolding expr_of value_of integer_of
@@ -466,9 +464,9 @@ pub expressions::evaluate-returns-in_err-spot-in-Load : goal.expressions::evalua
 unfolding expr_of value_of integer_of
 expressions::evaluate-returns-in_err-spot-in-Load t c = grind (arith, halted_then, expr_of_Load)
 
-pub expressions::evaluate-returns-in_ok-contents-in-Load : goal.expressions::evaluate-returns-in_ok-contents-in-Load
+pub expressions::evaluate-returns-in_ok-spot-in-Load : goal.expressions::evaluate-returns-in_ok-spot-in-Load
 unfolding expr_of value_of integer_of
-expressions::evaluate-returns-in_ok-contents-in-Load t c = grind (arith, expr_of_Load)
+expressions::evaluate-returns-in_ok-spot-in-Load t c = grind (arith, answers_run, expr_of_Load)
 
 pub expressions::evaluate_member-returns-in_err-evaluate-in-One : goal.expressions::evaluate_member-returns-in_err-evaluate-in-One
 unfolding member_of
@@ -503,12 +501,12 @@ pub expressions::evaluate_set-returns-in_err-spot-in-Load : goal.expressions::ev
 unfolding set_of
 expressions::evaluate_set-returns-in_err-spot-in-Load t c = grind (arith, halted_then, set_of_Load)
 
-pub expressions::evaluate_set-returns-in_ok-set_at-in-Load : goal.expressions::evaluate_set-returns-in_ok-set_at-in-Load
+pub expressions::evaluate_set-returns-in_ok-spot-in-Load : goal.expressions::evaluate_set-returns-in_ok-spot-in-Load
 unfolding set_of
-expressions::evaluate_set-returns-in_ok-set_at-in-Load t c = grind (arith, set_of_Load)
+expressions::evaluate_set-returns-in_ok-spot-in-Load t c = grind (arith, answers_run, set_of_Load)
 
 pub expressions::evaluate_truth-returns-in_err-x : goal.expressions::evaluate_truth-returns-in_err-x
-expressions::evaluate_truth-returns-in_err-x t c = grind (arith, halted_then)
+expressions::evaluate_truth-returns-in_err-x t c = handed_on _ _ _ _ _ _ _ c.from_residual.ensures.1 (halted_alone c.args.here.job.now c.args.here.fuel _ _ _ _ _ _ c.in_err-x.ensures)
 
 pub expressions::select-returns-in_err-evaluate-in-Element : goal.expressions::select-returns-in_err-evaluate-in-Element
 unfolding selector_of
@@ -534,17 +532,17 @@ pub expressions::take_actual-returns-in_ok-access-in-Variable : goal.expressions
 unfolding argument_of actual_of
 expressions::take_actual-returns-in_ok-access-in-Variable t c = grind (arith, argument_of_Variable)
 
-pub expressions::take_actual-returns-in_err-contents_of-in-Copy : goal.expressions::take_actual-returns-in_err-contents_of-in-Copy
+pub expressions::take_actual-returns-in_ok-held-in-Copy : goal.expressions::take_actual-returns-in_ok-held-in-Copy
 unfolding argument_of actual_of
-expressions::take_actual-returns-in_err-contents_of-in-Copy t c = grind (arith, stopped_halts_then)
+expressions::take_actual-returns-in_ok-held-in-Copy t c = grind (arith, answers_run)
 
-pub expressions::take_actual-returns-in_err-fitting-in-Value : goal.expressions::take_actual-returns-in_err-fitting-in-Value
+pub expressions::take_actual-returns-in_ok-x-in-Value : goal.expressions::take_actual-returns-in_ok-x-in-Value
 unfolding argument_of actual_of
-expressions::take_actual-returns-in_err-fitting-in-Value t c = grind (arith, stopped_halts_then)
+expressions::take_actual-returns-in_ok-x-in-Value t c = grind (arith, answers_run)
 
-pub expressions::take_actual-returns-in_err-fitting_set-in-Set : goal.expressions::take_actual-returns-in_err-fitting_set-in-Set
+pub expressions::take_actual-returns-in_ok-s-in-Set : goal.expressions::take_actual-returns-in_ok-s-in-Set
 unfolding argument_of actual_of
-expressions::take_actual-returns-in_err-fitting_set-in-Set t c = grind (arith, stopped_halts_then)
+expressions::take_actual-returns-in_ok-s-in-Set t c = grind (arith, answers_run)
 
 pub expressions::take_actual-returns-in_err-held-in-Copy : goal.expressions::take_actual-returns-in_err-held-in-Copy
 unfolding argument_of actual_of
@@ -568,47 +566,44 @@ pub expressions::take_actuals-returns : goal.expressions::take_actuals-returns
 expressions::take_actuals-returns t c = grind (arith, actuals_end)
 
 pub operations::compare-returns-in_err-x : goal.operations::compare-returns-in_err-x
-operations::compare-returns-in_err-x t c = grind (arith, halted_then)
+operations::compare-returns-in_err-x t c = handed_on _ _ _ _ _ _ _ c.from_residual.ensures.1 (halted_left c.args.here.job.now c.args.here.fuel _ _ _ _ _ _ _ c.in_err-x.ensures)
 
 pub operations::compare-returns-in_err-y : goal.operations::compare-returns-in_err-y
-operations::compare-returns-in_err-y t c = grind (arith, halted_then)
+operations::compare-returns-in_err-y t c = a.then_ran _ _ _ _ _ _ _ _ _ c.in_ok-x.ensures (handed_on _ _ _ _ _ _ _ c.from_residual-in_err-y.ensures.1 (halted_right c.args.here.job.now c.args.here.fuel _ _ _ _ _ _ _ c.in_err-y.ensures))
 
 pub operations::compare_sets-returns-in_err-x : goal.operations::compare_sets-returns-in_err-x
-operations::compare_sets-returns-in_err-x t c = grind (arith, halted_then)
+operations::compare_sets-returns-in_err-x t c = handed_on _ _ _ _ _ _ _ c.from_residual.ensures.1 (halted_left c.args.here.job.now c.args.here.fuel _ _ _ _ _ _ _ c.in_err-x.ensures)
 
 pub operations::compare_sets-returns-in_err-y : goal.operations::compare_sets-returns-in_err-y
-operations::compare_sets-returns-in_err-y t c = grind (arith, halted_then)
+operations::compare_sets-returns-in_err-y t c = a.then_ran _ _ _ _ _ _ _ _ _ c.in_ok-x.ensures (handed_on _ _ _ _ _ _ _ c.from_residual-in_err-y.ensures.1 (halted_right c.args.here.job.now c.args.here.fuel _ _ _ _ _ _ _ c.in_err-y.ensures))
 
 pub operations::compare_strings-returns-in_err-x : goal.operations::compare_strings-returns-in_err-x
-operations::compare_strings-returns-in_err-x t c = grind (arith, halted_then)
+operations::compare_strings-returns-in_err-x t c = handed_on _ _ _ _ _ _ _ c.from_residual.ensures.1 (halted_left c.args.here.job.now c.args.here.fuel _ _ _ _ _ _ _ c.in_err-x.ensures)
 
 pub operations::compare_strings-returns-in_err-y : goal.operations::compare_strings-returns-in_err-y
-operations::compare_strings-returns-in_err-y t c = grind (arith, halted_then)
+operations::compare_strings-returns-in_err-y t c = a.then_ran _ _ _ _ _ _ _ _ _ c.in_ok-x.ensures (handed_on _ _ _ _ _ _ _ c.from_residual-in_err-y.ensures.1 (halted_right c.args.here.job.now c.args.here.fuel _ _ _ _ _ _ _ c.in_err-y.ensures))
 
 pub operations::compare_strings-returns : goal.operations::compare_strings-returns
 operations::compare_strings-returns t c = a.then_ran _ _ _ _ _ _ _ _ _ c.in_ok-x.ensures (a.then_runs _ _ _ _ _ _ _ _ _ c.in_ok-y.ensures c.strings_compared.ensures)
 
 pub operations::test_member-returns-in_err-evaluate : goal.operations::test_member-returns-in_err-evaluate
-operations::test_member-returns-in_err-evaluate t c = grind (arith, halted_then)
+operations::test_member-returns-in_err-evaluate t c = handed_on _ _ _ _ _ _ _ c.from_residual.ensures.1 (halted_left c.args.here.job.now c.args.here.fuel _ _ _ _ _ _ _ c.in_err-evaluate.ensures)
 
 pub operations::test_member-returns-in_err-s : goal.operations::test_member-returns-in_err-s
-operations::test_member-returns-in_err-s t c = grind (arith, halted_then)
+operations::test_member-returns-in_err-s t c = a.then_ran _ _ _ _ _ _ _ _ _ c.in_ok-evaluate.ensures (handed_on _ _ _ _ _ _ _ c.from_residual-in_err-s.ensures.1 (halted_right c.args.here.job.now c.args.here.fuel _ _ _ _ _ _ _ c.in_err-s.ensures))
 
 pub statements::act-returns-in-AssignSet : goal.statements::act-returns-in-AssignSet
 unfolding statement_of
 statements::act-returns-in-AssignSet t c = grind (arith, runs_deeper)
 
 pub statements::act-returns-in_err-read_all-in-Readln : goal.statements::act-returns-in_err-read_all-in-Readln
-unfolding statement_of
-statements::act-returns-in_err-read_all-in-Readln t c = grind (arith, halted_then)
+statements::act-returns-in_err-read_all-in-Readln t c = arm.statement_runs c.args.here.job.now c.args.here.fuel (context_of c.args.here.context.now) (world_of c.args.world.now) c.args.statement.now _ _ _ _ c.args.here.depth (arm.readln_is _ _ _ _ c.in-Readln.is c.deref-in-Readln.ensures.value) refl (handed_on _ _ _ _ _ _ _ c.from_residual-in_err-read_all-in-Readln.ensures.1 (halted_alone c.args.here.job.now c.args.here.fuel _ _ _ _ _ _ c.in_err-read_all-in-Readln.ensures))
 
 pub statements::act-returns-in_err-write_all-in-Writeln : goal.statements::act-returns-in_err-write_all-in-Writeln
-unfolding statement_of
-statements::act-returns-in_err-write_all-in-Writeln t c = grind (arith, halted_then)
+statements::act-returns-in_err-write_all-in-Writeln t c = arm.statement_runs c.args.here.job.now c.args.here.fuel (context_of c.args.here.context.now) (world_of c.args.world.now) c.args.statement.now _ _ _ _ c.args.here.depth (arm.writeln_is _ _ _ c.in-Writeln.is c.deref-in-Writeln.ensures.value) refl (handed_on _ _ _ _ _ _ _ c.from_residual-in_err-write_all-in-Writeln.ensures.1 (halted_alone c.args.here.job.now c.args.here.fuel _ _ _ _ _ _ c.in_err-write_all-in-Writeln.ensures))
 
 pub statements::act-returns-in_ok-read_all-in-Readln : goal.statements::act-returns-in_ok-read_all-in-Readln
-unfolding statement_of
-statements::act-returns-in_ok-read_all-in-Readln t c = grind (arith, answers_run)
+statements::act-returns-in_ok-read_all-in-Readln t c = arm.statement_runs c.args.here.job.now c.args.here.fuel (context_of c.args.here.context.now) (world_of c.args.world.now) c.args.statement.now _ _ _ _ c.args.here.depth (arm.readln_is _ _ _ _ c.in-Readln.is c.deref-in-Readln.ensures.value) refl (a.then_runs _ _ _ _ _ _ _ _ _ c.in_ok-read_all-in-Readln.ensures c.line_taken.ensures)
 
 pub statements::act-returns-in_ok-write_all-in-Writeln : goal.statements::act-returns-in_ok-write_all-in-Writeln
 unfolding statement_of
@@ -621,52 +616,49 @@ pub statements::act_all-returns : goal.statements::act_all-returns
 statements::act_all-returns t c = grind (arith, acts_end)
 
 pub statements::assign-returns-in_err-spot : goal.statements::assign-returns-in_err-spot
-statements::assign-returns-in_err-spot t c = grind (arith, halted_then)
+statements::assign-returns-in_err-spot t c = handed_on _ _ _ _ _ _ _ c.from_residual.ensures.1 (halted_left c.args.here.job.now c.args.here.fuel _ _ _ _ _ _ _ c.in_err-spot.ensures)
 
 pub statements::assign-returns-in_err-x : goal.statements::assign-returns-in_err-x
-statements::assign-returns-in_err-x t c = grind (arith, halted_then)
+statements::assign-returns-in_err-x t c = a.then_ran _ _ _ _ _ _ _ _ _ c.in_ok-spot.ensures (handed_on _ _ _ _ _ _ _ c.from_residual-in_err-x.ensures.1 (halted_right c.args.here.job.now c.args.here.fuel _ _ _ _ _ _ _ c.in_err-x.ensures))
 
 pub statements::assign-returns : goal.statements::assign-returns
 statements::assign-returns t c = a.then_ran _ _ _ _ _ _ _ _ _ c.in_ok-spot.ensures (a.then_runs _ _ _ _ _ _ _ _ _ c.in_ok-x.ensures c.put_fitting.ensures)
 
 pub statements::assign_set-returns-in_err-spot : goal.statements::assign_set-returns-in_err-spot
-statements::assign_set-returns-in_err-spot t c = grind (arith, halted_then)
+statements::assign_set-returns-in_err-spot t c = handed_on _ _ _ _ _ _ _ c.from_residual.ensures.1 (halted_left c.args.here.job.now c.args.here.fuel _ _ _ _ _ _ _ c.in_err-spot.ensures)
 
 pub statements::assign_set-returns-in_err-x : goal.statements::assign_set-returns-in_err-x
-statements::assign_set-returns-in_err-x t c = grind (arith, halted_then)
+statements::assign_set-returns-in_err-x t c = a.then_ran _ _ _ _ _ _ _ _ _ c.in_ok-spot.ensures (handed_on _ _ _ _ _ _ _ c.from_residual-in_err-x.ensures.1 (halted_right c.args.here.job.now c.args.here.fuel _ _ _ _ _ _ _ c.in_err-x.ensures))
 
 pub statements::assign_set-returns : goal.statements::assign_set-returns
 statements::assign_set-returns t c = grind (arith, answers_run)
 
 pub statements::assign_structure-returns-in_err-spot : goal.statements::assign_structure-returns-in_err-spot
-statements::assign_structure-returns-in_err-spot t c = grind (arith, halted_then)
+statements::assign_structure-returns-in_err-spot t c = handed_on _ _ _ _ _ _ _ c.from_residual.ensures.1 (halted_left c.args.here.job.now c.args.here.fuel _ _ _ _ _ _ _ c.in_err-spot.ensures)
 
 pub statements::assign_structure-returns-in_err-held : goal.statements::assign_structure-returns-in_err-held
-statements::assign_structure-returns-in_err-held t c = grind (arith, halted_then)
+statements::assign_structure-returns-in_err-held t c = a.then_ran _ _ _ _ _ _ _ _ _ c.in_ok-spot.ensures (handed_on _ _ _ _ _ _ _ c.from_residual-in_err-held.ensures.1 (halted_right c.args.here.job.now c.args.here.fuel _ _ _ _ _ _ _ c.in_err-held.ensures))
 
 pub statements::assign_structure-returns : goal.statements::assign_structure-returns
 statements::assign_structure-returns t c = a.then_ran _ _ _ _ _ _ _ _ _ c.in_ok-spot.ensures (a.then_runs _ _ _ _ _ _ _ _ _ c.in_ok-held.ensures c.put_contents.ensures)
 
-pub statements::make-returns-in_err-spot : goal.statements::make-returns-in_err-spot
-statements::make-returns-in_err-spot t c = grind (arith, halted_then)
-
 pub statements::pack-returns-in_err-a : goal.statements::pack-returns-in_err-a
-statements::pack-returns-in_err-a t c = grind (arith, halted_then)
+statements::pack-returns-in_err-a t c = handed_on _ _ _ _ _ _ _ c.from_residual.ensures.1 (halted_left c.args.here.job.now c.args.here.fuel _ _ _ _ _ _ _ c.in_err-a.ensures)
 
 pub statements::pack-returns-in_err-evaluate : goal.statements::pack-returns-in_err-evaluate
-statements::pack-returns-in_err-evaluate t c = grind (arith, halted_then)
+statements::pack-returns-in_err-evaluate t c = a.then_ran _ _ _ _ _ _ _ _ _ c.in_ok-a.ensures (handed_on _ _ _ _ _ _ _ c.from_residual-in_err-evaluate.ensures.1 (halted_middle c.args.here.job.now c.args.here.fuel _ _ _ _ _ _ _ _ c.in_err-evaluate.ensures))
 
 pub statements::pack-returns-in_err-z : goal.statements::pack-returns-in_err-z
 statements::pack-returns-in_err-z t c = grind (arith, halted_then)
 
 pub statements::unpack-returns-in_err-z : goal.statements::unpack-returns-in_err-z
-statements::unpack-returns-in_err-z t c = grind (arith, halted_then)
+statements::unpack-returns-in_err-z t c = handed_on _ _ _ _ _ _ _ c.from_residual.ensures.1 (halted_left c.args.here.job.now c.args.here.fuel _ _ _ _ _ _ _ c.in_err-z.ensures)
 
 pub statements::unpack-returns-in_err-a : goal.statements::unpack-returns-in_err-a
-statements::unpack-returns-in_err-a t c = grind (arith, halted_then)
+statements::unpack-returns-in_err-a t c = a.then_ran _ _ _ _ _ _ _ _ _ c.in_ok-z.ensures (handed_on _ _ _ _ _ _ _ c.from_residual-in_err-a.ensures.1 (halted_middle c.args.here.job.now c.args.here.fuel _ _ _ _ _ _ _ _ c.in_err-a.ensures))
 
 pub statements::unpack-returns-in_err-evaluate : goal.statements::unpack-returns-in_err-evaluate
-statements::unpack-returns-in_err-evaluate t c = grind (arith, halted_then)
+statements::unpack-returns-in_err-evaluate t c = a.then_ran _ _ _ _ _ _ _ _ _ c.in_ok-z.ensures (a.then_ran _ _ _ _ _ _ _ _ _ c.in_ok-a.ensures (handed_on _ _ _ _ _ _ _ c.from_residual-in_err-evaluate.ensures.1 (halted_last c.args.here.job.now c.args.here.fuel _ _ _ _ _ _ _ _ c.in_err-evaluate.ensures)))
 
 pub transfers::evaluate_width-returns-in_err-evaluate-in-Given : goal.transfers::evaluate_width-returns-in_err-evaluate-in-Given
 unfolding width_of
@@ -677,19 +669,19 @@ unfolding width_of
 transfers::evaluate_width-returns-in_ok-evaluate-in-Given t c = grind (arith, answers_run)
 
 pub transfers::write_contents-returns-in_err-held : goal.transfers::write_contents-returns-in_err-held
-transfers::write_contents-returns-in_err-held t c = grind (arith, halted_then)
+transfers::write_contents-returns-in_err-held t c = handed_on _ _ _ _ _ _ _ c.from_residual.ensures.1 (halted_left c.args.here.job.now c.args.here.fuel _ _ _ _ _ _ _ c.in_err-held.ensures)
 
 pub transfers::write_contents-returns-in_err-n : goal.transfers::write_contents-returns-in_err-n
-transfers::write_contents-returns-in_err-n t c = grind (arith, halted_then)
+transfers::write_contents-returns-in_err-n t c = a.then_ran _ _ _ _ _ _ _ _ _ c.in_ok-held.ensures (handed_on _ _ _ _ _ _ _ c.from_residual-in_err-n.ensures.1 (halted_right c.args.here.job.now c.args.here.fuel _ _ _ _ _ _ _ c.in_err-n.ensures))
 
 pub transfers::write_contents-returns : goal.transfers::write_contents-returns
 transfers::write_contents-returns t c = grind (arith, answers_run)
 
 pub transfers::write_evaluated-returns-in_err-x : goal.transfers::write_evaluated-returns-in_err-x
-transfers::write_evaluated-returns-in_err-x t c = grind (arith, halted_then)
+transfers::write_evaluated-returns-in_err-x t c = handed_on _ _ _ _ _ _ _ c.from_residual.ensures.1 (halted_left c.args.here.job.now c.args.here.fuel _ _ _ _ _ _ _ c.in_err-x.ensures)
 
 pub transfers::write_evaluated-returns-in_err-n : goal.transfers::write_evaluated-returns-in_err-n
-transfers::write_evaluated-returns-in_err-n t c = grind (arith, halted_then)
+transfers::write_evaluated-returns-in_err-n t c = a.then_ran _ _ _ _ _ _ _ _ _ c.in_ok-x.ensures (handed_on _ _ _ _ _ _ _ c.from_residual-in_err-n.ensures.1 (halted_right c.args.here.job.now c.args.here.fuel _ _ _ _ _ _ _ c.in_err-n.ensures))
 
 pub transfers::write_evaluated-returns : goal.transfers::write_evaluated-returns
 transfers::write_evaluated-returns t c = a.then_ran _ _ _ _ _ _ _ _ _ c.in_ok-x.ensures (a.then_runs _ _ _ _ _ _ _ _ _ c.in_ok-n.ensures c.write_value.ensures)

@@ -81,14 +81,14 @@ invariant-loops::repeat_until-loop-world l = record {
 abbrev pub decreases-loops::repeat_until-loop-world : goal.decreases-loops::repeat_until-loop-world
 decreases-loops::repeat_until-loop-world l = l.left
 
-abbrev pub invariant-loops::turns-loop-spot : goal.invariant-loops::turns-loop-spot
-invariant-loops::turns-loop-spot l = record {
+abbrev pub invariant-loops::turns-loop-world : goal.invariant-loops::turns-loop-world
+invariant-loops::turns-loop-world l = record {
   same : turning l.here.job.now l.left l.variable l.direction (number_of (value_of l.last)) (statement_of l.body) (context_of l.here.context.now) (world_of l.world) ≡ turning l.here.job.now l.here.fuel l.variable l.direction (number_of (value_of l.last)) (statement_of l.body) (context_of l.here.context.now) (world_of l.fn.world);
   left : l.left ≤ l.here.fuel;
 }
 
-abbrev pub decreases-loops::turns-loop-spot : goal.decreases-loops::turns-loop-spot
-decreases-loops::turns-loop-spot l = l.left
+abbrev pub decreases-loops::turns-loop-world : goal.decreases-loops::turns-loop-world
+decreases-loops::turns-loop-world l = l.left
 
 abbrev pub decreases-loops::count : goal.decreases-loops::count
 decreases-loops::count l = 16 * l.here.depth + 3
@@ -122,9 +122,6 @@ invariant-statements::act_with-loop-place l = record {
   rest : opening_all l.here.job.now l.here.fuel (map place_of (drop l.place-index l.places)) (context_of l.inner) (world_of l.world) ≡ opening_all l.here.job.now l.here.fuel (map place_of l.places) (context_of l.here.context.now) (world_of l.fn.world);
   kept : context_of l.inner ≡ with_opened (opened_in l.inner) (context_of l.here.context.now);
 }
-
-abbrev pub decreases-statements::make : goal.decreases-statements::make
-decreases-statements::make l = 16 * l.here.depth + 1
 
 abbrev pub decreases-statements::pack : goal.decreases-statements::pack
 decreases-statements::pack l = 16 * l.here.depth + 1
@@ -177,17 +174,14 @@ decreases-choices::act_if_else l = 16 * l.here.depth + 2
 abbrev pub decreases-transfers::write_contents : goal.decreases-transfers::write_contents
 decreases-transfers::write_contents l = 16 * l.here.depth + 2
 
-abbrev pub decreases-expressions::select_all : goal.decreases-expressions::select_all
-decreases-expressions::select_all l = 16 * l.here.depth + 2
-
 abbrev pub decreases-expressions::select : goal.decreases-expressions::select
 decreases-expressions::select l = 16 * l.here.depth + 1
 
 abbrev pub decreases-expressions::combine_all : goal.decreases-expressions::combine_all
 decreases-expressions::combine_all l = 16 * l.here.depth + 1
 
-abbrev pub invariant-expressions::select_all-loop-selector : goal.invariant-expressions::select_all-loop-selector
-invariant-expressions::select_all-loop-selector l = e.accesses (caller l.here.job.now l.here.fuel) (selectors_of (drop l.selector-index l.selectors)) (spot_of l.spot) (context_of l.here.context.now) (world_of l.world) ≡ e.accesses (caller l.here.job.now l.here.fuel) (selectors_of l.selectors) (spot_of l.fn.base) (context_of l.here.context.now) (world_of l.fn.world)
+abbrev pub invariant-expressions::access-loop-selector : goal.invariant-expressions::access-loop-selector
+invariant-expressions::access-loop-selector l = e.accesses (caller l.here.job.now l.here.fuel) (selectors_of (drop l.selector-index l.selector-items)) (spot_of l.spot) (context_of l.here.context.now) (world_of l.world) ≡ e.access (caller l.here.job.now l.here.fuel) (place_of l.place) (context_of l.here.context.now) (world_of l.fn.world)
 
 abbrev pub invariant-expressions::combine_all-loop-step : goal.invariant-expressions::combine_all-loop-step
 invariant-expressions::combine_all-loop-step l = e.sets_combined (caller l.here.job.now l.here.fuel) (set_steps_of (drop l.step-index l.steps)) (listed l.tests.items) (context_of l.here.context.now) (world_of l.world) ≡ e.set_value (caller l.here.job.now l.here.fuel) (Tree.Combine (set_of l.first) (set_steps_of l.steps)) (context_of l.here.context.now) (world_of l.fn.world)
