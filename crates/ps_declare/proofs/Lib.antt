@@ -3,4 +3,3 @@ pub mod FoldLemmas
 pub mod HiddenLemmas
 pub mod DenoterLemmas
 pub mod HeadingLemmas
-pub mod Refused

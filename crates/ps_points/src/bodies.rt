@@ -224,15 +224,11 @@ fn changed(
 ) -> Option<Repeated>
     ensures { IsRepeatedThere name (statement_body body.now opened).uses result }
 {
-    match in_statement(body, opened, Sought::At(at)) {
-        None => None,
-        Some(changed) => {
-            if same_name(reading, name, changed.name) {
-                Some(Repeated { name, changed })
-            } else {
-                None
-            }
-        }
+    let changed = in_statement(body, opened, Sought::At(at))?;
+    if same_name(reading, name, changed.name) {
+        Some(Repeated { name, changed })
+    } else {
+        None
     }
 }
 

@@ -31,15 +31,11 @@ fn confirmed(
 ) -> Option<u32>
     ensures { IfSome result (IsSomewhere asked reading.now.source.now points.now (program_levels written.now)) }
 {
-    match at {
-        None => None,
-        Some(at) => {
-            if is_broken(asked, reading, points, written, at) {
-                Some(at)
-            } else {
-                None
-            }
-        }
+    let at = at?;
+    if is_broken(asked, reading, points, written, at) {
+        Some(at)
+    } else {
+        None
     }
 }
 

@@ -144,10 +144,9 @@ fn need_in(reading: &Reading, points: &[Point], levels: &Levels, way: Way) -> Op
     ensures { IfSome result (Needs reading.now.source.now points.now (levels_of levels.now) way) }
 {
     match way {
-        Way::Passed { routine, index } => match formal_in(reading, points, levels, routine, index) {
-            None => None,
-            Some(form) => need_of_formal(form),
-        },
+        Way::Passed { routine, index } => {
+            need_of_formal(formal_in(reading, points, levels, routine, index)?)
+        }
         _ => need_of(way),
     }
 }

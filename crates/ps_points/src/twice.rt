@@ -59,12 +59,8 @@ fn completes(first: Form, second: Form) -> bool
 fn repeated(reading: &Reading, points: &[Point], earlier: usize, later: usize) -> Option<u32>
     ensures { IfSome result (IsTwice reading.now.source.now points.now) }
 {
-    let Some(first) = points.get(earlier) else {
-        return None;
-    };
-    let Some(second) = points.get(later) else {
-        return None;
-    };
+    let first = points.get(earlier)?;
+    let second = points.get(later)?;
     if earlier < later
         && are_alike(reading, *first, *second)
         && !completes(first.form, second.form)

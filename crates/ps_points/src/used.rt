@@ -15,15 +15,11 @@ use ps_syntax::Block;
 fn confirmed(found: Option<Use>, at: u32) -> Option<Use>
     ensures { (uses : Uses) → IsFound uses found → IfSome result (IsUseAt uses at) }
 {
-    match found {
-        None => None,
-        Some(found) => {
-            if found.name.from == at {
-                Some(found)
-            } else {
-                None
-            }
-        }
+    let found = found?;
+    if found.name.from == at {
+        Some(found)
+    } else {
+        None
     }
 }
 

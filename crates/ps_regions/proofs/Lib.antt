@@ -1,3 +1,4 @@
 pub mod Lists
 pub mod DenotesLemmas
 pub mod ViewLemmas
+pub mod Refused

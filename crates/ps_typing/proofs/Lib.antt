@@ -1,6 +1,5 @@
 pub mod Equations
 pub mod Judgement
 pub mod ParameterLemmas
-pub mod Refused
 pub mod CallLemmas
 pub mod Examples

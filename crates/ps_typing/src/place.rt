@@ -6,9 +6,10 @@ ghost use Rattle.ps_tree.specs.View.{type_of, expr_of, place_of, base_of};
 ghost use Rattle.ps_regions.specs.Refusal.{IsFault, IsToldAt};
 ghost use Rattle.ps_regions.specs.declared.refusal.Fault.TheVariants.{Broken};
 ghost use Rattle.ps_regions.specs.declared.refusal.Rule.TheVariants.{WrongKind};
-ghost use Rattle.ps_regions.specs.Views.{point_of};
+ghost use Rattle.ps_regions.specs.Views.{point_of, meaning_of};
 ghost use Rattle.ps_tree.specs.Chains.{selected};
 ghost use Rattle.ps_typing.specs.Values.{is_packed};
+ghost use Rattle.ps_typing.specs.Names.{misplacement};
 ghost use Rattle.ps_typing.specs.Places.{variable_at, index_operand, element, component, target};
 ghost use Rattle.ps_typing.specs.View.{context_at, value_of, variable_of};
 
@@ -37,9 +38,10 @@ pub fn wrong_kind(at: u32) -> Fault
 
 /// Why a name that has such a meaning, at `at`, is not what its place needs. The profile leaves some out, there or
 /// everywhere: the files stand as first parameters of some required routines alone.
+#[tactic(auto, unfolding(crate::specs::Names::misplacement, ps_regions::specs::Views::meaning_of))]
 pub(crate) fn misplaced(meaning: &Meaning, at: u32) -> Fault
     ensures fault { IsFault result }
-    ensures told { IsToldAt at result }
+    ensures told { result ≡ Broken (misplacement (meaning_of meaning.now)) at }
 {
     match meaning {
         Meaning::File(_) | Meaning::LeftOut => Fault::Broken {

@@ -1,5 +1,5 @@
 use Rattle.std.proofs.Common.{refl}
-use Rattle.ps_declare.proofs.Refused.{refused}
+use Rattle.ps_regions.proofs.Refused.{refused}
 use Rattle.ps_regions.specs.Views.{scope_of}
 use Rattle.ps_check.specs.Programs.{program_with}
 use Rattle.ps_check.proofs.checking.check_block.Goals as goal

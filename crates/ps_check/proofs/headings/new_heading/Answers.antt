@@ -1,6 +1,6 @@
 use Rattle.std.proofs.Common.{refl}
 use Rattle.std.proofs.lemmas.List.{length-map}
-use Rattle.ps_declare.proofs.Refused.{refused}
+use Rattle.ps_regions.proofs.Refused.{refused}
 use Rattle.ps_check.specs.Blocks.{new_heading}
 use Rattle.ps_check.specs.Views.{finished_of}
 use Rattle.ps_declare.specs.Views.{hidden_of}

@@ -1,6 +1,6 @@
 use Rattle.std.proofs.Common.{refl}
 use Rattle.ps_declare.specs.Declarations.{declarations}
-use Rattle.ps_declare.proofs.Refused.{refused}
+use Rattle.ps_regions.proofs.Refused.{refused}
 use Rattle.ps_declare.proofs.declarations.declarations.Goals as goal
 
 pub returns-in_err-define_constants-clause-err : goal.returns-in_err-define_constants-clause-err

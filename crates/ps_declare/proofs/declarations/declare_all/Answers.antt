@@ -1,6 +1,6 @@
 use Rattle.std.proofs.Common.{◌<◌, ◌≤◌, length, arith}
 use Rattle.ps_regions.proofs.Lists.{stepped_next_of, stepped_fault_of, stepped_end}
-use Rattle.ps_declare.proofs.Refused.{refused}
+use Rattle.ps_regions.proofs.Refused.{refused}
 use Rattle.ps_declare.proofs.declarations.declare_all.Goals as goal
 
 pub loop-declaration-preserved : goal.loop-declaration-preserved

@@ -1,7 +1,7 @@
 use Rattle.std.proofs.Common.{◌<◌, ◌≤◌, length, arith}
 use Rattle.ps_text.specs.declared.Span.{Span}
 use Rattle.ps_regions.proofs.Lists.{stepped_next, stepped_fault, stepped_end}
-use Rattle.ps_declare.proofs.Refused.{refused}
+use Rattle.ps_regions.proofs.Refused.{refused}
 use Rattle.ps_declare.proofs.declarations.declare_names.Goals as goal
 
 -- what a variable becomes doesn't hang on its name

@@ -1,6 +1,6 @@
 use Rattle.std.proofs.Common.{◌<◌, ◌≤◌, length, arith}
 use Rattle.ps_regions.proofs.Lists.{stepped_next, stepped_fault, stepped_end}
-use Rattle.ps_declare.proofs.Refused.{refused}
+use Rattle.ps_regions.proofs.Refused.{refused}
 use Rattle.ps_declare.proofs.declarations.define_constants.Goals as goal
 
 pub loop-definition-preserved : goal.loop-definition-preserved

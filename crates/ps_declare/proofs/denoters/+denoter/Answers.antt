@@ -2,7 +2,7 @@ use Rattle.std.proofs.Common.{◌<◌, ◌≤◌, length, refl, arith}
 use Rattle.ps_regions.proofs.Lists.{stepped_next_map, stepped_fault_map, stepped_end_map}
 use Rattle.ps_declare.specs.Denoters.{array_type, record_type}
 use Rattle.ps_declare.specs.Views.{hidden_of}
-use Rattle.ps_declare.proofs.Refused.{refused}
+use Rattle.ps_regions.proofs.Refused.{refused}
 use Rattle.ps_declare.proofs.FoldLemmas.{denoter_Ordinal, denoter_Pointer, denoter_Structure, denoter_Packed, structure_Array, structure_Record, structure_Set}
 use Rattle.ps_declare.proofs.denoters.+denoter.Goals as goal
 

@@ -5,7 +5,7 @@ use Rattle.ps_regions.proofs.Lists.{stepped_next_map, stepped_fault_map, stepped
 use Rattle.ps_declare.specs.Headings.{add_section, section, sections_of}
 use Rattle.ps_declare.specs.Views.{frame_of, hidden_of}
 use Rattle.ps_declare.proofs.HeadingLemmas.{section_Routine, routine_made, heading_Procedure, heading_Function, section_Value, section_Variable}
-use Rattle.ps_declare.proofs.Refused.{refused}
+use Rattle.ps_regions.proofs.Refused.{refused}
 use Rattle.ps_declare.proofs.headings.+heading.Goals as goal
 
 pub all_sections-returns-in_err-add_section-clause-err : goal.all_sections-returns-in_err-add_section-clause-err

@@ -3,7 +3,7 @@ use Rattle.std.proofs.lemmas.Result.{on_ok_weaker}
 use Rattle.ps_declare.specs.Points.{type_points}
 use Rattle.ps_declare.proofs.FoldLemmas.{points_pointer}
 use Rattle.ps_declare.proofs.Walks.{walked_next, walked_fault, walked_end, added_none, added_both, added_first, added_second}
-use Rattle.ps_declare.proofs.Refused.{refused, still_refused}
+use Rattle.ps_regions.proofs.Refused.{refused, still_refused}
 use Rattle.ps_declare.proofs.points.+points.Goals as goal
 
 pub add_fields-loop-fields-preserved : goal.add_fields-loop-fields-preserved

@@ -1,6 +1,6 @@
 use Rattle.std.proofs.Common.{◌<◌, ◌≤◌, length, arith}
 use Rattle.ps_declare.proofs.Walks.{walked_next_at, walked_fault_at, walked_end}
-use Rattle.ps_declare.proofs.Refused.{refused}
+use Rattle.ps_regions.proofs.Refused.{refused}
 use Rattle.ps_declare.proofs.points.add_constants.Goals as goal
 
 pub loop-definition-preserved : goal.loop-definition-preserved

@@ -1,7 +1,7 @@
 use Rattle.std.proofs.Common.{refl, arith}
 use Rattle.ps_declare.specs.Points.{definition_points}
 use Rattle.ps_declare.proofs.Walks.{added_both, added_first, added_second}
-use Rattle.ps_declare.proofs.Refused.{refused}
+use Rattle.ps_regions.proofs.Refused.{refused}
 use Rattle.ps_declare.proofs.points.add_definition.Goals as goal
 
 pub returns-in_err-add_type-clause-err : goal.returns-in_err-add_type-clause-err

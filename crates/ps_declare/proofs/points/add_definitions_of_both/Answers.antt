@@ -1,7 +1,7 @@
 use Rattle.std.proofs.Common.{refl}
 use Rattle.std.proofs.lemmas.Result.{on_ok_weaker}
 use Rattle.ps_declare.proofs.Walks.{added_both, added_first, added_second}
-use Rattle.ps_declare.proofs.Refused.{refused, still_refused}
+use Rattle.ps_regions.proofs.Refused.{refused, still_refused}
 use Rattle.ps_declare.proofs.points.add_definitions_of_both.Goals as goal
 
 pub returns-in_err-add_constants-clause-err : goal.returns-in_err-add_constants-clause-err

@@ -1,6 +1,6 @@
 use Rattle.std.proofs.Common.{◌<◌, ◌≤◌, length, arith}
 use Rattle.ps_declare.proofs.Walks.{walked_next, walked_fault, walked_end}
-use Rattle.ps_declare.proofs.Refused.{refused}
+use Rattle.ps_regions.proofs.Refused.{refused}
 use Rattle.ps_declare.proofs.points.add_ordinals.Goals as goal
 
 pub loop-ordinal-preserved : goal.loop-ordinal-preserved

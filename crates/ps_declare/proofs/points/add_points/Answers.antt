@@ -1,7 +1,7 @@
 use Rattle.std.proofs.Common.{◌<◌, ◌≤◌, length, arith}
 use Rattle.ps_regions.proofs.Lists.{stepped_next, stepped_fault, stepped_end}
 use Rattle.ps_declare.specs.Points.{add_points}
-use Rattle.ps_declare.proofs.Refused.{refused}
+use Rattle.ps_regions.proofs.Refused.{refused}
 use Rattle.ps_declare.proofs.points.add_points.Goals as goal
 
 pub loop-point-preserved : goal.loop-point-preserved

@@ -10,7 +10,8 @@ use Rattle.ps_typing.proofs.CallLemmas.{fault_listed}
 use Rattle.ps_statements.specs.Procedures.{actual_parameter, actual_parameters}
 use Rattle.ps_typing.proofs.CallLemmas.{uneven_listed}
 use Rattle.ps_statements.proofs.Loops.{both_added}
-use Rattle.ps_statements.proofs.Paired.{is_some_map, refused}
+use Rattle.ps_regions.proofs.Refused.{told_by}
+use Rattle.ps_statements.proofs.Paired.{is_some_map}
 use Rattle.ps_statements.proofs.argument.actual_parameters.Goals as goal
 
 pub returns-then-is_some-clause-err : goal.returns-then-is_some-clause-err
@@ -31,7 +32,7 @@ pub returns-in_err-push_answer-clause-err : goal.returns-in_err-push_answer-clau
 returns-in_err-push_answer-clause-err c =
     let p = err_from_is_err_and c.from_residual-in_err-push_answer.result c.from_residual-in_err-push_answer.ensures.1 in
     let parts : IsFault c.in_err-push_answer.field-0.0 → actual_parameters (context_at c.args.site) (regions_at c.args.site) (sections_of c.args.sections.now) c.args.list.now ≡ None =
-    λ told. fault_listed (actual_parameter (context_at c.args.site) (regions_at c.args.site)) (λ s. section_of s.now) c.in_ok-formals.formals.items _ c.args.list.now c.loop-i.i _ c.index.result.now c.index-list-i.result c.in_ok-formals.ensures (omega arith) c.loop-i-test.true c.index.ensures c.index-list-i.is c.loop-i.invariant (refused (actual_parameter (context_at c.args.site) (regions_at c.args.site) (section_of c.index.result.now.now) c.index-list-i.result) c.actual_parameter.result c.in_err-push_answer.field-0.0 c.actual_parameter.ensures.err (c.in_err-push_answer.ensures.err told) told) in
+    λ told. fault_listed (actual_parameter (context_at c.args.site) (regions_at c.args.site)) (λ s. section_of s.now) c.in_ok-formals.formals.items _ c.args.list.now c.loop-i.i _ c.index.result.now c.index-list-i.result c.in_ok-formals.ensures (omega arith) c.loop-i-test.true c.index.ensures c.index-list-i.is c.loop-i.invariant (told_by (actual_parameter (context_at c.args.site) (regions_at c.args.site) (section_of c.index.result.now.now) c.index-list-i.result) c.actual_parameter.result c.in_err-push_answer.field-0.0 c.actual_parameter.ensures.err (c.in_err-push_answer.ensures.err told) told) in
     let b : is_some (option_map type_of c.args.outcome.now) ≡ false = is_some_map type_of c.args.outcome.now ∙ (sym c.is_some.ensures ∙ c.if-is_some.false) in
     rw (p.1, p.2) (λ told. rw (b, parts told) refl)
 

@@ -6,7 +6,7 @@ use Rattle.ps_regions.specs.Spelling.{line_in}
 use Rattle.ps_typing.specs.View.{context_at, regions_at}
 use Rattle.ps_statements.specs.Procedures as spec
 use Rattle.ps_statements.proofs.Lists.{three_items}
-use Rattle.ps_statements.proofs.Paired.{three_none}
+use Rattle.ps_regions.proofs.Refused.{any_refused}
 use Rattle.ps_statements.proofs.heap.pack_statement.Goals as goal
 
 pub returns-in_err-unpacked-clause-err : goal.returns-in_err-unpacked-clause-err
@@ -14,7 +14,7 @@ unfolding spec.pack_statement spec.pack
 returns-in_err-unpacked-clause-err c =
     let p = err_from_is_err_and c.from_residual.result c.from_residual.ensures.1 in
     let parts : IsFault c.in_err-unpacked.field-0.0 → spec.pack_statement (context_at c.args.site) (regions_at c.args.site) c.args.parameters.now ≡ None =
-    rw (three_items c.args.parameters.now c.a-item.result c.i-item.result c.z-item.result c.in-len3.len_at_least c.in-len3.len_below c.a-item.is c.i-item.is c.z-item.is) (three_none (spec.parameter_variable (context_at c.args.site) (regions_at c.args.site) c.a-item.result) (spec.parameter_index (context_at c.args.site) (regions_at c.args.site) c.i-item.result) (spec.parameter_variable (context_at c.args.site) (regions_at c.args.site) c.z-item.result) (λ from index to. spec.packed_from from to (line_in (context_at c.args.site).text (spec.first_of_parameter c.i-item.result)) index) c.parameter_variable-from.result c.parameter_index.result c.parameter_variable.result c.paired-rest.result c.in_err-unpacked.field-0.0 c.in_err-unpacked.ensures.err c.paired-rest.ensures.err c.parameter_variable-from.ensures.err c.parameter_index.ensures.err c.parameter_variable.ensures.err) in
+    rw (three_items c.args.parameters.now c.a-item.result c.i-item.result c.z-item.result c.in-len3.len_at_least c.in-len3.len_below c.a-item.is c.i-item.is c.z-item.is) (any_refused (spec.parameter_variable (context_at c.args.site) (regions_at c.args.site) c.a-item.result) (spec.parameter_index (context_at c.args.site) (regions_at c.args.site) c.i-item.result) (spec.parameter_variable (context_at c.args.site) (regions_at c.args.site) c.z-item.result) (λ from index to. spec.packed_from from to (line_in (context_at c.args.site).text (spec.first_of_parameter c.i-item.result)) index) c.parameter_variable-from.result c.parameter_index.result c.parameter_variable.result c.paired-rest.result c.in_err-unpacked.field-0.0 c.in_err-unpacked.ensures.err c.paired-rest.ensures.err c.parameter_variable-from.ensures.err c.parameter_index.ensures.err c.parameter_variable.ensures.err) in
     rw (p.1, p.2) parts
 
 pub returns-in_err-from-clause-err : goal.returns-in_err-from-clause-err

@@ -6,7 +6,7 @@ use Rattle.ps_regions.specs.Spelling.{line_in}
 use Rattle.ps_typing.specs.View.{context_at, regions_at}
 use Rattle.ps_statements.specs.Procedures as spec
 use Rattle.ps_statements.proofs.Lists.{three_items}
-use Rattle.ps_statements.proofs.Paired.{three_none}
+use Rattle.ps_regions.proofs.Refused.{any_refused}
 use Rattle.ps_statements.proofs.heap.unpack_statement.Goals as goal
 
 pub returns-in_err-packed-clause-err : goal.returns-in_err-packed-clause-err
@@ -14,7 +14,7 @@ unfolding spec.unpack_statement spec.unpack
 returns-in_err-packed-clause-err c =
     let p = err_from_is_err_and c.from_residual.result c.from_residual.ensures.1 in
     let parts : IsFault c.in_err-packed.field-0.0 → spec.unpack_statement (context_at c.args.site) (regions_at c.args.site) c.args.parameters.now ≡ None =
-    rw (three_items c.args.parameters.now c.z-item.result c.a-item.result c.i-item.result c.in-len3.len_at_least c.in-len3.len_below c.z-item.is c.a-item.is c.i-item.is) (three_none (spec.parameter_variable (context_at c.args.site) (regions_at c.args.site) c.z-item.result) (spec.parameter_variable (context_at c.args.site) (regions_at c.args.site) c.a-item.result) (spec.parameter_index (context_at c.args.site) (regions_at c.args.site) c.i-item.result) (λ from to index. spec.unpacked_to from to (line_in (context_at c.args.site).text (spec.first_of_parameter c.i-item.result)) index) c.parameter_variable-from.result c.parameter_variable.result c.parameter_index.result c.paired-rest.result c.in_err-packed.field-0.0 c.in_err-packed.ensures.err c.paired-rest.ensures.err c.parameter_variable-from.ensures.err c.parameter_variable.ensures.err c.parameter_index.ensures.err) in
+    rw (three_items c.args.parameters.now c.z-item.result c.a-item.result c.i-item.result c.in-len3.len_at_least c.in-len3.len_below c.z-item.is c.a-item.is c.i-item.is) (any_refused (spec.parameter_variable (context_at c.args.site) (regions_at c.args.site) c.z-item.result) (spec.parameter_variable (context_at c.args.site) (regions_at c.args.site) c.a-item.result) (spec.parameter_index (context_at c.args.site) (regions_at c.args.site) c.i-item.result) (λ from to index. spec.unpacked_to from to (line_in (context_at c.args.site).text (spec.first_of_parameter c.i-item.result)) index) c.parameter_variable-from.result c.parameter_variable.result c.parameter_index.result c.paired-rest.result c.in_err-packed.field-0.0 c.in_err-packed.ensures.err c.paired-rest.ensures.err c.parameter_variable-from.ensures.err c.parameter_variable.ensures.err c.parameter_index.ensures.err) in
     rw (p.1, p.2) parts
 
 pub returns-in_err-to-clause-err : goal.returns-in_err-to-clause-err

@@ -16,7 +16,8 @@ use Rattle.ps_statements.specs.Structured.{case_label, record_region, repeated}
 use Rattle.ps_statements.specs.View.{element_of}
 use Rattle.ps_statements.proofs.Equations.{statement_empty, statement_assign, statement_call, statement_compound, statement_if, statement_if_else, statement_case, statement_while, statement_repeat, statement_for, statement_with, element_is, elements_listed}
 use Rattle.ps_statements.proofs.Loops.{added_next, added_fault}
-use Rattle.ps_statements.proofs.Paired.{two_none, three_none, put_is, put_none, part_is, both_none}
+use Rattle.ps_regions.proofs.Refused.{either_refused, any_refused}
+use Rattle.ps_statements.proofs.Paired.{put_is, put_none, part_is, both_none}
 use Rattle.ps_statements.proofs.Judgement.{statements_end, case_at, case_fault, case_no_index}
 use Rattle.ps_statements.proofs.Opening.{with_empty, with_next, with_fault}
 use Rattle.ps_statements.proofs.statement.+statement.Goals as goal
@@ -112,7 +113,7 @@ pub repeat_statement-returns-in_err-body-clause-err : goal.repeat_statement-retu
 repeat_statement-returns-in_err-body-clause-err t c =
     let p = err_from_is_err_and c.from_residual.result c.from_residual.ensures.1 in
     let parts : IsFault c.in_err-body.field-0.0 → spec.repeat_statement (context_at c.args.site) (regions_at c.args.site) (spec.statements (context_at c.args.site) (regions_at c.args.site) c.args.list.now) c.args.x.now ≡ None =
-    two_none (spec.statements (context_at c.args.site) (regions_at c.args.site) c.args.list.now) (spec.condition_at (context_at c.args.site) (regions_at c.args.site) c.args.x.now) (λ s e. Some (Tree.Repeat s e)) c.statements.result c.condition_at.result c.in_err-body.field-0.0 c.in_err-body.ensures.err c.statements.ensures.err c.condition_at.ensures.err in
+    either_refused (spec.statements (context_at c.args.site) (regions_at c.args.site) c.args.list.now) (spec.condition_at (context_at c.args.site) (regions_at c.args.site) c.args.x.now) (λ s e. Some (Tree.Repeat s e)) c.statements.result c.condition_at.result c.in_err-body.field-0.0 c.in_err-body.ensures.err c.statements.ensures.err c.condition_at.ensures.err in
     rw (p.1, p.2) parts
 
 pub repeat_statement-returns-clause-ok : goal.repeat_statement-returns-clause-ok
@@ -125,7 +126,7 @@ pub if_else_statement-returns-in_err-condition-clause-err : goal.if_else_stateme
 if_else_statement-returns-in_err-condition-clause-err t c =
     let p = err_from_is_err_and c.from_residual.result c.from_residual.ensures.1 in
     let parts : IsFault c.in_err-condition.field-0.0 → spec.if_else_statement (context_at c.args.site) (regions_at c.args.site) c.args.x.now (spec.statement (context_at c.args.site) c.args.body.now) (spec.statement (context_at c.args.site) c.args.otherwise.now) ≡ None =
-    three_none (spec.condition_at (context_at c.args.site) (regions_at c.args.site) c.args.x.now) (spec.statement (context_at c.args.site) c.args.body.now (regions_at c.args.site)) (spec.statement (context_at c.args.site) c.args.otherwise.now (regions_at c.args.site)) (λ e s u. Some (Tree.IfElse e s u)) c.condition_at.result c.boxed.result c.boxed-2.result c.paired-branches.result c.in_err-condition.field-0.0 c.in_err-condition.ensures.err c.paired-branches.ensures.err c.condition_at.ensures.err c.boxed.ensures.err c.boxed-2.ensures.err in
+    any_refused (spec.condition_at (context_at c.args.site) (regions_at c.args.site) c.args.x.now) (spec.statement (context_at c.args.site) c.args.body.now (regions_at c.args.site)) (spec.statement (context_at c.args.site) c.args.otherwise.now (regions_at c.args.site)) (λ e s u. Some (Tree.IfElse e s u)) c.condition_at.result c.boxed.result c.boxed-2.result c.paired-branches.result c.in_err-condition.field-0.0 c.in_err-condition.ensures.err c.paired-branches.ensures.err c.condition_at.ensures.err c.boxed.ensures.err c.boxed-2.ensures.err in
     rw (p.1, p.2) parts
 
 pub if_else_statement-returns-clause-ok : goal.if_else_statement-returns-clause-ok
@@ -143,7 +144,7 @@ element-returns-in_err-constants-clause-err t c =
     let h = rw c.as_slice.ensures at c.case_labels-constants.ensures.err in
     let p = err_from_is_err_and c.from_residual.result c.from_residual.ensures.1 in
     let parts : IsFault c.in_err-constants.field-0.0 → spec.element (context_at c.args.site) c.args.x.now (regions_at c.args.site) c.args.index ≡ None =
-    rw (element_is (context_at c.args.site) (regions_at c.args.site) c.args.x.now c.args.index) (two_none (traverse (case_label (context_at c.args.site) (regions_at c.args.site) c.args.index) (out-Element c.args.x.now).constants) (spec.statement (context_at c.args.site) (out-Element c.args.x.now).statement (regions_at c.args.site)) (λ labels body. Some (labels, body)) c.case_labels-constants.result c.statement.result c.in_err-constants.field-0.0 c.in_err-constants.ensures.err h c.statement.ensures.err) in
+    rw (element_is (context_at c.args.site) (regions_at c.args.site) c.args.x.now c.args.index) (either_refused (traverse (case_label (context_at c.args.site) (regions_at c.args.site) c.args.index) (out-Element c.args.x.now).constants) (spec.statement (context_at c.args.site) (out-Element c.args.x.now).statement (regions_at c.args.site)) (λ labels body. Some (labels, body)) c.case_labels-constants.result c.statement.result c.in_err-constants.field-0.0 c.in_err-constants.ensures.err h c.statement.ensures.err) in
     rw (p.1, p.2) parts
 
 -- ---- one construct
@@ -234,7 +235,7 @@ pub for_statement-returns-in_err-head-clause-err : goal.for_statement-returns-in
 for_statement-returns-in_err-head-clause-err t c =
     let p = err_from_is_err_and c.from_residual.result c.from_residual.ensures.1 in
     let parts : IsFault c.in_err-head.field-0.0 → (spec.for_head (context_at c.args.site) (regions_at c.args.site) c.args.name c.args.first.now c.args.way c.args.last.now >>= spec.for_behind (context_at c.args.site) (regions_at c.args.site) (spec.statement (context_at c.args.site) c.args.x.now)) ≡ None =
-    two_none (spec.for_head (context_at c.args.site) (regions_at c.args.site) c.args.name c.args.first.now c.args.way c.args.last.now) (spec.statement (context_at c.args.site) c.args.x.now (regions_at c.args.site)) (λ h s. repeated h s) c.for_head-head.result c.boxed.result c.in_err-head.field-0.0 c.in_err-head.ensures.err c.for_head-head.ensures.err c.boxed.ensures.err in
+    either_refused (spec.for_head (context_at c.args.site) (regions_at c.args.site) c.args.name c.args.first.now c.args.way c.args.last.now) (spec.statement (context_at c.args.site) c.args.x.now (regions_at c.args.site)) (λ h s. repeated h s) c.for_head-head.result c.boxed.result c.in_err-head.field-0.0 c.in_err-head.ensures.err c.for_head-head.ensures.err c.boxed.ensures.err in
     rw (p.1, p.2) parts
 
 pub for_statement-returns-clause-ok : goal.for_statement-returns-clause-ok

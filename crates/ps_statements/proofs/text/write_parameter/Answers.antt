@@ -5,7 +5,7 @@ use Rattle.ps_regions.specs.Refusal.{IsFault}
 use Rattle.ps_typing.specs.View.{context_at, regions_at}
 use Rattle.ps_typing.specs.Expressions.{operand}
 use Rattle.ps_statements.specs.Procedures as spec
-use Rattle.ps_statements.proofs.Paired.{two_none}
+use Rattle.ps_regions.proofs.Refused.{either_refused}
 use Rattle.ps_statements.proofs.text.write_parameter.Goals as goal
 
 pub returns-in_err-value-in-Plain-clause-err : goal.returns-in_err-value-in-Plain-clause-err
@@ -29,7 +29,7 @@ unfolding spec.write_parameter
 returns-in_err-value-in-Width-clause-err c =
     let p = err_from_is_err_and c.from_residual-in_err-value-in-Width.result c.from_residual-in_err-value-in-Width.ensures.1 in
     let parts : IsFault c.in_err-value-in-Width.field-0.0 → spec.write_parameter (context_at c.args.site) (regions_at c.args.site) c.args.parameter.now ≡ None =
-    rw (c.in-Width.is, ← c.get.ensures) (two_none (operand (context_at c.args.site) (regions_at c.args.site) c.in-Width.x).value (spec.width_at (context_at c.args.site) (regions_at c.args.site) c.get.result.now) spec.written c.expr_value-value.result c.width_at.result c.in_err-value-in-Width.field-0.0 c.in_err-value-in-Width.ensures.err c.expr_value-value.ensures.err c.width_at.ensures.err) in
+    rw (c.in-Width.is, ← c.get.ensures) (either_refused (operand (context_at c.args.site) (regions_at c.args.site) c.in-Width.x).value (spec.width_at (context_at c.args.site) (regions_at c.args.site) c.get.result.now) spec.written c.expr_value-value.result c.width_at.result c.in_err-value-in-Width.field-0.0 c.in_err-value-in-Width.ensures.err c.expr_value-value.ensures.err c.width_at.ensures.err) in
     rw (p.1, p.2) parts
 
 pub returns-in_ok-value-in-Width-clause-ok : goal.returns-in_ok-value-in-Width-clause-ok

@@ -13,7 +13,7 @@ use Rattle.ps_typing.specs.View.{context_at, regions_at, value_of}
 use Rattle.ps_typing.proofs.CallLemmas.{uneven_listed, fault_listed, both_added, made_of_both, gathered_next, no_member, unlike_member}
 use Rattle.ps_typing.proofs.Equations.{operand_simple, operand_compare, factor_variable, factor_call, factor_number, factor_text, factor_nil, factor_set, factor_group, factor_not, select_index, select_field, select_content, add_term_is, multiply_factor_is, operand_first}
 use Rattle.ps_typing.proofs.Judgement.{actuals_are, simple_value, term_value, variable_variable, value_alone, value_selected, member_one, member_range, term_variable, term_no_variable, simple_variable, simple_no_variable, signed_no_variable}
-use Rattle.ps_typing.proofs.Refused.{refused, told_by, either_refused, both_refused}
+use Rattle.ps_regions.proofs.Refused.{refused, told_by, either_refused, both_refused}
 use Rattle.ps_typing.proofs.expression.+expression.Goals as goal
 
 pub argument_all-returns-then-len-operands-clause-err : goal.argument_all-returns-then-len-operands-clause-err

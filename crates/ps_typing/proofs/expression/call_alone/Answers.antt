@@ -4,7 +4,7 @@ use Rattle.ps_regions.specs.Views.{meaning_of}
 use Rattle.ps_typing.specs.Calls.{called}
 use Rattle.ps_typing.specs.Values.{SimpleValue, argument_list}
 use Rattle.ps_typing.proofs.CallLemmas.{made_of_both}
-use Rattle.ps_typing.proofs.Refused.{both_refused}
+use Rattle.ps_regions.proofs.Refused.{both_refused}
 use Rattle.ps_typing.proofs.expression.call_alone.Goals as goal
 
 pub returns-in-Routine-clause-ok : goal.returns-in-Routine-clause-ok

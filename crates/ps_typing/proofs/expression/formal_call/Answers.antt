@@ -2,7 +2,7 @@ use Rattle.std.proofs.Common.{Err, refl, ◌≡◌, ◌⊎◌}
 use Rattle.ps_tree.proofs.TreeLemmas.{expr_of_CallFormal}
 use Rattle.ps_typing.specs.View.{value_of}
 use Rattle.ps_typing.proofs.Judgement.{arguments_listed}
-use Rattle.ps_typing.proofs.Refused.{refused_as}
+use Rattle.ps_regions.proofs.Refused.{refused_as}
 use Rattle.ps_typing.proofs.expression.formal_call.Goals as goal
 
 pub returns-in_err-ty-clause-err : goal.returns-in_err-ty-clause-err

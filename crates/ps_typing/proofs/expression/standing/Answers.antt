@@ -1,7 +1,7 @@
 use Rattle.std.proofs.Common.{refl}
 use Rattle.ps_regions.specs.Views.{meaning_of}
 use Rattle.ps_typing.specs.Expressions.{standing}
-use Rattle.ps_typing.proofs.Refused.{refused}
+use Rattle.ps_regions.proofs.Refused.{refused}
 use Rattle.ps_typing.proofs.expression.standing.Goals as goal
 
 pub returns-in_err-variable_found-in-Field-clause-err : goal.returns-in_err-variable_found-in-Field-clause-err

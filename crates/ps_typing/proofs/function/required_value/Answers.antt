@@ -6,7 +6,7 @@ use Rattle.ps_tree.specs.View.{expr_of}
 use Rattle.ps_typing.specs.Calls.{required_value}
 use Rattle.ps_typing.specs.Values.{SimpleValue}
 use Rattle.ps_typing.specs.View.{value_of}
-use Rattle.ps_typing.proofs.Refused.{refused}
+use Rattle.ps_regions.proofs.Refused.{refused}
 use Rattle.ps_typing.proofs.function.required_value.Goals as goal
 
 pub returns-in_err-operand-clause-err : goal.returns-in_err-operand-clause-err

@@ -1,6 +1,6 @@
 use Rattle.std.proofs.Common.{refl}
 use Rattle.ps_typing.specs.Operators.{logic}
-use Rattle.ps_typing.proofs.Refused.{either_refused, refused}
+use Rattle.ps_regions.proofs.Refused.{either_refused, refused}
 use Rattle.ps_typing.proofs.operators.logic.Goals as goal
 
 pub returns-in_err-left-clause-err : goal.returns-in_err-left-clause-err

@@ -1,6 +1,6 @@
 use Rattle.std.proofs.Common.{refl}
 use Rattle.ps_tree.specs.View.{place_of, selector_of}
-use Rattle.ps_typing.proofs.Refused.{refused}
+use Rattle.ps_regions.proofs.Refused.{refused}
 use Rattle.ps_typing.proofs.place.target.Goals as goal
 
 pub returns-in_err-pointer-clause-err : goal.returns-in_err-pointer-clause-err
