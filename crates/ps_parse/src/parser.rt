@@ -164,6 +164,7 @@ impl<'a> Parser<'a> {
     pub fn followed_by<A: Drop>(&mut self, kind: Kind, read: Result<A, Fault>) -> Result<A, Fault>
         ensures ok { IfOk result (λ value. (read ≡ Ok value) × (at : Span) × (spec.expect kind self.old.rest.now ≡ Ok (at, self.new.rest.now))) }
         ensures err { IfErr result (λ fault. fault ≢ OutOfMemory → (read ≡ Err fault) ⊎ ((value : A) × (read ≡ Ok value) × (spec.expect kind self.old.rest.now ≡ Err (spec.left_of fault)))) }
+        ensures kept { self.new.left_out ≡ self.old.left_out }
     {
         match read {
             Ok(value) => {
