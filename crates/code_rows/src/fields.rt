@@ -95,5 +95,5 @@ pub(crate) fn bytes(alloc: Global, words: &mut SplitWhitespace) -> Result<Consta
     for byte in words {
         bytes.push(u8_of(byte))?;
     }
-    Ok(Constant::new(bytes))
+    Constant::new(alloc, bytes)
 }

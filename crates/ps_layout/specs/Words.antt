@@ -1,4 +1,5 @@
 -- The words of values.
+pub use Rattle.ps_tree.specs.Characters.{filled}
 use Rattle.std.specs.Prelude.{ℕ, zero, suc, ◌+◌, ◌*◌, ◌%◌, pos, unsigned_abs, Bool, if◌then◌else◌, List, [], ◌∷◌, ◌++◌, Some}
 use Rattle.tac_code.specs.declared.code.Block.TheVariants.{Object}
 use Rattle.tac_code.specs.declared.code.Value.{Value as Word}
@@ -12,14 +13,6 @@ use Rattle.ps_layout.specs.Shapes.{Shape, NumberShape, PointerShape, SetShape, B
 abbrev pub pointer_word : Value → Word
 pointer_word (ObjectValue object) = Address (Object object) 0
 pointer_word _ = Number (pos 0)
-
--- bytes with zeros behind them, up to whole words
-abbrev pub filled : List ℕ → List ℕ
-filled [] = []
-filled (a ∷ []) = a ∷ 0 ∷ 0 ∷ 0 ∷ []
-filled (a ∷ b ∷ []) = a ∷ b ∷ 0 ∷ 0 ∷ []
-filled (a ∷ b ∷ c ∷ []) = a ∷ b ∷ c ∷ 0 ∷ []
-filled (a ∷ b ∷ c ∷ d ∷ rest) = a ∷ b ∷ c ∷ d ∷ filled rest
 
 -- so many components as bytes
 abbrev pub byte_of : Value → ℕ

@@ -2,3 +2,4 @@ pub mod Lists
 pub mod DenotesLemmas
 pub mod ViewLemmas
 pub mod Refused
+pub mod OpenedLemmas

@@ -1,12 +1,14 @@
 -- What the values of the program stand for in the definitions.
 use Rattle.std.specs.Prelude.{List, [], ◌∷◌, Option, Some, None, option_map, map}
+use Rattle.ps_tree.specs.declared.types.Ty.{Ty}
+use Rattle.ps_tree.specs.Types.{DataType, RecordType, FieldList, field_list, no_type}
 use Rattle.ps_tree.specs.View.{type_of}
 use Rattle.ps_regions.specs.declared.meaning.Section as Rust
 use Rattle.ps_regions.specs.declared.meaning.Section.{Value, Variable, Routine', Row_of-Section, end_of-Section, more_of-Section}
 use Rattle.ps_regions.specs.declared.meaning.Heading as RustHeading
 use Rattle.ps_regions.specs.declared.meaning.Meaning as RustMeaning
 use Rattle.ps_regions.specs.declared.meaning.Meaning.TheVariants as m
-use Rattle.ps_regions.specs.declared.scope.Scope.{Scope, Outside, Block', Record', Fields'}
+use Rattle.ps_regions.specs.declared.scope.Scope.{Scope, Outside, Block', Opened', Fields'}
 use Rattle.ps_regions.specs.declared.scope.Lookup.{Lookup}
 use Rattle.ps_regions.specs.declared.scope.Lookup.TheVariants as l
 use Rattle.ps_regions.specs.declared.scope.Found.{Found}
@@ -43,7 +45,7 @@ heading_of h = record {
 
 unfoldable pub meaning_of : RustMeaning.Meaning → Meaning
 meaning_of (m.Constant ordinal value) = ConstantMeaning ordinal value
-meaning_of (m.Text characters) = TextMeaning characters.items
+meaning_of (m.Text characters) = TextMeaning characters
 meaning_of (m.«Type» ty) = TypeMeaning (type_of ty)
 meaning_of (m.Variable entry ty) = VariableMeaning entry (type_of ty)
 meaning_of (m.Parameter entry ty) = ParameterMeaning entry (type_of ty)
@@ -53,10 +55,20 @@ meaning_of (m.File file) = FileMeaning file
 meaning_of (m.Required routine) = RequiredMeaning routine
 meaning_of m.LeftOut = LeftOutMeaning
 
+-- the fields of a record type; no other type has any
+unfoldable pub fields_of : DataType → FieldList
+fields_of (RecordType at packed fields) = fields
+fields_of _ = field_list [] no_type
+
+-- the regions where records of these types were opened one after the other
+unfoldable pub opened_in : List Region → List Ty → List Region
+opened_in Γ [] = Γ
+opened_in Γ (ty ∷ types) = opened_in (RecordRegion (type_of ty) (fields_of (type_of ty)) ∷ Γ) types
+
 unfoldable pub scope_of : Scope → List Region
 scope_of Outside = []
 scope_of (Block' routine names known p outer) = BlockRegion routine names.now (map meaning_of known.now) ∷ scope_of outer
-scope_of (Record' ty fields p outer) = RecordRegion (type_of ty.now) fields.now ∷ scope_of outer
+scope_of (Opened' records p outer) = opened_in (scope_of outer) records.now
 scope_of (Fields' names defined p outer) = FieldNames names.now ∷ scope_of outer
 
 abbrev pub point_of : Found → Point
@@ -75,4 +87,4 @@ context_of r = record { text = r.source.now; domains = map type_of r.domains.now
 
 unfoldable pub constant_of : RustConstant.ConstantValue → ConstantValue
 constant_of (c.Ordinal ordinal value) = OrdinalConstant ordinal value
-constant_of (c.Text characters) = TextConstant characters.items
+constant_of (c.Text characters) = TextConstant characters

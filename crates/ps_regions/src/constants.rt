@@ -12,8 +12,9 @@ use crate::scope::{Found, Scope};
 use ps_scan::{number_value, string_value};
 use ps_syntax::{Constant, Sign};
 use ps_text::Span;
+use ps_tree::characters::Characters;
 use ps_tree::types::{Host, Ordinal, same_host};
-use std::alloc::Global;
+use std::alloc::{AllocError, Global};
 
 /// The type integer.
 pub const INTEGER: Ordinal = Ordinal {
@@ -44,17 +45,17 @@ pub const BOOLEAN: Ordinal = Ordinal {
 pub enum ConstantValue {
     Ordinal(Ordinal, i32),
     /// A string of several characters.
-    Text(Vec<u8>),
+    Text(Characters),
 }
 
 /// The value of a string: one of one character is of type char (6.1.7).
 #[tactic(auto, unfolding(crate::specs::Views::constant_of))]
-pub fn text_constant(characters: Vec<u8>) -> ConstantValue
-    ensures { constant_of result ≡ text_constant characters.items }
+pub fn text_constant(alloc: Global, characters: Vec<u8>) -> Result<ConstantValue, AllocError>
+    ensures { IfOk result (λ value. constant_of value ≡ text_constant characters.items) }
 {
     match characters.as_slice() {
-        [only] => ConstantValue::Ordinal(CHAR, i32::from(*only)),
-        _ => ConstantValue::Text(characters),
+        [only] => Ok(ConstantValue::Ordinal(CHAR, i32::from(*only))),
+        _ => Ok(ConstantValue::Text(Characters::new(alloc, characters)?)),
     }
 }
 
@@ -176,7 +177,7 @@ pub fn constant(
         }
         Constant::Text(at) => {
             let characters = string_value(alloc, reading.bytes(at))?;
-            Ok(text_constant(characters))
+            Ok(text_constant(alloc, characters)?)
         }
     }
 }

@@ -1,5 +1,6 @@
 //! What names stand for.
 
+use ps_tree::characters::Characters;
 use ps_tree::types::{Ordinal, Ty};
 use std::rc::Rc;
 
@@ -70,7 +71,7 @@ pub enum Meaning {
         value: i32,
     },
     /// A constant that is a string of several characters.
-    Text(Vec<u8>),
+    Text(Characters),
     Type(Ty),
     /// A variable that is declared in a variable part.
     Variable {

@@ -1,14 +1,16 @@
 //! The regions that enclose a place, and the search through them.
 
-ghost use Rattle.std.specs.Prelude.{◌≡◌, ℕ, IfOk, IfErr, None, Some};
-ghost use Rattle.ps_regions.specs.Regions.{one_more, find_past, find};
-ghost use Rattle.ps_regions.specs.Views.{scope_of, point_of, found};
+ghost use Rattle.std.specs.Prelude.{◌≡◌, ℕ, List, ◌∷◌, map, option_map, IfOk, IfErr, None, Some};
+ghost use Rattle.ps_tree.specs.Types.{field_in};
+ghost use Rattle.ps_tree.specs.View.{type_of};
+ghost use Rattle.ps_regions.specs.Regions.{Region, BlockRegion, one_more, find_past, find};
+ghost use Rattle.ps_regions.specs.Views.{meaning_of, fields_of, opened_in, scope_of, point_of, found};
 ghost use Rattle.ps_regions.specs.Denotes.{FindsWhatIsDenoted};
 
 use crate::meaning::Meaning;
 use crate::refusal::{Fault, Rule};
 use ps_tree::names::Names;
-use ps_tree::types::{Fields, Ty};
+use ps_tree::types::Ty;
 
 /// The regions that enclose a place, from the inside out.
 #[derive(Clone, Copy)]
@@ -22,10 +24,10 @@ pub enum Scope<'a> {
         known: &'a [Meaning],
         outer: &'a Scope<'a>,
     },
-    /// A record that a `with` opens, and its fields.
-    Record {
-        ty: &'a Ty,
-        fields: &'a Fields,
+    /// The types of the records that a `with` opens one after the other, each within those before it. A type that is no
+    /// record has no fields.
+    Opened {
+        records: &'a [Ty],
         outer: &'a Scope<'a>,
     },
     /// A record within its own denoter: the names of its fields, of which the first `defined` stand before the place.
@@ -76,62 +78,117 @@ pub fn one_more(count: u32) -> Option<u32>
     }
 }
 
-/// The defining point that a name denotes, behind `up` blocks and `which` opened records.
-#[tactic(auto, unfolding(crate::specs::Regions::find_past, crate::specs::Views::scope_of))]
-fn find_past<'a>(scope: &'a Scope<'a>, up: u32, which: u32, name: &[u8]) -> Lookup<'a>
-    ensures { found result ≡ find_past up which (scope_of scope.now) name.now }
+/// How many blocks lie before what encloses this one, where none of its defining points has the name; or else what ends
+/// the search.
+#[tactic(auto, unfolding(crate::specs::Regions::find_past))]
+fn past_block<'a>(
+    names: &Names,
+    known: &'a [Meaning],
+    up: u32,
+    name: &[u8],
+) -> Result<u32, Lookup<'a>>
+    ensures ok { IfOk result (λ n. (which routine : ℕ) (Γ : List Region) → find_past up which (BlockRegion routine names.now (map meaning_of known.now) ∷ Γ) name.now ≡ find_past n which Γ name.now) }
+    ensures err { IfErr result (λ end. (which routine : ℕ) (Γ : List Region) → find_past up which (BlockRegion routine names.now (map meaning_of known.now) ∷ Γ) name.now ≡ found end) }
 {
-    match scope {
-        Scope::Outside => Lookup::Missing,
-        Scope::Block {
-            names,
-            known,
-            outer,
-            ..
-        } => match names.find(name) {
-            None => match one_more(up) {
-                None => Lookup::Missing,
-                Some(up) => find_past(outer, up, which, name),
-            },
-            Some(index) => match known.get(index) {
-                None => Lookup::Later,
-                Some(meaning) => Lookup::Found(Found::Name { up, meaning }),
-            },
-        },
-        Scope::Record { ty, fields, outer } => match fields.find(name) {
-            None => match one_more(which) {
-                None => Lookup::Missing,
-                Some(which) => find_past(outer, up, which, name),
-            },
-            Some((number, field_ty)) => Lookup::Found(Found::Field {
-                which,
-                record: ty,
-                number,
-                ty: field_ty,
-            }),
-        },
-        Scope::Fields {
-            names,
-            defined,
-            outer,
-        } => match names.find(name) {
-            None => find_past(outer, up, which, name),
-            Some(index) => {
-                if index < *defined {
-                    Lookup::OwnField
-                } else {
-                    Lookup::Later
-                }
-            }
+    match names.find(name) {
+        None => one_more(up).ok_or(Lookup::Missing),
+        Some(index) => match known.get(index) {
+            None => Err(Lookup::Later),
+            Some(meaning) => Err(Lookup::Found(Found::Name { up, meaning })),
         },
     }
 }
 
+/// The field of this name of a record type: its number and its type.
+#[tactic(auto, unfolding(crate::specs::Views::fields_of, ps_tree::specs::View::type_of))]
+fn field_of<'a>(ty: &'a Ty, name: &[u8]) -> Option<(u32, &'a Ty)>
+    ensures { option_map (λ f. (f.0, type_of f.1.now)) result ≡ field_in (fields_of (type_of ty.now)) name.now }
+{
+    match ty {
+        Ty::Record { fields, .. } => fields.find(name),
+        _ => None,
+    }
+}
+
+/// How many opened records lie before what encloses these, the last of which is the innermost, where none of them has a
+/// field of this name; or else what ends the search.
+fn past_records<'a>(records: &'a [Ty], which: u32, name: &[u8]) -> Result<u32, Lookup<'a>>
+    ensures ok { IfOk result (λ n. (up : ℕ) (Γ : List Region) → find_past up which (opened_in Γ records.now) name.now ≡ find_past up n Γ name.now) }
+    ensures err { IfErr result (λ end. (up : ℕ) (Γ : List Region) → find_past up which (opened_in Γ records.now) name.now ≡ found end) }
+{
+    let mut left = records;
+    let mut passed = which;
+    while let Some((record, rest)) = left.split_last() {
+        if let Some((number, ty)) = field_of(record, name) {
+            return Err(Lookup::Found(Found::Field {
+                which: passed,
+                record,
+                number,
+                ty,
+            }));
+        }
+        let Some(next) = one_more(passed) else {
+            return Err(Lookup::Missing);
+        };
+        passed = next;
+        left = rest;
+    }
+    Ok(passed)
+}
+
 /// The defining point that a name denotes at a place that these regions enclose.
+#[tactic(auto, unfolding(crate::specs::Regions::find_past, crate::specs::Views::scope_of))]
 pub fn find<'a>(scope: &'a Scope<'a>, name: &[u8]) -> Lookup<'a>
     ensures { found result ≡ find (scope_of scope.now) name.now }
 {
-    find_past(scope, 0, 0, name)
+    let mut here = scope;
+    let mut up = 0;
+    let mut which = 0;
+    loop {
+        match here {
+            Scope::Outside => return Lookup::Missing,
+            Scope::Block {
+                names,
+                known,
+                outer,
+                ..
+            } => {
+                match past_block(names, known, up, name) {
+                    Ok(further) => up = further,
+                    Err(end) => return end,
+                }
+                here = outer;
+            }
+            Scope::Opened { records, outer } => {
+                match past_records(records, which, name) {
+                    Ok(further) => which = further,
+                    Err(end) => return end,
+                }
+                here = outer;
+            }
+            Scope::Fields {
+                names,
+                defined,
+                outer,
+            } => {
+                if let Some(index) = names.find(name) {
+                    return hidden_by(index, *defined);
+                }
+                here = outer;
+            }
+        }
+    }
+}
+
+/// What the name of a field stands for within the denoter of its own record.
+fn hidden_by<'a>(index: usize, defined: usize) -> Lookup<'a>
+    ensures { found result ≡ None }
+{
+    if index < defined {
+        Lookup::OwnField
+    } else {
+        Lookup::Later
+    }
 }
 
 /// The defining point that a name denotes whose use begins at an offset.

@@ -1,44 +1,39 @@
 -- The records that a `with` opens, one after the other.
-use Rattle.std.proofs.Common.{◌≡◌, ◌-◌, ◌<◌, ◌≤◌, List, [], ◌∷◌, length, take, drop, get_or, Option, Some, None, refl, sym, ap, ◌∙◌, arith}
-use Rattle.std.proofs.lemmas.List.{take_all}
+use Rattle.std.proofs.Common.{◌≡◌, ℕ, List, [], ◌∷◌, ◌++◌, Option, Some, None, map, refl, sym, ap, ◌∙◌}
+use Rattle.std.proofs.lemmas.List.{map_push}
 use Rattle.ps_syntax.specs.declared.expression.Variable as syntax
-use Rattle.ps_tree.specs.Types.{DataType}
+use Rattle.ps_tree.specs.declared.types.Ty.{Ty}
+use Rattle.ps_tree.specs.declared.tree.Place.{Place}
+use Rattle.ps_tree.specs.View.{type_of, place_of}
 use Rattle.ps_tree.specs.Tree as Tree
 use Rattle.ps_regions.specs.Option.{◌>>=◌, steps}
-use Rattle.ps_regions.specs.Regions.{Context, Region}
-use Rattle.ps_statements.specs.Structured.{Opening, record_region, record_at, open_next}
-use Rattle.ps_statements.specs.Statements.{Reading, with_behind, with_record}
+use Rattle.ps_regions.specs.Regions.{Context, Region, RecordRegion, Heading}
+use Rattle.ps_regions.specs.Views.{fields_of, opened_in}
+use Rattle.ps_regions.proofs.OpenedLemmas.{opened_region, opened_push}
+use Rattle.ps_statements.specs.Structured.{Opening, open_next}
+use Rattle.ps_statements.specs.Statements.{Reading, with_behind}
+use Rattle.ps_statements.specs.Assignments.{result_in}
 
--- all but the first
-abbrev pub others : {A : Type 0} → List A → List A
-others xs = take (length xs - 1) (drop 1 xs)
+-- the body behind the records
+abbrev pub behind : Reading → Option Opening → Option Tree.Statement
+behind s o = o >>= (λ p. s p.1 >>= (λ body. Some (Tree.With p.0 body)))
 
-first_and_others : {A : Type 0} (xs : List A) (x : A) → 1 ≤ length xs → x ≡ get_or xs 0 x → xs ≡ x ∷ others xs
-first_and_others [] x h e = absurd (let k : ⊥ = omega (arith, h) in k)
-first_and_others (a ∷ rest) x h e = ap (λ b. b ∷ rest) (sym e) ∙ ap (λ l. x ∷ l) (sym (take_all (length (a ∷ rest) - 1) rest (omega arith)))
+module _ (c : Context) (Γ : List Region) (xs : List syntax.Variable) (s : Reading) where
+  pub with_opened : (ps : List Tree.Place) (Δ : List Region) → steps (open_next c) ([], Γ) xs ≡ Some (ps, Δ) → with_behind c ([], Γ) xs s ≡ (s Δ >>= (λ body. Some (Tree.With ps body)))
+  with_opened ps Δ e = ap (behind s) e
 
-module _ (c : Context) (Γ : List Region) (ps : List Tree.Place) (s : Reading) where
-  pub with_empty : (xs : List syntax.Variable) → length xs < 1 → with_behind c (ps, Γ) xs s ≡ (s Γ >>= (λ body. Some (Tree.With ps body)))
-  with_empty [] h = refl
-  with_empty (x ∷ xs) h = absurd (let k : ⊥ = omega (arith, h) in k)
+  pub with_unopened : steps (open_next c) ([], Γ) xs ≡ None → with_behind c ([], Γ) xs s ≡ None
+  with_unopened e = ap (behind s) e
 
-  opened_all : (o : Option Opening) (xs : List syntax.Variable) → Option Tree.Statement
-  opened_all o xs = o >>= (λ p. steps (open_next c) p xs) >>= (λ p. s p.1 >>= (λ body. Some (Tree.With p.0 body)))
+-- one more
+pub opened_next : (c : Context) (Γ : List Region) (x : syntax.Variable) (ps qs : List Place) (ts us : List Ty) (p : Place) (t : Ty) → ((places : List Tree.Place) → open_next c (places, opened_in Γ ts) x ≡ Some (places ++ place_of p ∷ [], opened_region t ∷ opened_in Γ ts)) → qs ≡ ps ++ p ∷ [] → us ≡ ts ++ t ∷ [] → open_next c (map place_of ps, opened_in Γ ts) x ≡ Some (map place_of qs, opened_in Γ us)
+opened_next c Γ x ps qs ts us p t h e f =
+    let m : map place_of qs ≡ map place_of ps ++ place_of p ∷ [] = ap (map place_of) e ∙ map_push place_of ps p in
+    let o : opened_in Γ us ≡ opened_region t ∷ opened_in Γ ts = ap (opened_in Γ) f ∙ opened_push Γ ts t in
+    rw (m, o) (h (map place_of ps))
 
-  opened_at : (o : Option Region) (qs : List Tree.Place) (xs : List syntax.Variable) → opened_all (o >>= (λ r. Some (qs, r ∷ Γ))) xs ≡ (o >>= (λ r. with_behind c (qs, r ∷ Γ) xs s))
-  unfolding opened_all
-  opened_at None qs xs = refl
-  opened_at (Some r) qs xs = refl
-
-  pub with_next : (ys : List syntax.Variable) (x : syntax.Variable) (qs : List Tree.Place) (t : DataType) → 1 ≤ length ys → x ≡ get_or ys 0 x → record_at c Γ ps x ≡ Some (qs, t) → with_behind c (ps, Γ) ys s ≡ with_record c Γ qs t (others ys) s
-  unfolding open_next opened_all
-  with_next ys x qs t h at e =
-      ap (λ m. with_behind c (ps, Γ) m s) (first_and_others ys x h at)
-      ∙ ap (λ (o : Option (List Tree.Place × DataType)). opened_all (o >>= (λ p. record_region p.1 >>= (λ r. Some (p.0, r ∷ Γ)))) (others ys)) e
-      ∙ opened_at (record_region t) qs (others ys)
-
-  pub with_fault : (ys : List syntax.Variable) (x : syntax.Variable) → 1 ≤ length ys → x ≡ get_or ys 0 x → record_at c Γ ps x ≡ None → with_behind c (ps, Γ) ys s ≡ None
-  unfolding open_next opened_all
-  with_fault ys x h at e =
-      ap (λ m. with_behind c (ps, Γ) m s) (first_and_others ys x h at)
-      ∙ ap (λ (o : Option (List Tree.Place × DataType)). opened_all (o >>= (λ p. record_region p.1 >>= (λ r. Some (p.0, r ∷ Γ)))) (others ys)) e
+-- a function's result is looked for past opened records
+pub result_past : (Γ : List Region) (types : List Ty) (n : ℕ) (h : Heading) (levels : ℕ) → result_in (opened_in Γ types) n h levels ≡ result_in Γ n h levels
+unfolding result_in opened_in
+result_past Γ [] n h levels = refl
+result_past Γ (t ∷ types) n h levels = result_past (RecordRegion (type_of t) (fields_of (type_of t)) ∷ Γ) types n h levels

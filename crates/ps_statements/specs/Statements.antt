@@ -114,10 +114,6 @@ module _ (c : Context) where
     body ← s o.1
     Some (Tree.With o.0 body)
 
-  -- the same where the last of the records, of some type, is still to be opened
-  abbrev pub with_record : List Region → List Tree.Place → DataType → List Variable → Reading → Option Tree.Statement
-  with_record Γ places type xs s = record_region type >>= (λ r. with_behind (places, r ∷ Γ) xs s)
-
   unfoldable pub statement_step : Statement-F Reading ElementReading → Reading
   statement_step Statement-F.Empty Γ = Some Tree.Empty
   statement_step (Statement-F.Assign x at y) Γ = assignment c Γ x at y

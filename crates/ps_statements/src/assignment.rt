@@ -1,9 +1,10 @@
 // Assignment statements (6.8.2.2).
 
-ghost use Rattle.std.specs.Prelude.{◌≡◌, IfOk, IfErr, Some, None};
+ghost use Rattle.std.specs.Prelude.{◌≡◌, ◌==◌, ℕ, if◌then◌else◌, IfOk, IfErr, IfSome, Some, None};
 ghost use Rattle.ps_tree.specs.View.{place_of, type_of, set_of, statement_of};
 ghost use Rattle.ps_regions.specs.Option.{provided};
 ghost use Rattle.ps_regions.specs.Refusal.{IsFault};
+ghost use Rattle.ps_regions.specs.Regions as Regions;
 ghost use Rattle.ps_regions.specs.Views.{scope_of, heading_of, point_of};
 ghost use Rattle.ps_typing.specs.View.{context_at, regions_at, value_of, variable_of};
 ghost use Rattle.ps_statements.specs.Assignments.{result_of, result_in, target_at, target, set_assigned, assigned, assignment};
@@ -51,8 +52,30 @@ fn result_of(alloc: Global, heading: &Heading, levels: u32, at: u32) -> Result<T
     }
 }
 
+/// The number of the routine whose block is `further` blocks out of these regions.
+#[tactic(auto, using(crate::proofs::Opening::result_past), unfolding(crate::specs::Assignments::result_in, ps_regions::specs::Views::scope_of))]
+fn routine_out(scope: &Scope<'_>, further: u32) -> Option<u32>
+    ensures some { IfSome result (λ number. (h : Regions.Heading) (levels : ℕ) → result_in (scope_of scope.now) further h levels ≡ (if number == h.number then result_of h levels else None)) }
+    ensures none { result ≡ None → (h : Regions.Heading) (levels : ℕ) → result_in (scope_of scope.now) further h levels ≡ None }
+{
+    let mut here = scope;
+    let mut left = further;
+    loop {
+        match here {
+            Scope::Outside => return None,
+            Scope::Block { routine, outer, .. } => {
+                if left == 0 {
+                    return Some(*routine);
+                }
+                left -= 1;
+                here = outer;
+            }
+            Scope::Opened { outer, .. } | Scope::Fields { outer, .. } => here = outer,
+        }
+    }
+}
+
 /// The result of a function whose own block is `further` blocks out of these regions (6.6.2).
-#[tactic(auto, unfolding(crate::specs::Assignments::result_in, ps_regions::specs::Views::scope_of))]
 fn result_in(
     alloc: Global,
     scope: &Scope<'_>,
@@ -64,19 +87,13 @@ fn result_in(
     ensures ok { IfOk result (λ v. result_in (scope_of scope.now) further (heading_of heading.now) levels ≡ Some (variable_of v)) }
     ensures err { IfErr result (λ fault. IsFault fault → result_in (scope_of scope.now) further (heading_of heading.now) levels ≡ None) }
 {
-    match scope {
-        Scope::Outside => Err(wrong_kind(at)),
-        Scope::Block { routine, outer, .. } => {
-            if further != 0 {
-                return result_in(alloc, outer, further - 1, heading, levels, at);
-            }
-            if *routine != heading.number {
+    match routine_out(scope, further) {
+        None => Err(wrong_kind(at)),
+        Some(routine) => {
+            if routine != heading.number {
                 return Err(wrong_kind(at));
             }
             result_of(alloc, heading, levels, at)
-        }
-        Scope::Record { outer, .. } | Scope::Fields { outer, .. } => {
-            result_in(alloc, outer, further, heading, levels, at)
         }
     }
 }

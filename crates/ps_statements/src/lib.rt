@@ -10,3 +10,4 @@ mod heap;
 mod procedure;
 pub mod statement;
 mod text;
+mod with_statements;

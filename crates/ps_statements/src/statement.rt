@@ -1,12 +1,11 @@
 //! Statements (ISO 7185, 6.8).
 
-ghost use Rattle.std.specs.Prelude.{◌≡◌, map, option_and_then, IfOk, IfErr, Option, Some, None};
-ghost use Rattle.ps_tree.specs.View.{type_of, expr_of, place_of, statement_of, statements_of};
+ghost use Rattle.std.specs.Prelude.{◌≡◌, [], map, option_and_then, IfOk, IfErr, Option, Some, None};
+ghost use Rattle.ps_tree.specs.View.{expr_of, statement_of, statements_of};
 ghost use Rattle.ps_tree.specs.Tree as Tree;
 ghost use Rattle.ps_regions.specs.Option.{traverse};
 ghost use Rattle.ps_regions.specs.Refusal.{IsFault};
 ghost use Rattle.ps_typing.specs.View.{context_at, regions_at};
-ghost use Rattle.ps_statements.specs.Structured.{record_at};
 ghost use Rattle.ps_statements.specs.Statements as spec;
 ghost use Rattle.ps_statements.specs.View.{element_of};
 
@@ -14,18 +13,19 @@ use crate::assignment::assignment;
 use crate::case_constants::{case_labels, case_twice, repeated_label};
 use crate::for_statements::{for_head, repeated};
 use crate::procedure::procedure_statement;
+use crate::with_statements::open_all;
 use ps_regions::answer::{boxed_answer, paired, push_answer};
 use ps_regions::refusal::Fault;
 use ps_regions::scope::Scope;
 use ps_syntax::{Direction as Way, Element, Expr as SyntaxExpr, Statement as Syntax, Variable};
 use ps_text::Span;
-use ps_tree::tree::{CaseElement, Expr, Place, Statement};
-use ps_tree::types::{Ordinal, Ty};
-use ps_typing::expression::{expr_value, variable_place};
+use ps_tree::tree::{CaseElement, Expr, Statement};
+use ps_tree::types::Ordinal;
+use ps_typing::expression::expr_value;
 use ps_typing::function::ordinal_of;
 use ps_typing::operators::wrong_type;
 use ps_typing::site::Site;
-use ps_typing::value::{TypedPlace, TypedValue, is_boolean};
+use ps_typing::value::{TypedValue, is_boolean};
 
 /// A condition, which is Boolean (6.8.3.3).
 #[tactic(auto, unfolding(crate::specs::Structured::condition, ps_typing::specs::View::value_of))]
@@ -58,21 +58,6 @@ pub(crate) fn index_at(x: &SyntaxExpr, site: Site<'_>) -> Result<(Expr, Ordinal)
 {
     let value = expr_value(x, site)?;
     ordinal_of(value, x.first_token())
-}
-
-/// A record that a `with` statement is to open behind others, with its type.
-fn opened_record(
-    x: &Variable,
-    site: Site<'_>,
-    opened: Vec<Place>,
-) -> Result<(Vec<Place>, Ty), Fault>
-    ensures ok { IfOk result (λ p. record_at (context_at site.entry) (regions_at site.entry) (map place_of opened.items) x.now ≡ Some (map place_of p.0.items, type_of p.1)) }
-    ensures err { IfErr result (λ fault. IsFault fault → record_at (context_at site.entry) (regions_at site.entry) (map place_of opened.items) x.now ≡ None) }
-{
-    let TypedPlace { place, ty, .. } = variable_place(x, site)?;
-    let mut places = opened;
-    places.push(place)?;
-    Ok((places, ty))
 }
 
 /// A statement.
@@ -113,9 +98,7 @@ fn statement(x: &Syntax, site: Site<'_>) -> Result<Statement, Fault>
             *direction,
             last.get(),
         ),
-        Syntax::With(records, body) => {
-            with_statement(body.get(), site, records.as_slice(), Vec::new(site.alloc))
-        }
+        Syntax::With(records, body) => with_statement(body.get(), site, records.as_slice()),
     }
 }
 
@@ -241,42 +224,23 @@ fn for_statement(
     repeated(head, body, name.from)
 }
 
-/// A `with` statement (6.8.3.10), of which some records are open already, and others are to be opened.
+/// A `with` statement (6.8.3.10), with its records.
 #[cycle(statement)]
-#[tactic(auto, unfolding(crate::specs::Structured::record_region, ps_tree::specs::View::type_of))]
-fn with_statement(
-    x: &Syntax,
-    site: Site<'_>,
-    records: &[Variable],
-    opened: Vec<Place>,
-) -> Result<Statement, Fault>
-    ensures ok { IfOk result (λ s. spec.with_behind (context_at site.entry) (map place_of opened.items, (regions_at site.entry)) records.now (spec.statement (context_at site.entry) x.now) ≡ Some (statement_of s)) }
-    ensures err { IfErr result (λ fault. IsFault fault → spec.with_behind (context_at site.entry) (map place_of opened.items, (regions_at site.entry)) records.now (spec.statement (context_at site.entry) x.now) ≡ None) }
+#[tactic(auto, unfolding(ps_regions::specs::Views::scope_of))]
+fn with_statement(x: &Syntax, site: Site<'_>, records: &[Variable]) -> Result<Statement, Fault>
+    ensures ok { IfOk result (λ s. spec.with_behind (context_at site.entry) ([], regions_at site.entry) records.now (spec.statement (context_at site.entry) x.now) ≡ Some (statement_of s)) }
+    ensures err { IfErr result (λ fault. IsFault fault → spec.with_behind (context_at site.entry) ([], regions_at site.entry) records.now (spec.statement (context_at site.entry) x.now) ≡ None) }
 {
-    match records {
-        [] => {
-            let body = boxed(x, site)?;
-            Ok(Statement::With {
-                places: opened,
-                body,
-            })
-        }
-        [first, rest @ ..] => {
-            let (places, ty) = opened_record(first, site, opened)?;
-            let Ty::Record { fields, .. } = &ty else {
-                return Err(wrong_type(first.name.from));
-            };
-            let scope = Scope::Record {
-                ty: &ty,
-                fields,
-                outer: site.scope,
-            };
-            let inner = Site {
-                alloc: site.alloc,
-                reading: site.reading,
-                scope: &scope,
-            };
-            with_statement(x, inner, rest, places)
-        }
-    }
+    let (places, types) = open_all(records, site)?;
+    let scope = Scope::Opened {
+        records: types.as_slice(),
+        outer: site.scope,
+    };
+    let inner = Site {
+        alloc: site.alloc,
+        reading: site.reading,
+        scope: &scope,
+    };
+    let body = boxed(x, inner)?;
+    Ok(Statement::With { places, body })
 }

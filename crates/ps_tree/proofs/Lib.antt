@@ -1,4 +1,5 @@
 pub mod NameLemmas
+pub mod CharacterLemmas
 pub mod FieldLemmas
 pub mod TreeLemmas
 pub mod StatementLemmas

@@ -1,4 +1,5 @@
 pub mod Names
+pub mod Characters
 pub mod Types
 pub mod Sizes
 pub mod TypeCode

@@ -88,7 +88,7 @@ unfoldable mutual
   members_of_row (more_of-Member m rest) = Tree.member_before (member_of m) (members_of_row rest)
 
   pub structure_of : Structure → Tree.Structure
-  structure_of (Literal characters) = Tree.Literal characters.items
+  structure_of (Literal characters) = Tree.Literal characters
   structure_of (Contents' p base shape row at ty) = Tree.Contents (Tree.Variable (base_of base) (selectors_of_row row)) (type_of ty)
 
   pub argument_of : Argument → Tree.Argument

@@ -1,6 +1,7 @@
 // The types of a program, and its checked tree, in which every name is resolved.
 #![tactic(auto)]
 
+pub mod characters;
 mod count;
 pub mod line;
 pub mod names;

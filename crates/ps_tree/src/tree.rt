@@ -4,6 +4,7 @@ ghost use Rattle.std.specs.Prelude.{◌≡◌, ◌++◌, ◌∷◌, [], IfOk};
 ghost use Rattle.ps_tree.specs.View.{place_of, selector_of, expr_of, set_of};
 ghost use Rattle.ps_tree.specs.Chains.{selected, calculated, begun, connected, combined};
 
+use crate::characters::Characters;
 use crate::line::Line;
 use crate::types::Ty;
 use std::alloc::{AllocError, Global};
@@ -228,7 +229,7 @@ pub enum Member {
 /// An operand of an array or record type: a string in the text, or the contents of a variable.
 #[cycle(tree)]
 pub enum Structure {
-    Literal(Vec<u8>),
+    Literal(Characters),
     Contents { place: Box<Place>, ty: Ty },
 }
 

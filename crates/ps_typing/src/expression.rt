@@ -323,7 +323,7 @@ fn standing(site: Site<'_>, found: Found<'_>, name: Span) -> Result<TypedValue, 
                 of_constant(constant, name.from)
             }
             Meaning::Text(text) => {
-                let text = text.as_slice().to_vec(site.alloc)?;
+                let text = text.clone()?;
                 of_constant(ConstantValue::Text(text), name.from)
             }
             Meaning::Variable { .. } | Meaning::Parameter { .. } => {

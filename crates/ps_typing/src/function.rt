@@ -35,7 +35,7 @@ pub(crate) fn text_at(site: Site<'_>, at: Span) -> Result<ConstantValue, AllocEr
     ensures { IfOk result (λ v. constant_of v ≡ text_constant (characters (bytes_at (context_at site.entry).text at))) }
 {
     let characters = string_value(site.alloc, site.reading.bytes(at))?;
-    Ok(text_constant(characters))
+    text_constant(site.alloc, characters)
 }
 
 /// The value of a constant, whose first token is at `at`.

@@ -14,3 +14,4 @@ mod Texts
 mod Few
 mod Drafting
 mod Telling
+mod Limits

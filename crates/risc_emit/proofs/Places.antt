@@ -37,7 +37,7 @@ module _ (c : Context) where
       let m = length-append (form c r k x) (body_pieces c r (suc k) (take j is)) in
       omega (arith, rest, n, m)
 
-  site_low : (r k : ℕ) (routine : TacRoutine) → slice_get (routines c.code) r ≡ Some routine → site_place c r routine k ≤ length (program_pieces c)
+  pub site_low : (r k : ℕ) (routine : TacRoutine) → slice_get (routines c.code) r ≡ Some routine → site_place c r routine k ≤ length (program_pieces c)
   site_low r k routine is =
       let z : 0 + r ≡ r = omega arith in
       let step = routine_step c 0 (routines c.code) r routine is in
@@ -72,7 +72,7 @@ routines_texts_part (x ∷ xs) (suc r) routine e =
     let m = length-append (body_texts x.body) (routines_texts (take r xs)) in
     omega (arith, rest, n, m)
 
-text_low : (code : Code) (r k : ℕ) (routine : TacRoutine) → slice_get (routines code) r ≡ Some routine → text_place code r routine k ≤ length (routines_texts (routines code))
+pub text_low : (code : Code) (r k : ℕ) (routine : TacRoutine) → slice_get (routines code) r ≡ Some routine → text_place code r routine k ≤ length (routines_texts (routines code))
 text_low code r k routine is =
     let a = routines_texts_part (routines code) r routine is in
     let b = body_texts_part routine.body k in

@@ -1,6 +1,6 @@
 // The pieces of a whole code, with the words of its constants, and where each stands.
 
-ghost use Rattle.std.specs.Prelude.{◌≡◌, suc, ◌+◌, ◌*◌, ◌≤◌, [], ◌∷◌, ◌++◌, length, take, slice_get, get_or, Some, OnOk, IfOk};
+ghost use Rattle.std.specs.Prelude.{◌≡◌, suc, ◌+◌, ◌*◌, ◌<◌, ◌≤◌, [], ◌∷◌, ◌++◌, length, take, slice_get, get_or, nat_lt, Some, OnOk, IfOk, IfErr};
 ghost use Rattle.std.specs.Int.{w32, from_le_bytes};
 ghost use Rattle.tac_code.specs.Meaning.{routines};
 ghost use Rattle.risc_alloc.specs.Valid.{Valid};
@@ -11,9 +11,12 @@ ghost use Rattle.risc_emit.specs.Frames.{context_of};
 ghost use Rattle.risc_emit.specs.Layout.{laid_out};
 ghost use Rattle.risc_emit.specs.Passes.{PassesFew, LoadsNear};
 ghost use Rattle.risc_emit.specs.Marked.{mark_of, AreMarksOf, AreMarked};
+ghost use Rattle.risc_emit.specs.Emitted.{code_words};
+ghost use Rattle.risc_emit.specs.declared.emit.EmitRefusal.TheVariants.{CodeTooLarge};
 
 use crate::bent::bent;
 use crate::body::put_instruction;
+use crate::emit::EmitRefusal;
 use crate::entry::{put_entry, put_start};
 use crate::frame::Frame;
 use crate::marks::{Mark, Marks};
@@ -25,12 +28,22 @@ use std::alloc::Global;
 use tac_code::code::{Instruction, OutOfMemory, TacRoutine};
 use tac_code::tac::Tac;
 
+/// The most words of an image's code, constants included.
+const LIMIT: usize = 1048576;
+
 /// What is written before it is known where words stand: the pieces, the words of all constants, and the marks of each routine.
 #[derive(Drop)]
 pub(crate) struct Draft {
     pub pieces: Pieces,
     pub texts: Vec<u32>,
     pub marks: Vec<Marks>,
+}
+
+/// Whether these pieces and these words of constants are more than an image holds.
+pub(crate) fn is_too_large(pieces: &Pieces, texts: &[u32]) -> bool
+    ensures { result ≡ nat_lt 1048576 (length pieces.now + length texts.now) }
+{
+    pieces.len() > LIMIT || texts.len() > LIMIT - pieces.len()
 }
 
 // Word k, its lowest byte first.
@@ -90,20 +103,22 @@ fn put_place(
     put_text(texts, instruction)
 }
 
-// A routine's pieces, its constants' words, and the marks of its places and of the one behind the last.
+// A routine's pieces, its constants' words, and the marks of its places and of the one behind the last. Constants are shared until here:
+// few instructions may stand for more words than memory holds, so none is written once there are too many.
 fn put_routine(
     alloc: Global,
     frame: &Frame<'_>,
     pieces: &mut Pieces,
     texts: &mut Vec<u32>,
     routine: &TacRoutine,
-) -> Result<Marks, OutOfMemory>
+) -> Result<Marks, EmitRefusal>
     requires own { slice_get (routines frame.now.code) frame.now.number ≡ Some routine.now }
     requires entry { length pieces.now ≡ entry_place (context_of frame.now) frame.now.number }
     requires first { length texts.now.items ≡ length (routines_texts (take frame.now.number (routines frame.now.code))) }
     ensures pieces { OnOk result (pieces.new ≡ pieces.old ++ routine_pieces (context_of frame.now) frame.now.number routine.now) }
     ensures texts { OnOk result (texts.new.items ≡ texts.old.items ++ body_texts routine.now.body) }
     ensures marks { IfOk result (λ marks. AreMarksOf (context_of frame.now) frame.now.number routine.now marks) }
+    ensures too_large { IfErr result (λ refusal. refusal ≡ CodeTooLarge → 1048576 < length (program_pieces (context_of frame.now)) + length (routines_texts (routines frame.now.code))) }
 {
     frame.keeps_invariant();
     let entry = pieces.len();
@@ -112,6 +127,9 @@ fn put_routine(
     let jumped = jumped_places(alloc, body)?;
     let mut places = Vec::new(alloc);
     for place in 0..body.len() {
+        if is_too_large(pieces, texts.as_slice()) {
+            return Err(EmitRefusal::CodeTooLarge);
+        }
         let told = told(body, jumped.as_slice(), place);
         let here = bent(frame, body, jumped.as_slice(), place);
         let next = bent(frame, body, jumped.as_slice(), place + 1);
@@ -134,12 +152,13 @@ fn put_routine(
     Ok(Marks { entry, places })
 }
 
-/// All pieces of a code, with homes that are a valid placement.
-pub(crate) fn draft_of(alloc: Global, tac: &Tac, homes: &[Home]) -> Result<Draft, OutOfMemory>
+/// All pieces of a code, with homes that are a valid placement. Where they are too many it may be refused before all are written.
+pub(crate) fn draft_of(alloc: Global, tac: &Tac, homes: &[Home]) -> Result<Draft, EmitRefusal>
     requires valid { Valid tac.now homes.now }
     ensures pieces { IfOk result (λ draft. draft.pieces ≡ program_pieces (laid_out tac.now homes.now)) }
     ensures texts { IfOk result (λ draft. draft.texts.items ≡ routines_texts (routines tac.now)) }
     ensures marks { IfOk result (λ draft. AreMarked (laid_out tac.now homes.now) draft.marks.items) }
+    ensures too_large { IfErr result (λ refusal. refusal ≡ CodeTooLarge → 1048576 < code_words tac.now homes.now) }
 {
     tac.keeps_invariant();
     let mut pieces = Pieces::new(alloc);

@@ -11,7 +11,7 @@ ghost use Rattle.risc_emit.specs.Placed.{entry_at, placed, AreNear, AreWordsOf};
 ghost use Rattle.risc_emit.specs.Emitted.{code_words, HasBounds};
 ghost use Rattle.risc_emit.specs.declared.emit.EmitRefusal.TheVariants.{CodeTooLarge};
 
-use crate::draft::{Draft, draft_of};
+use crate::draft::{Draft, draft_of, is_too_large};
 use crate::frame::object_cost;
 use crate::layout::frame_cost;
 use crate::marks::{Marks, entry_at};
@@ -20,12 +20,9 @@ use crate::resolve::{call_rows, trap_rows, words_of};
 use risc_alloc::homes::Home;
 use risc_alloc::placement::Placement;
 use risc_image::{FrameRow, ObjectRow, Parts};
-use std::alloc::{AllocError, Global};
+use std::alloc::{AllocError, AllocFailed, Global};
 use tac_code::code::OutOfMemory;
 use tac_code::tac::Tac;
-
-/// The most words of an image's code, constants included.
-const LIMIT: usize = 1048576;
 
 /// Why there is no image.
 #[derive(Clone, Copy)]
@@ -42,6 +39,17 @@ impl From<AllocError> for EmitRefusal {
     ghost from_gives = { λ _ e. e ≡ OutOfMemory };
 
     fn from(_: AllocError) -> EmitRefusal {
+        EmitRefusal::OutOfMemory
+    }
+}
+
+impl<T: Drop> From<AllocFailed<T>> for EmitRefusal {
+    ghost use Rattle.std.specs.Prelude.{◌≡◌};
+    ghost use Rattle.risc_emit.specs.declared.emit.EmitRefusal.TheVariants.{OutOfMemory};
+
+    ghost from_gives = { λ _ e. e ≡ OutOfMemory };
+
+    fn from(_: AllocFailed<T>) -> EmitRefusal {
         EmitRefusal::OutOfMemory
     }
 }
@@ -178,7 +186,7 @@ pub fn emit(alloc: Global, tac: &Tac, placement: &Placement) -> Result<Parts, Em
 {
     let homes = placement.raw().homes.as_slice();
     let draft = draft_of(alloc, tac, homes)?;
-    if draft.pieces.len() > LIMIT || draft.texts.len() > LIMIT - draft.pieces.len() {
+    if is_too_large(&draft.pieces, draft.texts.as_slice()) {
         return Err(EmitRefusal::CodeTooLarge);
     }
     Ok(parts_of(alloc, tac, homes, &draft)?)

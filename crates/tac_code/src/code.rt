@@ -3,6 +3,7 @@
 use smallvec::SmallVec;
 use std::alloc::{AllocError, Global};
 use std::marker::Model;
+use std::rc::Rc;
 
 /// Want of memory: a growth was refused.
 pub type OutOfMemory = AllocError;
@@ -26,7 +27,7 @@ impl Model for Operands {
     ghost view = { λ o. o.list.items };
 }
 
-ghost use Rattle.std.specs.Prelude.{◌≡◌, [], ◌∷◌, ◌++◌, OnOk, OnErr};
+ghost use Rattle.std.specs.Prelude.{◌≡◌, [], ◌∷◌, ◌++◌, IfOk, OnOk, OnErr};
 
 impl Operands {
     /// No operands.
@@ -132,9 +133,9 @@ pub enum Base {
     Temporary(u32),
 }
 
-/// The bytes of a constant, as those of a string.
+/// The bytes of a constant, as those of a string. Several constants may share them.
 pub struct Constant {
-    list: Vec<u8>,
+    list: Rc<Vec<u8>>,
 }
 
 impl Drop for Constant {
@@ -148,13 +149,20 @@ impl Model for Constant {
 
     ghost Value = { List ℕ };
 
-    ghost view = { λ c. c.list.items };
+    ghost view = { λ c. c.list.value.items };
 }
 
 impl Constant {
     /// A constant of these bytes.
-    pub fn new(bytes: Vec<u8>) -> Constant
-        ensures { result ≡ bytes.items }
+    pub fn new(alloc: Global, bytes: Vec<u8>) -> Result<Constant, OutOfMemory>
+        ensures { IfOk result (λ constant. constant ≡ bytes.items) }
+    {
+        Ok(Constant::shared(Rc::new(alloc, bytes)?))
+    }
+
+    /// A constant of bytes that others have too.
+    pub fn shared(bytes: Rc<Vec<u8>>) -> Constant
+        ensures { result ≡ bytes.value.items }
     {
         Constant { list: bytes }
     }

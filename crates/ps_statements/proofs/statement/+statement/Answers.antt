@@ -1,25 +1,23 @@
-use Rattle.std.proofs.Common.{◌≡◌, List, Option, Some, None, map, refl, sym, ap, arith}
-use Rattle.std.proofs.lemmas.Grind.{common_steps}
+use Rattle.std.proofs.Common.{rules, ◌≡◌, List, [], Option, Some, None, map, refl, sym, ap}
 use Rattle.std.proofs.lemmas.Result.{err_from_is_err_and}
 use Rattle.ps_syntax.specs.declared.statement.Element.{out-Element}
 use Rattle.ps_tree.specs.Tree as Tree
-use Rattle.ps_tree.specs.TypeView.{type_of}
 use Rattle.ps_tree.specs.View.{expr_of, place_of, statement_of}
 use Rattle.ps_tree.proofs.StatementLemmas.{statement_of_Case, statement_of_Compound, statement_of_Repeat}
 use Rattle.ps_regions.specs.Option.{◌>>=◌, traverse}
 use Rattle.ps_regions.specs.Refusal.{IsFault}
-use Rattle.ps_regions.specs.Views.{scope_of}
+use Rattle.ps_regions.specs.Views.{opened_in, scope_of}
 use Rattle.ps_typing.specs.View.{context_at, regions_at}
 use Rattle.ps_regions.proofs.Lists.{reached_start, reached_end}
 use Rattle.ps_statements.specs.Statements as spec
-use Rattle.ps_statements.specs.Structured.{case_label, record_region, repeated}
+use Rattle.ps_statements.specs.Structured.{case_label, repeated}
 use Rattle.ps_statements.specs.View.{element_of}
 use Rattle.ps_statements.proofs.Equations.{statement_empty, statement_assign, statement_call, statement_compound, statement_if, statement_if_else, statement_case, statement_while, statement_repeat, statement_for, statement_with, element_is, elements_listed}
 use Rattle.ps_statements.proofs.Loops.{added_next, added_fault}
 use Rattle.ps_regions.proofs.Refused.{either_refused, any_refused}
 use Rattle.ps_statements.proofs.Paired.{put_is, put_none, part_is, both_none}
 use Rattle.ps_statements.proofs.Judgement.{statements_end, case_at, case_fault, case_no_index}
-use Rattle.ps_statements.proofs.Opening.{with_empty, with_next, with_fault}
+use Rattle.ps_statements.proofs.Opening.{with_opened, with_unopened}
 use Rattle.ps_statements.proofs.statement.+statement.Goals as goal
 
 pub statements-loop-x-init : goal.statements-loop-x-init
@@ -48,31 +46,6 @@ pub case_statement-returns-in-Some-clause-err : goal.case_statement-returns-in-S
 case_statement-returns-in-Some-clause-err t c =
     let d = rw (c.in-Some.is, c.deref.ensures.value) at c.in_ok-repeated_label.ensures in
     λ told. rw (case_at (context_at c.args.site) (regions_at c.args.site) c.args.at c.args.x.now c.args.list.now (expr_of c.in_ok-index.index) c.in_ok-index.ordinal (map element_of c.in_ok-elements.elements.items) c.in_ok-index.ensures.ok c.in_ok-elements.ensures.ok, ← d) refl
-
-pub with_statement-returns-in_err-places-in-len1-up-clause-err : goal.with_statement-returns-in_err-places-in-len1-up-clause-err
-with_statement-returns-in_err-places-in-len1-up-clause-err t c =
-    let p = err_from_is_err_and c.from_residual-in_err-places-in-len1-up.result c.from_residual-in_err-places-in-len1-up.ensures.1 in
-    let parts : IsFault c.in_err-places-in-len1-up.field-0.0 → spec.with_behind (context_at c.args.site) (map place_of c.args.opened.items, regions_at c.args.site) c.args.records.now (spec.statement (context_at c.args.site) c.args.x.now) ≡ None =
-    λ fault. with_fault (context_at c.args.site) (regions_at c.args.site) (map place_of c.args.opened.items) (spec.statement (context_at c.args.site) c.args.x.now) c.args.records.now c.first-item.result c.in-len1-up.len_at_least c.first-item.is (c.in_err-places-in-len1-up.ensures.err fault) in
-    rw (p.1, p.2) parts
-
-pub with_statement-returns-in-Record-clause-ok : goal.with_statement-returns-in-Record-clause-ok
-unfolding record_region scope_of type_of
-with_statement-returns-in-Record-clause-ok t c =
-    let h = rw (c.in-Record.is, c.deref.ensures) at c.with_statement.ensures.ok in
-    rw (with_next (context_at c.args.site) (regions_at c.args.site) (map place_of c.args.opened.items) (spec.statement (context_at c.args.site) c.args.x.now) c.args.records.now c.first-item.result (map place_of c.in_ok-places-in-len1-up.places.items) (type_of c.in_ok-places-in-len1-up.ty) c.in-len1-up.len_at_least c.first-item.is c.in_ok-places-in-len1-up.ensures.ok, c.in-Record.is) h
-
-pub with_statement-returns-in-Record-clause-err : goal.with_statement-returns-in-Record-clause-err
-unfolding record_region scope_of type_of
-with_statement-returns-in-Record-clause-err t c =
-    let h = rw (c.in-Record.is, c.deref.ensures) at c.with_statement.ensures.err in
-    rw (with_next (context_at c.args.site) (regions_at c.args.site) (map place_of c.args.opened.items) (spec.statement (context_at c.args.site) c.args.x.now) c.args.records.now c.first-item.result (map place_of c.in_ok-places-in-len1-up.places.items) (type_of c.in_ok-places-in-len1-up.ty) c.in-len1-up.len_at_least c.first-item.is c.in_ok-places-in-len1-up.ensures.ok, c.in-Record.is) h
-
-pub with_statement-returns-in_default-clause-err : goal.with_statement-returns-in_default-clause-err
-unfolding record_region type_of
-with_statement-returns-in_default-clause-err t c = λ told. rw (with_next (context_at c.args.site) (regions_at c.args.site) (map place_of c.args.opened.items) (spec.statement (context_at c.args.site) c.args.x.now) c.args.records.now c.first-item.result (map place_of c.in_ok-places-in-len1-up.places.items) (type_of c.in_ok-places-in-len1-up.ty) c.in-len1-up.len_at_least c.first-item.is c.in_ok-places-in-len1-up.ensures.ok) (grind (arith, common_steps))
-
--- ---- lists
 
 pub statements-loop-x-preserved : goal.statements-loop-x-preserved
 statements-loop-x-preserved t c = added_next (λ s. spec.statement (context_at c.args.site) s (regions_at c.args.site)) statement_of c.args.list.now c.loop-x.x-index c.loop-x.typed.items c.x-item.result c.statement.result _ c.loop-x-test.true c.x-item.is c.loop-x.invariant c.statement.ensures.ok c.in_ok-push_answer.ensures.ok
@@ -222,14 +195,10 @@ pub statement-returns-in-For-clause-err : goal.statement-returns-in-For-clause-e
 statement-returns-in-For-clause-err t c = rw (c.in-For.is, statement_for, ← c.get-in-For.ensures, ← c.get-in-For-2.ensures, ← c.get-in-For-3.ensures) c.for_statement.ensures.err
 
 pub statement-returns-in-With-clause-ok : goal.statement-returns-in-With-clause-ok
-statement-returns-in-With-clause-ok t c =
-    let h = rw c.new.ensures.items at c.with_statement.ensures.ok in
-    rw (c.in-With.is, statement_with, ← c.get-in-With.ensures, ← c.as_slice-in-With.ensures) h
+statement-returns-in-With-clause-ok t c = rw (c.in-With.is, statement_with, ← c.get-in-With.ensures, ← c.as_slice-in-With.ensures) c.with_statement.ensures.ok
 
 pub statement-returns-in-With-clause-err : goal.statement-returns-in-With-clause-err
-statement-returns-in-With-clause-err t c =
-    let h = rw c.new.ensures.items at c.with_statement.ensures.err in
-    rw (c.in-With.is, statement_with, ← c.get-in-With.ensures, ← c.as_slice-in-With.ensures) h
+statement-returns-in-With-clause-err t c = rw (c.in-With.is, statement_with, ← c.get-in-With.ensures, ← c.as_slice-in-With.ensures) c.with_statement.ensures.err
 
 pub for_statement-returns-in_err-head-clause-err : goal.for_statement-returns-in_err-head-clause-err
 for_statement-returns-in_err-head-clause-err t c =
@@ -272,13 +241,28 @@ element-returns-clause-ok t c =
     let l = rw c.in_ok-constants.ensures.second at c.statement.ensures.ok in
     rw (element_is (context_at c.args.site) (regions_at c.args.site) c.args.x.now c.args.index, k, l) refl
 
-pub with_statement-returns-in_ok-body-in-empty-clause-ok : goal.with_statement-returns-in_ok-body-in-empty-clause-ok
-unfolding statement_of
-with_statement-returns-in_ok-body-in-empty-clause-ok t c = rw (with_empty (context_at c.args.site) (regions_at c.args.site) (map place_of c.args.opened.items) (spec.statement (context_at c.args.site) c.args.x.now) c.args.records.now c.in-empty.len_below, c.in_ok-body-in-empty.ensures.ok) refl
+-- ---- `with`
 
-pub with_statement-returns-in_err-body-in-empty-clause-err : goal.with_statement-returns-in_err-body-in-empty-clause-err
-with_statement-returns-in_err-body-in-empty-clause-err t c =
+pub with_statement-returns-in_err-places-clause-err : goal.with_statement-returns-in_err-places-clause-err
+with_statement-returns-in_err-places-clause-err t c =
     let p = err_from_is_err_and c.from_residual.result c.from_residual.ensures.1 in
-    let parts : IsFault c.in_err-body-in-empty.field-0.0 → spec.with_behind (context_at c.args.site) (map place_of c.args.opened.items, regions_at c.args.site) c.args.records.now (spec.statement (context_at c.args.site) c.args.x.now) ≡ None =
-    λ told. rw (with_empty (context_at c.args.site) (regions_at c.args.site) (map place_of c.args.opened.items) (spec.statement (context_at c.args.site) c.args.x.now) c.args.records.now c.in-empty.len_below, c.in_err-body-in-empty.ensures.err told) refl in
+    let parts : IsFault c.in_err-places.field-0.0 → spec.with_behind (context_at c.args.site) ([], regions_at c.args.site) c.args.records.now (spec.statement (context_at c.args.site) c.args.x.now) ≡ None =
+    λ told. with_unopened (context_at c.args.site) (regions_at c.args.site) c.args.records.now (spec.statement (context_at c.args.site) c.args.x.now) (c.in_err-places.ensures.err told) in
     rw (p.1, p.2) parts
+
+pub with_statement-returns-in_err-body-clause-err : goal.with_statement-returns-in_err-body-clause-err
+unfolding scope_of
+with_statement-returns-in_err-body-clause-err t c =
+    let p = err_from_is_err_and c.from_residual-in_err-body.result c.from_residual-in_err-body.ensures.1 in
+    let typed : c.as_slice.result.now ≡ c.in_ok-places.types.items = search rules in
+    let h = rw typed at c.in_err-body.ensures.err in
+    let parts : IsFault c.in_err-body.field-0.0 → spec.with_behind (context_at c.args.site) ([], regions_at c.args.site) c.args.records.now (spec.statement (context_at c.args.site) c.args.x.now) ≡ None =
+    λ told. rw (with_opened (context_at c.args.site) (regions_at c.args.site) c.args.records.now (spec.statement (context_at c.args.site) c.args.x.now) (map place_of c.in_ok-places.places.items) (opened_in (regions_at c.args.site) c.in_ok-places.types.items) c.in_ok-places.ensures.ok, h told) refl in
+    rw (p.1, p.2) parts
+
+pub with_statement-returns-clause-ok : goal.with_statement-returns-clause-ok
+unfolding statement_of scope_of
+with_statement-returns-clause-ok t c =
+    let typed : c.as_slice.result.now ≡ c.in_ok-places.types.items = search rules in
+    let h = rw typed at c.in_ok-body.ensures.ok in
+    rw (with_opened (context_at c.args.site) (regions_at c.args.site) c.args.records.now (spec.statement (context_at c.args.site) c.args.x.now) (map place_of c.in_ok-places.places.items) (opened_in (regions_at c.args.site) c.in_ok-places.types.items) c.in_ok-places.ensures.ok, h) refl

@@ -1,4 +1,4 @@
-use Rattle.std.proofs.Common.{◌+◌, ◌*◌, length, map, max}
+use Rattle.std.proofs.Common.{◌+◌, ◌*◌, map, max}
 use Rattle.ps_syntax.specs.declared.statement.Statement.{size-Statement}
 use Rattle.ps_tree.specs.View.{statement_of}
 use Rattle.ps_regions.proofs.Lists.{Reached}
@@ -13,38 +13,37 @@ invariant-statements-loop-x l = Reached (λ s. statement (context_at l.site) s (
 abbrev pub invariant-elements-loop-x : goal.invariant-elements-loop-x
 invariant-elements-loop-x l = Reached (λ e. element (context_at l.site) e (regions_at l.site) l.index) l.list l.x-index (map element_of l.typed.items)
 
--- The depth of the statement, and then what is called for one of the same depth. A `with` goes down its records, of which there are
--- less than 2 to the 64th.
+-- The depth of the statement, and then what is called for one of the same depth.
 
 abbrev pub decreases-statement : goal.decreases-statement
-decreases-statement l = goal.size-statement l * 36893488147419103240
+decreases-statement l = goal.size-statement l * 4
 
 abbrev pub decreases-boxed : goal.decreases-boxed
-decreases-boxed l = goal.size-boxed l * 36893488147419103240 + 1
+decreases-boxed l = goal.size-boxed l * 4 + 1
 
 abbrev pub decreases-statements : goal.decreases-statements
-decreases-statements l = goal.size-statements l * 36893488147419103240 + 1
+decreases-statements l = goal.size-statements l * 4 + 1
 
 abbrev pub decreases-governed : goal.decreases-governed
-decreases-governed l = goal.size-governed l * 36893488147419103240 + 2
+decreases-governed l = goal.size-governed l * 4 + 2
 
 abbrev pub decreases-if_else_statement : goal.decreases-if_else_statement
-decreases-if_else_statement l = max (goal.size-if_else_statement l) (size-Statement l.otherwise.now) * 36893488147419103240 + 2
+decreases-if_else_statement l = max (goal.size-if_else_statement l) (size-Statement l.otherwise.now) * 4 + 2
 
 abbrev pub decreases-repeat_statement : goal.decreases-repeat_statement
-decreases-repeat_statement l = goal.size-repeat_statement l * 36893488147419103240 + 2
+decreases-repeat_statement l = goal.size-repeat_statement l * 4 + 2
 
 abbrev pub decreases-element : goal.decreases-element
-decreases-element l = goal.size-element l * 36893488147419103240 + 1
+decreases-element l = goal.size-element l * 4 + 1
 
 abbrev pub decreases-elements : goal.decreases-elements
-decreases-elements l = goal.size-elements l * 36893488147419103240 + 2
+decreases-elements l = goal.size-elements l * 4 + 2
 
 abbrev pub decreases-case_statement : goal.decreases-case_statement
-decreases-case_statement l = goal.size-case_statement l * 36893488147419103240 + 3
+decreases-case_statement l = goal.size-case_statement l * 4 + 3
 
 abbrev pub decreases-for_statement : goal.decreases-for_statement
-decreases-for_statement l = goal.size-for_statement l * 36893488147419103240 + 2
+decreases-for_statement l = goal.size-for_statement l * 4 + 2
 
 abbrev pub decreases-with_statement : goal.decreases-with_statement
-decreases-with_statement l = goal.size-with_statement l * 36893488147419103240 + length l.records.now + 2
+decreases-with_statement l = goal.size-with_statement l * 4 + 2

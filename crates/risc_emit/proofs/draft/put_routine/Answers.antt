@@ -1,10 +1,11 @@
 use Rattle.tac_code.specs.Meaning.{body_at}
-use Rattle.std.proofs.Common.{slice_get, refl, sym, ap, ◌∙◌, rules}
+use Rattle.std.proofs.Common.{◌+◌, nat_lt, length, slice_get, refl, sym, ap, ◌∙◌, rules}
 use Rattle.std.proofs.lemmas.Option.{slice_get_read}
 use Rattle.risc_emit.specs.Frames.{context_of}
 use Rattle.risc_emit.proofs.Few.{passes_few}
 use Rattle.risc_emit.proofs.Telling.{told_here, bent_here, bent_next, loads_near}
 use Rattle.risc_emit.proofs.Drafting.{drafted_more, drafted_marks}
+use Rattle.risc_emit.proofs.Limits.{drafted_past}
 use Rattle.risc_emit.proofs.draft.put_routine.Goals as goal
 
 pub put_place-requires : goal.put_place-requires
@@ -28,3 +29,7 @@ loop-place-preserved c =
 pub returns-clause-marks : goal.returns-clause-marks
 returns-clause-marks c =
     drafted_marks (context_of c.args.frame.now) c.args.frame.now.number c.args.routine.now c.args.pieces.now c.args.texts.now.items c.requires.entry c.requires.first c.loop-place.place _ _ _ (search rules) c.loop-place.invariant _ (search rules) c.len-entry.ensures (search rules)
+
+pub returns-then-is_too_large-clause-too_large : goal.returns-then-is_too_large-clause-too_large
+returns-then-is_too_large-clause-too_large c =
+    λ _. drafted_past (context_of c.args.frame.now) c.args.frame.now.number c.args.routine.now c.args.pieces.now c.args.texts.now.items c.loop-place.place 1048576 _ _ _ c.requires.own c.requires.entry c.requires.first c.loop-place.invariant (ap (λ t. nat_lt 1048576 (length c.loop-place.pieces + length t)) (sym c.as_slice.ensures.value) ∙ sym c.is_too_large.ensures ∙ c.if-is_too_large.true)

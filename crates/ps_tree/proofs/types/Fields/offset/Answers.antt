@@ -1,6 +1,6 @@
 use Rattle.std.proofs.Common.{◌∙◌, ap, min}
 use Rattle.ps_tree.specs.Types.{field_list, field_types}
-use Rattle.ps_tree.specs.Sizes.{record_bytes, bytes_before}
+use Rattle.ps_tree.specs.Sizes.{bytes_before}
 use Rattle.ps_tree.specs.TypeView.{types_of}
 use Rattle.ps_tree.proofs.SizeLemmas.{offset_at, offset_past}
 use Rattle.ps_tree.proofs.types.Fields.offset.Goals as goal
