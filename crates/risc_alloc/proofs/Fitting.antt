@@ -1,7 +1,9 @@
--- A walk that found nothing beside what was claimed found all that is alive, so what it tested holds of the homes.
-use Rattle.std.proofs.Common.{◌≡◌, ◌≢◌, ℕ, zero, suc, ◌+◌, ◌<◌, ◌≤◌, ◌⊎◌, inl, inr, ⊎_elim, Bool, true, false, List, [], ◌∷◌, length, get_or, slice_get, slice_index, Option, Some, None, IfSome, refl, sym, ap, ◌∙◌, subst, arith}
+-- A walk that found nothing beside what was claimed found all that is alive of a window, so what it tested holds of the seats there; and
+-- what holds of all seats holds of the homes.
+use Rattle.std.proofs.Common.{◌≡◌, ◌≢◌, ℕ, zero, suc, ◌+◌, ◌-◌, ◌<◌, ◌≤◌, ◌⊎◌, inl, inr, ⊎_elim, Bool, true, false, List, length, get_or, slice_get, slice_index, Option, Some, None, IfSome, refl, sym, ap, ◌∙◌, subst, arith}
 use Rattle.std.specs.Prelude.{⊤, Vec, Result, Ok, Err, IfOk, IsTrue}
 use Rattle.tac_code.specs.declared.code.TacRoutine.{TacRoutine}
+use Rattle.std.proofs.lemmas.Bool.{cases_eq, cases_lt}
 use Rattle.std.proofs.lemmas.Option.{slice_get_within, slice_get_cases, MatchOption-at_some}
 use Rattle.tac_code.specs.declared.code.Instruction.{Instruction}
 use Rattle.risc_alloc.specs.declared.homes.Home.{Home}
@@ -10,9 +12,12 @@ use Rattle.risc_alloc.specs.declared.claims.Claims.{Claims}
 use Rattle.risc_alloc.specs.Flow.{reads, writes, leads, gives_to, comes_back}
 use Rattle.risc_alloc.specs.Alive.{Alive, Used, Passed}
 use Rattle.risc_alloc.specs.Homes.{found, home_in}
-use Rattle.risc_alloc.specs.Seats.{seat_number, IsHome, AreSeatsOf, Held, IsFreeFor}
+use Rattle.risc_alloc.specs.Seats.{seat_number, IsHome, AreSeatsOf}
+use Rattle.risc_alloc.specs.Windows.{place_in, IsHere, IsWindow, Held, IsFreeFor, IsMarked, MarksStrangers}
+use Rattle.risc_alloc.specs.declared.window.Window.{Window}
 use Rattle.risc_alloc.specs.Walk.{Step, Walked, IsSettled}
-use Rattle.risc_alloc.specs.Fits.{Fits, RoutineFits}
+use Rattle.risc_alloc.specs.Fits.{RoutineFits, SeatFits, SeatsFit}
+use Rattle.risc_alloc.proofs.Seating.{index_past}
 use Rattle.risc_alloc.proofs.Reading.{LeadsAs, Falls, Jumps, leads_as, calls_of}
 
 -- a routine's instructions by their places
@@ -37,38 +42,132 @@ alive_within body place u (Used p v e) = let some = some_read (slice_get body p)
 alive_within body place u (Passed p next v l w rest) =
     let some = some_leads (slice_get body p) p next l in slice_get_within body p some.0 some.1
 
-index_past : (xs : List ℕ) (t : ℕ) → length xs ≤ t → slice_index xs t ≡ 0
-index_past [] t le = refl
-index_past (x ∷ xs) zero le = absurd (omega arith)
-index_past (x ∷ xs) (suc t) le = let shorter : length xs ≤ t = omega arith in index_past xs t shorter
-
-module _ (homes : List Home) (seats : List ℕ) (claims : Claims) (body : List Instruction) (parameters : ℕ) (table : List ℕ) (are : AreSeatsOf homes seats) (w : Walked seats claims body 0 table) (free : (t : ℕ) → t < parameters → IsFreeFor seats table t) where
-  step_at : (place : ℕ) (i : Instruction) → slice_get body place ≡ Some i → Step seats claims i place (w.tables (suc place)) (w.tables place)
+module _ (seats : List ℕ) (from : ℕ) (window : Window) (claims : Claims) (body : List Instruction) (parameters : ℕ) (table : List ℕ) (is : IsWindow seats from window) (w : Walked window claims body 0 table) (free : (t : ℕ) → t < parameters → IsFreeFor window table t) where
+  step_at : (place : ℕ) (i : Instruction) → slice_get body place ≡ Some i → Step window claims i place (w.tables (suc place)) (w.tables place)
   step_at place i e = let le : 0 ≤ place = omega arith in w.steps place i le e
 
   -- what is held at a place where an instruction leads is held behind the instruction
-  behind : (place next u : ℕ) (i : Instruction) (e : slice_get body place ≡ Some i) → LeadsAs i place next → next < length body → Held seats (w.tables next) u → Held seats (step_at place i e).out u
-  behind place next u i e (Falls f on) lt h =
-      (step_at place i e).flows.falls f u (subst (λ (j : ℕ). Held seats (w.tables j) u) on h)
-  behind place next u i e (Jumps to) lt h =
-      let claim = (step_at place i e).flows.jumps next to in let le : 0 ≤ next = omega arith in claim.2 u (w.claimed next le lt claim.0 claim.1 seats u h)
+  behind : (place next u : ℕ) (i : Instruction) (e : slice_get body place ≡ Some i) → LeadsAs i place next → next < length body → IsHere window u → Held window (w.tables next) u → Held window (step_at place i e).out u
+  behind place next u i e (Falls f on) lt here h =
+      (step_at place i e).flows.falls f u (subst (λ (j : ℕ). Held window (w.tables j) u) on h)
+  behind place next u i e (Jumps to) lt here h =
+      let claim = (step_at place i e).flows.jumps next to in let le : 0 ≤ next = omega arith in claim.2 u (w.claimed next le lt claim.0 claim.1 window u h) here
 
-  used : (place u : ℕ) → reads (slice_get body place) u ≡ true → Held seats (w.tables place) u
-  used place u e =
-      let some = some_read (slice_get body place) u e in (step_at place some.0 some.1).reads.read u (subst (λ (o : Option Instruction). reads o u ≡ true) some.1 e)
+  used : (place u : ℕ) → IsHere window u → reads (slice_get body place) u ≡ true → Held window (w.tables place) u
+  used place u here e =
+      let some = some_read (slice_get body place) u e in (step_at place some.0 some.1).reads.read u (subst (λ (o : Option Instruction). reads o u ≡ true) some.1 e) here
 
-  passed : (place next u : ℕ) → leads (slice_get body place) place next ≡ true → writes (slice_get body place) u ≡ false → next < length body → Held seats (w.tables next) u → Held seats (w.tables place) u
-  passed place next u l n lt h =
+  passed : (place next u : ℕ) → IsHere window u → leads (slice_get body place) place next ≡ true → writes (slice_get body place) u ≡ false → next < length body → Held window (w.tables next) u → Held window (w.tables place) u
+  passed place next u here l n lt h =
       let some = some_leads (slice_get body place) place next l in
       let s = step_at place some.0 some.1 in
       let way : LeadsAs some.0 place next = leads_as some.0 place next (subst (λ (o : Option Instruction). leads o place next ≡ true) some.1 l) in
-      s.reads.kept u (s.writes.kept u (subst (λ (o : Option Instruction). writes o u ≡ false) some.1 n) (behind place next u some.0 some.1 way lt h))
+      s.reads.kept u (s.writes.kept u (subst (λ (o : Option Instruction). writes o u ≡ false) some.1 n) (behind place next u some.0 some.1 way lt here h))
 
-  pub alive_held : (place u : ℕ) → Alive (placed body) place u → Held seats (w.tables place) u
-  alive_held place u (Used p v e) = used p v e
-  alive_held place u (Passed p next v l n rest) =
-      passed p next v l n (alive_within body next v rest) (alive_held next v rest)
+  alive_held : (place u : ℕ) → IsHere window u → Alive (placed body) place u → Held window (w.tables place) u
+  alive_held place u here (Used p v e) = used p v here e
+  alive_held place u here (Passed p next v l n rest) =
+      passed p next v here l n (alive_within body next v rest) (alive_held next v here rest)
 
+  module _ (seat s : ℕ) (at : seat ≡ from + s) (within : s < 12) where
+    place_is : (t : ℕ) → slice_index seats t ≡ seat → place_in window t ≡ s
+    place_is t e = is.here t s (e ∙ at) within
+
+    is_here : (t : ℕ) → slice_index seats t ≡ seat → IsHere window t
+    is_here t e = subst (λ (n : ℕ). n < 12) (sym (place_is t e)) within
+
+    one : (t u : ℕ) (holders : List ℕ) → slice_index seats t ≡ seat → slice_index seats u ≡ seat → Held window holders t → Held window holders u → t ≡ u
+    one t u holders st su ht hu =
+        let same : slice_index holders (place_in window t) ≡ slice_index holders (place_in window u) = ap (slice_index holders) (place_is t st ∙ sym (place_is u su)) in
+        let eq : t + 1 ≡ u + 1 = sym ht.1 ∙ same ∙ hu.1 in omega arith
+
+    -- nobody else holds the seat of one for whom it is free
+    only : (t u : ℕ) (holders : List ℕ) → slice_index seats t ≡ seat → slice_index seats u ≡ seat → IsFreeFor window holders t → Held window holders u → u ≡ t
+    only t u holders st su f hu =
+        ⊎_elim (λ (same : u ≡ t). same) (λ (ne : u ≢ t). absurd (f (is_here t st) u hu ne (place_is u su ∙ sym (place_is t st)))) (cases_eq u t)
+
+    apart : (place t u : ℕ) → slice_index seats t ≡ seat → slice_index seats u ≡ seat → Alive (placed body) place t → Alive (placed body) place u → t ≡ u
+    apart place t u st su at_t at_u =
+        one t u (w.tables place) st su (alive_held place t (is_here t st) at_t) (alive_held place u (is_here u su) at_u)
+
+    written : (place next t u : ℕ) → slice_index seats t ≡ seat → slice_index seats u ≡ seat → leads (slice_get body place) place next ≡ true → writes (slice_get body place) t ≡ true → Alive (placed body) next u → u ≡ t
+    written place next t u st su l n au =
+        let some = some_leads (slice_get body place) place next l in
+        let way : LeadsAs some.0 place next = leads_as some.0 place next (subst (λ (o : Option Instruction). leads o place next ≡ true) some.1 l) in
+        let held = behind place next u some.0 some.1 way (alive_within body next u au) (is_here u su) (alive_held next u (is_here u su) au) in
+        only t u (step_at place some.0 some.1).out st su ((step_at place some.0 some.1).writes.free t (subst (λ (o : Option Instruction). writes o t ≡ true) some.1 n)) held
+
+    called : (place t u : ℕ) → seat < 12 → slice_index seats u ≡ seat → comes_back (placed body) place t ≡ true → Alive (placed body) place u → u ≡ t
+    called zero t u below su e au = absurd (cc)
+    called (suc place) t u below su e au =
+        let some = some_gives (slice_get body place) t e in
+        let gives : gives_to (Some some.0) t ≡ true = subst (λ (o : Option Instruction). gives_to o t ≡ true) some.1 e in
+        let s' = step_at place some.0 some.1 in
+        let held = s'.flows.falls (calls_of some.0 t gives).falls u (alive_held (suc place) u (is_here u su) au) in
+        let first : from < 12 = omega (arith, at, below) in
+        s'.writes.called t gives (is.registers first) u held
+
+    entered : (t u : ℕ) → slice_index seats t ≡ seat → slice_index seats u ≡ seat → t < parameters → Alive (placed body) 0 u → u ≡ t
+    entered t u st su lt au =
+        only t u table st su (free t lt) (subst (λ (l : List ℕ). Held window l u) w.here (alive_held 0 u (is_here u su) au))
+
+    pub seat_fits : SeatFits (placed body) parameters seats seat
+    seat_fits = record { apart = apart; written = written; called = called; entered = entered }
+
+-- from what the code knows where walks came to an end
+pub settled : (window : Window) (found : Option Claims) (claims : Claims) (items body : List Instruction) (parameters : ℕ) (table : List ℕ) → found ≡ Some claims → IfSome found (λ c. Walked window c items 0 table) → items ≡ body → ((t : ℕ) → t < parameters → IsFreeFor window table t) → IsSettled window body parameters
+settled window found claims items body parameters table is w same free = record {
+  claims = claims;
+  table = table;
+  walked = subst (λ (l : List Instruction). Walked window claims l 0 table) same (MatchOption-at_some ⊤ (λ c. Walked window c items 0 table) claims is w);
+  free = free;
+}
+
+pub window_fits : (routine : TacRoutine) (seats : List ℕ) (count from : ℕ) (window : Window) → IsWindow seats from window → IsSettled window routine.body routine.parameters → SeatsFit routine seats count from (from + 12)
+window_fits routine seats count from window is s seat above below some =
+    let at : seat ≡ from + (seat - from) = omega (arith, above) in
+    let within : seat - from < 12 = omega (arith, above, below) in
+    seat_fits seats from window s.claims routine.body routine.parameters s.table is s.walked s.free seat (seat - from) at within
+
+-- Nobody shares a seat behind the registers that isn't marked.
+pub unmarked_fits : (routine : TacRoutine) (seats : List ℕ) (marks : List Bool) (from : ℕ) → MarksStrangers seats marks → 12 ≤ from → ((seat : ℕ) → from ≤ seat → seat < from + 12 → IsMarked marks seat → ⊥) → SeatsFit routine seats (length marks) from (from + 12)
+unmarked_fits routine seats marks from marked behind clear seat le lt below = record {
+  apart = λ place t u st su at_t at_u. same t u st su;
+  written = λ place next t u st su l n au. same u t su st;
+  called = λ place t u register su e au. absurd (omega (arith, register, above));
+  entered = λ t u st su first au. same u t su st;
+}
+  where
+    above : 12 ≤ seat
+    above = omega (arith, behind, le)
+
+    within : (t : ℕ) → slice_index seats t ≡ seat → t < length seats
+    within t e =
+        ⊎_elim (λ (inside : t < length seats). inside) (λ (past : length seats ≤ t). let none = index_past seats t past in absurd (omega (arith, none, e, above))) (cases_lt t (length seats))
+
+    its_own : (t : ℕ) → slice_index seats t ≡ seat → seat ≡ 12 + t
+    its_own t e =
+        ⊎_elim (λ (own : slice_index seats t ≡ 12 + t). sym e ∙ own) (λ (other : slice_index seats t ≢ 12 + t). absurd (clear seat le lt (subst (IsMarked marks) e (marked t (within t e) other (subst (λ (n : ℕ). n < length marks) (sym e) below))))) (cases_eq (slice_index seats t) (12 + t))
+
+    same : (t u : ℕ) → slice_index seats t ≡ seat → slice_index seats u ≡ seat → t ≡ u
+    same t u st su = let a = its_own t st in let b = its_own u su in omega (arith, a, b)
+
+-- what walks say yes to
+pub settled_fits : {E : Type 0} (routine : TacRoutine) (seats : List ℕ) (count from : ℕ) (window : Window) (answer : Result Bool E) → IsWindow seats from window → IfOk answer (λ b. IsTrue b → IsSettled window routine.body routine.parameters) → IfOk answer (λ b. IsTrue b → SeatsFit routine seats count from (from + 12))
+settled_fits routine seats count from window (Ok b) is told =
+    λ t. window_fits routine seats count from window is (told t)
+settled_fits routine seats count from window (Err e) is told = tt
+
+-- twelve seats more
+pub seats_more : (routine : TacRoutine) (seats : List ℕ) (count from : ℕ) → SeatsFit routine seats count 0 from → SeatsFit routine seats count from (from + 12) → SeatsFit routine seats count 0 (from + 12)
+seats_more routine seats count from before these seat above below some =
+    ⊎_elim (λ (lt : seat < from). before seat above lt some) (λ (le : from ≤ seat). these seat le below some) (cases_lt seat from)
+
+pub seats_all : (routine : TacRoutine) (seats : List ℕ) (count from : ℕ) → count ≤ from → SeatsFit routine seats count 0 from → SeatsFit routine seats count 0 count
+seats_all routine seats count from past fit seat above below some =
+    let lt : seat < from = omega (arith, past, below) in fit seat above lt some
+
+module _ (homes : List Home) (seats : List ℕ) (routine : TacRoutine) (count : ℕ) (are : AreSeatsOf homes seats) (long : count ≡ 12 + length homes) (each : SeatsFit routine seats count 0 count) where
   -- seats are homes, of what is no temporary too
   seat_is : (t : ℕ) → slice_index seats t ≡ seat_number (home_in homes t)
   seat_is t = go (slice_get_cases homes t).1
@@ -98,66 +197,37 @@ module _ (homes : List Home) (seats : List ℕ) (claims : Claims) (body : List I
   register t q e =
       ⊎_elim (λ (h : IsHome (length homes) (Reg q)). h) (λ (zeroth : Reg q ≡ Reg 0). let same : q ≡ 0 = cc in omega arith) (is_home t (Reg q) e)
 
+  seat_below : (t : ℕ) (h : Home) → home_in homes t ≡ h → seat_number h < count
+  seat_below t (Slot j) e = let lt : j < length homes = slot t j e in omega (arith, lt, long)
+  seat_below t (Reg q) e = let lt : q < 12 = register t q e in omega (arith, lt, long)
+
+  -- what is kept apart in the seat of a temporary
+  seat_of : (t : ℕ) → SeatFits (placed routine.body) routine.parameters seats (slice_index seats t)
+  seat_of t =
+      let none : 0 ≤ slice_index seats t = omega arith in
+      let below : slice_index seats t < count = subst (λ (n : ℕ). n < count) (sym (seat_is t)) (seat_below t (home_in homes t) refl) in
+      each (slice_index seats t) none below below
+
   same_seat : (t u : ℕ) → home_in homes t ≡ home_in homes u → slice_index seats t ≡ slice_index seats u
   same_seat t u e = seat_is t ∙ ap seat_number e ∙ sym (seat_is u)
 
-  apart : (place t u : ℕ) → Alive (placed body) place t → Alive (placed body) place u → t ≢ u → home_in homes t ≢ home_in homes u
-  apart place t u at au ne e =
-      let ht = alive_held place t at in
-      let hu = alive_held place u au in
-      let same : slice_index (w.tables place) (slice_index seats t) ≡ slice_index (w.tables place) (slice_index seats u) = ap (λ (s : ℕ). slice_index (w.tables place) s) (same_seat t u e) in
-      ne (let eq : t + 1 ≡ u + 1 = sym ht.1 ∙ same ∙ hu.1 in omega arith)
+  slot_of : (u : ℕ) (h : Home) → home_in homes u ≡ h → (slice_index seats u < 12 → ⊥) → (j : ℕ) × (home_in homes u ≡ Slot j)
+  slot_of u (Slot j) e above = (j, e)
+  slot_of u (Reg q) e above =
+      absurd (above (subst (λ (n : ℕ). n < 12) (sym (seat_is u ∙ ap seat_number e)) (register u q e)))
 
-  written : (place next t u : ℕ) → leads (slice_get body place) place next ≡ true → writes (slice_get body place) t ≡ true → Alive (placed body) next u → u ≢ t → home_in homes u ≢ home_in homes t
-  written place next t u l n au ne e =
-      let some = some_leads (slice_get body place) place next l in
-      let way : LeadsAs some.0 place next = leads_as some.0 place next (subst (λ (o : Option Instruction). leads o place next ≡ true) some.1 l) in
-      let held = behind place next u some.0 some.1 way (alive_within body next u au) (alive_held next u au) in
-      (step_at place some.0 some.1).writes.free t (subst (λ (o : Option Instruction). writes o t ≡ true) some.1 n) u held ne (same_seat u t e)
-
-  slot_of : (u : ℕ) (h : Home) → home_in homes u ≡ h → 12 ≤ seat_number h → (j : ℕ) × (home_in homes u ≡ Slot j)
-  slot_of u (Slot j) e le = (j, e)
-  slot_of u (Reg q) e le = let lt : q < 12 = register u q e in absurd (omega arith)
-
-  called : (place t u : ℕ) → comes_back (placed body) place t ≡ true → Alive (placed body) place u → u ≢ t → (j : ℕ) × (home_in homes u ≡ Slot j)
-  called zero t u e au ne = absurd (cc)
-  called (suc place) t u e au ne =
-      let some = some_gives (slice_get body place) t e in
-      let call = calls_of some.0 t (subst (λ (o : Option Instruction). gives_to o t ≡ true) some.1 e) in
-      let s = step_at place some.0 some.1 in
-      let held = s.flows.falls call.falls u (alive_held (suc place) u au) in
-      let above : 12 ≤ slice_index seats u = s.writes.called t (subst (λ (o : Option Instruction). gives_to o t ≡ true) some.1 e) u held ne in
-      slot_of u (home_in homes u) refl (subst (λ (n : ℕ). 12 ≤ n) (seat_is u) above)
-
-  entered : (t u : ℕ) → t < parameters → Alive (placed body) 0 u → u ≢ t → home_in homes u ≢ home_in homes t
-  entered t u lt au ne e =
-      free t lt u (subst (λ (l : List ℕ). Held seats l u) w.here (alive_held 0 u au)) ne (same_seat u t e)
-
-  pub fits : Fits (placed body) parameters homes
+  pub fits : RoutineFits routine homes
   fits = record {
     slot = slot;
     register = register;
-    apart = apart;
-    written = written;
-    called = called;
-    entered = entered;
+    apart = λ place t u at_t at_u ne e. ne ((seat_of t).apart place t u refl (same_seat u t (sym e)) at_t at_u);
+    written = λ place next t u l n au ne e. ne ((seat_of t).written place next t u refl (same_seat u t e) l n au);
+    called = λ place t u back au ne. slot_of u (home_in homes u) refl (λ below. ne ((seat_of u).called place t u below refl back au));
+    entered = λ t u lt au ne e. ne ((seat_of t).entered t u refl (same_seat u t e) lt au);
   }
 
--- from what the code knows where walks came to an end
-pub settled : (seats : List ℕ) (found : Option Claims) (claims : Claims) (items body : List Instruction) (parameters : ℕ) (table : List ℕ) → found ≡ Some claims → IfSome found (λ c. Walked seats c items 0 table) → items ≡ body → ((t : ℕ) → t < parameters → IsFreeFor seats table t) → IsSettled seats body parameters
-settled seats found claims items body parameters table is w same free = record {
-  claims = claims;
-  table = table;
-  walked = subst (λ (l : List Instruction). Walked seats claims l 0 table) same (MatchOption-at_some ⊤ (λ c. Walked seats c items 0 table) claims is w);
-  free = free;
-}
-
-pub fits_settled : (homes : List Home) (seats : List ℕ) (body : List Instruction) (parameters : ℕ) → AreSeatsOf homes seats → IsSettled seats body parameters → Fits (placed body) parameters homes
-fits_settled homes seats body parameters are s =
-    fits homes seats s.claims body parameters s.table are s.walked s.free
-
 -- what a yes of those walks tells of homes
-pub apart_of : {A E : Type 0} (routine : TacRoutine) (homes : List Home) (found : Option (Vec ℕ A)) (seats : Vec ℕ A) (list : List ℕ) (answer : Result Bool E) → IfSome found (λ s. AreSeatsOf homes s.items) → found ≡ Some seats → list ≡ seats.items → IfOk answer (λ b. IsTrue b → IsSettled list routine.body routine.parameters) → IfOk answer (λ b. IsTrue b → RoutineFits routine homes)
-apart_of routine homes found seats list (Ok b) are is same told =
-    λ t. fits_settled homes list routine.body routine.parameters (subst (AreSeatsOf homes) (sym same) (MatchOption-at_some ⊤ (λ s. AreSeatsOf homes s.items) seats is are)) (told t)
-apart_of routine homes found seats list (Err e) are is same told = tt
+pub apart_of : {A E : Type 0} (routine : TacRoutine) (homes : List Home) (found : Option (Vec ℕ A)) (seats : Vec ℕ A) (list : List ℕ) (count : ℕ) (answer : Result Bool E) → IfSome found (λ s. AreSeatsOf homes s.items) → found ≡ Some seats → list ≡ seats.items → count ≡ 12 + length homes → IfOk answer (λ b. IsTrue b → SeatsFit routine list count 0 count) → IfOk answer (λ b. IsTrue b → RoutineFits routine homes)
+apart_of routine homes found seats list count (Ok b) are is same long told =
+    λ t. fits homes list routine count (subst (AreSeatsOf homes) (sym same) (MatchOption-at_some ⊤ (λ s. AreSeatsOf homes s.items) seats is are)) long (told t)
+apart_of routine homes found seats list count (Err e) are is same long told = tt

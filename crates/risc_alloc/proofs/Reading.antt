@@ -10,7 +10,7 @@ use Rattle.tac_code.specs.declared.code.Instruction.{Instruction}
 use Rattle.tac_code.specs.declared.code.Instruction.TheVariants.{Arithmetic, Bits, Compare, Offset, Index, Load, Store, LoadByte, StoreByte, Jump, JumpBack, Branch, BranchBack, Call, CallValue, Return, Trap, End}
 use Rattle.risc_alloc.specs.Flow.{in_operand, in_base, read_by, written_by, is_among, is_it, reads, writes, leads, gives_to}
 use Rattle.risc_alloc.specs.Parts.{in_operand_or_none, in_base_or_none, read_first, read_second, read_passed, is_call, falls, target_of}
-use Rattle.risc_alloc.specs.Seats.{IsIn}
+use Rattle.risc_alloc.specs.Windows.{IsIn}
 
 in_operand_is : (b : Operand) → in_operand b ≡ option_to_list (in_operand_or_none b) ++ []
 in_operand_is (operand.Temporary t) = refl

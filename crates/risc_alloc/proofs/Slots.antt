@@ -19,7 +19,7 @@ use Rattle.risc_alloc.specs.Flow.{reads}
 use Rattle.risc_alloc.specs.Parts.{in_operand_or_none, in_base_or_none, read_first, read_second, read_passed}
 use Rattle.risc_alloc.specs.Alive.{Alive, Used, Passed}
 use Rattle.risc_alloc.specs.Homes.{found, home_in}
-use Rattle.risc_alloc.specs.Seats.{IsIn}
+use Rattle.risc_alloc.specs.Windows.{IsIn}
 use Rattle.risc_alloc.specs.Fits.{Fits, RoutineFits}
 use Rattle.risc_alloc.specs.Slots.{own_slots, IsOwn, ReadsBelow}
 use Rattle.risc_alloc.proofs.Reading.{ReadAs, First, Second, Passed as PassedTo, read_as}

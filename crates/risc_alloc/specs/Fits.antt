@@ -1,5 +1,5 @@
 -- What a placement keeps apart, in one routine.
-use Rattle.std.specs.Prelude.{◌≡◌, ◌≢◌, ℕ, ◌<◌, true, List, length, slice_get, Option}
+use Rattle.std.specs.Prelude.{◌≡◌, ◌≢◌, ℕ, ◌<◌, ◌≤◌, true, List, length, slice_get, slice_index, Option}
 use Rattle.tac_code.specs.declared.code.Instruction.{Instruction}
 use Rattle.tac_code.specs.declared.code.TacRoutine.{TacRoutine}
 use Rattle.risc_alloc.specs.declared.homes.Home.{Home}
@@ -19,3 +19,16 @@ pub record Fits (at : ℕ → Option Instruction) (parameters : ℕ) (homes : Li
 
 abbrev pub RoutineFits : TacRoutine → List Home → Type 0
 RoutineFits routine homes = Fits (λ place. slice_get routine.body place) routine.parameters homes
+
+-- The same of those that sit in one seat, of temporaries with these seats: no two are alive together, or where one of them is written.
+pub record SeatFits (at : ℕ → Option Instruction) (parameters : ℕ) (seats : List ℕ) (seat : ℕ) : Type 0 where
+  pub apart : (place t u : ℕ) → slice_index seats t ≡ seat → slice_index seats u ≡ seat → Alive at place t → Alive at place u → t ≡ u
+  pub written : (place next t u : ℕ) → slice_index seats t ≡ seat → slice_index seats u ≡ seat → leads (at place) place next ≡ true → writes (at place) t ≡ true → Alive at next u → u ≡ t
+  -- across a call nobody is alive in a register
+  pub called : (place t u : ℕ) → seat < 12 → slice_index seats u ≡ seat → comes_back at place t ≡ true → Alive at place u → u ≡ t
+  pub entered : (t u : ℕ) → slice_index seats t ≡ seat → slice_index seats u ≡ seat → t < parameters → Alive at 0 u → u ≡ t
+
+-- of each of so many seats that is from one on and before another
+abbrev pub SeatsFit : TacRoutine → (seats : List ℕ) → (count from past : ℕ) → Type 0
+SeatsFit routine seats count from past =
+    (seat : ℕ) → from ≤ seat → seat < past → seat < count → SeatFits (λ place. slice_get routine.body place) routine.parameters seats seat

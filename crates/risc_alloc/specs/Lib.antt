@@ -4,6 +4,7 @@ pub mod Homes
 pub mod Valid
 pub mod Parts
 pub mod Seats
+pub mod Windows
 pub mod Walk
 pub mod Fits
 pub mod Slots

@@ -3,6 +3,7 @@
 
 mod claims;
 mod flow;
+mod groups;
 pub mod homes;
 mod lives;
 pub mod placement;
@@ -12,3 +13,4 @@ pub mod scan;
 mod seats;
 mod table;
 mod walk;
+mod window;

@@ -1,16 +1,11 @@
 // Which of a routine's temporaries are alive together, and what each register would spare. Nothing is proved of it: what is chosen by
 // it is tested.
 
-use crate::claims::Claims;
-use crate::flow::{exit_of, is_call, read_first, read_passed, read_second, written};
-use crate::seats::{REGISTERS, own_seats};
-use crate::table::Table;
-use crate::walk::settle;
+use crate::flow::{exit_of, is_call, read_passed};
+use crate::groups::{CONSIDERED, Groups, group_of, group_read, group_written, settled_groups};
+use crate::seats::REGISTERS;
 use std::alloc::Global;
 use tac_code::code::{Instruction, OutOfMemory, TacRoutine};
-
-/// So many temporaries of a routine are considered, those of the lowest numbers: a group of them is a word, with a bit for each.
-const CONSIDERED: u32 = 64;
 
 /// A temporary that may get a register.
 #[derive(Clone, Copy)]
@@ -33,37 +28,6 @@ const ENTERED: i64 = 3;
 
 // The loops around a place that are counted, since a product for each would soon be too large.
 const MOST_LOOPS: u32 = 3;
-
-/// The group of one temporary, which is empty where it isn't considered.
-pub(crate) fn group_of(temporary: u32) -> u64 {
-    if temporary < CONSIDERED {
-        1u64.wrapping_shl(temporary)
-    } else {
-        0
-    }
-}
-
-fn group_of_some(temporary: Option<u32>) -> u64 {
-    match temporary {
-        Some(t) => group_of(t),
-        None => 0,
-    }
-}
-
-fn group_of_all(list: &[u32]) -> u64 {
-    let mut group = 0;
-    for temporary in list {
-        group |= group_of(*temporary);
-    }
-    group
-}
-
-// What an instruction reads.
-fn group_read(instruction: &Instruction) -> u64 {
-    group_of_some(read_first(instruction))
-        | group_of_some(read_second(instruction))
-        | group_of_all(read_passed(instruction))
-}
 
 fn unmet(alloc: Global, temporaries: u32) -> Result<Vec<Candidate>, OutOfMemory> {
     let mut candidates = Vec::new(alloc);
@@ -191,7 +155,7 @@ impl Survey {
     // From what is alive at the next place to what is alive behind an instruction.
     fn go_behind(
         &mut self,
-        claims: &Claims,
+        groups: &Groups,
         instruction: &Instruction,
         place: usize,
         places: usize,
@@ -204,9 +168,7 @@ impl Survey {
         }
         if let Some(target) = exit.target {
             self.end_loop(place, target);
-            if let Some(claim) = claims.get(target) {
-                self.alive |= group_of_all(claim);
-            }
+            self.alive |= groups.get(target);
         }
     }
 
@@ -217,7 +179,7 @@ impl Survey {
 
     fn go_before(&mut self, instruction: &Instruction) {
         let weight = self.weight();
-        let result = group_of_some(written(instruction));
+        let result = group_written(instruction);
         let candidates = self.candidates.as_mut_slice();
         meet(candidates, self.alive | result);
         if is_call(instruction) {
@@ -243,24 +205,16 @@ fn enter(survey: &mut Survey, parameters: u32) {
     vote_parameters(candidates, parameters);
 }
 
-// What walks with a seat for each temporary find to be alive. None where they go on to find more.
-fn own_claims(alloc: Global, routine: &TacRoutine) -> Result<Option<Claims>, OutOfMemory> {
-    let count = routine.temporaries as usize;
-    let seats = own_seats(alloc, count)?;
-    let mut table = Table::new(alloc, count.saturating_add(REGISTERS))?;
-    settle(alloc, &mut table, seats.as_slice(), routine.body.as_slice())
-}
-
 fn surveyed(
     alloc: Global,
     routine: &TacRoutine,
-    claims: &Claims,
+    groups: &Groups,
 ) -> Result<Vec<Candidate>, OutOfMemory> {
     let mut survey = Survey::new(alloc, routine)?;
     let body = routine.body.as_slice();
     for place in (0..body.len()).rev() {
         let instruction = &body[place];
-        survey.go_behind(claims, instruction, place, body.len());
+        survey.go_behind(groups, instruction, place, body.len());
         survey.go_before(instruction);
         survey.begin_loops(place);
     }
@@ -273,8 +227,8 @@ pub(crate) fn candidates_of(
     alloc: Global,
     routine: &TacRoutine,
 ) -> Result<Option<Vec<Candidate>>, OutOfMemory> {
-    match own_claims(alloc, routine)? {
-        Some(claims) => Ok(Some(surveyed(alloc, routine, &claims)?)),
+    match settled_groups(alloc, routine.body.as_slice())? {
+        Some(groups) => Ok(Some(surveyed(alloc, routine, &groups)?)),
         None => Ok(None),
     }
 }

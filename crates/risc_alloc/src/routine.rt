@@ -1,15 +1,17 @@
 // The test of one routine's homes.
 
-ghost use Rattle.std.specs.Prelude.{◌≡◌, ◌↔◌, false, length, IsTrue, IfOk};
+ghost use Rattle.std.specs.Prelude.{◌≡◌, ◌↔◌, ◌+◌, ◌≤◌, false, length, IsTrue, IfOk};
 ghost use Rattle.risc_alloc.specs.declared.homes.Home.TheVariants.{Slot};
-ghost use Rattle.risc_alloc.specs.Fits.{RoutineFits};
+ghost use Rattle.risc_alloc.specs.Fits.{RoutineFits, SeatsFit};
 ghost use Rattle.risc_alloc.specs.Slots.{IsOwn, ReadsBelow};
 ghost use Rattle.risc_alloc.specs.Walk.{IsSettled};
+ghost use Rattle.risc_alloc.specs.Windows.{MarksStrangers};
 
 use crate::homes::Home;
 use crate::seats::{REGISTERS, seats_of};
 use crate::table::Table;
 use crate::walk::{are_free_for, settle};
+use crate::window::{SEATS, Window, is_marked, marks_of_strangers};
 use std::alloc::Global;
 use tac_code::code::{OutOfMemory, TacRoutine};
 
@@ -34,24 +36,67 @@ fn is_own(homes: &[Home]) -> bool
     true
 }
 
-// Whether walks with these seats come to an end, and leave the parameters theirs.
-fn is_settled(alloc: Global, routine: &TacRoutine, seats: &[usize]) -> Result<bool, OutOfMemory>
-    ensures { IfOk result (λ settled. IsTrue settled → IsSettled seats.now routine.now.body routine.now.parameters) }
+// Whether walks with a window come to an end, and leave the parameters their seats.
+fn is_settled(alloc: Global, routine: &TacRoutine, window: &Window) -> Result<bool, OutOfMemory>
+    ensures { IfOk result (λ settled. IsTrue settled → IsSettled window.now routine.now.body routine.now.parameters) }
 {
-    let mut table = Table::new(alloc, seats.len().saturating_add(REGISTERS))?;
-    let found = settle(alloc, &mut table, seats, routine.body.as_slice())?;
+    let mut table = Table::new(alloc)?;
+    let found = settle(alloc, &mut table, window, routine.body.as_slice())?;
     match found {
-        Some(_) => Ok(are_free_for(&table, seats, routine.parameters)),
+        Some(_) => Ok(are_free_for(&table, window, routine.parameters)),
         None => Ok(false),
     }
 }
 
+// Whether those who are alive together sit apart in the twelve seats from one on, as far as walks tell it. What sits in
+// the slot of its number shares it with nobody where it isn't marked. So walks are made with the registers, and only with
+// such slots in which others sit.
+fn is_apart_from(
+    alloc: Global,
+    routine: &TacRoutine,
+    seats: &[usize],
+    marks: &[bool],
+    from: usize,
+) -> Result<bool, OutOfMemory>
+    requires { MarksStrangers seats.now marks.now }
+    ensures { IfOk result (λ apart. IsTrue apart → SeatsFit routine.now seats.now (length marks.now) from (from + 12)) }
+{
+    if from >= REGISTERS && !is_marked(marks, from) {
+        return Ok(true);
+    }
+    let window = Window::new(alloc, seats, from)?;
+    is_settled(alloc, routine, &window)
+}
+
+// The same of so many seats, twelve at a time.
+fn are_apart(
+    alloc: Global,
+    routine: &TacRoutine,
+    seats: &[usize],
+    count: usize,
+) -> Result<bool, OutOfMemory>
+    requires { count ≤ 4294967307 }
+    ensures { IfOk result (λ apart. IsTrue apart → SeatsFit routine.now seats.now count 0 count) }
+{
+    let marks = marks_of_strangers(alloc, seats, count)?;
+    let mut from = 0;
+    while from < count {
+        if !is_apart_from(alloc, routine, seats, marks.as_slice(), from)? {
+            return Ok(false);
+        }
+        from += SEATS;
+    }
+    Ok(true)
+}
+
 // Whether what is alive keeps its home to itself, as far as walks tell it.
 fn is_apart(alloc: Global, routine: &TacRoutine, homes: &[Home]) -> Result<bool, OutOfMemory>
+    requires { length homes.now ≡ routine.now.temporaries }
     ensures { IfOk result (λ apart. IsTrue apart → RoutineFits routine.now homes.now) }
 {
+    let count = REGISTERS + routine.temporaries as usize;
     match seats_of(alloc, homes)? {
-        Some(seats) => is_settled(alloc, routine, seats.as_slice()),
+        Some(seats) => are_apart(alloc, routine, seats.as_slice(), count),
         None => Ok(false),
     }
 }

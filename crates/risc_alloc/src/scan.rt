@@ -1,7 +1,8 @@
 // Registers for temporaries, by what each would spare.
 
+use crate::groups::group_of;
 use crate::homes::Home;
-use crate::lives::{Candidate, candidates_of, group_of};
+use crate::lives::{Candidate, candidates_of};
 use crate::placement::{Placement, are_placed, count_of_routines};
 use crate::placer::{EverySlot, Placer, add_slots};
 use crate::seats::REGISTERS;

@@ -34,12 +34,3 @@ pub(crate) fn seats_of(alloc: Global, homes: &[Home]) -> Result<Option<Vec<usize
     }
     Ok(Some(seats))
 }
-
-// A seat of its own for each of so many temporaries.
-pub(crate) fn own_seats(alloc: Global, temporaries: usize) -> Result<Vec<usize>, OutOfMemory> {
-    let mut seats = Vec::with_capacity(alloc, temporaries)?;
-    for temporary in 0..temporaries {
-        seats.push(REGISTERS + temporary)?;
-    }
-    Ok(seats)
-}

@@ -1,21 +1,18 @@
-// Who holds each seat.
+// Who holds each seat of a window.
 
-ghost use Rattle.std.specs.Prelude.{◌≡◌, ℕ, ◌+◌, ◌<◌, ◌≤◌, length, slice_index, slice_set, List, IsTrue, IfSome};
-ghost use Rattle.risc_alloc.specs.Seats.{Held, Keeps, KeepsBut, IsIn, IsFreeFor, HasSlotsBut};
+ghost use Rattle.std.specs.Prelude.{◌≡◌, ℕ, ◌+◌, ◌<◌, ◌≤◌, length, slice_index, IsTrue, IfSome};
+ghost use Rattle.risc_alloc.specs.declared.window.Window.{Window};
+ghost use Rattle.risc_alloc.specs.Windows.{Held, IsHeldHere, Keeps, KeepsBut, IsIn, IsFreeFor, IsEmptyBut};
 
-use crate::seats::REGISTERS;
+use crate::window::{SEATS, Window};
 use std::alloc::Global;
 use tac_code::code::OutOfMemory;
 
-/// Who holds each seat where a walk over a body stands: a temporary's number and 1, or 0 for nobody. So what is alive is what holds
-/// its seat, and two temporaries that are alive never share one.
+/// Who holds each seat of a window where a walk over a body stands: a temporary's number and 1, or 0 for nobody. So what
+/// is alive is what holds its seat, and two temporaries that are alive never share one.
 #[derive(Drop)]
 pub(crate) struct Table {
     holders: Vec<u32>,
-    // Nobody holds a seat from here on.
-    top: usize,
-    ghost within: { top ≤ length holders.items },
-    ghost below: { (seat : ℕ) → 0 < slice_index holders.items seat → seat < top },
 }
 
 /// The seat of a temporary, and how the temporary is told there.
@@ -26,92 +23,72 @@ struct Seat {
 }
 
 impl Table {
-    /// So many seats, which nobody holds.
-    pub(crate) fn new(alloc: Global, seats: usize) -> Result<Table, OutOfMemory> {
-        let holders = vec![in alloc; 0; seats]?;
-        Ok(Table { holders, top: 0 })
+    /// The seats of a window, which nobody holds.
+    pub(crate) fn new(alloc: Global) -> Result<Table, OutOfMemory> {
+        let holders = vec![in alloc; 0; SEATS]?;
+        Ok(Table { holders })
     }
 
     /// Everybody leaves.
     pub(crate) fn clear(&mut self) {
-        while self.top > 0 {
-            let seat = self.top - 1;
+        for seat in 0..self.holders.len() {
             self.holders[seat] = 0;
-            self.top = seat;
         }
     }
 
-    /// Looks at fewer seats where the last ones are not held.
-    pub(crate) fn lower(&mut self)
-        ensures { self.new.holders.items ≡ self.old.holders.items }
-    {
-        while self.top > 0 && self.holders[self.top - 1] == 0 {
-            self.top -= 1;
-        }
-    }
-
-    fn find(&self, seats: &[usize], temporary: u32) -> Option<Seat>
-        ensures there { IfSome result (λ s. temporary < length seats.now) }
-        ensures number { IfSome result (λ s. s.number ≡ slice_index seats.now temporary) }
+    // None of what sits elsewhere.
+    fn find(&self, window: &Window, temporary: u32) -> Option<Seat>
+        ensures there { IfSome result (λ s. temporary < length window.now.seats.items) }
+        ensures number { IfSome result (λ s. s.number ≡ slice_index window.now.seats.items temporary) }
+        ensures here { IfSome result (λ s. s.number < 12) }
         ensures within { IfSome result (λ s. s.number < length self.now.holders.items) }
         ensures holder { IfSome result (λ s. s.holder ≡ temporary + 1) }
     {
-        let index = temporary as usize;
-        if index >= seats.len() {
-            return None;
-        }
-        let number = seats[index];
-        if number >= self.holders.len() {
+        let number = window.seat(temporary)?;
+        if number >= SEATS || number >= self.holders.len() {
             return None;
         }
         let holder = temporary.checked_add(1)?;
         Some(Seat { number, holder })
     }
 
-    fn put(&mut self, seat: Seat)
-        requires within { seat.number < length self.old.holders.items }
-        ensures items { self.new.holders.items ≡ slice_set self.old.holders.items seat.number seat.holder }
+    /// A temporary of the window takes its seat; false where another holds it.
+    pub(crate) fn add(&mut self, window: &Window, temporary: u32) -> bool
+        ensures kept { IsTrue result → Keeps window.now self.old.holders.items self.new.holders.items }
+        ensures added { IsTrue result → IsHeldHere window.now self.new.holders.items temporary }
     {
-        self.holders[seat.number] = seat.holder;
-        if self.top <= seat.number {
-            self.top = seat.number + 1;
+        if window.is_elsewhere(temporary) {
+            return true;
         }
-    }
-
-    /// A temporary takes its seat; false where another holds it.
-    pub(crate) fn add(&mut self, seats: &[usize], temporary: u32) -> bool
-        ensures kept { IsTrue result → Keeps seats.now self.old.holders.items self.new.holders.items }
-        ensures added { IsTrue result → Held seats.now self.new.holders.items temporary }
-    {
-        let Some(seat) = self.find(seats, temporary) else {
+        let Some(seat) = self.find(window, temporary) else {
             return false;
         };
         let holder = self.holders[seat.number];
         if holder == 0 {
-            self.put(seat);
+            self.holders[seat.number] = seat.holder;
             return true;
         }
         holder == seat.holder
     }
 
     /// The same of a temporary, where there is one.
-    pub(crate) fn add_some(&mut self, seats: &[usize], temporary: Option<u32>) -> bool
-        ensures kept { IsTrue result → Keeps seats.now self.old.holders.items self.new.holders.items }
-        ensures added { IsTrue result → IfSome temporary (Held seats.now self.new.holders.items) }
+    pub(crate) fn add_some(&mut self, window: &Window, temporary: Option<u32>) -> bool
+        ensures kept { IsTrue result → Keeps window.now self.old.holders.items self.new.holders.items }
+        ensures added { IsTrue result → IfSome temporary (IsHeldHere window.now self.new.holders.items) }
     {
         match temporary {
-            Some(t) => self.add(seats, t),
+            Some(t) => self.add(window, t),
             None => true,
         }
     }
 
     /// The same of each of a list.
-    pub(crate) fn add_all(&mut self, seats: &[usize], list: &[u32]) -> bool
-        ensures kept { IsTrue result → Keeps seats.now self.old.holders.items self.new.holders.items }
-        ensures added { IsTrue result → (u : ℕ) → IsIn list.now u → Held seats.now self.new.holders.items u }
+    pub(crate) fn add_all(&mut self, window: &Window, list: &[u32]) -> bool
+        ensures kept { IsTrue result → Keeps window.now self.old.holders.items self.new.holders.items }
+        ensures added { IsTrue result → (u : ℕ) → IsIn list.now u → IsHeldHere window.now self.new.holders.items u }
     {
         for temporary in list {
-            if !self.add(seats, *temporary) {
+            if !self.add(window, *temporary) {
                 return false;
             }
         }
@@ -119,10 +96,13 @@ impl Table {
     }
 
     /// Whether nobody else holds a temporary's seat.
-    pub(crate) fn is_free_for(&self, seats: &[usize], temporary: u32) -> bool
-        ensures { IsTrue result → IsFreeFor seats.now self.now.holders.items temporary }
+    pub(crate) fn is_free_for(&self, window: &Window, temporary: u32) -> bool
+        ensures { IsTrue result → IsFreeFor window.now self.now.holders.items temporary }
     {
-        match self.find(seats, temporary) {
+        if window.is_elsewhere(temporary) {
+            return true;
+        }
+        match self.find(window, temporary) {
             Some(seat) => {
                 let holder = self.holders[seat.number];
                 holder == 0 || holder == seat.holder
@@ -132,32 +112,27 @@ impl Table {
     }
 
     /// A temporary leaves its seat; false where another holds it.
-    pub(crate) fn free(&mut self, seats: &[usize], temporary: u32) -> bool
-        ensures was_free { IsTrue result → IsFreeFor seats.now self.old.holders.items temporary }
-        ensures kept { IsTrue result → KeepsBut seats.now temporary self.old.holders.items self.new.holders.items }
+    pub(crate) fn free(&mut self, window: &Window, temporary: u32) -> bool
+        ensures was_free { IsTrue result → IsFreeFor window.now self.old.holders.items temporary }
+        ensures kept { IsTrue result → KeepsBut window.now temporary self.old.holders.items self.new.holders.items }
     {
-        if !self.is_free_for(seats, temporary) {
+        if !self.is_free_for(window, temporary) {
             return false;
         }
-        if let Some(seat) = self.find(seats, temporary) {
+        if let Some(seat) = self.find(window, temporary) {
             self.holders[seat.number] = 0;
         }
         true
     }
 
-    /// Whether nobody else holds a register.
-    pub(crate) fn has_slots_but(&self, seats: &[usize], temporary: u32) -> bool
-        ensures { IsTrue result → HasSlotsBut seats.now self.now.holders.items temporary }
+    /// Whether nobody else holds a seat.
+    pub(crate) fn is_empty_but(&self, temporary: u32) -> bool
+        ensures { IsTrue result → (window : Window) → IsEmptyBut window self.now.holders.items temporary }
     {
-        let Some(seat) = self.find(seats, temporary) else {
-            return false;
-        };
-        for register in 0..REGISTERS {
-            if register < self.holders.len() {
-                let holder = self.holders[register];
-                if holder != 0 && holder != seat.holder {
-                    return false;
-                }
+        for seat in 0..self.holders.len() {
+            let holder = self.holders[seat];
+            if holder != 0 && holder - 1 != temporary {
+                return false;
             }
         }
         true
@@ -165,10 +140,10 @@ impl Table {
 
     /// Whether all who hold a seat are in a list, which tells them in the order of seats.
     pub(crate) fn is_within(&self, list: &[u32]) -> bool
-        ensures { IsTrue result → (seats : List ℕ) (u : ℕ) → Held seats self.now.holders.items u → IsIn list.now u }
+        ensures { IsTrue result → (window : Window) (u : ℕ) → Held window self.now.holders.items u → IsIn list.now u }
     {
         let mut next = 0;
-        for seat in 0..self.top {
+        for seat in 0..self.holders.len() {
             let holder = self.holders[seat];
             if holder != 0 {
                 next = seek(list, next, holder - 1);
@@ -180,24 +155,10 @@ impl Table {
         true
     }
 
-    /// Nobody holds a seat from here on.
-    pub(crate) fn top(&self) -> usize {
-        self.top
-    }
-
-    /// Who holds a seat.
-    pub(crate) fn holder(&self, seat: usize) -> Option<u32> {
-        if seat < self.holders.len() {
-            self.holders[seat].checked_sub(1)
-        } else {
-            None
-        }
-    }
-
     /// All who hold a seat, in the order of seats.
     pub(crate) fn members(&self, alloc: Global) -> Result<Vec<u32>, OutOfMemory> {
         let mut members = Vec::new(alloc);
-        for seat in 0..self.top {
+        for seat in 0..self.holders.len() {
             let holder = self.holders[seat];
             if holder != 0 {
                 members.push(holder - 1)?;

@@ -2,7 +2,7 @@
 
 ghost use Rattle.std.specs.Prelude.{◌≡◌, ℕ, ◌<◌, true, false, length, slice_get, IsTrue, IfOk, IfSome, Some};
 ghost use Rattle.tac_code.specs.declared.code.Instruction.{Instruction as Element};
-ghost use Rattle.risc_alloc.specs.Seats.{Keeps, IsFreeFor, HasSlotsBut};
+ghost use Rattle.risc_alloc.specs.Windows.{Keeps, IsFreeFor, IsEmptyBut};
 ghost use Rattle.risc_alloc.specs.Parts.{is_call};
 ghost use Rattle.risc_alloc.specs.declared.walk.Verdict.TheVariants.{Stable};
 ghost use Rattle.risc_alloc.specs.Walk.{IsClaimHeld, Flows, Writes, Reads, Step, IsClaimed, Walked};
@@ -10,11 +10,12 @@ ghost use Rattle.risc_alloc.specs.Walk.{IsClaimHeld, Flows, Writes, Reads, Step,
 use crate::claims::Claims;
 use crate::flow::{exit_of, is_call, read_first, read_passed, read_second, written};
 use crate::table::Table;
+use crate::window::Window;
 use std::alloc::Global;
 use tac_code::code::{Instruction, OutOfMemory};
 
-// The most walks over a body until one finds nothing new. Without a limit the time would grow with the depth of loops.
-const WALKS: u32 = 16;
+/// The most walks over a body until one finds nothing new. Without a limit the time would grow with the depth of loops.
+pub(crate) const WALKS: u32 = 16;
 
 /// What a walk came to.
 #[derive(Clone, Copy)]
@@ -30,23 +31,21 @@ enum Verdict {
 fn fall_back(table: &mut Table, falls: bool)
     ensures { falls ≡ true → table.new.holders.items ≡ table.old.holders.items }
 {
-    if falls {
-        table.lower();
-    } else {
+    if !falls {
         table.clear();
     }
 }
 
 // What is claimed of the place that is jumped to is alive before the jump; false where nothing is claimed of it, or at a clash.
-fn jump_back(table: &mut Table, claims: &Claims, seats: &[usize], target: Option<usize>) -> bool
-    ensures kept { IsTrue result → Keeps seats.now table.old.holders.items table.new.holders.items }
-    ensures claimed { IsTrue result → IfSome target (IsClaimHeld seats.now claims.now table.new.holders.items) }
+fn jump_back(table: &mut Table, claims: &Claims, window: &Window, target: Option<usize>) -> bool
+    ensures kept { IsTrue result → Keeps window.now table.old.holders.items table.new.holders.items }
+    ensures claimed { IsTrue result → IfSome target (IsClaimHeld window.now claims.now table.new.holders.items) }
 {
     let Some(place) = target else {
         return true;
     };
     match claims.get(place) {
-        Some(claim) => table.add_all(seats, claim),
+        Some(claim) => table.add_all(window, claim),
         None => false,
     }
 }
@@ -55,71 +54,71 @@ fn jump_back(table: &mut Table, claims: &Claims, seats: &[usize], target: Option
 fn flow_back(
     table: &mut Table,
     claims: &Claims,
-    seats: &[usize],
+    window: &Window,
     instruction: &Instruction,
     place: usize,
     places: usize,
 ) -> bool
-    ensures { IsTrue result → Flows seats.now claims.now instruction.now place table.old.holders.items table.new.holders.items }
+    ensures { IsTrue result → Flows window.now claims.now instruction.now place table.old.holders.items table.new.holders.items }
 {
     let Some(exit) = exit_of(instruction, place, places) else {
         return false;
     };
     fall_back(table, exit.falls);
-    jump_back(table, claims, seats, exit.target)
+    jump_back(table, claims, window, exit.target)
 }
 
-// What is written is dead before; false where another holds its seat, or a register behind a call.
-fn is_free_behind(table: &Table, seats: &[usize], instruction: &Instruction, to: u32) -> bool
-    ensures { IsTrue result → is_call instruction.now ≡ true → HasSlotsBut seats.now table.now.holders.items to }
+// What is written is dead before; false where another holds a register behind a call.
+fn is_free_behind(table: &Table, window: &Window, instruction: &Instruction, to: u32) -> bool
+    ensures { IsTrue result → is_call instruction.now ≡ true → window.now.registers ≡ true → IsEmptyBut window.now table.now.holders.items to }
 {
-    !is_call(instruction) || table.has_slots_but(seats, to)
+    !is_call(instruction) || !window.has_registers() || table.is_empty_but(to)
 }
 
 #[tactic(auto, using(crate::proofs::Steps::writes_none, crate::proofs::Steps::writes_some))]
-fn write_back(table: &mut Table, seats: &[usize], instruction: &Instruction) -> bool
-    ensures { IsTrue result → Writes seats.now instruction.now table.old.holders.items table.new.holders.items }
+fn write_back(table: &mut Table, window: &Window, instruction: &Instruction) -> bool
+    ensures { IsTrue result → Writes window.now instruction.now table.old.holders.items table.new.holders.items }
 {
     let Some(to) = written(instruction) else {
         return true;
     };
-    if !is_free_behind(table, seats, instruction, to) {
+    if !is_free_behind(table, window, instruction, to) {
         return false;
     }
-    table.free(seats, to)
+    table.free(window, to)
 }
 
-fn read_back(table: &mut Table, seats: &[usize], instruction: &Instruction) -> bool
-    ensures { IsTrue result → Reads seats.now instruction.now table.old.holders.items table.new.holders.items }
+fn read_back(table: &mut Table, window: &Window, instruction: &Instruction) -> bool
+    ensures { IsTrue result → Reads window.now instruction.now table.old.holders.items table.new.holders.items }
 {
-    if !table.add_some(seats, read_first(instruction)) {
+    if !table.add_some(window, read_first(instruction)) {
         return false;
     }
-    if !table.add_some(seats, read_second(instruction)) {
+    if !table.add_some(window, read_second(instruction)) {
         return false;
     }
-    table.add_all(seats, read_passed(instruction))
+    table.add_all(window, read_passed(instruction))
 }
 
 // One instruction back; false at a clash.
 fn step_back(
     table: &mut Table,
     claims: &Claims,
-    seats: &[usize],
+    window: &Window,
     body: &[Instruction],
     place: usize,
 ) -> bool
     requires { place < length body.now }
-    ensures { IsTrue result → (i : Element) → slice_get body.now place ≡ Some i → Step seats.now claims.now i place table.old.holders.items table.new.holders.items }
+    ensures { IsTrue result → (i : Element) → slice_get body.now place ≡ Some i → Step window.now claims.now i place table.old.holders.items table.new.holders.items }
 {
     let instruction = &body[place];
-    if !flow_back(table, claims, seats, instruction, place, body.len()) {
+    if !flow_back(table, claims, window, instruction, place, body.len()) {
         return false;
     }
-    if !write_back(table, seats, instruction) {
+    if !write_back(table, window, instruction) {
         return false;
     }
-    read_back(table, seats, instruction)
+    read_back(table, window, instruction)
 }
 
 // Where more is alive than is claimed, it is claimed; true then.
@@ -147,17 +146,17 @@ fn walk(
     alloc: Global,
     table: &mut Table,
     claims: &mut Claims,
-    seats: &[usize],
+    window: &Window,
     body: &[Instruction],
 ) -> Result<Verdict, OutOfMemory>
     ensures same { IfOk result (λ verdict. verdict ≡ Stable → claims.new ≡ claims.old) }
-    ensures walked { IfOk result (λ verdict. verdict ≡ Stable → Walked seats.now claims.old body.now 0 table.new.holders.items) }
+    ensures walked { IfOk result (λ verdict. verdict ≡ Stable → Walked window.now claims.old body.now 0 table.new.holders.items) }
 {
     let mut grew = false;
     let mut place = body.len();
     while place > 0 {
         place -= 1;
-        if !step_back(table, claims, seats, body, place) {
+        if !step_back(table, claims, window, body, place) {
             return Ok(Verdict::Clash);
         }
         if meet(alloc, table, claims, place)? {
@@ -171,15 +170,15 @@ fn walk(
 pub(crate) fn settle(
     alloc: Global,
     table: &mut Table,
-    seats: &[usize],
+    window: &Window,
     body: &[Instruction],
 ) -> Result<Option<Claims>, OutOfMemory>
-    ensures { IfOk result (λ found. IfSome found (λ claims. Walked seats.now claims body.now 0 table.new.holders.items)) }
+    ensures { IfOk result (λ found. IfSome found (λ claims. Walked window.now claims body.now 0 table.new.holders.items)) }
 {
     let mut claims = Claims::new(alloc, body)?;
     for _ in 0..WALKS {
         table.clear();
-        match walk(alloc, table, &mut claims, seats, body)? {
+        match walk(alloc, table, &mut claims, window, body)? {
             Verdict::Stable => return Ok(Some(claims)),
             Verdict::Clash => return Ok(None),
             Verdict::Grew => {}
@@ -189,11 +188,11 @@ pub(crate) fn settle(
 }
 
 /// Whether nobody else holds the seat of a parameter.
-pub(crate) fn are_free_for(table: &Table, seats: &[usize], parameters: u32) -> bool
-    ensures { IsTrue result → (t : ℕ) → t < parameters → IsFreeFor seats.now table.now.holders.items t }
+pub(crate) fn are_free_for(table: &Table, window: &Window, parameters: u32) -> bool
+    ensures { IsTrue result → (t : ℕ) → t < parameters → IsFreeFor window.now table.now.holders.items t }
 {
     for parameter in 0..parameters {
-        if !table.is_free_for(seats, parameter) {
+        if !table.is_free_for(window, parameter) {
             return false;
         }
     }

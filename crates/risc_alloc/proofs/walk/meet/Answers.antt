@@ -1,6 +1,6 @@
 use Rattle.std.proofs.Common.{◌≡◌, ℕ, List, sym, ap, ◌∙◌, subst}
 use Rattle.std.specs.Option.{option_copied}
-use Rattle.risc_alloc.specs.Seats.{IsIn}
+use Rattle.risc_alloc.specs.Windows.{IsIn}
 use Rattle.risc_alloc.proofs.walk.meet.Goals.{in-Some, in-None}
 use Rattle.risc_alloc.proofs.walk.meet.Goals as goal
 

@@ -1,5 +1,5 @@
 use Rattle.std.proofs.Common.{ℕ, ◌<◌, ◌≤◌, ◌-◌, length, slice_index}
-use Rattle.risc_alloc.specs.Seats.{IsIn}
+use Rattle.risc_alloc.specs.Windows.{IsIn}
 use Rattle.risc_alloc.proofs.table.Table.is_within.Given as goal
 
 abbrev pub invariant-loop-seat : goal.invariant-loop-seat

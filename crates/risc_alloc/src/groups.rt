@@ -1,0 +1,137 @@
+//! Which of a routine's first temporaries are alive where jumps lead: a word for each place, however many there are.
+//! Nothing is proved of it: what is chosen by it is tested.
+
+use crate::flow::{exit_of, read_first, read_passed, read_second, written};
+use crate::walk::WALKS;
+use std::alloc::Global;
+use tac_code::code::{Instruction, OutOfMemory};
+
+/// So many temporaries of a routine are considered, those of the lowest numbers. A group of them is a word, with a bit for
+/// each.
+pub(crate) const CONSIDERED: u32 = 64;
+
+/// The group of one temporary, which is empty where it isn't considered.
+pub(crate) fn group_of(temporary: u32) -> u64 {
+    if temporary < CONSIDERED {
+        1u64.wrapping_shl(temporary)
+    } else {
+        0
+    }
+}
+
+fn group_of_some(temporary: Option<u32>) -> u64 {
+    match temporary {
+        Some(t) => group_of(t),
+        None => 0,
+    }
+}
+
+fn group_of_all(list: &[u32]) -> u64 {
+    let mut group = 0;
+    for temporary in list {
+        group |= group_of(*temporary);
+    }
+    group
+}
+
+/// Those that an instruction reads.
+pub(crate) fn group_read(instruction: &Instruction) -> u64 {
+    group_of_some(read_first(instruction))
+        | group_of_some(read_second(instruction))
+        | group_of_all(read_passed(instruction))
+}
+
+/// What an instruction writes.
+pub(crate) fn group_written(instruction: &Instruction) -> u64 {
+    group_of_some(written(instruction))
+}
+
+/// Who was found alive at each place that a jump leads to.
+#[derive(Drop)]
+pub(crate) struct Groups {
+    found: Vec<Option<u64>>,
+}
+
+impl Groups {
+    // Nobody is alive where the jumps of a body lead.
+    fn new(alloc: Global, body: &[Instruction]) -> Result<Groups, OutOfMemory> {
+        let mut found = vec![in alloc; None; body.len()]?;
+        for (place, instruction) in body.iter().enumerate() {
+            if let Some(exit) = exit_of(instruction, place, body.len())
+                && let Some(target) = exit.target
+                && target < found.len()
+            {
+                found[target] = Some(0);
+            }
+        }
+        Ok(Groups { found })
+    }
+
+    /// Who was found at a place, where a jump leads.
+    pub(crate) fn get(&self, place: usize) -> u64 {
+        if place < self.found.len() {
+            self.found[place].unwrap_or(0)
+        } else {
+            0
+        }
+    }
+
+    // Tells who is alive at a place; true where a jump leads there and that is more than was found.
+    fn meet(&mut self, place: usize, alive: u64) -> bool {
+        if place >= self.found.len() {
+            return false;
+        }
+        match self.found[place] {
+            Some(group) if alive & !group != 0 => {
+                self.found[place] = Some(alive);
+                true
+            }
+            _ => false,
+        }
+    }
+
+    // From who is alive at the next place to who is before an instruction.
+    fn step_back(&self, body: &[Instruction], place: usize, alive: u64) -> u64 {
+        if place >= body.len() {
+            return alive;
+        }
+        let instruction = &body[place];
+        let mut behind = 0;
+        if let Some(exit) = exit_of(instruction, place, body.len()) {
+            if exit.falls {
+                behind = alive;
+            }
+            if let Some(target) = exit.target {
+                behind |= self.get(target);
+            }
+        }
+        behind & !group_written(instruction) | group_read(instruction)
+    }
+
+    // Walks once from the end of a body to its begin; true where more was found.
+    fn walk(&mut self, body: &[Instruction]) -> bool {
+        let mut grew = false;
+        let mut alive = 0;
+        for place in (0..body.len()).rev() {
+            alive = self.step_back(body, place, alive);
+            if self.meet(place, alive) {
+                grew = true;
+            }
+        }
+        grew
+    }
+}
+
+/// Walks until nothing new is found. None where walks go on to find more.
+pub(crate) fn settled_groups(
+    alloc: Global,
+    body: &[Instruction],
+) -> Result<Option<Groups>, OutOfMemory> {
+    let mut groups = Groups::new(alloc, body)?;
+    for _ in 0..WALKS {
+        if !groups.walk(body) {
+            return Ok(Some(groups));
+        }
+    }
+    Ok(None)
+}
