@@ -14,9 +14,15 @@ use Rattle.tac_code.specs.declared.code.Instruction.{Instruction}
 use Rattle.ps_code.specs.Scopes.{Scope}
 use Rattle.ps_code.specs.Statements.{statement_code}
 use Rattle.ps_bounds.specs.Weights.{statement_weight}
+use Rattle.ps_lower.specs.Refused.{Adds}
+use Rattle.ps_lower.specs.declared.refusal.LowerRefusal.{LowerRefusal}
 
-pub act : {X E : Type 0} (k : Scope) (x : Statement) (whole : t.Statement) (d : ℕ) (r : Result X E) (new old : List Instruction) → whole ≡ statement_of x → OnOk r (new ≡ old ++ statement_code k whole d) → OnOk r (new ≡ old ++ statement_code k (statement_of x) d)
-act k x whole d r new old e h = subst (λ (y : t.Statement). OnOk r (new ≡ old ++ statement_code k y d)) e h
+pub act : {X : Type 0} (k : Scope) (x : Statement) (whole : t.Statement) (d : ℕ) (r : Result X LowerRefusal) (new old : List Instruction) → whole ≡ statement_of x → Adds r old new (statement_code k whole d) → Adds r old new (statement_code k (statement_of x) d)
+act k x whole d r new old e h = subst (λ (y : t.Statement). Adds r old new (statement_code k y d)) e h
+
+-- what only the want of memory refuses
+pub act_lifted : {X Y E : Type 0} (k : Scope) (x : Statement) (whole : t.Statement) (d : ℕ) (added : Result Y E) (r : Result X LowerRefusal) (new old : List Instruction) → whole ≡ statement_of x → ((before after code : List Instruction) → OnOk added (after ≡ before ++ code) → Adds r before after code) → OnOk added (new ≡ old ++ statement_code k whole d) → Adds r old new (statement_code k (statement_of x) d)
+act_lifted k x whole d added r new old e lift h = act k x whole d r new old e (lift old new (statement_code k whole d) h)
 
 -- the room for a form is that for the statement
 pub room_in : (k : Scope) (x : Statement) (whole : t.Statement) (d : ℕ) → whole ≡ statement_of x → d + statement_weight k (statement_of x) d ≤ 2147483647 → d + statement_weight k whole d ≤ 2147483647

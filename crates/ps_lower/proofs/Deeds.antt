@@ -1,5 +1,5 @@
 -- Further forms of statements, read again: `with`, structures, calls.
-use Rattle.std.proofs.Common.{◌≡◌, ℕ, Bool, ◌||◌, List, ◌++◌, Vec, Box, Global, Result, OnOk, sym, ap, subst, ◌∙◌, map}
+use Rattle.std.proofs.Common.{◌≡◌, ℕ, Bool, ◌||◌, List, ◌++◌, Vec, Box, Global, Result, sym, ap, subst, ◌∙◌, map}
 use Rattle.ps_tree.specs.Tree as t
 use Rattle.ps_tree.specs.declared.line.Line.{Line}
 use Rattle.ps_tree.specs.declared.tree.Place.{Place}
@@ -11,7 +11,9 @@ use Rattle.tac_code.specs.declared.code.Instruction.{Instruction}
 use Rattle.ps_code.specs.Scopes.{Scope}
 use Rattle.ps_code.specs.Calling.{places_call, statement_calls}
 use Rattle.ps_code.specs.Statements.{with_code, with_scope, with_depth, statement_code}
-use Rattle.ps_lower.proofs.Arms.{behind}
+use Rattle.ps_lower.specs.Refused.{Adds}
+use Rattle.ps_lower.specs.declared.refusal.LowerRefusal.{LowerRefusal}
+use Rattle.ps_lower.proofs.Refusing.{adds_behind}
 
 pub assign_structure_is : (x : Statement) (target : Place) (e : Structure) → x ≡ AssignStructure target e → t.AssignStructure (place_of target) (structure_of e) ≡ statement_of x
 unfolding statement_of
@@ -32,8 +34,8 @@ with_is x v b places body is h g = ap (λ l. t.With (map place_of l) (statement_
 abbrev pub opened_code : Scope → List t.Place → t.Statement → ℕ → Bool → List Instruction
 opened_code k records s d c = with_code k records c d ++ statement_code (with_scope k records c d) s (with_depth records c d)
 
-pub with_told : {X E : Type 0} (k : Scope) (records : List t.Place) (s : t.Statement) (c : Bool) (d depth : ℕ) (here : Scope) (r : Result X E) (new middle old : List Instruction) → c ≡ (statement_calls s || places_call records) → middle ≡ old ++ with_code k records c d → here ≡ with_scope k records c d → depth ≡ with_depth records c d → OnOk r (new ≡ middle ++ statement_code here s depth) → OnOk r (new ≡ old ++ statement_code k (t.With records s) d)
+pub with_told : {X : Type 0} (k : Scope) (records : List t.Place) (s : t.Statement) (c : Bool) (d depth : ℕ) (here : Scope) (r : Result X LowerRefusal) (new middle old : List Instruction) → c ≡ (statement_calls s || places_call records) → middle ≡ old ++ with_code k records c d → here ≡ with_scope k records c d → depth ≡ with_depth records c d → Adds r middle new (statement_code here s depth) → Adds r old new (statement_code k (t.With records s) d)
 with_told k records s c d depth here r new middle old is p g f h =
-    subst (λ b. OnOk r (new ≡ old ++ opened_code k records s d b)) is
-    (behind r new middle old (with_code k records c d) (statement_code (with_scope k records c d) s (with_depth records c d)) p
-    (subst (λ (y : Scope). OnOk r (new ≡ middle ++ statement_code y s (with_depth records c d))) g (subst (λ n. OnOk r (new ≡ middle ++ statement_code here s n)) f h)))
+    subst (λ b. Adds r old new (opened_code k records s d b)) is
+    (adds_behind r new middle old (with_code k records c d) (statement_code (with_scope k records c d) s (with_depth records c d)) p
+    (subst (λ (y : Scope). Adds r middle new (statement_code y s (with_depth records c d))) g (subst (λ n. Adds r middle new (statement_code here s n)) f h)))

@@ -107,7 +107,7 @@ opened_start k d start items ends e = record { code = refl; rooms = ap (λ l. l 
 abbrev pub one_element : Scope → CaseElement → (d : ℕ) → List Instruction
 one_element k x d = element_code k (out-CaseElement x).constants.items (statement_of (out-CaseElement x).body) d
 
-open_further : (k : Scope) (d : ℕ) (x : CaseElement) (rest : List CaseElement) → open_elements k (elements_of (x ∷ rest)) d ≡ (one_element k x d ++ i.End ∷ []) ++ open_elements k (elements_of rest) d
+pub open_further : (k : Scope) (d : ℕ) (x : CaseElement) (rest : List CaseElement) → open_elements k (elements_of (x ∷ rest)) d ≡ (one_element k x d ++ i.End ∷ []) ++ open_elements k (elements_of rest) d
 unfolding elements_of
 open_further k d x rest = refl
 
@@ -159,7 +159,7 @@ ends_all k d start items j now ends h s =
 
 -- ---- the ways out, from the first element on
 
-open_length : (k : Scope) (es : t.Elements) (d line : ℕ) → length (open_elements k es d ++ i.Trap 7 line ∷ []) ≡ length (elements_code k es d line)
+pub open_length : (k : Scope) (es : t.Elements) (d line : ℕ) → length (open_elements k es d ++ i.Trap 7 line ∷ []) ≡ length (elements_code k es d line)
 open_length k t.no_element d line = refl
 open_length k (t.element_before c s rest) d line =
     let el = element_code k c s d in

@@ -7,6 +7,7 @@ pub mod Arms
 pub mod Chains
 pub mod Jumps
 pub mod Rows
+pub mod Refusing
 pub mod Acts
 pub mod Strings
 pub mod Loops
@@ -30,6 +31,7 @@ pub mod Handing
 pub mod Deeds
 pub mod Looking
 pub mod Mapping
+pub mod Counting
 pub mod Gathering
 pub mod Bounding
 pub mod Weighing

@@ -11,19 +11,6 @@ use Rattle.ps_code.specs.Statements.{expr_code, width_code, truth_text, write_co
 use Rattle.ps_lower.proofs.Appends.{and_then}
 use Rattle.ps_lower.proofs.Arms.{behind}
 
--- zeros behind so many bytes, up to whole words
-abbrev pub zeros : ℕ → List ℕ
-zeros n = take ((4 - n % 4) % 4) (0 ∷ 0 ∷ 0 ∷ [])
-
-pub filled_is : (l : List ℕ) → l ++ zeros (length l) ≡ filled l
-filled_is [] = refl
-filled_is (a ∷ []) = refl
-filled_is (a ∷ b ∷ []) = refl
-filled_is (a ∷ b ∷ c ∷ []) = refl
-filled_is (a ∷ b ∷ c ∷ d ∷ rest) =
-    let k : (4 - length (a ∷ b ∷ c ∷ d ∷ rest) % 4) % 4 ≡ (4 - length rest % 4) % 4 = omega arith in
-    ap (λ n. a ∷ b ∷ c ∷ d ∷ (rest ++ take n (0 ∷ 0 ∷ 0 ∷ []))) k ∙ ap (λ l. a ∷ b ∷ c ∷ d ∷ l) (filled_is rest)
-
 pub filled_length : (l : List ℕ) → length (filled l) ≡ 4 * ((length l + 3) / 4)
 filled_length [] = refl
 filled_length (a ∷ []) = refl

@@ -7,3 +7,4 @@ pub mod Cases
 pub mod Sites
 pub mod Tables
 pub mod Sets
+pub mod Refused

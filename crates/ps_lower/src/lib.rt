@@ -27,6 +27,7 @@ mod pieces;
 mod places;
 mod procedures;
 mod reads;
+pub mod refusal;
 mod routines;
 mod sets;
 mod shapes;

@@ -1,6 +1,6 @@
 // The lowering of a program.
 
-ghost use Rattle.std.specs.Prelude.{◌≡◌, ◌≤◌, true, map, IfOk};
+ghost use Rattle.std.specs.Prelude.{◌≡◌, ◌≤◌, true, map, IfOk, IfErr, OnOk};
 ghost use Rattle.ps_bounds.specs.Weights.{AreLight};
 ghost use Rattle.ps_code.specs.Programs.{tac_of, object_bytes, code_of};
 ghost use Rattle.tac_rt.specs.Bodies.{run_time_routines};
@@ -8,9 +8,11 @@ ghost use Rattle.ps_tree.specs.Checked.{program_in};
 ghost use Rattle.ps_tree.specs.Counts.{are_small};
 ghost use Rattle.ps_tree.specs.View.{type_of};
 ghost use Rattle.tac_code.specs.Sound.{IsSound};
+ghost use Rattle.ps_lower.specs.Refused.{most_instructions, instructions_of, instruction_count, IsRefused};
 
 use crate::frame::words;
 use crate::frames::Frames;
+use crate::refusal::{LowerRefusal, MOST_INSTRUCTIONS};
 use crate::routines::tac_routine;
 use ps_tree::program::Checked;
 use ps_tree::types::Ty;
@@ -19,13 +21,23 @@ use tac_code::code::{TacRaw, TacRoutine};
 use tac_code::tac::Tac;
 use tac_rt::routines;
 
-fn routines_of(alloc: Global, checked: &Frames) -> Result<Vec<TacRoutine>, AllocError>
+// The code of all routines, which together have at most so many instructions.
+fn routines_of(alloc: Global, checked: &Frames) -> Result<Vec<TacRoutine>, LowerRefusal>
     requires { AreLight (program_in checked.now) }
-    ensures { IfOk result (λ list. list.items ≡ map (tac_of (program_in checked.now)) (program_in checked.now).routines) }
+    ensures made { IfOk result (λ list. list.items ≡ map (tac_of (program_in checked.now)) (program_in checked.now).routines) }
+    ensures few { OnOk result (instructions_of (map (tac_of (program_in checked.now)) (program_in checked.now).routines) ≤ most_instructions) }
+    ensures refused { IfErr result (λ refusal. IsRefused refusal (instructions_of (map (tac_of (program_in checked.now)) (program_in checked.now).routines))) }
 {
     let mut list = Vec::new(alloc);
+    let mut left = MOST_INSTRUCTIONS;
     for routine in checked.routines() {
-        list.push(tac_routine(alloc, checked, routine)?)?;
+        let made = tac_routine(alloc, checked, routine)?;
+        let count = made.body.as_slice().len();
+        if count > left {
+            return Err(LowerRefusal::CodeTooLarge);
+        }
+        left -= count;
+        list.push(made)?;
     }
     Ok(list)
 }
@@ -54,11 +66,14 @@ fn object_sizes(alloc: Global, domains: &[Ty]) -> Result<Vec<u32>, AllocError>
 ///
 /// # Errors
 ///
-/// A growth was refused.
-pub fn lower(alloc: Global, checked: &Checked) -> Result<Tac, AllocError>
+/// A growth was refused, or the program's own routines have more instructions than an image holds words: then it is refused
+/// as soon as they stand, before the others are made.
+pub fn lower(alloc: Global, checked: &Checked) -> Result<Tac, LowerRefusal>
     requires sound { IsSound (code_of run_time_routines (program_in checked.now)) }
     requires light { AreLight (program_in checked.now) }
-    ensures { IfOk result (λ tac. tac ≡ code_of run_time_routines (program_in checked.now)) }
+    ensures code { IfOk result (λ tac. tac ≡ code_of run_time_routines (program_in checked.now)) }
+    ensures few { OnOk result (instruction_count (code_of run_time_routines (program_in checked.now)) ≤ most_instructions) }
+    ensures refused { IfErr result (λ refusal. IsRefused refusal (instruction_count (code_of run_time_routines (program_in checked.now)))) }
 {
     let frames = Frames::new(alloc, checked)?;
     let program = routines_of(alloc, &frames)?;

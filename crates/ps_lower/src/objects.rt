@@ -5,6 +5,7 @@ ghost use Rattle.ps_bounds.specs.Weights.{first_weight, statement_weight};
 ghost use Rattle.ps_code.specs.Statements.{first_code, statement_code};
 ghost use Rattle.ps_layout.specs.Shapes.{shape_of};
 ghost use Rattle.ps_lower.specs.Levels.{scope_of};
+ghost use Rattle.ps_lower.specs.Refused.{Adds};
 ghost use Rattle.ps_tree.specs.Tree as tree;
 ghost use Rattle.ps_tree.specs.Tree.{domain_at};
 ghost use Rattle.ps_tree.specs.View.{place_of};
@@ -16,6 +17,7 @@ use crate::firsts::first_object;
 use crate::level::Level;
 use crate::out::Code;
 use crate::places::{is_byte, keep};
+use crate::refusal::{LowerRefusal, MOST_INSTRUCTIONS, lifted};
 use crate::values::place;
 use ps_tree::tree::Place;
 use ps_tree::types::Ty;
@@ -61,7 +63,8 @@ fn object(
     first_of_domain(out, k, pointer, to, t)
 }
 
-/// An object that a pointer variable points to from now on.
+/// An object that a pointer variable points to from now on. Its first values are the one code that is longer than the text: behind
+/// them the limit is looked at.
 pub fn create(
     out: &mut Code,
     k: &Level,
@@ -69,14 +72,17 @@ pub fn create(
     pointer: u32,
     line: u16,
     d: u32,
-) -> Result<(), AllocError>
+) -> Result<(), LowerRefusal>
     requires { d + statement_weight (scope_of k.now) (tree.New (place_of target.now) pointer line) d ≤ DEEPEST }
-    ensures { OnOk result (out.new ≡ out.old ++ statement_code (scope_of k.now) (tree.New (place_of target.now) pointer line) d) }
+    ensures { Adds result out.old out.new (statement_code (scope_of k.now) (tree.New (place_of target.now) pointer line) d) }
 {
     let at = held(true, d);
     let to = held(true, at + 1);
     let free = even_above(to);
     let site = place(out, k, target, at, 0)?;
     object(out, k, pointer, to, free, line)?;
-    keep(out, is_byte(target), site, to)
+    if out.place() > MOST_INSTRUCTIONS {
+        return Err(LowerRefusal::CodeTooLarge);
+    }
+    lifted(keep(out, is_byte(target), site, to))
 }

@@ -174,13 +174,10 @@ impl Code {
     }
 
     /// The address of a constant.
-    pub fn text(&mut self, to: u32, bytes: Vec<u8>) -> Result<(), AllocError>
-        ensures { OnOk result (self.new ≡ self.old ++ i.Text to bytes.items ∷ []) }
+    pub fn text(&mut self, to: u32, bytes: Constant) -> Result<(), AllocError>
+        ensures { OnOk result (self.new ≡ self.old ++ i.Text to bytes ∷ []) }
     {
-        self.push(Instruction::Text {
-            to,
-            bytes: Constant::new(bytes),
-        })
+        self.push(Instruction::Text { to, bytes })
     }
 
     /// An address so many bytes from a base.

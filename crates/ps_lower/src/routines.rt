@@ -1,6 +1,6 @@
 // The code of routines.
 
-ghost use Rattle.std.specs.Prelude.{◌≡◌, ◌++◌, ◌+◌, ◌*◌, ◌≤◌, OnOk, IfOk, option_map};
+ghost use Rattle.std.specs.Prelude.{◌≡◌, ◌++◌, ◌+◌, ◌*◌, ◌≤◌, length, OnOk, IfOk, MatchResult, option_map};
 ghost use Rattle.ps_bounds.specs.Weights.{statements_weight, result_weight, begin_weight, routine_weight};
 ghost use Rattle.ps_code.specs.Programs.{tac_of};
 ghost use Rattle.ps_code.specs.Routines.{input_code, parameter_total, begin_code, result_end, end_code, routine_code, scope_of as scope_in};
@@ -8,6 +8,7 @@ ghost use Rattle.ps_code.specs.Statements.{statements_code};
 ghost use Rattle.ps_layout.specs.Frames.{is_program_block, result_kinds, words_of_all, layout_of};
 ghost use Rattle.ps_lower.specs.Firsts.{result_at, head_code, words_in};
 ghost use Rattle.ps_lower.specs.Levels.{scope_of};
+ghost use Rattle.ps_lower.specs.Refused.{IsRefused, Adds};
 ghost use Rattle.ps_tree.specs.Checked.{program_in};
 ghost use Rattle.ps_tree.specs.View.{type_of, routine_of};
 
@@ -19,6 +20,7 @@ use crate::level::Level;
 use crate::numbers::{larger, narrow};
 use crate::out::Code;
 use crate::parameters::{count_parameters, parameters};
+use crate::refusal::{LowerRefusal, lifted};
 use crate::statements::statements;
 use ps_tree::tree::Routine;
 use ps_tree::types::Ty;
@@ -168,18 +170,24 @@ fn finish(out: &mut Code, routine: &Routine) -> Result<(), AllocError>
 }
 
 /// The code of a routine.
-fn block(out: &mut Code, k: &Level, routine: &Routine, words: u32, t: u32) -> Result<(), AllocError>
+fn block(
+    out: &mut Code,
+    k: &Level,
+    routine: &Routine,
+    words: u32,
+    t: u32,
+) -> Result<(), LowerRefusal>
     requires small { words ≤ MOST_WORDS }
     requires exact { words ≡ words_in (routine_of routine.now) }
     requires free { t ≤ DEEPEST }
     requires total { t ≡ parameter_total (routine_of routine.now) }
     requires light { begin_weight (routine_of routine.now) ≤ DEEPEST }
     requires body { statements_weight (scope_of k.now) (routine_of routine.now).body 0 ≤ DEEPEST }
-    ensures { OnOk result (out.new ≡ out.old ++ (begin_code (scope_of k.now) (routine_of routine.now) ++ statements_code (scope_of k.now) (routine_of routine.now).body 0 ++ end_code (routine_of routine.now))) }
+    ensures { Adds result out.old out.new (begin_code (scope_of k.now) (routine_of routine.now) ++ statements_code (scope_of k.now) (routine_of routine.now).body 0 ++ end_code (routine_of routine.now)) }
 {
     begin(out, k, routine, words, t)?;
     statements(out, k, routine.body.as_slice(), 0)?;
-    finish(out, routine)
+    lifted(finish(out, routine))
 }
 
 /// The instructions of a routine.
@@ -189,14 +197,14 @@ fn body(
     routine: &Routine,
     words: u32,
     t: u32,
-) -> Result<Body, AllocError>
+) -> Result<Body, LowerRefusal>
     requires small { words ≤ MOST_WORDS }
     requires exact { words ≡ words_in (routine_of routine.now) }
     requires free { t ≤ DEEPEST }
     requires total { t ≡ parameter_total (routine_of routine.now) }
     requires light { begin_weight (routine_of routine.now) ≤ DEEPEST }
     requires body { statements_weight (scope_in (program_in checked.now) (routine_of routine.now)) (routine_of routine.now).body 0 ≤ DEEPEST }
-    ensures { IfOk result (λ body. body ≡ routine_code (program_in checked.now) (routine_of routine.now)) }
+    ensures { MatchResult result (λ body. body ≡ routine_code (program_in checked.now) (routine_of routine.now)) (λ refusal. IsRefused refusal (length (routine_code (program_in checked.now) (routine_of routine.now)))) }
 {
     let k = level(checked, routine);
     let mut out = Code::new(alloc);
@@ -209,9 +217,9 @@ pub fn tac_routine(
     alloc: Global,
     checked: &Frames,
     routine: &Routine,
-) -> Result<TacRoutine, AllocError>
+) -> Result<TacRoutine, LowerRefusal>
     requires { routine_weight (program_in checked.now) (routine_of routine.now) ≤ 1000000000 }
-    ensures { IfOk result (λ made. made ≡ tac_of (program_in checked.now) (routine_of routine.now)) }
+    ensures { MatchResult result (λ made. made ≡ tac_of (program_in checked.now) (routine_of routine.now)) (λ refusal. IsRefused refusal (length (routine_code (program_in checked.now) (routine_of routine.now)))) }
 {
     let words = words_in(alloc, routine)?;
     let parameters = parameter_total(routine);

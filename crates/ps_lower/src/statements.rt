@@ -1,10 +1,11 @@
 // The code of statements. The scratch block holds nothing from one to the next.
 
-ghost use Rattle.std.specs.Prelude.{◌≡◌, ◌++◌, ◌+◌, ◌≤◌, ◌∷◌, [], length, map, OnOk, IfOk};
+ghost use Rattle.std.specs.Prelude.{◌≡◌, ◌++◌, ◌+◌, ◌≤◌, ◌∷◌, [], length, map, IfOk};
 ghost use Rattle.ps_bounds.specs.Weights.{statement_weight, statements_weight, elements_weight};
 ghost use Rattle.ps_code.specs.Statements.{statement_code, statements_code};
 ghost use Rattle.ps_lower.specs.Cases.{element_code, open_elements, ends_from};
 ghost use Rattle.ps_lower.specs.Levels.{scope_of, then_code};
+ghost use Rattle.ps_lower.specs.Refused.{Adds};
 ghost use Rattle.ps_tree.specs.Tree as tree;
 ghost use Rattle.ps_tree.specs.View.{expr_of, place_of, statement_of, statements_of, elements_of};
 ghost use Rattle.ps_tree.specs.declared.tree.CaseElement.{out-CaseElement};
@@ -22,18 +23,18 @@ use crate::out::Code;
 use crate::packing::{pack, unpack};
 use crate::procedures::{call_formal_procedure, call_procedure};
 use crate::reads::{readln, reads};
+use crate::refusal::{LowerRefusal, lifted};
 use crate::turns::{Control, control_of, end_turn, open_turns, past_relation, turns_of};
 use crate::values::{front, value};
 use crate::writes::{writeln, writes};
 use ps_tree::tree::{CaseElement, Expr, Place, Statement};
-use std::alloc::AllocError;
 
 /// The code of a statement.
 #[cycle(statements)]
 #[tactic(auto, unfolding(ps_tree::specs::View::statement_of))]
-pub fn statement(out: &mut Code, k: &Level, action: &Statement, d: u32) -> Result<(), AllocError>
+pub fn statement(out: &mut Code, k: &Level, action: &Statement, d: u32) -> Result<(), LowerRefusal>
     requires { d + statement_weight (scope_of k.now) (statement_of action.now) d ≤ DEEPEST }
-    ensures { OnOk result (out.new ≡ out.old ++ statement_code (scope_of k.now) (statement_of action.now) d) }
+    ensures { Adds result out.old out.new (statement_code (scope_of k.now) (statement_of action.now) d) }
 {
     match action {
         Statement::Empty => Ok(()),
@@ -42,7 +43,7 @@ pub fn statement(out: &mut Code, k: &Level, action: &Statement, d: u32) -> Resul
             range,
             value,
             line,
-        } => assign(out, k, target, *range, value, line.number, d),
+        } => lifted(assign(out, k, target, *range, value, line.number, d)),
         Statement::Compound(body) => statements(out, k, body, d),
         Statement::If { condition, body } => act_if(out, k, body, condition, d),
         Statement::IfElse {
@@ -84,28 +85,30 @@ pub fn statement(out: &mut Code, k: &Level, action: &Statement, d: u32) -> Resul
             );
             act_for(out, k, body, control, from, to, d)
         }
-        Statement::Write { parameters } => writes(out, k, parameters, d),
-        Statement::Writeln { parameters } => writeln(out, k, parameters, d),
+        Statement::Write { parameters } => lifted(writes(out, k, parameters, d)),
+        Statement::Writeln { parameters } => lifted(writeln(out, k, parameters, d)),
         Statement::AssignSet {
             target,
             low,
             high,
             value,
             line,
-        } => assign_set(out, k, target, low, high, value, line.number, d),
-        Statement::AssignStructure { target, value } => assign_structure(out, k, target, value, d),
+        } => lifted(assign_set(out, k, target, low, high, value, line.number, d)),
+        Statement::AssignStructure { target, value } => lifted(assign_structure(
+            out, k, target, value, d,
+        )),
         Statement::Call {
             routine,
             up,
             arguments,
             line,
-        } => call_procedure(out, k, arguments, *routine, *up, line.number, d),
+        } => lifted(call_procedure(out, k, arguments, *routine, *up, line.number, d)),
         Statement::CallFormal {
             up,
             index,
             arguments,
             line,
-        } => call_formal_procedure(out, k, arguments, *up, *index, line.number, d),
+        } => lifted(call_formal_procedure(out, k, arguments, *up, *index, line.number, d)),
         Statement::With { places, body } => act_with(out, k, body, places, d),
         Statement::New {
             place,
@@ -119,7 +122,7 @@ pub fn statement(out: &mut Code, k: &Level, action: &Statement, d: u32) -> Resul
             line,
             to,
             to_ty,
-        } => pack(out, k, from, from_ty, index, line.number, to, to_ty, d),
+        } => lifted(pack(out, k, from, from_ty, index, line.number, to, to_ty, d)),
         Statement::Unpack {
             from,
             from_ty,
@@ -127,9 +130,9 @@ pub fn statement(out: &mut Code, k: &Level, action: &Statement, d: u32) -> Resul
             to_ty,
             index,
             line,
-        } => unpack(out, k, from, from_ty, to, to_ty, index, line.number, d),
-        Statement::Read { variables } => reads(out, k, variables, d),
-        Statement::Readln { variables, line } => readln(out, k, variables, line.number, d),
+        } => lifted(unpack(out, k, from, from_ty, to, to_ty, index, line.number, d)),
+        Statement::Read { variables } => lifted(reads(out, k, variables, d)),
+        Statement::Readln { variables, line } => lifted(readln(out, k, variables, line.number, d)),
     }
 }
 
@@ -140,9 +143,9 @@ pub fn statements(
     k: &Level,
     statements: &[Statement],
     d: u32,
-) -> Result<(), AllocError>
+) -> Result<(), LowerRefusal>
     requires { d + statements_weight (scope_of k.now) (statements_of statements.now) d ≤ DEEPEST }
-    ensures { OnOk result (out.new ≡ out.old ++ statements_code (scope_of k.now) (statements_of statements.now) d) }
+    ensures { Adds result out.old out.new (statements_code (scope_of k.now) (statements_of statements.now) d) }
 {
     for one in statements {
         statement(out, k, one, d)?;
@@ -157,9 +160,9 @@ fn act_if(
     body: &Statement,
     condition: &Expr,
     d: u32,
-) -> Result<(), AllocError>
+) -> Result<(), LowerRefusal>
     requires { d + statement_weight (scope_of k.now) (tree.If (expr_of condition.now) (statement_of body.now)) d ≤ DEEPEST }
-    ensures { OnOk result (out.new ≡ out.old ++ statement_code (scope_of k.now) (tree.If (expr_of condition.now) (statement_of body.now)) d) }
+    ensures { Adds result out.old out.new (statement_code (scope_of k.now) (tree.If (expr_of condition.now) (statement_of body.now)) d) }
 {
     front(out, k, condition, d, 0)?;
     let past = out.room()?;
@@ -182,9 +185,9 @@ fn then_part(
     body: &Statement,
     condition: &Expr,
     d: u32,
-) -> Result<usize, AllocError>
+) -> Result<usize, LowerRefusal>
     requires { d + statement_weight (scope_of k.now) (tree.If (expr_of condition.now) (statement_of body.now)) d ≤ DEEPEST }
-    ensures code { OnOk result (out.new ≡ (out.old ++ then_code (scope_of k.now) (expr_of condition.now) (statement_of body.now) d) ++ i.End ∷ []) }
+    ensures code { Adds result (out.old ++ then_code (scope_of k.now) (expr_of condition.now) (statement_of body.now) d) out.new (i.End ∷ []) }
     ensures place { IfOk result (λ place. place ≡ length (out.old ++ then_code (scope_of k.now) (expr_of condition.now) (statement_of body.now) d)) }
 {
     front(out, k, condition, d, 0)?;
@@ -208,9 +211,9 @@ fn act_while(
     body: &Statement,
     condition: &Expr,
     d: u32,
-) -> Result<(), AllocError>
+) -> Result<(), LowerRefusal>
     requires { d + statement_weight (scope_of k.now) (tree.While (expr_of condition.now) (statement_of body.now)) d ≤ DEEPEST }
-    ensures { OnOk result (out.new ≡ out.old ++ statement_code (scope_of k.now) (tree.While (expr_of condition.now) (statement_of body.now)) d) }
+    ensures { Adds result out.old out.new (statement_code (scope_of k.now) (tree.While (expr_of condition.now) (statement_of body.now)) d) }
 {
     let to_test = out.room()?;
     let begin = out.place();
@@ -218,12 +221,12 @@ fn act_while(
     out.set_jump(to_test);
     front(out, k, condition, d, 0)?;
     let relation = relation_in(condition);
-    out.branch_back(
+    lifted(out.branch_back(
         relation,
         left_in(condition, d),
         right_in(condition, d),
         begin,
-    )
+    ))
 }
 
 #[cycle(statements)]
@@ -233,20 +236,20 @@ fn act_repeat(
     body: &[Statement],
     condition: &Expr,
     d: u32,
-) -> Result<(), AllocError>
+) -> Result<(), LowerRefusal>
     requires { d + statement_weight (scope_of k.now) (tree.Repeat (statements_of body.now) (expr_of condition.now)) d ≤ DEEPEST }
-    ensures { OnOk result (out.new ≡ out.old ++ statement_code (scope_of k.now) (tree.Repeat (statements_of body.now) (expr_of condition.now)) d) }
+    ensures { Adds result out.old out.new (statement_code (scope_of k.now) (tree.Repeat (statements_of body.now) (expr_of condition.now)) d) }
 {
     let begin = out.place();
     statements(out, k, body, d)?;
     front(out, k, condition, d, 0)?;
     let relation = opposite(relation_in(condition));
-    out.branch_back(
+    lifted(out.branch_back(
         relation,
         left_in(condition, d),
         right_in(condition, d),
         begin,
-    )
+    ))
 }
 
 #[cycle(statements)]
@@ -258,9 +261,9 @@ fn act_for(
     from: &Expr,
     to: &Expr,
     d: u32,
-) -> Result<(), AllocError>
+) -> Result<(), LowerRefusal>
     requires { d + statement_weight (scope_of k.now) (tree.For control.variable control.low control.high (expr_of from.now) control.from_line control.direction (expr_of to.now) control.to_line (statement_of body.now)) d ≤ DEEPEST }
-    ensures { OnOk result (out.new ≡ out.old ++ statement_code (scope_of k.now) (tree.For control.variable control.low control.high (expr_of from.now) control.from_line control.direction (expr_of to.now) control.to_line (statement_of body.now)) d) }
+    ensures { Adds result out.old out.new (statement_code (scope_of k.now) (tree.For control.variable control.low control.high (expr_of from.now) control.from_line control.direction (expr_of to.now) control.to_line (statement_of body.now)) d) }
 {
     let turns = turns_of(k, control.variable, to, statement_calls(body), d);
     let places = open_turns(out, k, control, from, to, turns)?;
@@ -278,9 +281,9 @@ fn act_element(
     k: &Level,
     element: &CaseElement,
     d: u32,
-) -> Result<usize, AllocError>
+) -> Result<usize, LowerRefusal>
     requires { d + statement_weight (scope_of k.now) (statement_of (out-CaseElement element.now).body) d ≤ DEEPEST }
-    ensures code { OnOk result (out.new ≡ (out.old ++ element_code (scope_of k.now) (out-CaseElement element.now).constants.items (statement_of (out-CaseElement element.now).body) d) ++ i.End ∷ []) }
+    ensures code { Adds result (out.old ++ element_code (scope_of k.now) (out-CaseElement element.now).constants.items (statement_of (out-CaseElement element.now).body) d) out.new (i.End ∷ []) }
     ensures place { IfOk result (λ place. place ≡ length (out.old ++ element_code (scope_of k.now) (out-CaseElement element.now).constants.items (statement_of (out-CaseElement element.now).body) d)) }
 {
     let last = tests(out, &element.constants, d)?;
@@ -297,9 +300,9 @@ fn act_elements(
     k: &Level,
     elements: &[CaseElement],
     d: u32,
-) -> Result<Vec<usize>, AllocError>
+) -> Result<Vec<usize>, LowerRefusal>
     requires { d + elements_weight (scope_of k.now) (elements_of elements.now) d ≤ DEEPEST }
-    ensures code { OnOk result (out.new ≡ out.old ++ open_elements (scope_of k.now) (elements_of elements.now) d) }
+    ensures code { Adds result out.old out.new (open_elements (scope_of k.now) (elements_of elements.now) d) }
     ensures ends { IfOk result (λ ends. ends.items ≡ ends_from (scope_of k.now) (elements_of elements.now) d (length out.old)) }
 {
     let mut ends = Vec::new(out.alloc());
@@ -318,9 +321,9 @@ fn act_case(
     index: &Expr,
     line: u16,
     d: u32,
-) -> Result<(), AllocError>
+) -> Result<(), LowerRefusal>
     requires { d + statement_weight (scope_of k.now) (tree.Case (expr_of index.now) (elements_of elements.now) line) d ≤ DEEPEST }
-    ensures { OnOk result (out.new ≡ out.old ++ statement_code (scope_of k.now) (tree.Case (expr_of index.now) (elements_of elements.now) line) d) }
+    ensures { Adds result out.old out.new (statement_code (scope_of k.now) (tree.Case (expr_of index.now) (elements_of elements.now) line) d) }
 {
     value(out, k, index, d, 0)?;
     let ends = act_elements(out, k, elements, d)?;
@@ -337,9 +340,9 @@ fn act_with(
     body: &Statement,
     places: &[Place],
     d: u32,
-) -> Result<(), AllocError>
+) -> Result<(), LowerRefusal>
     requires { d + statement_weight (scope_of k.now) (tree.With (map place_of places.now) (statement_of body.now)) d ≤ DEEPEST }
-    ensures { OnOk result (out.new ≡ out.old ++ statement_code (scope_of k.now) (tree.With (map place_of places.now) (statement_of body.now)) d) }
+    ensures { Adds result out.old out.new (statement_code (scope_of k.now) (tree.With (map place_of places.now) (statement_of body.now)) d) }
 {
     let calls = with_calls(body, places);
     let opened = open_all(out, k, places, calls, d)?;

@@ -1,6 +1,6 @@
 // Strings of the text, as constants of the code.
 
-ghost use Rattle.std.specs.Prelude.{◌≡◌, ◌++◌, ◌≤◌, ◌∷◌, ◌+◌, ◌*◌, ◌/◌, [], codes, OnOk, IfOk};
+ghost use Rattle.std.specs.Prelude.{◌≡◌, ◌++◌, ◌≤◌, ◌∷◌, ◌+◌, ◌*◌, ◌/◌, [], codes, OnOk};
 ghost use Rattle.ps_code.specs.Scopes.{Scope};
 ghost use Rattle.ps_code.specs.Statements.{truth_text};
 ghost use Rattle.ps_code.specs.Values.{text_length, structure_bytes};
@@ -12,28 +12,27 @@ ghost use Rattle.tac_code.specs.declared.code.Instruction.TheVariants as i;
 
 use crate::out::Code;
 use crate::shapes::byte_count;
+use ps_tree::characters::Characters;
 use ps_tree::tree::Structure;
 use ps_tree::types::Ty;
-use std::alloc::{AllocError, Global};
-use tac_code::code::{Operand, Relation};
+use std::alloc::AllocError;
+use tac_code::code::{Constant, Operand, Relation};
 
-/// Characters with zeros behind them, up to whole words.
-#[tactic(auto, using(crate::proofs::Strings::filled_is))]
-fn filled(alloc: Global, characters: &[u8]) -> Result<Vec<u8>, AllocError>
-    ensures { IfOk result (λ bytes. bytes.items ≡ filled characters.now) }
-{
-    let mut bytes = Vec::from_slice(alloc, characters)?;
-    let zeros = (4 - characters.len() % 4) % 4;
-    bytes.extend_from_slice(&[0, 0, 0][..zeros])?;
-    Ok(bytes)
-}
-
-/// The address of a string.
-pub fn text(out: &mut Code, characters: &[u8], d: u32) -> Result<(), AllocError>
+/// The address of a string, whose characters the constant shares.
+pub fn text(out: &mut Code, characters: &Characters, d: u32) -> Result<(), AllocError>
     ensures { OnOk result (out.new ≡ out.old ++ i.Text d (filled characters.now) ∷ []) }
 {
-    let bytes = filled(out.alloc(), characters)?;
-    out.text(d, bytes)
+    let bytes = characters.filled()?;
+    out.text(d, Constant::shared(bytes))
+}
+
+/// The address of characters that no string of the text has.
+fn word_text(out: &mut Code, characters: &[u8], d: u32) -> Result<(), AllocError>
+    ensures { OnOk result (out.new ≡ out.old ++ i.Text d (filled characters.now) ∷ []) }
+{
+    let alloc = out.alloc();
+    let characters = Characters::new(alloc, Vec::from_slice(alloc, characters)?)?;
+    text(out, &characters, d)
 }
 
 /// The number of characters of the strings of a type.
@@ -81,9 +80,9 @@ pub fn truth_text(out: &mut Code, truth: u32, to: u32, count: u32) -> Result<(),
     ensures { (k : Scope) → OnOk result (out.new ≡ out.old ++ truth_text k truth to count) }
 {
     out.branch(Relation::Equal, truth, Operand::Number(0), 3)?;
-    text(out, b"true", to)?;
+    word_text(out, b"true", to)?;
     out.literal(count, 4)?;
     out.jump(2)?;
-    text(out, b"false", to)?;
+    word_text(out, b"false", to)?;
     out.literal(count, 5)
 }

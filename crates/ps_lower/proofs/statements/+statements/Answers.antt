@@ -11,12 +11,14 @@ use Rattle.ps_lower.proofs.Deeds.{assign_structure_is, procedure_is, formal_proc
 use Rattle.ps_lower.proofs.Doings.{new_is, pack_is, unpack_is, read_is, readln_is}
 use Rattle.ps_lower.proofs.Appends.{added_start, added_next, added_all}
 use Rattle.ps_lower.proofs.Rows.{statements_added, statements_nothing, statements_further}
-use Rattle.ps_lower.proofs.Acts.{act, room_in, told_empty, assign_is, compound_is, if_is, if_else_is, while_is, repeat_is, write_is, writeln_is}
+use Rattle.ps_lower.proofs.Acts.{act, act_lifted, room_in, told_empty, assign_is, compound_is, if_is, if_else_is, while_is, repeat_is, write_is, writeln_is}
 use Rattle.ps_lower.proofs.Jumps.{jump_past, jump_past_room, room_behind, jump_behind, back_over, back_from_test, branch_told, back_told}
 use Rattle.ps_lower.specs.Loops.{turns_of, loop_code}
 use Rattle.ps_lower.specs.declared.turns.Control.{Control}
 use Rattle.ps_lower.specs.declared.turns.Turns.{Turns}
 use Rattle.ps_lower.proofs.Loops.{for_is, loop_made}
+use Rattle.ps_lower.specs.Cases.{element_code, open_elements}
+use Rattle.ps_lower.proofs.Refusing.{handed_on, item_refused, element_refused, among_refused, case_refused}
 use Rattle.ps_lower.proofs.Elements.{case_is, element_made, element_end, one_element, opened_start, opened_next, opened_all, ends_all, case_made}
 use Rattle.ps_tree.specs.Tree as tree
 use Rattle.tac_code.specs.declared.code.Instruction.TheVariants as i
@@ -37,7 +39,7 @@ pub statement-returns-in-Empty : goal.statement-returns-in-Empty
 statement-returns-in-Empty t c = told_empty (scope_of c.args.k.now) c.args.action.now c.args.d c.args.out.now c.in-Empty.is
 
 pub statement-returns-in-Assign : goal.statement-returns-in-Assign
-statement-returns-in-Assign t c = act (scope_of c.args.k.now) c.args.action.now _ c.args.d c.assign.result c.assign.new.out c.args.out.now (assign_is _ _ _ _ _ c.in-Assign.is) c.assign.ensures
+statement-returns-in-Assign t c = act_lifted (scope_of c.args.k.now) c.args.action.now _ c.args.d c.assign.result c.lifted.result c.assign.new.out c.args.out.now (assign_is _ _ _ _ _ c.in-Assign.is) c.lifted.ensures c.assign.ensures
 
 pub statement-returns-in-Compound : goal.statement-returns-in-Compound
 statement-returns-in-Compound t c = act (scope_of c.args.k.now) c.args.action.now _ c.args.d c.statements.result c.statements.new.out c.args.out.now (compound_is _ _ _ c.in-Compound.is c.deref.ensures.value) c.statements.ensures
@@ -52,10 +54,10 @@ pub statement-returns-in-Repeat : goal.statement-returns-in-Repeat
 statement-returns-in-Repeat t c = act (scope_of c.args.k.now) c.args.action.now _ c.args.d c.act_repeat.result c.act_repeat.new.out c.args.out.now (repeat_is _ _ _ _ c.in-Repeat.is c.deref-in-Repeat.ensures.value) c.act_repeat.ensures
 
 pub statement-returns-in-Write : goal.statement-returns-in-Write
-statement-returns-in-Write t c = act (scope_of c.args.k.now) c.args.action.now _ c.args.d c.writes.result c.writes.new.out c.args.out.now (write_is _ _ _ c.in-Write.is c.deref-in-Write.ensures.value) c.writes.ensures
+statement-returns-in-Write t c = act_lifted (scope_of c.args.k.now) c.args.action.now _ c.args.d c.writes.result c.lifted-in-Write.result c.writes.new.out c.args.out.now (write_is _ _ _ c.in-Write.is c.deref-in-Write.ensures.value) c.lifted-in-Write.ensures c.writes.ensures
 
 pub statement-returns-in-Writeln : goal.statement-returns-in-Writeln
-statement-returns-in-Writeln t c = act (scope_of c.args.k.now) c.args.action.now _ c.args.d c.writeln.result c.writeln.new.out c.args.out.now (writeln_is _ _ _ c.in-Writeln.is c.deref-in-Writeln.ensures.value) c.writeln.ensures
+statement-returns-in-Writeln t c = act_lifted (scope_of c.args.k.now) c.args.action.now _ c.args.d c.writeln.result c.lifted-in-Writeln.result c.writeln.new.out c.args.out.now (writeln_is _ _ _ c.in-Writeln.is c.deref-in-Writeln.ensures.value) c.lifted-in-Writeln.ensures c.writeln.ensures
 
 pub statement-returns-in_ok-statement-in-IfElse : goal.statement-returns-in_ok-statement-in-IfElse
 statement-returns-in_ok-statement-in-IfElse t c =
@@ -105,13 +107,13 @@ pub act_case-returns : goal.act_case-returns
 act_case-returns t c = case_made (scope_of c.args.k.now) (expr_of c.args.index.now) (elements_of c.args.elements.now) c.args.line c.args.d c.args.out.now _ _ _ _ _ c.in_ok-value.ensures c.in_ok-ends.ensures.code (c.deref.ensures.value ∙ c.in_ok-ends.ensures.ends) c.in_ok-trap.ensures c.close_elements.ensures
 
 pub statement-returns-in-AssignStructure : goal.statement-returns-in-AssignStructure
-statement-returns-in-AssignStructure t c = act (scope_of c.args.k.now) c.args.action.now _ c.args.d c.assign_structure.result c.assign_structure.new.out c.args.out.now (assign_structure_is _ _ _ c.in-AssignStructure.is) c.assign_structure.ensures
+statement-returns-in-AssignStructure t c = act_lifted (scope_of c.args.k.now) c.args.action.now _ c.args.d c.assign_structure.result c.lifted-in-AssignStructure.result c.assign_structure.new.out c.args.out.now (assign_structure_is _ _ _ c.in-AssignStructure.is) c.lifted-in-AssignStructure.ensures c.assign_structure.ensures
 
 pub statement-returns-in-Call : goal.statement-returns-in-Call
-statement-returns-in-Call t c = act (scope_of c.args.k.now) c.args.action.now _ c.args.d c.call_procedure.result c.call_procedure.new.out c.args.out.now (procedure_is _ _ _ _ _ _ c.in-Call.is c.deref-in-Call.ensures.value) c.call_procedure.ensures
+statement-returns-in-Call t c = act_lifted (scope_of c.args.k.now) c.args.action.now _ c.args.d c.call_procedure.result c.lifted-in-Call.result c.call_procedure.new.out c.args.out.now (procedure_is _ _ _ _ _ _ c.in-Call.is c.deref-in-Call.ensures.value) c.lifted-in-Call.ensures c.call_procedure.ensures
 
 pub statement-returns-in-CallFormal : goal.statement-returns-in-CallFormal
-statement-returns-in-CallFormal t c = act (scope_of c.args.k.now) c.args.action.now _ c.args.d c.call_formal_procedure.result c.call_formal_procedure.new.out c.args.out.now (formal_procedure_is _ _ _ _ _ _ c.in-CallFormal.is c.deref-in-CallFormal.ensures.value) c.call_formal_procedure.ensures
+statement-returns-in-CallFormal t c = act_lifted (scope_of c.args.k.now) c.args.action.now _ c.args.d c.call_formal_procedure.result c.lifted-in-CallFormal.result c.call_formal_procedure.new.out c.args.out.now (formal_procedure_is _ _ _ _ _ _ c.in-CallFormal.is c.deref-in-CallFormal.ensures.value) c.lifted-in-CallFormal.ensures c.call_formal_procedure.ensures
 
 pub statement-returns-in-With : goal.statement-returns-in-With
 statement-returns-in-With t c = act (scope_of c.args.k.now) c.args.action.now _ c.args.d c.act_with.result c.act_with.new.out c.args.out.now (with_is _ _ _ _ _ c.in-With.is c.deref-in-With-2.ensures.value c.deref-in-With.ensures) c.act_with.ensures
@@ -122,22 +124,22 @@ act_with-returns t c =
     c.with_calls-calls.ensures c.in_ok-opened.ensures.code (ap (within (scope_of c.args.k.now)) c.as_slice.ensures.value ∙ c.in_ok-opened.ensures.scope) c.in_ok-opened.ensures.depth c.statement.ensures
 
 pub statement-returns-in-AssignSet : goal.statement-returns-in-AssignSet
-statement-returns-in-AssignSet t c = act (scope_of c.args.k.now) c.args.action.now _ c.args.d c.assign_set.result c.assign_set.new.out c.args.out.now (assign_set_is _ _ _ _ _ _ c.in-AssignSet.is) c.assign_set.ensures
+statement-returns-in-AssignSet t c = act_lifted (scope_of c.args.k.now) c.args.action.now _ c.args.d c.assign_set.result c.lifted-in-AssignSet.result c.assign_set.new.out c.args.out.now (assign_set_is _ _ _ _ _ _ c.in-AssignSet.is) c.lifted-in-AssignSet.ensures c.assign_set.ensures
 
 pub statement-returns-in-New : goal.statement-returns-in-New
 statement-returns-in-New t c = act (scope_of c.args.k.now) c.args.action.now _ c.args.d c.create.result c.create.new.out c.args.out.now (new_is _ _ _ _ c.in-New.is) c.create.ensures
 
 pub statement-returns-in-Pack : goal.statement-returns-in-Pack
-statement-returns-in-Pack t c = act (scope_of c.args.k.now) c.args.action.now _ c.args.d c.pack.result c.pack.new.out c.args.out.now (pack_is _ _ _ _ _ _ _ _ _ c.in-Pack.is c.deref-in-Pack.ensures c.deref-in-Pack-2.ensures) c.pack.ensures
+statement-returns-in-Pack t c = act_lifted (scope_of c.args.k.now) c.args.action.now _ c.args.d c.pack.result c.lifted-in-Pack.result c.pack.new.out c.args.out.now (pack_is _ _ _ _ _ _ _ _ _ c.in-Pack.is c.deref-in-Pack.ensures c.deref-in-Pack-2.ensures) c.lifted-in-Pack.ensures c.pack.ensures
 
 pub statement-returns-in-Unpack : goal.statement-returns-in-Unpack
-statement-returns-in-Unpack t c = act (scope_of c.args.k.now) c.args.action.now _ c.args.d c.unpack.result c.unpack.new.out c.args.out.now (unpack_is _ _ _ _ _ _ _ _ _ c.in-Unpack.is c.deref-in-Unpack.ensures c.deref-in-Unpack-2.ensures) c.unpack.ensures
+statement-returns-in-Unpack t c = act_lifted (scope_of c.args.k.now) c.args.action.now _ c.args.d c.unpack.result c.lifted-in-Unpack.result c.unpack.new.out c.args.out.now (unpack_is _ _ _ _ _ _ _ _ _ c.in-Unpack.is c.deref-in-Unpack.ensures c.deref-in-Unpack-2.ensures) c.lifted-in-Unpack.ensures c.unpack.ensures
 
 pub statement-returns-in-Read : goal.statement-returns-in-Read
-statement-returns-in-Read t c = act (scope_of c.args.k.now) c.args.action.now _ c.args.d c.reads.result c.reads.new.out c.args.out.now (read_is _ _ _ c.in-Read.is c.deref-in-Read.ensures.value) c.reads.ensures
+statement-returns-in-Read t c = act_lifted (scope_of c.args.k.now) c.args.action.now _ c.args.d c.reads.result c.lifted-in-Read.result c.reads.new.out c.args.out.now (read_is _ _ _ c.in-Read.is c.deref-in-Read.ensures.value) c.lifted-in-Read.ensures c.reads.ensures
 
 pub statement-returns-in-Readln : goal.statement-returns-in-Readln
-statement-returns-in-Readln t c = act (scope_of c.args.k.now) c.args.action.now _ c.args.d c.readln.result c.readln.new.out c.args.out.now (readln_is _ _ _ _ c.in-Readln.is c.deref-in-Readln.ensures.value) c.readln.ensures
+statement-returns-in-Readln t c = act_lifted (scope_of c.args.k.now) c.args.action.now _ c.args.d c.readln.result c.lifted-in-Readln.result c.readln.new.out c.args.out.now (readln_is _ _ _ _ c.in-Readln.is c.deref-in-Readln.ensures.value) c.lifted-in-Readln.ensures c.readln.ensures
 
 -- ---- jumps
 
@@ -157,18 +159,18 @@ pub then_part-returns-clause-place : goal.then_part-returns-clause-place
 then_part-returns-clause-place t c = room_behind c.args.out.now c.front.new.out c.room.new.self c.statement.new.out _ _ i.End _ c.in_ok-end.end c.in_ok-front.ensures c.in_ok-past.ensures.room c.in_ok-statement.ensures c.in_ok-end.ensures.place
 
 pub act_while-returns : goal.act_while-returns
-act_while-returns t c =
-    subst (λ j. OnOk c.branch_back.result (c.branch_back.new.self ≡ c.args.out.now ++ i.Jump (length (statement_code (scope_of c.args.k.now) (statement_of c.args.body.now) c.args.d)) ∷ ((statement_code (scope_of c.args.k.now) (statement_of c.args.body.now) c.args.d ++ front_code (scope_of c.args.k.now) (expr_of c.args.condition.now) c.args.d 0) ++ j ∷ [])))
+act_while-returns t c = c.lifted.ensures c.args.out.now c.branch_back.new.self (statement_code (scope_of c.args.k.now) (tree.While (expr_of c.args.condition.now) (statement_of c.args.body.now)) c.args.d)
+    (subst (λ j. OnOk c.branch_back.result (c.branch_back.new.self ≡ c.args.out.now ++ i.Jump (length (statement_code (scope_of c.args.k.now) (statement_of c.args.body.now) c.args.d)) ∷ ((statement_code (scope_of c.args.k.now) (statement_of c.args.body.now) c.args.d ++ front_code (scope_of c.args.k.now) (expr_of c.args.condition.now) c.args.d 0) ++ j ∷ [])))
     (back_told _ _ _ _ _ _ _ c.relation_in-relation.ensures c.left_in.ensures c.right_in.ensures)
     (back_from_test c.branch_back.result c.args.out.now c.room.new.self c.statement.new.out c.set_jump.new.self c.front.new.out c.branch_back.new.self _ _ i.End c.in_ok-to_test.to_test c.place-begin.result (λ n. i.Jump n) (λ n. i.BranchBack c.relation_in-relation.result c.left_in.result c.right_in.result n)
-    c.in_ok-to_test.ensures.room c.in_ok-to_test.ensures.place c.place-begin.ensures c.in_ok-statement.ensures c.set_jump.ensures c.in_ok-front.ensures c.branch_back.ensures)
+    c.in_ok-to_test.ensures.room c.in_ok-to_test.ensures.place c.place-begin.ensures c.in_ok-statement.ensures c.set_jump.ensures c.in_ok-front.ensures c.branch_back.ensures))
 
 pub act_repeat-returns : goal.act_repeat-returns
-act_repeat-returns t c =
-    subst (λ j. OnOk c.branch_back.result (c.branch_back.new.self ≡ c.args.out.now ++ ((statements_code (scope_of c.args.k.now) (statements_of c.args.body.now) c.args.d ++ front_code (scope_of c.args.k.now) (expr_of c.args.condition.now) c.args.d 0) ++ j ∷ [])))
+act_repeat-returns t c = c.lifted.ensures c.args.out.now c.branch_back.new.self (statement_code (scope_of c.args.k.now) (tree.Repeat (statements_of c.args.body.now) (expr_of c.args.condition.now)) c.args.d)
+    (subst (λ j. OnOk c.branch_back.result (c.branch_back.new.self ≡ c.args.out.now ++ ((statements_code (scope_of c.args.k.now) (statements_of c.args.body.now) c.args.d ++ front_code (scope_of c.args.k.now) (expr_of c.args.condition.now) c.args.d 0) ++ j ∷ [])))
     (back_told _ _ _ _ _ _ _ (c.opposite-relation.ensures ∙ ap opposite c.relation_in.ensures) c.left_in.ensures c.right_in.ensures)
     (back_over c.branch_back.result c.args.out.now c.statements.new.out c.front.new.out c.branch_back.new.self _ _ c.place-begin.result (λ n. i.BranchBack c.opposite-relation.result c.left_in.result c.right_in.result n)
-    c.place-begin.ensures c.in_ok-statements.ensures c.in_ok-front.ensures c.branch_back.ensures)
+    c.place-begin.ensures c.in_ok-statements.ensures c.in_ok-front.ensures c.branch_back.ensures))
 
 -- ---- room for what is called
 
@@ -258,3 +260,25 @@ statements-statement-requires t c =
     let l = statement_in (scope_of c.args.k.now) c.args.d c.args.statements.now c.loop-one.one-index c.one-item.result c.loop-one-test.true c.one-item.is in
     let r = c.requires in
     (search (rules, the_lemmas, get_or_read), omega (arith, l, r))
+
+-- ---- refusals that are handed on
+
+pub statements-returns-in_err-statement : goal.statements-returns-in_err-statement
+statements-returns-in_err-statement t c =
+    handed_on c.from_residual.result c.args.out.now c.statement.new.out (statements_code (scope_of c.args.k.now) (statements_of c.args.statements.now) c.args.d) _ c.from_residual.ensures.1
+    (item_refused (statements_added (scope_of c.args.k.now) c.args.d) (λ s. statement_code (scope_of c.args.k.now) (statement_of s) c.args.d) (statements_further (scope_of c.args.k.now) c.args.d) _ c.args.out.now c.args.statements.now c.loop-one.one-index c.loop-one.out c.one-item.result _ c.loop-one-test.true c.loop-one.invariant c.one-item.is c.in_err-statement.ensures)
+
+pub act_element-returns-in_err-statement-clause-code : goal.act_element-returns-in_err-statement-clause-code
+act_element-returns-in_err-statement-clause-code t c =
+    handed_on c.from_residual-in_err-statement.result (c.args.out.now ++ element_code (scope_of c.args.k.now) (out-CaseElement c.args.element.now).constants.items (statement_of (out-CaseElement c.args.element.now).body) c.args.d) c.statement.new.out (i.End ∷ []) _ c.from_residual-in_err-statement.ensures.1
+    (element_refused _ (scope_of c.args.k.now) (out-CaseElement c.args.element.now).constants.items _ (statement_of (out-CaseElement c.args.element.now).body) c.args.d c.args.out.now _ c.deref.ensures.value c.in_ok-last.ensures.code c.in_err-statement.ensures)
+
+pub act_elements-returns-in_err-end-clause-code : goal.act_elements-returns-in_err-end-clause-code
+act_elements-returns-in_err-end-clause-code t c =
+    handed_on c.from_residual.result c.args.out.now c.act_element.new.out (open_elements (scope_of c.args.k.now) (elements_of c.args.elements.now) c.args.d) _ c.from_residual.ensures.1
+    (among_refused _ (scope_of c.args.k.now) c.args.d c.args.out.now c.args.elements.now c.loop-element.element-index c.loop-element.out c.loop-element.ends.items c.element-item.result _ c.loop-element-test.true c.loop-element.invariant c.element-item.is c.in_err-end.ensures.code)
+
+pub act_case-returns-in_err-ends : goal.act_case-returns-in_err-ends
+act_case-returns-in_err-ends t c =
+    handed_on c.from_residual-in_err-ends.result c.args.out.now c.act_elements.new.out (statement_code (scope_of c.args.k.now) (tree.Case (expr_of c.args.index.now) (elements_of c.args.elements.now) c.args.line) c.args.d) _ c.from_residual-in_err-ends.ensures.1
+    (case_refused _ (scope_of c.args.k.now) (expr_of c.args.index.now) (elements_of c.args.elements.now) c.args.d c.args.line c.args.out.now _ c.in_ok-value.ensures c.in_err-ends.ensures.code)

@@ -194,7 +194,7 @@ minus-returns-in_ok-literal-in-None t c =
 -- ---- structures and calls
 
 pub structure-returns-in_ok-site-in-Contents : goal.structure-returns-in_ok-site-in-Contents
-structure-returns-in_ok-site-in-Contents t c = contents_made (scope_of c.args.k.now) c.args.e.now c.in-Contents.variable c.in-Contents.ty c.deref-in-Contents.result.now c.byte_count.result c.args.d c.args.x (site_of c.in_ok-site-in-Contents.site) c.address.result c.address.new.out c.place.new.out c.args.out.now c.in-Contents.is c.deref-in-Contents.ensures c.byte_count.ensures c.in_ok-site-in-Contents.ensures.code c.in_ok-site-in-Contents.ensures.site c.address.ensures
+structure-returns-in_ok-site-in-Contents t c = contents_made (scope_of c.args.k.now) c.args.e.now c.in-Contents.variable c.in-Contents.ty c.deref.result.now c.byte_count.result c.args.d c.args.x (site_of c.in_ok-site-in-Contents.site) c.address.result c.address.new.out c.place.new.out c.args.out.now c.in-Contents.is c.deref.ensures c.byte_count.ensures c.in_ok-site-in-Contents.ensures.code c.in_ok-site-in-Contents.ensures.site c.address.ensures
 
 pub front-returns-in_ok-structure-in-CompareStrings-2 : goal.front-returns-in_ok-structure-in-CompareStrings-2
 front-returns-in_ok-structure-in-CompareStrings-2 t c =
@@ -534,7 +534,7 @@ set-combine-requires t c =
 
 pub structure-place-requires : goal.structure-place-requires
 structure-place-requires t c =
-    let e = contents_room (scope_of c.args.k.now) c.args.e.now _ _ c.deref-in-Contents.result.now c.in-Contents.is c.deref-in-Contents.ensures in
+    let e = contents_room (scope_of c.args.k.now) c.args.e.now _ _ c.deref.result.now c.in-Contents.is c.deref.ensures in
     let r = c.requires in
     (search (rules, the_lemmas, get_or_read), omega (arith, e, r))
 

@@ -1,0 +1,44 @@
+//! Why a program has no code.
+
+ghost use Rattle.std.specs.Prelude.{◌≡◌, ◌++◌, List, OnOk};
+ghost use Rattle.tac_code.specs.declared.code.Instruction.{Instruction};
+ghost use Rattle.ps_lower.specs.Refused.{Adds};
+ghost use Rattle.ps_lower.specs.declared.refusal.LowerRefusal.TheVariants.{OutOfMemory};
+
+use std::alloc::{AllocError, AllocFailed};
+
+/// The most instructions of a program. An image holds no more words, and each instruction takes a word at least.
+pub const MOST_INSTRUCTIONS: usize = 1_048_576;
+
+/// Why a program has no code.
+#[derive(Clone, Copy)]
+pub enum LowerRefusal {
+    /// A growth of memory was refused.
+    OutOfMemory,
+    /// The code would have more words than an image holds.
+    CodeTooLarge,
+}
+
+impl From<AllocError> for LowerRefusal {
+    ghost from_gives = { λ _ refusal. refusal ≡ OutOfMemory };
+
+    fn from(_error: AllocError) -> LowerRefusal {
+        LowerRefusal::OutOfMemory
+    }
+}
+
+impl<T: Drop> From<AllocFailed<T>> for LowerRefusal {
+    ghost from_gives = { λ _ refusal. refusal ≡ OutOfMemory };
+
+    fn from(_error: AllocFailed<T>) -> LowerRefusal {
+        LowerRefusal::OutOfMemory
+    }
+}
+
+/// Code that only the want of memory refuses, among code that can be too large.
+pub fn lifted(added: Result<(), AllocError>) -> Result<(), LowerRefusal>
+    ensures { (old new code : List Instruction) → OnOk added (new ≡ old ++ code) → Adds result old new code }
+{
+    added?;
+    Ok(())
+}
