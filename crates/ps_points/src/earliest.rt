@@ -13,6 +13,7 @@ use crate::uses::{Sought, first};
 use ps_regions::reading::Reading;
 use ps_syntax::{Block, Program, Routine};
 use std::alloc::{AllocError, Global};
+use std::cell::Cell;
 
 /// The earlier of two offsets.
 pub fn earlier(one: Option<u32>, other: Option<u32>) -> Option<u32>
@@ -39,6 +40,7 @@ fn in_block(round: Open<'_>, block: &Block, region: Region) -> Option<u32> {
         alloc: round.alloc,
         defined: round.defined,
         regions: &regions,
+        wanting: round.wanting,
     };
     let declared = in_declarations(block, Sought::Undefined(open, true));
     let stated = in_statements(
@@ -81,11 +83,13 @@ pub fn first_undefined(
     written: &Program,
 ) -> Result<Option<u32>, AllocError> {
     let defined = Defined::new(reading, alloc, points)?;
+    let wanting = Cell::new(false);
     let open = Open {
         reading,
         alloc,
         defined: &defined,
         regions: &Regions::Outside,
+        wanting: &wanting,
     };
     let region = Region {
         outer: 0,
@@ -93,5 +97,9 @@ pub fn first_undefined(
     };
     let found = in_block(open, &written.block, region);
     drop(defined);
-    Ok(found)
+    if wanting.get() {
+        Err(AllocError)
+    } else {
+        Ok(found)
+    }
 }

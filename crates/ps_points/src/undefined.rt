@@ -11,6 +11,7 @@ use ps_regions::reading::Reading;
 use ps_text::Span;
 use ps_tree::names::Names;
 use std::alloc::{AllocError, Global};
+use std::cell::Cell;
 
 /// The required names, and those of the required files.
 pub const REQUIRED: [&[u8]; 40] = [
@@ -135,6 +136,8 @@ pub struct Open<'a> {
     pub alloc: Global,
     pub defined: &'a Defined,
     pub regions: &'a Regions<'a>,
+    /// Whether memory was wanting for a name, of which nothing is known then.
+    pub wanting: &'a Cell<bool>,
 }
 
 /// Where the first point of a name in a region stands.
@@ -181,7 +184,7 @@ fn is_undefined_name(open: Open<'_>, name: Span, is_hiding: bool) -> Result<bool
     all_lack(open, open.regions, name)
 }
 
-/// Whether no point is found for a use; where memory is wanting for that, it isn't known.
+/// Whether no point is found for a use. Where memory is wanting for that, `wanting` tells it, and the search ends there.
 pub fn is_undefined(open: Open<'_>, found: Use, is_hiding: bool) -> bool {
     let undefined = match found.way {
         Way::Selected => Ok(false),
@@ -190,6 +193,9 @@ pub fn is_undefined(open: Open<'_>, found: Use, is_hiding: bool) -> bool {
     };
     match undefined {
         Ok(undefined) => undefined,
-        Err(_) => false,
+        Err(_) => {
+            open.wanting.set(true);
+            true
+        }
     }
 }
