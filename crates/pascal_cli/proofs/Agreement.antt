@@ -1,5 +1,5 @@
 -- What a parse of the program's words finds is what the words ask for.
-use Rattle.std.proofs.Common.{◌≡◌, ◌∙◌, ap, ap₂, refl, sym, subst, ◌++◌, ◌||◌, ◌==◌, ℕ, Bool, cond, true, false, not, List, [], ◌∷◌, Option, Some, None, inl, inr}
+use Rattle.std.proofs.Common.{◌≡◌, ◌∙◌, ap, ap₂, refl, sym, subst, ◌++◌, ◌&&◌, ◌||◌, ◌==◌, ◌⊎◌, ℕ, Bool, cond, true, false, not, List, [], ◌∷◌, Option, Some, None, inl, inr}
 use Rattle.std.proofs.lemmas.Bool.{true≢false}
 use Rattle.std.proofs.lemmas.List.{append-nil, append_assoc}
 use Rattle.std.specs.Prelude.{if◌then◌else◌, codes, fold, is_some, option_map, option_and_then, pos, unwrap_or, slice_get, IfSome}
@@ -17,16 +17,16 @@ use Rattle.clap.specs.Simple.{App, Shape, built, entered, names_of, subcommand_o
 use Rattle.clap.specs.ValueTests.{is_signed_in, is_unsigned_in}
 use Rattle.clap.specs.Walk.{Held, Names, Row, Step, Text, Walk, after_step, arg_by_id, arg_by_long, arg_by_short, finished, first_of, idle, long_or_other, nothing_held, one_of, row_text, rows_after, settled, subcommand_met, subcommand_or_other, trailing, walk_from, walked}
 use Rattle.clap.specs.declared.error.kind.ErrorKind.TheVariants as kind
-use Rattle.pascal_cli.specs.App.{HasLimits, IsWithin, fault_in, is_memory, pascal_app, row_limits, row_path, row_request, row_work, whole}
-use Rattle.pascal_cli.specs.Command.{Given, Limits, Request, Work, compile, compile_given, compile_request, default_limits, go, go_request, has_letters, image_name, is_line_fault, limit_names, limits_of, list, list_given, list_request, number_of, read, request_of, run, run_request, source_name, standard_request, value_of}
+use Rattle.pascal_cli.specs.App.{HasLimits, IsWithin, fault_in, found_digits, is_memory, pascal_app, row_digits, row_limits, row_path, row_request, row_work, whole}
+use Rattle.pascal_cli.specs.Command.{Given, Limits, Request, Work, are_digits, compile, compile_given, compile_request, default_limits, go, go_request, has_digits, has_letters, image_name, is_line_fault, limit_names, limits_of, list, list_given, list_request, number_of, read, request_of, run, run_request, source_name, standard_request, value_of}
 use Rattle.pascal_cli.proofs.GivenRows.{AllFit, Fails, One, fails_left, fails_right, row, same_text, value_fits}
 use Rattle.pascal_cli.proofs.Leaves.{LeafEnds, budget_text, compile_leaf, compile_ones, end_look, end_row, end_rows, go_label, go_leaf, help_or_none, has_good_default, leaf_ends, leaf_fault, limited_ones, list_leaf, list_ones, or_defaults, run_label, run_leaf, steps_text}
 use Rattle.pascal_cli.proofs.LineWalk.{Leaf, letters_fail, letters_none, long_help, rules, short_help}
 
--- a parse that enters a command finds what is asked for, or fails where nothing is
+-- a parse that enters a command finds what is asked for; where nothing is, it fails, or finds a number that is not digits alone
 abbrev Agrees : Option Request → Kinds → Text × List Row → Type 0
-Agrees None faults found = Fails faults
-Agrees (Some request) faults found = (faults ≡ []) × (row_request (Some found) ≡ request) × HasLimits found.1
+Agrees None faults found = Fails faults ⊎ ((faults ≡ []) × (row_digits found.1 ≡ false))
+Agrees (Some request) faults found = (faults ≡ []) × (row_request (Some found) ≡ request) × HasLimits found.1 × (row_digits found.1 ≡ true)
 
 one_at : (ones : List _) (name : Text) (given : Given) → one_of name (end_rows ones given) ≡ option_and_then row_text (end_row (rules ones) name given)
 one_at ones name given = ap (option_and_then row_text) (end_look (rules ones) name given)
@@ -74,6 +74,27 @@ count_text : (name : Text) (o : Option Text) → option_and_then row_text (or_de
 count_text name None = refl
 count_text name (Some t) = refl
 
+-- the text of a number, given or default, is digits where what was given is
+stack_digits : (name : Text) (o : Option Text) → are_digits (option_and_then (λ r. slice_get r.values 0) (or_defaults (codes "stack") (option_map (row (codes "stack")) o) (rules (limited_ones name)))) ≡ are_digits o
+stack_digits name None = refl
+stack_digits name (Some t) = refl
+
+heap_digits : (name : Text) (o : Option Text) → are_digits (option_and_then (λ r. slice_get r.values 0) (or_defaults (codes "heap") (option_map (row (codes "heap")) o) (rules (limited_ones name)))) ≡ are_digits o
+heap_digits name None = refl
+heap_digits name (Some t) = refl
+
+count_digits : (name : Text) (o : Option Text) → are_digits (option_and_then (λ r. slice_get r.values 0) (or_defaults (codes "steps") (option_map (row (codes "steps")) o) (rules (limited_ones name)))) ≡ are_digits o
+count_digits name None = refl
+count_digits name (Some t) = refl
+
+digits_agree : (name : Text) (given : Given) → row_digits (end_rows (limited_ones name) given) ≡ has_digits given
+digits_agree name given =
+    let ones = limited_ones name in
+    let stack = ap are_digits (first_at ones (codes "stack") given) ∙ stack_digits name (value_of (codes "stack") given) in
+    let heap = ap are_digits (first_at ones (codes "heap") given) ∙ heap_digits name (value_of (codes "heap") given) in
+    let steps = ap are_digits (first_at ones (codes "steps") given) ∙ count_digits name (value_of (codes "steps") given) in
+    ap₂ (λ a b. a && b) stack (ap₂ (λ a b. a && b) heap steps)
+
 abbrev limits : ℕ → ℕ → ℕ → Limits
 limits a b c = record { stack = a; heap = b; steps = c }
 
@@ -114,7 +135,7 @@ requested work with_limits = record { work = work; limits = with_limits }
 limited_agrees : (label name : Text) (work : Text → Work) → ((rows : List Row) → row_work label rows ≡ work (row_path name rows))
     → or_defaults name None (rules (limited_ones name)) ≡ None → list_all has_good_default (rules (limited_ones name)) ≡ true
     → Leaf (limited_ones name) limit_names (name ∷ []) → (words : List Text)
-    → Agrees (option_and_then (λ given. option_map (λ text. requested (work text) (limits_of given)) (value_of name given)) (read limit_names (name ∷ []) None [] words))
+    → Agrees (option_and_then (λ given. if has_digits given then option_map (λ text. requested (work text) (limits_of given)) (value_of name given) else None) (read limit_names (name ∷ []) None [] words))
     (leaf_fault label (limited_ones name) words) (label, rows_after (rules (limited_ones name)) [] words)
 limited_agrees label name work work_is none_is clean facts words =
     go (read limit_names (name ∷ []) None [] words) (leaf_ends label ones limit_names (name ∷ []) facts clean words)
@@ -122,27 +143,38 @@ limited_agrees label name work work_is none_is clean facts words =
     ones : List One
     ones = limited_ones name
 
-    found : (given : Given) → LeafEnds label ones words (Some given) → (o : Option Text) → value_of name given ≡ o
-        → Agrees (option_map (λ text. requested (work text) (limits_of given)) o) (leaf_fault label ones words) (label, end_rows ones given)
-    found given ends None e =
+    lacking : (given : Given) → LeafEnds label ones words (Some given) → value_of name given ≡ None → Fails (leaf_fault label ones words)
+    lacking given ends e =
         let none : end_row (rules ones) name given ≡ None = ap (λ t. or_defaults name (option_map (row name) t) (rules ones)) e ∙ none_is in
         subst Fails (sym (ends.0 ∙ ap (λ r. missing (not (is_there r) || false)) (end_look (rules ones) name given ∙ none))) tt
-    found given ends (Some text) e =
+
+    no_fault : (given : Given) → LeafEnds label ones words (Some given) → (text : Text) → value_of name given ≡ Some text → leaf_fault label ones words ≡ []
+    no_fault given ends text e =
+        let some : end_row (rules ones) name given ≡ Some (row name text) = ap (λ t. or_defaults name (option_map (row name) t) (rules ones)) e in
+        ends.0 ∙ ap (λ r. missing (not (is_there r) || false)) (end_look (rules ones) name given ∙ some)
+
+    found : (given : Given) → LeafEnds label ones words (Some given) → (o : Option Text) → value_of name given ≡ o → (digits : Bool) → has_digits given ≡ digits
+        → Agrees (if digits then option_map (λ text. requested (work text) (limits_of given)) o else None) (leaf_fault label ones words) (label, end_rows ones given)
+    found given ends None e true d = inl (lacking given ends e)
+    found given ends None e false d = inl (lacking given ends e)
+    found given ends (Some text) e false d = inr (no_fault given ends text e, digits_agree name given ∙ d)
+    found given ends (Some text) e true d =
         let some : end_row (rules ones) name given ≡ Some (row name text) = ap (λ t. or_defaults name (option_map (row name) t) (rules ones)) e in
         let path : row_path name (end_rows ones given) ≡ text = ap (λ r. unwrap_or (first_text r) []) (end_look (rules ones) name given ∙ some) in
         let agreed = limits_agree name given ends.2 in (
-          ends.0 ∙ ap (λ r. missing (not (is_there r) || false)) (end_look (rules ones) name given ∙ some),
+          no_fault given ends text e,
           ap (λ w. requested w (row_limits (end_rows ones given))) (work_is (end_rows ones given) ∙ ap work path) ∙ ap (requested (work text)) agreed.0,
           agreed.1,
+          digits_agree name given ∙ d,
         )
 
     go : (o : Option Given) → LeafEnds label ones words o
-        → Agrees (option_and_then (λ given. option_map (λ text. requested (work text) (limits_of given)) (value_of name given)) o)
+        → Agrees (option_and_then (λ given. if has_digits given then option_map (λ text. requested (work text) (limits_of given)) (value_of name given) else None) o)
         (leaf_fault label ones words) (label, rows_after (rules ones) [] words)
-    go None ends = ends
+    go None ends = inl ends
     go (Some given) ends =
-        subst (λ rows. Agrees (option_map (λ text. requested (work text) (limits_of given)) (value_of name given)) (leaf_fault label ones words) (label, rows))
-        (sym ends.1) (found given ends (value_of name given) refl)
+        subst (λ rows. Agrees (if has_digits given then option_map (λ text. requested (work text) (limits_of given)) (value_of name given) else None) (leaf_fault label ones words) (label, rows))
+        (sym ends.1) (found given ends (value_of name given) refl (has_digits given) refl)
 
 run_agrees : (words : List Text) → Agrees (run_request words) (leaf_fault run_label (limited_ones image_name) words) (run_label, rows_after (rules (limited_ones image_name)) [] words)
 run_agrees words = limited_agrees run_label image_name (λ text. run text) (λ rows. refl) refl refl run_leaf words
@@ -168,9 +200,16 @@ no_limit ones name none given all_fit = one_at ones name given ∙ go (value_of 
     go None e = ap (option_and_then row_text) none.1
     go (Some t) e = absurd (true≢false (sym (value_fits (rules ones) name t given all_fit e).1 ∙ ap (λ o. is_some o) none.0))
 
+no_digits : (ones : List One) (name : Text) → IsNoOptionOf ones name → (given : Given) → AllFit (rules ones) given → are_digits (first_of name (end_rows ones given)) ≡ true
+no_digits ones name none given all_fit = ap are_digits (first_at ones name given) ∙ go (value_of name given) refl
+  where
+    go : (o : Option Text) → value_of name given ≡ o → are_digits (option_and_then (λ r. slice_get r.values 0) (or_defaults name (option_map (row name) o) (rules ones))) ≡ true
+    go None e = ap (λ r. are_digits (option_and_then (λ (x : Row). slice_get x.values 0) r)) none.1
+    go (Some t) e = absurd (true≢false (sym (value_fits (rules ones) name t given all_fit e).1 ∙ ap (λ o. is_some o) none.0))
+
 no_limits : (ones : List One) → IsNoOptionOf ones (codes "stack") → IsNoOptionOf ones (codes "heap") → IsNoOptionOf ones (codes "steps")
     → (given : Given) → AllFit (rules ones) given
-    → (row_limits (end_rows ones given) ≡ default_limits) × HasLimits (end_rows ones given)
+    → (row_limits (end_rows ones given) ≡ default_limits) × HasLimits (end_rows ones given) × (row_digits (end_rows ones given) ≡ true)
 no_limits ones no_stack no_heap no_steps given all_fit =
     let stack = no_limit ones (codes "stack") no_stack given all_fit in
     let heap = no_limit ones (codes "heap") no_heap given all_fit in
@@ -181,6 +220,8 @@ no_limits ones no_stack no_heap no_steps given all_fit =
         subst (λ o. IfSome o (IsWithin 0 16777152)) (sym heap) tt,
         subst (λ o. IfSome o (IsWithin 1 1000000000000)) (sym steps) tt,
       ),
+      ap₂ (λ a b. a && b) (no_digits ones (codes "stack") no_stack given all_fit)
+          (ap₂ (λ a b. a && b) (no_digits ones (codes "heap") no_heap given all_fit) (no_digits ones (codes "steps") no_steps given all_fit)),
     )
 
 compile_agrees : (words : List Text) → Agrees (compile_request words) (leaf_fault compile_label compile_ones words) (compile_label, rows_after (rules compile_ones) [] words)
@@ -198,14 +239,14 @@ compile_agrees words = go_on (read [] (source_name ∷ image_name ∷ []) None [
         (unwrap_or (first_text (or_defaults image_name (option_map (row image_name) image) (rules compile_ones))) [])
 
     found : (source image : Option Text) (faults : Kinds) (rows : List Row) → faults ≡ lacks source image → row_work compile_label rows ≡ texts source image
-        → (row_limits rows ≡ default_limits) × HasLimits rows → Agrees (asked source image) faults (compile_label, rows)
-    found None image faults rows e w l = subst Fails (sym e) tt
-    found (Some s) None faults rows e w l = subst Fails (sym e) tt
-    found (Some s) (Some i) faults rows e w l = (e, ap₂ requested w l.0, l.1)
+        → (row_limits rows ≡ default_limits) × HasLimits rows × (row_digits rows ≡ true) → Agrees (asked source image) faults (compile_label, rows)
+    found None image faults rows e w l = inl (subst Fails (sym e) tt)
+    found (Some s) None faults rows e w l = inl (subst Fails (sym e) tt)
+    found (Some s) (Some i) faults rows e w l = (e, ap₂ requested w l.0, l.1, l.2)
 
     go_on : (o : Option Given) → LeafEnds compile_label compile_ones words o
         → Agrees (option_and_then compile_given o) (leaf_fault compile_label compile_ones words) (compile_label, rows_after (rules compile_ones) [] words)
-    go_on None ends = ends
+    go_on None ends = inl ends
     go_on (Some given) ends =
         let source = end_look (rules compile_ones) source_name given in
         let image = end_look (rules compile_ones) image_name given in
@@ -228,13 +269,13 @@ list_agrees words = go_on (read [] (source_name ∷ []) None [] words) (leaf_end
     texts source = list (unwrap_or (first_text (or_defaults source_name (option_map (row source_name) source) (rules list_ones))) [])
 
     found : (source : Option Text) (faults : Kinds) (rows : List Row) → faults ≡ lacks source → row_work list_label rows ≡ texts source
-        → (row_limits rows ≡ default_limits) × HasLimits rows → Agrees (asked source) faults (list_label, rows)
-    found None faults rows e w l = subst Fails (sym e) tt
-    found (Some s) faults rows e w l = (e, ap₂ requested w l.0, l.1)
+        → (row_limits rows ≡ default_limits) × HasLimits rows × (row_digits rows ≡ true) → Agrees (asked source) faults (list_label, rows)
+    found None faults rows e w l = inl (subst Fails (sym e) tt)
+    found (Some s) faults rows e w l = (e, ap₂ requested w l.0, l.1, l.2)
 
     go_on : (o : Option Given) → LeafEnds list_label list_ones words o
         → Agrees (option_and_then list_given o) (leaf_fault list_label list_ones words) (list_label, rows_after (rules list_ones) [] words)
-    go_on None ends = ends
+    go_on None ends = inl ends
     go_on (Some given) ends =
         let source = end_look (rules list_ones) source_name given in
         subst (λ rows. Agrees (list_given given) (leaf_fault list_label list_ones words) (list_label, rows)) (sym ends.1)
@@ -255,8 +296,8 @@ abbrev names : Names
 names = names_of program
 
 abbrev pub TopAgrees : Option Request → Kinds → Option (Text × List Row) → Type 0
-TopAgrees None faults found = Fails faults
-TopAgrees (Some request) faults found = (faults ≡ []) × (row_request found ≡ request) × IfSome found (λ e. HasLimits e.1)
+TopAgrees None faults found = Fails faults ⊎ ((faults ≡ []) × (found_digits found ≡ false))
+TopAgrees (Some request) faults found = (faults ≡ []) × (row_request found ≡ request) × IfSome found (λ e. HasLimits e.1) × (found_digits found ≡ true)
 
 -- the faults after the walk
 abbrev tail_fault : Held → Bool → Kinds
@@ -288,7 +329,7 @@ unfolding walked walk_fault
 top_turn o word words t = t
 
 top_bad : (now : Kinds) (after : Walk) (words : List Text) → Fails now → TopTurn None now after words
-top_bad now after words f = fails_left _ _ (fails_left _ _ f)
+top_bad now after words f = inl (fails_left _ _ (fails_left _ _ f))
 
 abbrev inside : Text → List Text → Walk
 inside label words = record (walk_from nothing_held) { stopped = Some (label, words) }
@@ -349,8 +390,8 @@ stray_after b l word = after_step (rules []) word (walk_from nothing_held) (stra
 -- after `--` no word may follow
 ended_turn : (words : List Text) → TopTurn (standard_request words) [] (record (walk_from nothing_held) { is_trailing = true }) words
 unfolding walk_fault
-ended_turn [] = (tail_none, refl, tt)
-ended_turn (word ∷ words) = tt
+ended_turn [] = (tail_none, refl, tt, refl)
+ended_turn (word ∷ words) = inl tt
 
 plain_stray : (word : Text) (b : Bool) → has_letters word ≡ b → Fails (stray_now false None word)
 plain_stray word true e = fails_left _ _ (letters_fail [] [] (short_of word) [] None
@@ -387,17 +428,23 @@ first_turn word words false false false false false h = stray_turn word words (b
 -- a parse of the words finds what they ask for, and fails where they ask for nothing
 pub top_agrees : (words : List Text) → TopAgrees (request_of words) (fault_of pascal_app words) (subcommand_of pascal_app words)
 unfolding walk_fault defaults_fault
-top_agrees [] = (refl, refl, tt)
+top_agrees [] = (refl, refl, tt, refl)
 top_agrees (word ∷ words) = top_turn _ word words
     (first_turn word words (bytes_eq (codes "compile") word) (bytes_eq (codes "list") word) (bytes_eq (codes "run") word) (bytes_eq (codes "go") word)
     (bytes_eq (codes "help") word) refl)
 
 -- ---- what the code answers
 
-pub is_asked : (o : Option Request) (faults : Kinds) (found : Option (Text × List Row)) → TopAgrees o faults found → faults ≡ [] → (request : Request)
+pub is_asked : (o : Option Request) (faults : Kinds) (found : Option (Text × List Row)) → TopAgrees o faults found → faults ≡ [] → found_digits found ≡ true → (request : Request)
     → (IfSome found (λ e. HasLimits e.1) → request ≡ row_request found) → o ≡ Some request
-is_asked None faults found agreed none request is = absurd (subst Fails none agreed)
-is_asked (Some asked) faults found agreed none request is = ap Some (sym (is agreed.2 ∙ agreed.1))
+is_asked None faults found (inl fails) none digits request is = absurd (subst Fails none fails)
+is_asked None faults found (inr odd) none digits request is = absurd (true≢false (sym digits ∙ odd.1))
+is_asked (Some asked) faults found agreed none digits request is = ap Some (sym (is agreed.2 ∙ agreed.1))
+
+-- a number that is not digits alone is asked of nothing
+pub is_odd : (o : Option Request) (faults : Kinds) (found : Option (Text × List Row)) → TopAgrees o faults found → found_digits found ≡ false → o ≡ None
+is_odd None faults found agreed odd = refl
+is_odd (Some asked) faults found agreed odd = absurd (true≢false (sym agreed.3 ∙ odd))
 
 not_memory : (error : Error) → kind_of error ≡ kind.OutOfMemory → is_line_fault (fault_in error) ≡ false
 not_memory error e = ap (λ k. is_line_fault (if is_memory k then fault.OutOfMemory else fault.Line error)) e

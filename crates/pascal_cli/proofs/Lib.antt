@@ -5,3 +5,4 @@ pub mod GivenRows
 pub mod Leaves
 pub mod LineWalk
 pub mod RowReads
+mod Settled

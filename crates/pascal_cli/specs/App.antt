@@ -1,5 +1,5 @@
 -- The commands as `clap` has them.
-use Rattle.std.specs.Prelude.{◌≡◌, ⊤, ◌≤◌, ℕ, Bool, pos, true, false, List, [], ◌∷◌, Option, Some, None, IfSome, Result, IfOk, codes, unwrap_or, if◌then◌else◌}
+use Rattle.std.specs.Prelude.{◌≡◌, ⊤, ◌≤◌, ◌&&◌, ℕ, Bool, pos, true, false, List, [], ◌∷◌, Option, Some, None, IfSome, Result, IfOk, codes, unwrap_or, if◌then◌else◌}
 use Rattle.std.specs.Option.{option_map_or}
 use Rattle.std.specs.Str.{bytes_eq}
 use Rattle.std.specs.Str.Parse.{IsNumeral, digits_value, without_leading_plus}
@@ -14,7 +14,7 @@ use Rattle.clap.specs.declared.builder.value_parser.ValueParser.TheVariants as v
 use Rattle.clap.specs.declared.error.Error.{Error}
 use Rattle.clap.specs.declared.error.kind.ErrorKind.{ErrorKind}
 use Rattle.clap.specs.declared.error.kind.ErrorKind.TheVariants as kind
-use Rattle.pascal_cli.specs.Command.{Limits, Request, Work, compile, default_limits, go, go_standard_input, image_name, list, run, source_name}
+use Rattle.pascal_cli.specs.Command.{Limits, Request, Work, are_digits, compile, default_limits, go, go_standard_input, image_name, list, run, source_name}
 use Rattle.pascal_cli.specs.declared.job.CommandFault.{CommandFault}
 use Rattle.pascal_cli.specs.declared.job.CommandFault.TheVariants as fault
 
@@ -121,6 +121,14 @@ HasLimits rows = IfSome (one_of (codes "stack") rows) (IsWithin 0 16777152)
     × IfSome (one_of (codes "heap") rows) (IsWithin 0 16777152)
     × IfSome (one_of (codes "steps") rows) (IsWithin 1 1000000000000)
 
+-- the numbers of the rows are digits alone
+abbrev pub row_digits : List Row → Bool
+row_digits rows = are_digits (first_of (codes "stack") rows) && (are_digits (first_of (codes "heap") rows) && are_digits (first_of (codes "steps") rows))
+
+abbrev pub found_digits : Option (Text × List Row) → Bool
+found_digits None = true
+found_digits (Some entered) = row_digits entered.1
+
 -- ---- faults
 
 abbrev pub is_memory : ErrorKind → Bool
@@ -131,7 +139,8 @@ is_memory _ = false
 abbrev pub fault_in : Error → CommandFault
 fault_in error = if is_memory (kind_of error) then fault.OutOfMemory else fault.Line error
 
--- a fault of the line is of one of the kinds
+-- a fault of the line that is `clap`'s is of one of the kinds
 abbrev pub IsLineOf : Kinds → CommandFault → Type 0
 IsLineOf kinds (fault.Line error) = IsAmong (kind_of error) kinds
+IsLineOf kinds (fault.Number number) = ⊤
 IsLineOf kinds fault.OutOfMemory = ⊤

@@ -1,8 +1,9 @@
 -- What the words of the command line ask for, and which words ask for nothing.
-use Rattle.std.specs.Prelude.{◌++◌, ◌||◌, ℕ, Bool, true, false, not, pos, List, [], ◌∷◌, Option, Some, None, is_some, if◌then◌else◌}
+use Rattle.std.specs.Prelude.{◌++◌, ◌&&◌, ◌||◌, ℕ, Bool, true, false, not, pos, List, [], ◌∷◌, Option, Some, None, is_some, if◌then◌else◌}
 use Rattle.std.specs.Prelude.{codes, find, slice_get, option_map, option_and_then}
 use Rattle.std.specs.Option.{option_map_or}
-use Rattle.std.specs.List.{list_any}
+use Rattle.std.specs.Char.{is_ascii_digit}
+use Rattle.std.specs.List.{list_all, list_any}
 use Rattle.std.specs.Str.{bytes_eq, chars}
 use Rattle.std.specs.Str.Parse.{digits_value, without_leading_sign}
 use Rattle.clap.specs.Lexer.{long_of, short_of}
@@ -45,8 +46,8 @@ is_given name given = list_any (λ g. bytes_eq g.0 name) given
 abbrev pub value_of : Text → Given → Option Text
 value_of name given = option_map (λ g. g.1) (find (λ g. bytes_eq g.0 name) given)
 
--- The text may be the value of the name. A number is decimal, and a sign may stand before it: bytes of the stack
--- and of the heap from 0 to 16777152, steps from 1 to 1000000000000 with no minus. A path is any text.
+-- The text may be the value of the name. A number is decimal: bytes of the stack and of the heap from 0 to 16777152, steps from 1 to
+-- 1000000000000. A sign passes here; `has_digits` is asked of all that was given. A path is any text.
 abbrev pub fits : Text → Text → Bool
 fits name text =
     if bytes_eq name (codes "stack") || bytes_eq name (codes "heap")
@@ -113,6 +114,19 @@ read options paths (Some name) given (word ∷ rest) =
 abbrev pub number_of : Text → ℕ
 number_of text = digits_value 10 (without_leading_sign text)
 
+-- decimal digits and nothing else
+abbrev pub is_digits : Text → Bool
+is_digits text = list_all is_ascii_digit text
+
+abbrev pub are_digits : Option Text → Bool
+are_digits None = true
+are_digits (Some text) = is_digits text
+
+-- the numbers among what was given have no sign
+abbrev pub has_digits : Given → Bool
+has_digits given =
+    are_digits (value_of (codes "stack") given) && (are_digits (value_of (codes "heap") given) && are_digits (value_of (codes "steps") given))
+
 -- the number given for the name, or its default
 abbrev pub number_or : ℕ → Text → Given → ℕ
 number_or default name given = option_map_or number_of (value_of name given) default
@@ -149,16 +163,16 @@ list_given given = option_map (λ source. record {
 }) (value_of source_name given)
 
 abbrev pub run_given : Given → Option Request
-run_given given = option_map (λ image. record {
+run_given given = if has_digits given then option_map (λ image. record {
   work = run image;
   limits = limits_of given;
-}) (value_of image_name given)
+}) (value_of image_name given) else None
 
 abbrev pub go_given : Given → Option Request
-go_given given = option_map (λ source. record {
+go_given given = if has_digits given then option_map (λ source. record {
   work = go source;
   limits = limits_of given;
-}) (value_of source_name given)
+}) (value_of source_name given) else None
 
 -- `compile SRC IMG` and `list SRC`; and `run IMG` and `go SRC`, with limits
 abbrev pub compile_request : List Text → Option Request
@@ -209,4 +223,5 @@ request_in job = record {
 -- the words are at fault, and not the memory
 abbrev pub is_line_fault : CommandFault → Bool
 is_line_fault (fault.Line error) = true
+is_line_fault (fault.Number number) = true
 is_line_fault fault.OutOfMemory = false

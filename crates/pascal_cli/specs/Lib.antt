@@ -1,5 +1,9 @@
+pub mod Ahead
 pub mod App
 pub mod Command
+pub mod Console
+pub mod Files
 pub mod Report
+pub mod Runs
 pub mod Session
 pub mod Transfers

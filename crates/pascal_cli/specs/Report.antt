@@ -6,6 +6,7 @@ use Rattle.ps_build.specs.declared.outcome.FaultKind.TheVariants.{BadWord, BadAd
 use Rattle.ps_build.specs.declared.outcome.Outcome.{Outcome}
 use Rattle.ps_build.specs.declared.outcome.Outcome.TheVariants.{Normal, Error, Stack, Heap, Steps, InputFault, OutputFault, Fault}
 use Rattle.ps_build.specs.declared.refusal.Refusal.{Refusal}
+use Rattle.pascal_cli.specs.declared.report.Lines.{Lines}
 
 abbrev pub status_of : Result Outcome Refusal → ℕ
 status_of (Ok Normal) = 0
@@ -41,6 +42,10 @@ fault_name BadAddress = codes "BadAddress"
 fault_name BadDivisor = codes "BadDivisor"
 fault_name BadJump = codes "BadJump"
 fault_name UnknownTrap = codes "UnknownTrap"
+
+-- the end that the lines tell
+abbrev pub end_of : Lines → Result Outcome Refusal
+end_of lines = lines.end.now
 
 abbrev pub error_text : ℕ → ℕ → List ℕ
 error_text number line = codes "line " ++ (decimal line ++ (codes ": " ++ (words_of number ++ codes "\n")))

@@ -1,5 +1,6 @@
 -- What a call of the program makes of its words and of what it reads.
-use Rattle.std.specs.Prelude.{◌≡◌, ℕ, Bool, true, false, List, take, Option, Some, None, ◌⊎◌}
+use Rattle.std.specs.Prelude.{◌≡◌, ℕ, Bool, true, false, List, [], ◌∷◌, ◌||◌, codes, take, Option, Some, None, ◌⊎◌}
+use Rattle.std.specs.Str.{bytes_eq}
 use Rattle.clap.specs.Kinds.{IsAmong, Kinds}
 use Rattle.clap.specs.declared.error.kind.ErrorKind.{ErrorKind}
 use Rattle.clap.specs.declared.error.kind.ErrorKind.TheVariants as kind
@@ -17,3 +18,9 @@ is_help _ = false
 
 abbrev pub IsHelp : Kinds → Type 0
 IsHelp kinds = IsAmong kind.DisplayHelp kinds ⊎ IsAmong kind.DisplayVersion kinds
+
+-- the words ask for the version and for nothing else
+abbrev pub asks_version : List (List ℕ) → Bool
+asks_version [] = false
+asks_version (word ∷ []) = bytes_eq word (codes "--version") || bytes_eq word (codes "-V")
+asks_version (word ∷ other ∷ rest) = false

@@ -1,11 +1,11 @@
 // The words of the command line.
 
-ghost use Rattle.std.specs.Prelude.{◌≡◌, ◌≤◌, IfOk, IfErr, IfSome, List, None, Some, codes, ℕ, true, false, map};
+ghost use Rattle.std.specs.Prelude.{◌≡◌, ◌≤◌, IfOk, IfErr, IfSome, MatchResult, List, None, Some, codes, is_some, not, option_map, ℕ, true, false, map};
 ghost use Rattle.clap.specs.Simple.{App, new_app, with_rule, with_subcommand};
-ghost use Rattle.clap.specs.Walk.{Rule};
+ghost use Rattle.clap.specs.Walk.{Rule, first_of};
 ghost use Rattle.clap.specs.Words.{app_of, fault_of, found_of, one_of, rows_of, rule_of, subcommand_rows_of};
-ghost use Rattle.pascal_cli.specs.App.{HasLimits, IsArgument, IsCommand, IsLineOf, IsWithin, Makes, compile_app, fault_in, go_app, limit_rule, limited, list_app, pascal_app, path_rule, row_path, row_request, row_work, budget_rule, run_app, steps_rule, whole};
-ghost use Rattle.pascal_cli.specs.Command.{is_line_fault, request_in, request_of, work_of};
+ghost use Rattle.pascal_cli.specs.App.{HasLimits, IsArgument, IsCommand, IsLineOf, IsWithin, Makes, compile_app, fault_in, found_digits, go_app, limit_rule, limited, list_app, pascal_app, path_rule, row_digits, row_path, row_request, row_work, budget_rule, run_app, steps_rule, whole};
+ghost use Rattle.pascal_cli.specs.Command.{are_digits, is_digits, is_line_fault, request_in, request_of, work_of};
 ghost use Rattle.pascal_cli.specs.declared.job.CommandFault.TheVariants.{OutOfMemory};
 
 use clap::error::ErrorKind;
@@ -51,29 +51,41 @@ pub struct Job<'a> {
     pub steps: u64,
 }
 
+/// A number that was given and is not digits alone, which `clap` lets pass.
+#[derive(Clone, Copy, Debug, Error)]
+#[error("error: invalid value '{text}' for '--{option} <{unit}>': invalid digit found in string\n\nFor more information, try '--help'.\n")]
+pub struct NumberFault<'a> {
+    option: &'static str,
+    unit: &'static str,
+    text: &'a str,
+}
+
 /// Why the words ask for nothing.
 #[derive(Debug, Drop, Error)]
-pub enum CommandFault {
+pub enum CommandFault<'a> {
     /// The words were refused, or they ask for help: the text is `clap`'s.
     #[error("{0}")]
     Line(clap::Error),
+    /// A number is not digits alone: the text is as `clap`'s.
+    #[error("{0}")]
+    Number(NumberFault<'a>),
     /// A growth was refused.
     #[error("out of memory")]
     OutOfMemory,
 }
 
-impl From<AllocError> for CommandFault {
+impl<'a> From<AllocError> for CommandFault<'a> {
     ghost from_gives = { λ _ fault. fault ≡ OutOfMemory };
 
-    fn from(_error: AllocError) -> CommandFault {
+    fn from(_error: AllocError) -> CommandFault<'a> {
         CommandFault::OutOfMemory
     }
 }
 
-impl From<clap::Error> for CommandFault {
+impl<'a> From<clap::Error> for CommandFault<'a> {
     ghost from_gives = { λ error fault. fault ≡ fault_in error };
 
-    fn from(error: clap::Error) -> CommandFault {
+    fn from(error: clap::Error) -> CommandFault<'a> {
         match error.kind() {
             ErrorKind::OutOfMemory => CommandFault::OutOfMemory,
             _ => CommandFault::Line(error),
@@ -130,11 +142,15 @@ fn command_with<'a>(
     alloc: Global,
     name: &'a str,
     about: &'a str,
+    example: &'a str,
     arg: Arg<'a>,
 ) -> Result<Command<'a>, AllocError>
     ensures { (rule : Rule) → IsArgument rule arg.entry → Makes (with_rule (new_app name.entry.now) rule) result }
 {
-    Command::new(alloc, name).about(about).arg(arg)
+    Command::new(alloc, name)
+        .about(about)
+        .after_help(example)
+        .arg(arg)
 }
 
 // Adds an argument to a command, if there is one.
@@ -170,33 +186,40 @@ fn compile_command<'a>(alloc: Global) -> Result<Command<'a>, AllocError>
     ensures { Makes compile_app result }
 {
     let about = "Compiles a text and writes its image";
-    let source = path(alloc, "SRC", "The Pascal text");
-    let image = path(alloc, "IMG", "The image");
-    with_arg(command_with(alloc, "compile", about, source), image)
+    let example = "Example: pascal compile hello.pas hello.img";
+    let source = path(alloc, "SRC", "The Pascal text, or - for standard input");
+    let image = path(alloc, "IMG", "The image, or - for standard output");
+    let compile = command_with(alloc, "compile", about, example, source);
+    with_arg(compile, image)
 }
 
 fn list_command<'a>(alloc: Global) -> Result<Command<'a>, AllocError>
     ensures { Makes list_app result }
 {
     let about = "Compiles a text and writes the listing of its image to standard output";
-    let source = path(alloc, "SRC", "The Pascal text");
-    command_with(alloc, "list", about, source)
+    let example = "Example: pascal list hello.pas";
+    let source = path(alloc, "SRC", "The Pascal text, or - for standard input");
+    command_with(alloc, "list", about, example, source)
 }
 
 fn run_command<'a>(alloc: Global) -> Result<Command<'a>, AllocError>
     ensures { Makes run_app result }
 {
     let about = "Runs an image on standard input and output";
+    let example = "Example: pascal run hello.img --steps 1000000000000";
     let image = path(alloc, "IMG", "The image");
-    with_limits(alloc, command_with(alloc, "run", about, image))
+    let run = command_with(alloc, "run", about, example, image);
+    with_limits(alloc, run)
 }
 
 fn go_command<'a>(alloc: Global) -> Result<Command<'a>, AllocError>
     ensures { Makes go_app result }
 {
     let about = "Compiles a text and runs it on standard input and output";
+    let example = "Example: pascal go hello.pas --stack 1048576";
     let source = path(alloc, "SRC", "The Pascal text");
-    with_limits(alloc, command_with(alloc, "go", about, source))
+    let go = command_with(alloc, "go", about, example, source);
+    with_limits(alloc, go)
 }
 
 // Adds a subcommand, if there is one, to a command.
@@ -333,24 +356,77 @@ fn job_in<'a>(matches: &ArgMatches<'a>) -> Job<'a>
     }
 }
 
-// The job of what a parse found, which is let go.
-fn job_of<'a>(matches: ArgMatches<'a>) -> Job<'a>
-    ensures request { IfSome (subcommand_rows_of matches.entry) (λ entered. HasLimits entered.1)
-        → request_in result ≡ row_request (subcommand_rows_of matches.entry) }
-    ensures stack { result.stack ≤ MAX_BUDGET }
-    ensures heap { result.heap ≤ MAX_BUDGET }
-    ensures least { 1 ≤ result.steps }
-    ensures most { result.steps ≤ MAX_STEPS }
+// Whether a text is decimal digits and nothing else.
+fn is_digits(text: &str) -> bool
+    ensures { result ≡ is_digits text.now }
 {
-    let job = job_in(&matches);
-    drop(matches);
-    job
+    text.as_bytes().iter().all(|byte| byte.is_ascii_digit())
 }
 
-/// Reads the words after the program's name: an `Ok` is the job that they ask for, and `Line` comes only where
-/// they ask for none, with an error of a kind that `clap` gives at the first step that fails: help is told as help.
-/// An `Ok` has its three numbers within their ranges.
-pub fn command<'a>(alloc: Global, words: &'a [&'a str]) -> Result<Job<'a>, CommandFault>
+// A text that is not digits alone.
+fn odd_of(text: Option<&str>) -> Option<&str>
+    ensures { is_some result ≡ not (are_digits (option_map (λ s. s.now) text.entry)) }
+{
+    match text {
+        None => None,
+        Some(text) => if is_digits(text) { None } else { Some(text) },
+    }
+}
+
+// The text of a number, where it is not digits alone.
+fn odd_text<'a>(matches: &ArgMatches<'a>, name: &str) -> Option<&'a str>
+    ensures { is_some result ≡ not (are_digits (first_of name.now (rows_of (found_of matches.now)))) }
+{
+    odd_of(matches.get_str(name))
+}
+
+// The first number of a command that is not digits alone.
+fn odd_number<'a>(matches: &ArgMatches<'a>) -> Option<NumberFault<'a>>
+    ensures { is_some result ≡ not (row_digits (rows_of (found_of matches.now))) }
+{
+    let (option, unit, text) = if let Some(text) = odd_text(matches, "stack") {
+        ("stack", "BYTES", text)
+    } else if let Some(text) = odd_text(matches, "heap") {
+        ("heap", "BYTES", text)
+    } else {
+        ("steps", "COUNT", odd_text(matches, "steps")?)
+    };
+    Some(NumberFault { option, unit, text })
+}
+
+// The same in all that a parse found.
+fn number_fault<'a>(matches: &ArgMatches<'a>) -> Option<NumberFault<'a>>
+    ensures { is_some result ≡ not (found_digits (subcommand_rows_of matches.now)) }
+{
+    match matches.subcommand() {
+        None => None,
+        Some((_, inner)) => odd_number(inner),
+    }
+}
+
+// The job of what a parse found, which is let go.
+fn job_of<'a>(matches: ArgMatches<'a>) -> Result<Job<'a>, NumberFault<'a>>
+    ensures request { IfOk result (λ job. IfSome (subcommand_rows_of matches.entry) (λ entered. HasLimits entered.1)
+        → request_in job ≡ row_request (subcommand_rows_of matches.entry)) }
+    ensures digits { MatchResult result (λ _. found_digits (subcommand_rows_of matches.entry) ≡ true) (λ _. found_digits (subcommand_rows_of matches.entry) ≡ false) }
+    ensures stack { IfOk result (λ job. job.stack ≤ MAX_BUDGET) }
+    ensures heap { IfOk result (λ job. job.heap ≤ MAX_BUDGET) }
+    ensures least { IfOk result (λ job. 1 ≤ job.steps) }
+    ensures most { IfOk result (λ job. job.steps ≤ MAX_STEPS) }
+{
+    let fault = number_fault(&matches);
+    let job = job_in(&matches);
+    drop(matches);
+    match fault {
+        Some(fault) => Err(fault),
+        None => Ok(job),
+    }
+}
+
+/// Reads the words after the program's name: an `Ok` is the job that they ask for, and `Line` and `Number` come only where they ask for
+/// none. A `Line` has an error of a kind that `clap` gives at the first step that fails: help is told as help. An `Ok` has its three numbers
+/// within their ranges.
+pub fn command<'a>(alloc: Global, words: &'a [&'a str]) -> Result<Job<'a>, CommandFault<'a>>
     ensures asked { IfOk result (λ job. request_of (map (λ word. word.now) words.entry.now) ≡ Some (request_in job)) }
     ensures line { IfErr result (λ fault. is_line_fault fault ≡ true
         → request_of (map (λ word. word.now) words.entry.now) ≡ None) }
@@ -362,5 +438,8 @@ pub fn command<'a>(alloc: Global, words: &'a [&'a str]) -> Result<Job<'a>, Comma
 {
     let command = pascal(alloc)?;
     let matches = command.try_get_matches_from(words)?;
-    Ok(job_of(matches))
+    match job_of(matches) {
+        Ok(job) => Ok(job),
+        Err(fault) => Err(CommandFault::Number(fault)),
+    }
 }

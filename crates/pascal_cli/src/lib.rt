@@ -1,15 +1,26 @@
 //! The command `pascal`: its words, what it reads and writes, its statuses and its messages.
 #![tactic(auto)]
 
+mod ahead;
+mod console;
 mod counted;
+mod image_file;
 mod job;
 mod report;
+mod runs;
 mod session;
 mod transfer;
+mod version;
 
-pub use job::{CommandFault, Job, MAX_BUDGET, MAX_STEPS, Task, command};
-pub use report::{OutOfMemory, message, status};
+pub use ahead::Ahead;
+pub use console::BlockConsole;
+pub use image_file::{FileNumber, Way, WriteFault, way_of, write_image};
+pub use job::{CommandFault, Job, MAX_BUDGET, MAX_STEPS, NumberFault, Task, command};
+pub use report::{Lines, OutOfMemory, lines_of, message, status};
+pub use runs::{go_through, run_through};
 pub use session::{
-    FAILED, TEXT_LIMIT, asked, read_all, read_file, read_standard_input, run, tell, texts, words,
+    FAILED, TEXT_LIMIT, asked, asks_version, is_standard, read_all, read_file, read_standard_input,
+    run, tell, texts, words,
 };
-pub use transfer::{Counted, ReadFault, put_all, read_up_to};
+pub use transfer::{Counted, ReadFault, put_all, put_at_once, read_up_to};
+pub use version::VERSION;

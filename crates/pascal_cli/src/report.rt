@@ -1,11 +1,13 @@
 // How a run's end is told: the status of the program, and the lines of standard error.
 
-ghost use Rattle.std.specs.Prelude.{◌≡◌, ◌++◌, IfOk, OnOk, string_bytes};
+ghost use Rattle.std.specs.Prelude.{◌≡◌, ◌++◌, IfOk, Some, string_bytes};
+ghost use Rattle.std.specs.Fmt.{DisplaysOnOk};
 ghost use Rattle.ps_build.specs.Refusals.{number_of, name_of, line_of};
-ghost use Rattle.pascal_cli.specs.Report.{status_of, message_of, words_of, fault_name, error_text, call_text, calls_text, trail_text, refusal_text};
+ghost use Rattle.pascal_cli.specs.Report.{status_of, end_of, message_of, words_of, fault_name, error_text, calls_text, trail_text, refusal_text};
 
 use ps_build::{FaultKind, Outcome, Refusal, Trail};
 use std::alloc::{AllocError, Global};
+use std::fmt;
 
 /// Want of memory: a growth was refused.
 pub type OutOfMemory = AllocError;
@@ -57,83 +59,100 @@ fn fault_name(kind: FaultKind) -> &'static str
     }
 }
 
-fn refusal_message(alloc: Global, refusal: Refusal) -> Result<String, OutOfMemory>
-    ensures { IfOk result (λ s. string_bytes s
-        ≡ refusal_text (line_of refusal) (number_of refusal) (name_of refusal)) }
+// Writes the line of a refusal.
+fn write_refusal<W: fmt::Write>(refusal: Refusal, f: &mut fmt::Formatter<W>) -> fmt::Result
+    ensures { DisplaysOnOk W.write_str_gives f.old result (Some (refusal_text (line_of refusal) (number_of refusal) (name_of refusal))) f.new }
 {
     let number = refusal.number();
     let name = refusal.name();
     match refusal.line() {
-        Some(line) => format!(in alloc; "refused at line {line}: {number} {name}\n"),
-        None => format!(in alloc; "refused: {number} {name}\n"),
+        Some(line) => write!(f, "refused at line {line}: {number} {name}\n"),
+        None => write!(f, "refused: {number} {name}\n"),
     }
 }
 
-fn error_message(alloc: Global, number: u32, line: u32) -> Result<String, OutOfMemory>
-    ensures { IfOk result (λ s. string_bytes s ≡ error_text number line) }
+// Writes the line of an error, or of a stop.
+fn write_error<W: fmt::Write>(number: u32, line: u32, f: &mut fmt::Formatter<W>) -> fmt::Result
+    ensures { DisplaysOnOk W.write_str_gives f.old result (Some (error_text number line)) f.new }
 {
     let words = words_of(number);
-    format!(in alloc; "line {line}: {words}\n")
+    write!(f, "line {line}: {words}\n")
 }
 
-// Adds the line of a call.
-fn add_call(alloc: Global, text: &mut String, line: u32) -> Result<(), OutOfMemory>
-    ensures { OnOk result (string_bytes text.new ≡ string_bytes text.old ++ call_text line) }
-{
-    let told = format!(in alloc; "called at line {line}\n")?;
-    text.push_str(told.as_str())
-}
-
-// Adds a line for each of the calls that were open.
-fn add_calls(alloc: Global, text: &mut String, trail: &Trail) -> Result<(), OutOfMemory>
-    ensures { OnOk result (string_bytes text.new ≡ string_bytes text.old ++ calls_text trail.now) }
+// Writes a line for each of the calls that were open.
+fn write_calls<W: fmt::Write>(trail: &Trail, f: &mut fmt::Formatter<W>) -> fmt::Result
+    ensures { DisplaysOnOk W.write_str_gives f.old result (Some (calls_text trail.now)) f.new }
 {
     for k in 0..trail.len() {
-        add_call(alloc, text, trail.line(k))?;
+        let line = trail.line(k);
+        write!(f, "called at line {line}\n")?;
     }
     Ok(())
 }
 
-// The line of an error, and those of the calls that were open there.
-fn failed_message(
-    alloc: Global,
+// Writes the line of an error, and those of the calls that were open there.
+fn write_failure<W: fmt::Write>(
     number: u32,
     line: u32,
     trail: Option<Trail>,
-) -> Result<String, OutOfMemory>
-    ensures { IfOk result (λ s. string_bytes s ≡ error_text number line ++ trail_text trail) }
+    f: &mut fmt::Formatter<W>,
+) -> fmt::Result
+    ensures { DisplaysOnOk W.write_str_gives f.old result (Some (error_text number line ++ trail_text trail)) f.new }
 {
-    let mut text = error_message(alloc, number, line)?;
-    if let Some(trail) = trail {
-        add_calls(alloc, &mut text, &trail)?;
+    write_error(number, line, f)?;
+    match trail {
+        Some(trail) => write_calls(&trail, f),
+        None => Ok(()),
     }
-    Ok(text)
 }
 
 /// The lines of standard error after a run, or a refusal, each ended by byte 10; empty after a normal end. Behind an error's line
 /// stands one for each of the calls that its outcome tells, innermost first.
+///
+/// They are shown without memory of their own.
+#[derive(Clone, Copy)]
+pub struct Lines<'a> {
+    end: &'a Result<Outcome, Refusal>,
+}
+
+impl fmt::Display for Lines<'_> {
+    ghost output = { λ lines. Some (message_of (end_of lines)) };
+
+    fn fmt<W: fmt::Write>(&self, f: &mut fmt::Formatter<W>) -> fmt::Result {
+        match *self.end {
+            Err(refusal) => write_refusal(refusal, f),
+            Ok(Outcome::Normal) => Ok(()),
+            Ok(
+                Outcome::Error {
+                    number,
+                    line,
+                    trail,
+                },
+            ) => write_failure(number, line, trail, f),
+            Ok(Outcome::Stack { number, line } | Outcome::Heap { number, line }) => {
+                write_error(number, line, f)
+            }
+            Ok(Outcome::Steps) => f.write_str("step limit\n"),
+            Ok(Outcome::InputFault) => f.write_str("input fault\n"),
+            Ok(Outcome::OutputFault) => f.write_str("output fault\n"),
+            Ok(Outcome::Fault(kind)) => {
+                let name = fault_name(kind);
+                write!(f, "machine fault: {name}\n")
+            }
+        }
+    }
+}
+
+/// The lines that tell an end.
+pub fn lines_of(end: &Result<Outcome, Refusal>) -> Lines<'_>
+    ensures { end_of result ≡ end.now }
+{
+    Lines { end }
+}
+
+/// The lines that tell an end, as a text.
 pub fn message(alloc: Global, end: &Result<Outcome, Refusal>) -> Result<String, OutOfMemory>
     ensures { IfOk result (λ s. string_bytes s ≡ message_of end.now) }
 {
-    match *end {
-        Err(refusal) => refusal_message(alloc, refusal),
-        Ok(Outcome::Normal) => Ok(String::new(alloc)),
-        Ok(
-            Outcome::Error {
-                number,
-                line,
-                trail,
-            },
-        ) => failed_message(alloc, number, line, trail),
-        Ok(Outcome::Stack { number, line } | Outcome::Heap { number, line }) => {
-            error_message(alloc, number, line)
-        }
-        Ok(Outcome::Steps) => String::from_str(alloc, "step limit\n"),
-        Ok(Outcome::InputFault) => String::from_str(alloc, "input fault\n"),
-        Ok(Outcome::OutputFault) => String::from_str(alloc, "output fault\n"),
-        Ok(Outcome::Fault(kind)) => {
-            let name = fault_name(kind);
-            format!(in alloc; "machine fault: {name}\n")
-        }
-    }
+    lines_of(end).to_string(alloc)
 }

@@ -3,21 +3,25 @@
 //! Contracts tell what is made of what a reader gives, and the status. What a runtime's files and streams give and take, no contract
 //! can tell, nor what reaches standard error.
 
-ghost use Rattle.std.specs.Prelude.{◌≡◌, ◌≤◌, ◌<◌, ◌^◌, IfOk, IfErr, Some, None, map, string_bytes, true, vec_len};
+ghost use Rattle.std.specs.Prelude.{◌≡◌, ◌≤◌, ◌<◌, ◌^◌, IfOk, IfErr, Some, None, codes, map, string_bytes, true, vec_len};
+ghost use Rattle.std.specs.Str.{bytes_eq};
 ghost use Rattle.clap.specs.Faults.{fault_of};
 ghost use Rattle.clap.specs.Values.{kind_of};
 ghost use Rattle.pascal_cli.specs.App.{pascal_app};
 ghost use Rattle.pascal_cli.specs.Command.{request_in, request_of};
 ghost use Rattle.pascal_cli.specs.Report.{status_of};
-ghost use Rattle.pascal_cli.specs.Session.{IsFrontOf, IsHelp, is_help};
+ghost use Rattle.pascal_cli.specs.Session.{IsFrontOf, IsHelp, asks_version, is_help};
 
-use crate::job::{CommandFault, Job, MAX_BUDGET, MAX_STEPS, Task, command};
-use crate::report::{message, status};
+use crate::console::BlockConsole;
+use crate::image_file::{WriteFault, write_image};
+use crate::job::{CommandFault, Job, MAX_BUDGET, MAX_STEPS, NumberFault, Task, command};
+use crate::report::{lines_of, status};
+use crate::runs::{go_through, run_through};
 use crate::transfer::{Counted, ReadFault, put_all, read_up_to};
-use ps_build::{Budget, Built, Outcome, Refusal, build, go, list, run_image};
-use risc_machine::Streams;
+use crate::version::print_version;
+use ps_build::{Budget, Built, Outcome, Refusal, build, list};
 use std::alloc::{AllocError, Global};
-use std::io::{self, BufReader, Read};
+use std::io::{self, Read};
 use std::rt::{Env, Files};
 use std::{env, fs};
 
@@ -35,6 +39,9 @@ const IMAGE_LIMIT: usize = LONGEST_IMAGE + 1;
 
 // The program's words as messages name them.
 const COMMAND_LINE: &str = "the command line";
+
+// The path at which the system shows the file that standard input is.
+const STANDARD_INPUT_FILE: &str = "/dev/stdin";
 
 // Standard input as messages name it.
 const STANDARD_INPUT: &str = "standard input";
@@ -79,7 +86,10 @@ fn words_of<R: Env + AllocGlobal>(rt: &R) -> io::Result<Vec<String>> {
     Ok(words)
 }
 
-fn run_words<R: Files + Print + Eprint + Input + AllocGlobal>(rt: &R, words: &[String]) -> u8 {
+fn run_words<R: Files + Print + Eprint + Input + Env + AllocGlobal>(
+    rt: &R,
+    words: &[String],
+) -> u8 {
     match texts(rt, words) {
         Ok(texts) => run_texts(rt, &texts),
         Err(status) => status,
@@ -103,10 +113,33 @@ fn texts_of<'a>(alloc: Global, words: &'a [String]) -> Result<Vec<&'a str>, Allo
     words.iter().map(|word| word.as_str()).collect(alloc)
 }
 
-fn run_texts<R: Files + Print + Eprint + Input + AllocGlobal>(rt: &R, texts: &[&str]) -> u8 {
+fn run_texts<R: Files + Print + Eprint + Input + Env + AllocGlobal>(rt: &R, texts: &[&str]) -> u8 {
+    if asks_version(texts) {
+        return tell_version(rt);
+    }
     match asked(rt, texts) {
         Ok(job) => do_job(rt, &job),
         Err(status) => status,
+    }
+}
+
+/// Whether words ask for the version and for nothing else.
+pub fn asks_version(words: &[&str]) -> bool
+    ensures { result ≡ asks_version (map (λ word. word.now) words.now) }
+{
+    match words.first() {
+        Some(word) if words.len() == 1 => *word == "--version" || *word == "-V",
+        _ => false,
+    }
+}
+
+// Tells the version, and gives the status of that.
+fn tell_version<R: Print + Eprint + Env + AllocGlobal>(rt: &R) -> u8
+    ensures { result ≤ FAILED }
+{
+    match print_version(rt) {
+        Ok(()) => 0,
+        Err(_) => cannot(rt, "write", STANDARD_OUTPUT),
     }
 }
 
@@ -129,6 +162,7 @@ pub fn asked<'a, R: Print + Eprint + AllocGlobal>(
         Ok(job) => Ok(job),
         Err(CommandFault::OutOfMemory) => Err(out_of_memory(rt)),
         Err(CommandFault::Line(error)) => Err(tell_line(rt, &error)),
+        Err(CommandFault::Number(fault)) => Err(tell_number(rt, fault)),
     }
 }
 
@@ -145,10 +179,18 @@ fn tell_line<R: Print + Eprint>(rt: &R, error: &clap::Error) -> u8
     }
 }
 
+// Tells what is wrong with a number.
+fn tell_number<R: Eprint>(rt: &R, fault: NumberFault<'_>) -> u8
+    ensures { result ≡ FAILED }
+{
+    let _ = rt.eprint(fault);
+    FAILED
+}
+
 fn do_job<R: Files + Print + Eprint + Input + AllocGlobal>(rt: &R, job: &Job<'_>) -> u8 {
     match job.task {
         Task::Compile { source, image } => compile(rt, source, image),
-        Task::List { source } => list_file(rt, source),
+        Task::List { source } => list_text(rt, source),
         Task::Run { image } => run_file(rt, job, image),
         Task::Go { source } => go_file(rt, job, source),
         Task::GoStandardInput => go_standard_input(rt, job),
@@ -159,10 +201,8 @@ fn do_job<R: Files + Print + Eprint + Input + AllocGlobal>(rt: &R, job: &Job<'_>
 pub fn tell<R: Eprint + AllocGlobal>(rt: &R, end: &Result<Outcome, Refusal>) -> u8
     ensures { result ≡ status_of end.now }
 {
-    // where the line finds no memory, or no reader, the status still tells the end
-    if let Ok(line) = message(rt.alloc(), end) {
-        let _ = rt.eprint(line);
-    }
+    // where the line finds no reader, the status still tells the end
+    let _ = rt.eprint(lines_of(end));
     status(end)
 }
 
@@ -245,49 +285,86 @@ fn budget_of(job: &Job<'_>) -> Budget {
     }
 }
 
-// Builds the text of a file. Where there is none, or it is refused, that is told, and the status is given.
-fn build_file<R: Files + Eprint + AllocGlobal>(rt: &R, path: &str) -> Result<Built, u8> {
-    let text = read_file(rt, path, TEXT_LIMIT)?;
+/// Whether a path stands for standard input, or for standard output.
+pub fn is_standard(path: &str) -> bool
+    ensures { result ≡ bytes_eq path.now (codes "-") }
+{
+    path == "-"
+}
+
+// The bytes of the text at a path, which may stand for standard input, as `read_file` gives those of a file.
+fn read_text<R: Files + Eprint + Input + AllocGlobal>(rt: &R, path: &str) -> Result<Vec<u8>, u8>
+    ensures bound { IfOk result (λ bytes. vec_len bytes ≤ TEXT_LIMIT) }
+    ensures err { IfErr result (λ status. status ≡ FAILED) }
+{
+    if is_standard(path) {
+        read_standard_input(rt, TEXT_LIMIT)
+    } else {
+        read_file(rt, path, TEXT_LIMIT)
+    }
+}
+
+// Builds the text at a path. Where there is none, or it is refused, that is told, and the status is given.
+fn build_text<R: Files + Eprint + Input + AllocGlobal>(rt: &R, path: &str) -> Result<Built, u8> {
+    let text = read_text(rt, path)?;
     match build(rt.alloc(), &text) {
         Ok(built) => Ok(built),
         Err(refusal) => Err(tell(rt, &Err(refusal))),
     }
 }
 
-fn compile<R: Files + Eprint + AllocGlobal>(rt: &R, source: &str, image: &str) -> u8 {
-    let built = match build_file(rt, source) {
+fn compile<R: Files + Print + Eprint + Input + AllocGlobal>(
+    rt: &R,
+    source: &str,
+    image: &str,
+) -> u8 {
+    let built = match build_text(rt, source) {
         Ok(built) => built,
         Err(status) => return status,
     };
-    let Ok(file) = fs::create(rt, image) else {
-        return cannot(rt, "write", image);
-    };
-    match put_all(&mut Counted::new(file), built.bytes()) {
+    if is_standard(image) {
+        return print_all(rt, built.bytes());
+    }
+    match write_image(rt, file_of(source), image, built.bytes()) {
         Ok(()) => 0,
-        Err(_) => cannot(rt, "write", image),
+        Err(WriteFault::OutOfMemory) => out_of_memory(rt),
+        Err(WriteFault::Device) => cannot(rt, "write", image),
     }
 }
 
-fn list_file<R: Files + Print + Eprint + AllocGlobal>(rt: &R, source: &str) -> u8 {
-    let built = match build_file(rt, source) {
-        Ok(built) => built,
-        Err(status) => return status,
-    };
-    let Ok(listing) = list(rt.alloc(), &built) else {
-        return out_of_memory(rt);
-    };
-    match put_all(&mut Counted::new(io::writer(rt)), listing.as_bytes()) {
+// The path of the file that a text comes from, which may be standard input.
+fn file_of(source: &str) -> &str {
+    if is_standard(source) {
+        STANDARD_INPUT_FILE
+    } else {
+        source
+    }
+}
+
+// Writes to standard output, and gives the status of that.
+fn print_all<R: Print + Eprint>(rt: &R, bytes: &[u8]) -> u8
+    ensures { result ≤ FAILED }
+{
+    match put_all(&mut Counted::new(io::writer(rt)), bytes) {
         Ok(()) => 0,
         Err(_) => cannot(rt, "write", STANDARD_OUTPUT),
     }
 }
 
-// The console of a run: standard input, taken from a buffer, and standard output, byte by byte.
-fn console<R: Print + Input + AllocGlobal>(
-    rt: &R,
-) -> io::Result<Streams<BufReader<R::Reader>, io::Printer<'_, R>>> {
-    let input = BufReader::new(rt.alloc(), rt.reader())?;
-    Ok(Streams::new(input, io::writer(rt)))
+fn list_text<R: Files + Print + Eprint + Input + AllocGlobal>(rt: &R, source: &str) -> u8 {
+    let built = match build_text(rt, source) {
+        Ok(built) => built,
+        Err(status) => return status,
+    };
+    match list(rt.alloc(), &built) {
+        Ok(listing) => print_all(rt, listing.as_bytes()),
+        Err(_) => out_of_memory(rt),
+    }
+}
+
+// The console of a run: standard input, which is read ahead, and standard output.
+fn console<R: Print + Input + AllocGlobal>(rt: &R) -> BlockConsole<R::Reader, io::Printer<'_, R>> {
+    BlockConsole::new(rt.alloc(), rt.reader(), io::writer(rt))
 }
 
 fn run_file<R: Files + Print + Eprint + Input + AllocGlobal>(
@@ -299,10 +376,8 @@ fn run_file<R: Files + Print + Eprint + Input + AllocGlobal>(
         Ok(image) => image,
         Err(status) => return status,
     };
-    let Ok(mut streams) = console(rt) else {
-        return out_of_memory(rt);
-    };
-    let end = run_image(rt.alloc(), &image, budget_of(job), &mut streams, job.steps);
+    let mut console = console(rt);
+    let end = run_through(rt.alloc(), &image, budget_of(job), &mut console, job.steps);
     tell(rt, &end)
 }
 
@@ -315,10 +390,8 @@ fn go_file<R: Files + Print + Eprint + Input + AllocGlobal>(
         Ok(text) => text,
         Err(status) => return status,
     };
-    let Ok(mut streams) = console(rt) else {
-        return out_of_memory(rt);
-    };
-    let end = go(rt.alloc(), &text, budget_of(job), &mut streams, job.steps);
+    let mut console = console(rt);
+    let end = go_through(rt.alloc(), &text, budget_of(job), &mut console, job.steps);
     tell(rt, &end)
 }
 
@@ -328,7 +401,7 @@ fn go_standard_input<R: Print + Eprint + Input + AllocGlobal>(rt: &R, job: &Job<
         Ok(text) => text,
         Err(status) => return status,
     };
-    let mut streams = Streams::new(io::empty(), io::writer(rt));
-    let end = go(rt.alloc(), &text, budget_of(job), &mut streams, job.steps);
+    let mut console = BlockConsole::new(rt.alloc(), io::empty(), io::writer(rt));
+    let end = go_through(rt.alloc(), &text, budget_of(job), &mut console, job.steps);
     tell(rt, &end)
 }

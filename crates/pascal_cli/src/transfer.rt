@@ -6,6 +6,7 @@ ghost use Rattle.pascal_cli.specs.declared.transfer.ReadFault.TheVariants.{OutOf
 ghost use Rattle.pascal_cli.specs.Transfers.{device_of, faults_of, Counts, CountsRead, TakesUpTo};
 
 pub use crate::counted::Counted;
+use risc_machine::DeviceFault;
 use std::alloc::{AllocError, AllocFailed, Global};
 use std::io::{Read, Write};
 use thiserror::Error;
@@ -84,4 +85,18 @@ pub fn put_all<W: Write>(writer: &mut Counted<W>, bytes: &[u8]) -> Result<(), us
         done += written;
     }
     Ok(())
+}
+
+/// Writes all the bytes by one write. At an error some of the first of them may have been written: a second write after a short one might ask
+/// for more than a limit on the size of files lets it.
+pub fn put_at_once<W: Write>(writer: &mut Counted<W>, bytes: &[u8]) -> Result<(), DeviceFault>
+    ensures ok { OnOk result (Appends (W.contents (device_of writer.old)) (W.contents (device_of writer.new)) bytes.now) }
+{
+    if bytes.is_empty() {
+        return Ok(());
+    }
+    match writer.write(bytes) {
+        Ok(written) if written == bytes.len() => Ok(()),
+        _ => Err(DeviceFault),
+    }
 }

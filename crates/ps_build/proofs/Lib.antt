@@ -5,8 +5,11 @@ pub mod Told
 pub mod Short
 pub mod Compiled
 pub mod Results
+pub mod InSlices
+pub mod Kept
 pub mod Unbudgeted
 pub mod Charged
 pub mod Lowered
 pub mod Made
 pub mod Named
+pub mod Words

@@ -1,6 +1,6 @@
 -- What a run answers, and what it is refused for, from what it is made of.
-use Rattle.std.proofs.Common.{List, ℕ, Result, Ok, Err}
-use Rattle.std.specs.Prelude.{IfOk, IfErr}
+use Rattle.std.proofs.Common.{List, ℕ, Result, Ok, Err, Option, Some, None}
+use Rattle.std.specs.Prelude.{IfOk, IfErr, IfSome, IfNone}
 use Rattle.risc_image.specs.declared.refusal.ImageRefusal.{ImageRefusal}
 use Rattle.risc_image.specs.declared.refusal.ImageRefusal.TheVariants as i
 use Rattle.risc_image.specs.Image.{Image}
@@ -19,6 +19,16 @@ if_ok (Err e) P Q f h = h
 pub if_ok_both : {T E : Type 0} (r : Result T E) (P Q R : T → Type 0) → ((x : T) → P x → Q x → R x) → IfOk r P → IfOk r Q → IfOk r R
 if_ok_both (Ok x) P Q R f h k = f x h k
 if_ok_both (Err e) P Q R f h k = h
+
+pub if_ended : {T E : Type 0} (r : Result (Option T) E) (P Q : T → Type 0) → ((x : T) → P x → Q x) → IfOk r (λ end. IfSome end P) → IfOk r (λ end. IfSome end Q)
+if_ended (Ok (Some x)) P Q f h = f x h
+if_ended (Ok None) P Q f h = h
+if_ended (Err e) P Q f h = h
+
+pub if_left : {T E : Type 0} (r : Result (Option T) E) (P Q : Type 0) → (P → Q) → IfOk r (λ end. IfNone end P) → IfOk r (λ end. IfNone end Q)
+if_left (Ok (Some x)) P Q f h = h
+if_left (Ok None) P Q f h = f h
+if_left (Err e) P Q f h = h
 
 pub if_err : {T E : Type 0} (r : Result T E) (P Q : E → Type 0) → ((e : E) → P e → Q e) → IfErr r P → IfErr r Q
 if_err (Ok x) P Q f h = h

@@ -7,5 +7,6 @@ pub mod Made
 pub mod Devices
 pub mod Runs
 pub mod Goes
+pub mod Slices
 pub mod Laws
 pub mod Names

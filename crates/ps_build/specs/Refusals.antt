@@ -11,6 +11,8 @@ use Rattle.ps_regions.specs.declared.refusal.Rule.TheVariants as r
 use Rattle.ps_regions.specs.Refusal.{number_of_rule}
 use Rattle.ps_regions.specs.declared.refusal.CheckRefusal.{CheckRefusal}
 use Rattle.ps_regions.specs.declared.refusal.CheckRefusal.TheVariants as c
+use Rattle.ps_lower.specs.declared.refusal.LowerRefusal.{LowerRefusal}
+use Rattle.ps_lower.specs.declared.refusal.LowerRefusal.TheVariants as w
 use Rattle.risc_emit.specs.declared.emit.EmitRefusal.{EmitRefusal}
 use Rattle.risc_emit.specs.declared.emit.EmitRefusal.TheVariants as e
 use Rattle.risc_image.specs.declared.refusal.ImageRefusal.{ImageRefusal}
@@ -134,6 +136,10 @@ of_parse p.OutOfMemory = OutOfMemory
 abbrev pub of_check : CheckRefusal → Refusal
 of_check c.OutOfMemory = OutOfMemory
 of_check (c.Broken rule line) = Broken rule line
+
+abbrev pub of_lower : LowerRefusal → Refusal
+of_lower w.OutOfMemory = OutOfMemory
+of_lower w.CodeTooLarge = CodeTooLarge
 
 abbrev pub of_emit : EmitRefusal → Refusal
 of_emit e.CodeTooLarge = CodeTooLarge

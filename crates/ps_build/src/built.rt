@@ -109,7 +109,7 @@ fn image_built<P: Placer>(alloc: Global, text: &[u8], placer: &P) -> Result<Vec<
 
 /// The three-address code of the program of a text, from which its image is built.
 ///
-/// Refused is a text that isn't accepted.
+/// Refused is a text that isn't accepted, and one whose code is too large whatever homes its temporaries have.
 pub fn code_of_text(alloc: Global, text: &[u8]) -> Result<Tac, Refusal>
     ensures { IfOk result (IsCodeOfText text.now) }
 {

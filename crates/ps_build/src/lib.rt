@@ -9,6 +9,7 @@ pub mod names;
 mod outcome;
 mod refusal;
 mod run;
+mod slices;
 
 pub use built::{Built, build, build_with, code_of_text};
 pub use listing::list;
@@ -18,3 +19,4 @@ pub use refusal::Refusal;
 pub use risc_load::Budget;
 pub use risc_trail::Trail;
 pub use run::{go, run_image};
+pub use slices::{Paced, go_in_slices, run_image_in_slices};

@@ -10,7 +10,6 @@ ghost use Rattle.tac_rt.specs.Bodies.{run_time_routines};
 ghost use Rattle.ps_build.specs.Accepts.{HasNoRoom};
 ghost use Rattle.ps_build.specs.Made.{IsEmitted, AreMadeOf};
 ghost use Rattle.ps_build.specs.Refusals.{OnlyTooLarge};
-ghost use Rattle.ps_build.specs.declared.refusal.Refusal.TheVariants.{OutOfMemory};
 
 use crate::laws::code_does;
 use crate::refusal::Refusal;
@@ -34,11 +33,11 @@ fn parts_of<P: Placer>(alloc: Global, tac: &Tac, placer: &P) -> Result<Parts, Re
     Ok(parts)
 }
 
-/// The three-address code of a checked program.
+/// The three-address code of a checked program. One that is refused is too large whatever homes its temporaries have.
 pub(crate) fn code_made(alloc: Global, checked: &Checked) -> Result<Tac, Refusal>
     requires { IsFormed (program_in checked.now) }
     ensures ok { IfOk result (λ tac. tac ≡ code_of run_time_routines (program_in checked.now)) }
-    ensures err { IfErr result (λ e. e ≡ OutOfMemory) }
+    ensures err { IfErr result (λ e. OnlyTooLarge e (HasNoRoom (code_of run_time_routines (program_in checked.now)))) }
 {
     code_is_sound();
     weights_are_small();

@@ -1,9 +1,10 @@
 //! Why a text, an image or a budget is refused.
 
 ghost use Rattle.std.specs.Prelude.{◌≡◌};
-ghost use Rattle.ps_build.specs.Refusals.{number_of, name_of, name_of_rule, line_of, of_text, of_scan, of_parse, of_check, of_emit, of_image, of_load};
+ghost use Rattle.ps_build.specs.Refusals.{number_of, name_of, name_of_rule, line_of, of_text, of_scan, of_parse, of_check, of_lower, of_emit, of_image, of_load};
 ghost use Rattle.ps_build.specs.declared.refusal.Refusal.TheVariants.{OutOfMemory};
 
+use ps_lower::refusal::LowerRefusal;
 use ps_parse::ParseRefusal;
 use ps_regions::refusal::{CheckRefusal, Rule};
 use ps_scan::ScanRefusal;
@@ -246,6 +247,17 @@ impl From<CheckRefusal> for Refusal {
         match refusal {
             CheckRefusal::OutOfMemory => Refusal::OutOfMemory,
             CheckRefusal::Broken { rule, line } => Refusal::Broken { rule, line },
+        }
+    }
+}
+
+impl From<LowerRefusal> for Refusal {
+    ghost from_gives = { λ e r. r ≡ of_lower e };
+
+    fn from(refusal: LowerRefusal) -> Refusal {
+        match refusal {
+            LowerRefusal::OutOfMemory => Refusal::OutOfMemory,
+            LowerRefusal::CodeTooLarge => Refusal::CodeTooLarge,
         }
     }
 }

@@ -40,7 +40,7 @@ fn trap_outcome(row: Option<TrapRow>, trail: Option<Trail>) -> Outcome
 
 // The outcome of a stop, in which the image's machine was left.
 #[tactic(auto, using(crate::proofs::Rows::row_of_link))]
-fn outcome_of(image: &ImageView<'_>, machine: &Machine, stop: Stop) -> Outcome
+pub(crate) fn outcome_of(image: &ImageView<'_>, machine: &Machine, stop: Stop) -> Outcome
     ensures { IsToldBy image.now machine.now stop result }
 {
     match stop {

@@ -7,9 +7,9 @@ use Rattle.clap.specs.Values.{kind_of}
 use Rattle.clap.specs.declared.error.Error.{Error}
 use Rattle.pascal_cli.specs.declared.job.CommandFault.TheVariants as fault
 use Rattle.std.proofs.lemmas.Bool.{true≢false}
-use Rattle.pascal_cli.specs.App.{HasLimits, IsLineOf, fault_in, is_memory, pascal_app, row_request}
+use Rattle.pascal_cli.specs.App.{HasLimits, IsLineOf, fault_in, found_digits, is_memory, pascal_app, row_request}
 use Rattle.pascal_cli.specs.Command.{is_line_fault, request_in}
-use Rattle.pascal_cli.proofs.Agreement.{is_asked, is_refused, top_agrees}
+use Rattle.pascal_cli.proofs.Agreement.{is_asked, is_odd, is_refused, top_agrees}
 use Rattle.pascal_cli.proofs.job.command.Goals as goal
 
 is_plain : is_simple_and_free pascal_app ≡ true
@@ -45,11 +45,18 @@ returns-in_err-matches-clause-kind c =
     err_weaker c.from_residual-in_err-matches.result _ _ c.from_residual-in_err-matches.ensures.1
     (λ f e. subst (IsLineOf (fault_of pascal_app texts)) (sym e) (told error (fault_of pascal_app texts) has))
 
-pub returns-clause-asked : goal.returns-clause-asked
-returns-clause-asked c =
+pub returns-in-Ok-clause-asked : goal.returns-in-Ok-clause-asked
+returns-in-Ok-clause-asked c =
     let texts = map (λ word. word.now) c.args.words.now in
     let app_is = c.in_ok-command.ensures in
     let none : fault_of pascal_app texts ≡ [] = subst (λ a. fault_of a texts ≡ []) app_is (c.in_ok-matches.ensures.kinds (ap is_simple_and_free app_is ∙ is_plain)) in
     let rows = (c.in_ok-matches.ensures.matches (ap is_simple app_is)).1 ∙ ap (λ a. subcommand_of a texts) app_is in
-    is_asked _ _ _ (top_agrees texts) none (request_in c.job_of.result)
-    (subst (λ found. IfSome found (λ e. HasLimits e.1) → request_in c.job_of.result ≡ row_request found) rows c.job_of.ensures.request)
+    is_asked _ _ _ (top_agrees texts) none (subst (λ found. found_digits found ≡ true) rows c.in-Ok.ensures.digits) (request_in c.in-Ok.job)
+    (subst (λ found. IfSome found (λ e. HasLimits e.1) → request_in c.in-Ok.job ≡ row_request found) rows c.in-Ok.ensures.request)
+
+pub returns-in-Err-clause-line : goal.returns-in-Err-clause-line
+returns-in-Err-clause-line c = λ line.
+    let texts = map (λ word. word.now) c.args.words.now in
+    let app_is = c.in_ok-command.ensures in
+    let rows = (c.in_ok-matches.ensures.matches (ap is_simple app_is)).1 ∙ ap (λ a. subcommand_of a texts) app_is in
+    is_odd _ _ _ (top_agrees texts) (subst (λ found. found_digits found ≡ false) rows c.in-Err.ensures.digits)

@@ -32,7 +32,7 @@ pub(crate) fn put_asked(alloc: Global, line: &mut Line, row: &str) -> Result<(),
     }
     match command(alloc, &words) {
         Ok(job) => put_job(line, &job),
-        Err(CommandFault::Line(_)) => line.word("refused"),
+        Err(CommandFault::Line(_) | CommandFault::Number(_)) => line.word("refused"),
         Err(CommandFault::OutOfMemory) => line.fall_short(),
     }
     Ok(())

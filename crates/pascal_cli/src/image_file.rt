@@ -1,0 +1,228 @@
+//! Images as files: each is written whole, or what stood in its place stays as it was.
+
+ghost use Rattle.std.specs.Prelude.{◌≡◌, Some};
+ghost use Rattle.pascal_cli.specs.Files.{way_of};
+
+use crate::counted::Counted;
+use crate::transfer::{put_all, put_at_once};
+use std::alloc::AllocError;
+use std::fs::{File, Metadata, OpenOptions};
+use std::io::ErrorKind;
+use std::os::unix::fs::{MetadataExt, chown};
+use std::path::{Path, PathBuf};
+use std::rt::Files;
+use std::{fs, io};
+use thiserror::Error;
+
+/// Why an image was not written.
+#[derive(Debug, Drop, Error)]
+pub enum WriteFault {
+    /// The file can't be written, or is the source.
+    #[error("write failed")]
+    Device,
+    /// A growth was refused.
+    #[error("out of memory")]
+    OutOfMemory,
+}
+
+impl From<AllocError> for WriteFault {
+    fn from(_error: AllocError) -> WriteFault {
+        WriteFault::OutOfMemory
+    }
+}
+
+/// Which file of the system it is, by whatever name.
+#[derive(Clone, Copy, PartialEq, Eq)]
+pub struct FileNumber {
+    pub device: u64,
+    pub node: u64,
+}
+
+/// What is done where an image is to be written and something is there.
+#[derive(Clone, Copy, PartialEq, Eq)]
+pub enum Way {
+    /// It is the source: nothing.
+    Refused,
+    /// It is a regular file: a new file takes its place.
+    Exchanged,
+    /// It is a device, a pipe or a socket: it is written as it is.
+    Written,
+}
+
+/// What is done, where the source is that file, if it is one that is known.
+pub fn way_of(source: Option<FileNumber>, there: FileNumber, is_regular: bool) -> Way
+    ensures { result ≡ way_of source there is_regular }
+{
+    match source {
+        Some(source) if source == there => Way::Refused,
+        _ if is_regular => Way::Exchanged,
+        _ => Way::Written,
+    }
+}
+
+// How many names are tried for the new file.
+const NAMES: u32 = 100;
+
+fn number_of(metadata: &Metadata) -> FileNumber {
+    FileNumber {
+        device: metadata.dev(),
+        node: metadata.ino(),
+    }
+}
+
+// The file of a path, if it can be told.
+fn file_number<R: Files>(rt: &R, path: &str) -> Option<FileNumber> {
+    match fs::metadata(rt, path) {
+        Ok(metadata) => Some(number_of(&metadata)),
+        Err(_) => None,
+    }
+}
+
+/// Writes an image to a path, whole or not at all, where the path of its source is known too.
+///
+/// A regular file there stays as it was until all is written, and then gives way to a new one, with its permissions; where it is reached
+/// through a link, the link stays. The source itself is never written over.
+pub fn write_image<R: Files + AllocGlobal>(
+    rt: &R,
+    source: &str,
+    image: &str,
+    bytes: &[u8],
+) -> Result<(), WriteFault> {
+    let there = match fs::metadata(rt, image) {
+        Ok(there) => there,
+        Err(error) => return write_first(rt, image, bytes, error.kind()),
+    };
+    match way_of(file_number(rt, source), number_of(&there), there.is_file()) {
+        Way::Refused => Err(WriteFault::Device),
+        Way::Exchanged => exchange_there(rt, image, &there, bytes),
+        Way::Written => write_over(rt, image, bytes),
+    }
+}
+
+// Writes an image where nothing can be looked at, for this reason.
+fn write_first<R: Files + AllocGlobal>(
+    rt: &R,
+    image: &str,
+    bytes: &[u8],
+    kind: ErrorKind,
+) -> Result<(), WriteFault> {
+    if kind != ErrorKind::NotFound {
+        return Err(WriteFault::Device);
+    }
+    match fs::symlink_metadata(rt, image) {
+        Ok(_) => write_behind_link(rt, image, bytes),
+        Err(_) => exchange(rt, Path::new(image), None, bytes),
+    }
+}
+
+// Writes an image to the file that a link names, which is not there yet.
+fn write_behind_link<R: Files + AllocGlobal>(
+    rt: &R,
+    link: &str,
+    bytes: &[u8],
+) -> Result<(), WriteFault> {
+    if fs::create(rt, link).is_err() {
+        return Err(WriteFault::Device);
+    }
+    let target = resolved(rt, link)?;
+    let written = exchange(rt, target.as_path(), None, bytes);
+    if written.is_err() {
+        let _ = fs::remove_file(rt, target.as_path());
+    }
+    written
+}
+
+// The file that a path leads to.
+fn resolved<R: Files + AllocGlobal>(rt: &R, path: &str) -> Result<PathBuf, WriteFault> {
+    match fs::canonicalize(rt, path) {
+        Ok(target) => Ok(target),
+        Err(error) if error.kind() == ErrorKind::OutOfMemory => Err(WriteFault::OutOfMemory),
+        Err(_) => Err(WriteFault::Device),
+    }
+}
+
+// Whether a file that is there may be written.
+fn may_be_written<R: Files>(rt: &R, path: &str) -> bool {
+    let mut options = OpenOptions::new();
+    options.write(true);
+    options.open(rt, path).is_ok()
+}
+
+// Puts a new file in the place of a regular one.
+fn exchange_there<R: Files + AllocGlobal>(
+    rt: &R,
+    image: &str,
+    there: &Metadata,
+    bytes: &[u8],
+) -> Result<(), WriteFault> {
+    if !may_be_written(rt, image) {
+        return Err(WriteFault::Device);
+    }
+    let target = resolved(rt, image)?;
+    exchange(rt, target.as_path(), Some(there), bytes)
+}
+
+// Writes a new file beside a place, and then puts it there. Where the folder takes no new file, it writes there at once.
+fn exchange<R: Files + AllocGlobal>(
+    rt: &R,
+    place: Path<'_>,
+    there: Option<&Metadata>,
+    bytes: &[u8],
+) -> Result<(), WriteFault> {
+    let Some((file, beside)) = created_beside(rt, place)? else {
+        return write_over(rt, place.as_str(), bytes);
+    };
+    if let Some(there) = there {
+        keep_rights(rt, &beside, there);
+    }
+    let is_whole = put_at_once(&mut Counted::new(file), bytes).is_ok();
+    if is_whole && fs::rename(rt, &beside, place).is_ok() {
+        return Ok(());
+    }
+    let _ = fs::remove_file(rt, &beside);
+    Err(WriteFault::Device)
+}
+
+// Gives a new file the owner and the permissions of an older one, as far as that is allowed.
+fn keep_rights<R: Files>(rt: &R, path: &PathBuf, older: &Metadata) {
+    let _ = chown(rt, path, Some(older.uid()), Some(older.gid()));
+    let _ = fs::set_permissions(rt, path, older.permissions());
+}
+
+// A path in the folder of another one.
+fn beside<R: AllocGlobal>(rt: &R, place: Path<'_>, number: u32) -> Result<PathBuf, AllocError> {
+    let name = format!(in rt.alloc(); ".pascal-{number}.tmp")?;
+    let mut path = place.to_path_buf(rt.alloc())?;
+    path.set_file_name(name.as_str())?;
+    Ok(path)
+}
+
+// A new file beside a place, with its path, or none where the folder takes no new file.
+fn created_beside<R: Files + AllocGlobal>(
+    rt: &R,
+    place: Path<'_>,
+) -> Result<Option<(R::File, PathBuf)>, WriteFault> {
+    for number in 0..NAMES {
+        let path = beside(rt, place, number)?;
+        match File::create_new(rt, &path) {
+            Ok(file) => return Ok(Some((file, path))),
+            Err(error) => match error.kind() {
+                ErrorKind::AlreadyExists => {}
+                ErrorKind::PermissionDenied => return Ok(None),
+                _ => return Err(WriteFault::Device),
+            },
+        }
+    }
+    Err(WriteFault::Device)
+}
+
+// Writes over what is there, as it is.
+fn write_over<R: Files>(rt: &R, path: &str, bytes: &[u8]) -> Result<(), WriteFault> {
+    let Ok(file) = fs::create(rt, path) else {
+        return Err(WriteFault::Device);
+    };
+    match put_all(&mut Counted::new(file), bytes) {
+        Ok(()) => Ok(()),
+        Err(_) => Err(WriteFault::Device),
+    }
+}

@@ -1,0 +1,66 @@
+//! Runs over a reader and a writer, with the end that is told of them.
+
+ghost use Rattle.std.specs.Prelude.{◌≡◌, IfOk, IfErr, IfNone, OnErr, true};
+ghost use Rattle.std.specs.Io.KnownBytes.{Keeps};
+ghost use Rattle.ps_build.specs.Runs.{IsRunRefused};
+ghost use Rattle.ps_build.specs.Goes.{IsGoRefused};
+ghost use Rattle.pascal_cli.specs.Console.{input_of, held_of, has_failed, faults_of, output_of, console_world};
+ghost use Rattle.pascal_cli.specs.Runs.{IsSettled, GoesThrough, RunsThrough};
+
+use crate::console::BlockConsole;
+use ps_build::{Budget, Outcome, Refusal, go_in_slices, run_image_in_slices};
+use std::alloc::Global;
+use std::io::{BufRead, Write};
+
+// Hands on what is still held, and gives the end that is told: the run's, or a fault of the output where some of it was not handed on. There is
+// no end where the output failed at a pause.
+fn settled<R, W: Write>(console: &mut BlockConsole<R, W>, end: Option<Outcome>) -> Outcome
+    requires { IfNone end (has_failed console.old ≡ true) }
+    ensures input { input_of console.new ≡ input_of console.old }
+    ensures output { Keeps (output_of W.contents console.old) (output_of W.contents console.new) }
+    ensures faults { faults_of console.new ≡ faults_of console.old }
+    ensures end { IsSettled end result (held_of console.new) (has_failed console.new) }
+{
+    if console.write_out().is_err() {
+        return Outcome::OutputFault;
+    }
+    end.unwrap_or(Outcome::OutputFault)
+}
+
+/// Builds the program of a text and runs it on a console for at most `steps` steps, and then hands on what the console still holds.
+///
+/// Where all was handed on, the outcome is the run's. Where a write failed, it is an output fault, whatever else the run came to.
+pub fn go_through<R: BufRead, W: Write>(
+    alloc: Global,
+    text: &[u8],
+    budget: Budget,
+    console: &mut BlockConsole<R, W>,
+    steps: u64,
+) -> Result<Outcome, Refusal>
+    ensures goes { IfOk result (λ outcome. GoesThrough text.now budget steps (console_world R.remaining W.contents console.old) (console_world R.remaining W.contents console.new) (held_of console.new) (has_failed console.new) outcome) }
+    ensures refused { IfErr result (IsGoRefused text.now budget) }
+    ensures unchanged { OnErr result (console_world R.remaining W.contents console.new ≡ console_world R.remaining W.contents console.old) }
+{
+    match go_in_slices(alloc, text, budget, console, steps) {
+        Ok(end) => Ok(settled(console, end)),
+        Err(refusal) => Err(refusal),
+    }
+}
+
+/// Runs an image as `go_through` runs a text.
+pub fn run_through<R: BufRead, W: Write>(
+    alloc: Global,
+    image: &[u8],
+    budget: Budget,
+    console: &mut BlockConsole<R, W>,
+    steps: u64,
+) -> Result<Outcome, Refusal>
+    ensures runs { IfOk result (λ outcome. RunsThrough image.now budget steps (console_world R.remaining W.contents console.old) (console_world R.remaining W.contents console.new) (held_of console.new) (has_failed console.new) outcome) }
+    ensures refused { IfErr result (IsRunRefused image.now budget) }
+    ensures unchanged { OnErr result (console_world R.remaining W.contents console.new ≡ console_world R.remaining W.contents console.old) }
+{
+    match run_image_in_slices(alloc, image, budget, console, steps) {
+        Ok(end) => Ok(settled(console, end)),
+        Err(refusal) => Err(refusal),
+    }
+}

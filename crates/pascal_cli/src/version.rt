@@ -1,0 +1,28 @@
+//! What `pascal --version` tells.
+
+use std::rt::Env;
+use std::{env, io};
+
+/// The version of the program.
+pub const VERSION: &str = "0.17.0";
+
+// The kit that it is proved and built with.
+const KIT: &str = "rattle-kit-13f";
+
+// What its images run on.
+const TARGET: &str = "Project Oberon RISC, image version 2";
+
+// The variable by which the launcher tells the sum of the sources: no program can hold the sum of what it is itself a part of.
+const SOURCES: &str = "FONKJULD_SOURCES";
+
+/// Prints the version, the kit, the sum of the sources and the target, a line for each.
+pub fn print_version<R: Print + Env + AllocGlobal>(rt: &R) -> io::Result<()> {
+    match env::var(rt, SOURCES) {
+        Ok(sum) => print_lines(rt, sum.as_str()),
+        Err(_) => print_lines(rt, "not known"),
+    }
+}
+
+fn print_lines<R: Print>(rt: &R, sources: &str) -> io::Result<()> {
+    println!(rt; "version {VERSION}\nkit {KIT}\nsources {sources}\ntarget {TARGET}")
+}

@@ -1,0 +1,191 @@
+-- An instruction takes a word at least: code of too many instructions has too many words, whatever homes its temporaries have.
+use Rattle.std.proofs.Common.{◌≡◌, ℕ, zero, suc, ◌+◌, ◌<◌, ◌≤◌, Bool, true, false, if◌then◌else◌, List, [], ◌∷◌, ◌++◌, length, Option, Some, None, ℤ, refl, sym, ap, ◌∙◌, subst, arith, length-append}
+use Rattle.std.specs.Prelude.{Result, Ok, Err, IfErr, IsErrAnd}
+use Rattle.tac_code.specs.declared.code.Relation.{Relation}
+use Rattle.tac_code.specs.declared.code.Relation.TheVariants.{Equal, NotEqual, Less, LessEqual, Greater, GreaterEqual}
+use Rattle.tac_code.specs.declared.code.Operator.{Operator}
+use Rattle.tac_code.specs.declared.code.Operator.TheVariants.{Add, Subtract, Multiply, Divide, Modulo}
+use Rattle.tac_code.specs.declared.code.Operand.{Operand}
+use Rattle.tac_code.specs.declared.code.Base.{Base}
+use Rattle.tac_code.specs.declared.code.Instruction.{Instruction}
+use Rattle.tac_code.specs.declared.code.Instruction.TheVariants.{Literal, Copy, Arithmetic, Bits, Compare, CheckRange, CheckPointer, Text, Offset, Index, RoutineValue, Load, Store, LoadByte, StoreByte, Jump, JumpBack, Branch, BranchBack, Call, CallValue, Return, Trap, Take, Put, New, End}
+use Rattle.tac_code.specs.declared.code.TacRoutine.{TacRoutine}
+use Rattle.tac_code.specs.Meaning.{Code, routines}
+use Rattle.tac_code.specs.Sound.{IsSound}
+use Rattle.risc_alloc.specs.declared.homes.Home.{Home}
+use Rattle.risc_alloc.specs.declared.homes.Home.TheVariants.{Slot, Reg}
+use Rattle.risc_alloc.specs.Slots.{every_slot}
+use Rattle.risc_alloc.proofs.Whole.{every_slot_valid}
+use Rattle.risc_related.specs.Context.{Context, home, is_program}
+use Rattle.risc_steps.specs.Pieces.{Label, Piece}
+use Rattle.risc_steps.specs.Forms as form
+use Rattle.risc_runs.specs.Drawn.{body_pieces, routine_pieces, routines_pieces, program_pieces, start_pieces, routines_texts}
+use Rattle.risc_emit.specs.Layout.{laid_out}
+use Rattle.risc_emit.specs.Emitted.{code_words}
+use Rattle.ps_lower.specs.Refused.{most_instructions, instructions_of, instruction_count, IsRefused}
+use Rattle.ps_lower.specs.declared.refusal.LowerRefusal.{LowerRefusal}
+use Rattle.ps_lower.specs.declared.refusal.LowerRefusal.TheVariants as w
+use Rattle.ps_build.specs.declared.refusal.Refusal.{Refusal}
+use Rattle.ps_build.specs.Accepts.{HasNoRoom}
+use Rattle.ps_build.specs.Refusals.{of_lower, OnlyTooLarge}
+
+-- ---- what has a word
+
+data HasWord : List Piece → Type 0 where
+  one : (p : Piece) (ps : List Piece) → HasWord (p ∷ ps)
+
+counted : (ps : List Piece) → HasWord ps → 0 < length ps
+counted _ (one p ps) = omega arith
+
+before : (ps qs : List Piece) → HasWord ps → HasWord (ps ++ qs)
+before _ qs (one p ps) = one p (ps ++ qs)
+
+behind : (ps qs : List Piece) → HasWord qs → HasWord (ps ++ qs)
+behind [] qs h = h
+behind (p ∷ ps) qs h = one p (ps ++ qs)
+
+either : (b : Bool) (ps qs : List Piece) → HasWord ps → HasWord qs → HasWord (if b then ps else qs)
+either true ps qs h g = h
+either false ps qs h g = g
+
+-- one word, and a longer way
+number_word : (d : ℕ) (z : ℤ) → HasWord (form.number d z)
+number_word d z = either (form.is_small z) _ _ (one _ _) (one _ _)
+
+load_word : (d b n : ℕ) → HasWord (form.load d b n)
+load_word d b n = either (form.is_near n) _ _ (one _ _) (one _ _)
+
+store_word : (a b n : ℕ) → HasWord (form.store a b n)
+store_word a b n = either (form.is_near n) _ _ (one _ _) (one _ _)
+
+module _ (c : Context) (r : ℕ) where
+  at_most_word : (q n error line : ℕ) → HasWord (form.at_most c r q n error line)
+  at_most_word q n error line = either _ _ _ (one _ _) (one _ _)
+
+  bring_word : (d : ℕ) (h : Home) → HasWord (form.bring c r d h)
+  bring_word d (Reg q) = one _ _
+  bring_word d (Slot k) = load_word d 14 _
+
+  copy_word : (to from : Home) → HasWord (form.copy c r to from)
+  copy_word (Reg q) from = bring_word q from
+  copy_word (Slot k) from = behind (form.fetch c r 12 from) _ (store_word _ 14 _)
+
+  both_word : (a : ℕ) (b : Operand) (rest : List Piece) → HasWord rest → HasWord (form.both c r a b rest)
+  both_word a b rest h = behind (form.fetch c r 12 _) _ (behind (form.right c r b) rest h)
+
+  truth_word : (relation : Relation) (t a : ℕ) (b : Operand) → HasWord (form.truth_form c r relation t a b)
+  truth_word relation t a b = both_word a b _ (one _ _)
+
+  unlike_word : (told : Option ℕ) (t a : ℕ) (b : Operand) → HasWord (form.unlike_form c r told t a b)
+  unlike_word told t a b = either (form.is_own c r told t a b) _ _ (one _ _) (both_word a b _ (one _ _))
+
+  compare_word : (told : Option ℕ) (relation : Relation) (t a : ℕ) (b : Operand) → HasWord (form.compare_form c r told relation t a b)
+  compare_word told Equal t a b = truth_word Equal t a b
+  compare_word told NotEqual t a b = unlike_word told t a b
+  compare_word told Less t a b = truth_word Less t a b
+  compare_word told LessEqual t a b = truth_word LessEqual t a b
+  compare_word told Greater t a b = truth_word Greater t a b
+  compare_word told GreaterEqual t a b = truth_word GreaterEqual t a b
+
+  arithmetic_word : (operator : Operator) (t a : ℕ) (b : Operand) (error line : ℕ) → HasWord (form.arithmetic_form c r operator t a b error line)
+  arithmetic_word Add t a b error line = both_word a b _ (one _ _)
+  arithmetic_word Subtract t a b error line = both_word a b _ (one _ _)
+  arithmetic_word Multiply t a b error line = both_word a b _ (one _ _)
+  arithmetic_word Divide t a b error line =
+      either (form.is_divisor b) _ _ (behind (form.fetch c r 12 _) _ (one _ _)) (behind (form.divisor c r b) _ (one _ _))
+  arithmetic_word Modulo t a b error line =
+      either (form.is_divisor b) _ _ (behind (form.fetch c r 12 _) _ (one _ _)) (behind (form.modulus c r b) _ (one _ _))
+
+  range_word : (a : ℕ) (low high : ℤ) (error line : ℕ) → HasWord (form.range_code c r a low high error line)
+  range_word a low high error line = either _ _ _ (one _ _) (behind (form.above c r a low) _ (at_most_word _ _ error line))
+
+  check_word : (a : ℕ) (low high : ℤ) (error line : ℕ) → HasWord (form.check_form c r a low high error line)
+  check_word a low high error line = behind (form.fetch c r 12 _) _ (range_word _ low high error line)
+
+  pointer_word : (told : Option ℕ) (a error line : ℕ) → HasWord (form.pointer_form c r told a error line)
+  pointer_word told a error line = either (form.is_told c r told a) _ _ (one _ _) (before (form.bring c r 12 _) _ (bring_word 12 _))
+
+  address_word : (d : ℕ) (a : Base) (n : ℕ) → HasWord (form.address c r d a n)
+  address_word d a n = behind (form.base_code c r a) _ (either _ _ _ (one _ _) (one _ _))
+
+  load_form_word : (width : _) (t : ℕ) (a : Base) (n : ℕ) → HasWord (form.load_form c r width t a n)
+  load_form_word width t a n = behind (form.reach c r a n) _ (one _ _)
+
+  word_form_word : (bent : Option (ℕ × ℕ)) (t : ℕ) (a : Base) (n : ℕ) → HasWord (form.word_form c r bent t a n)
+  word_form_word None t a n = load_form_word _ t a n
+  word_form_word (Some bent) t a n = one _ _
+
+  store_form_word : (width : _) (a : Base) (n b : ℕ) → HasWord (form.store_form c r width a n b)
+  store_form_word width a n b = behind (form.reach c r a n) _ (behind (form.fetch c r 15 _) _ (one _ _))
+
+  branch_by_word : (choice : Option _) (relation : Relation) (a : ℕ) (b : Operand) (label : Label) → HasWord (form.branch_by c r choice relation a b label)
+  branch_by_word None relation a b label = both_word a b _ (one _ _)
+  branch_by_word (Some condition) relation a b label = one _ _
+
+  return_word : (a : ℕ) → HasWord (form.return_form c r a)
+  return_word a = behind (form.into c r 0 (home c r a)) _ (either (is_program c r) _ _ (one _ _) (one _ _))
+
+  form_word : (k : ℕ) (i : Instruction) → HasWord (form.form c r k i)
+  form_word k (Literal t z) = before (form.number _ z) _ (number_word _ z)
+  form_word k (Copy t a) = copy_word _ _
+  form_word k (Arithmetic operator t a b error line) = arithmetic_word operator t a b error line
+  form_word k (Bits operator t a b) = both_word a b _ (one _ _)
+  form_word k (Compare relation t a b) = compare_word _ relation t a b
+  form_word k (CheckRange a low high error line) = check_word a low high error line
+  form_word k (CheckPointer a error line) = pointer_word _ a error line
+  form_word k (Text t bytes) = one _ _
+  form_word k (Offset t a n extent) = before (form.address c r _ a n) _ (address_word _ a n)
+  form_word k (Index t a i low high width error line) = before (form.check_form c r i low high error line) _ (check_word i low high error line)
+  form_word k (RoutineValue t q) = one _ _
+  form_word k (Load t a n) = word_form_word _ t a n
+  form_word k (Store a n b) = store_form_word _ a n b
+  form_word k (LoadByte t a n) = load_form_word _ t a n
+  form_word k (StoreByte a n b) = store_form_word _ a n b
+  form_word k (Jump n) = one _ _
+  form_word k (JumpBack n) = one _ _
+  form_word k (Branch relation a b n) = branch_by_word _ relation a b _
+  form_word k (BranchBack relation a b n) = branch_by_word _ relation a b _
+  form_word k (Call t q us line) = behind (form.offer c r us) _ (one _ _)
+  form_word k (CallValue t a us line) = behind (form.offer_by c r a us) _ (one _ _)
+  form_word k (Return a) = return_word a
+  form_word k (Trap error line) = one _ _
+  form_word k (Take t) = one _ _
+  form_word k (Put a) = behind (form.fetch c r 12 _) _ (one _ _)
+  form_word k (New t type line) = one _ _
+  form_word k End = one _ _
+
+  -- ---- all instructions
+
+  body_words : (k : ℕ) (is : List Instruction) → length is ≤ length (body_pieces c r k is)
+  body_words k [] = omega arith
+  body_words k (i ∷ is) = omega (arith, counted _ (form_word k i), body_words (suc k) is, length-append (form.form c r k i) (body_pieces c r (suc k) is))
+
+routines_words : (c : Context) (r : ℕ) (rs : List TacRoutine) → instructions_of rs ≤ length (routines_pieces c r rs)
+routines_words c r [] = omega arith
+routines_words c r (x ∷ xs) =
+    omega (arith, body_words c r 0 x.body, routines_words c (suc r) xs, length-append (form.entry_form c r x) (body_pieces c r 0 x.body), length-append (routine_pieces c r x) (routines_pieces c (suc r) xs))
+
+-- with the run-time routines there are no fewer
+both_counted : (xs ys : List TacRoutine) → instructions_of xs ≤ instructions_of (xs ++ ys)
+both_counted [] ys = omega arith
+both_counted (x ∷ xs) ys = omega (arith, both_counted xs ys)
+
+pub words_of_instructions : (code : Code) (homes : List Home) → instruction_count code ≤ code_words code homes
+words_of_instructions code homes =
+    let c = laid_out code homes in
+    omega (arith, both_counted code.program code.run_time, routines_words c 0 (routines code), length-append (start_pieces c (routines code)) (routines_pieces c 0 (routines code)))
+
+-- ---- what is refused
+
+-- homes there are for every sound code: a slot of its own for each temporary
+pub no_room : (code : Code) → IsSound code → (refusal : LowerRefusal) → IsRefused refusal (instruction_count code) → OnlyTooLarge (of_lower refusal) (HasNoRoom code)
+no_room code sound w.OutOfMemory h = tt
+no_room code sound w.CodeTooLarge h = record {
+  homes = every_slot (routines code);
+  placed = every_slot_valid code (every_slot (routines code)) sound refl;
+  words = omega (arith, h, words_of_instructions code (every_slot (routines code)));
+}
+
+pub refused : {X : Type 0} (result : Result X Refusal) (code : Code) (refusal : LowerRefusal) → IsSound code → IsErrAnd result (λ e. e ≡ of_lower refusal) → IsRefused refusal (instruction_count code) → IfErr result (λ e. OnlyTooLarge e (HasNoRoom code))
+refused (Ok x) code refusal sound is h = absurd is
+refused (Err e) code refusal sound is h = subst (λ y. OnlyTooLarge y (HasNoRoom code)) (sym is) (no_room code sound refusal h)
