@@ -1,5 +1,5 @@
-/* The C library's malloc and realloc, of which one call is refused: the one whose number REFUSED is, counted from 1. Then a byte goes to
-   the file whose number REFUSED_TOLD is. tests/growths puts it before the program. */
+/* The C library's malloc and realloc, of which some calls are refused: so many as REFUSED_IN_A_ROW tells, from the one whose number REFUSED
+   is, counted from 1. At each a byte goes to the file whose number REFUSED_TOLD is. tests/growths puts it before the program. */
 extern void *__libc_malloc(unsigned long);
 extern void *__libc_realloc(void *, unsigned long);
 extern char *getenv(const char *);
@@ -14,7 +14,9 @@ static int number_in(const char *name) {
 }
 
 static int is_refused(void) {
-    if (++calls != number_in("REFUSED")) return 0;
+    int first = number_in("REFUSED");
+    calls++;
+    if (!first || calls < first || calls - first >= number_in("REFUSED_IN_A_ROW")) return 0;
     write(number_in("REFUSED_TOLD"), "", 1);
     return 1;
 }

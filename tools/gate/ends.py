@@ -8,21 +8,8 @@ import subprocess
 
 import kit
 
-CASES = (
-    ("cases", "pascal", "cases"),
-    ("compiled", "pascal", "compiled"),
-    ("compiled, by the reference interpreter", "pascal_reference", "compiled"),
-    ("compiled, as three-address code", "pascal_code", "compiled"),
-    ("compiled, with a slot for each temporary", "pascal_slots", "compiled"),
-    ("programs", "pascal", "programs"),
-    ("programs, by the reference interpreter", "pascal_reference", "programs"),
-    ("programs, as three-address code", "pascal_code", "programs"),
-    ("programs, with a slot for each temporary", "pascal_slots", "programs"),
-    ("stops", "pascal", "stops"),
-    ("stops, with a slot for each temporary", "pascal_slots", "stops"),
-    ("exact stops", "pascal", "exact"),
-    ("phases", "pascal_reference", "phases"),
-)
+# what tests/ has cases for, by the launchers that run it
+LAUNCHERS = ("pascal", "pascal_reference", "pascal_code", "pascal_slots")
 PROGRAMS = ("pascal", "pascal_reference")
 
 
@@ -42,22 +29,22 @@ def run_plain(tree):
     return passed, failed or int(bool(ran.returncode))
 
 
-def run_folder(tree, what, program, folder, env):
-    """Runs a folder of cases over a program. One that ends with a bad status, or holds no case, is a failure."""
-    words = [f"{tree}/tests/run", "--folder", folder, "--program", f"{tree}/{program}"]
+def run_cases_over(tree, what, program, env):
+    """Runs all cases that there are for a program over it. A run that ends with a bad status, or has no case, is a failure."""
+    words = [f"{tree}/test", "--program", program]
     ran = subprocess.run(words, env={**os.environ, **env}, stdout=subprocess.PIPE, stderr=subprocess.STDOUT, text=True, errors="replace")
     well, bad = count_in(ran.stdout)
     if ran.returncode and not bad or not well + bad:
         bad = bad or 1
     if bad:
         print(ran.stdout, end="")
-    print(f"tests/{folder} ({what}): {well} passed, {bad} failed", flush=True)
+    print(f"tests over {what}: {well} passed, {bad} failed", flush=True)
     return well, bad
 
 
 def run_cases(tree):
-    """Runs each folder of cases over a program of the run."""
-    told = [run_folder(tree, *case, {"PASCAL_BUILT": f"{tree}/crates"}) for case in CASES]
+    """Runs the cases over each program of the run."""
+    told = [run_cases_over(tree, it, f"{tree}/{it}", {"PASCAL_BUILT": f"{tree}/crates"}) for it in LAUNCHERS]
     return sum(well for well, _ in told), sum(bad for _, bad in told)
 
 
@@ -75,7 +62,7 @@ def run_growths(tree):
 
 def look_at_pages(tree):
     """What is not true in the pages of a tree, as far as a program can tell."""
-    ran = subprocess.run([f"{tree}/tools/pages"], stdout=subprocess.PIPE, stderr=subprocess.STDOUT, text=True, errors="replace")
+    ran = subprocess.run([f"{tree}/tools/pages", "--program", f"{tree}/crates/pascal/out/pascal"], stdout=subprocess.PIPE, stderr=subprocess.STDOUT, text=True, errors="replace")
     return ran.stdout.strip() or "tools/pages failed" if ran.returncode else None
 
 
@@ -104,8 +91,8 @@ def differs_from_release(tree, kept):
     if kit_of_release == kit.name():
         return "the released program is not, byte for byte, what was built of the same sources"
     print(f"the released program was built by {kit_of_release}, and by {kit.name()} it has other bytes: the cases are run over it", flush=True)
-    told = [run_folder(tree, "the released program", "pascal", folder, {"PASCAL_BUILT": ""}) for _, program, folder in CASES if program == "pascal"]
-    return "the released program does not do what the cases want" if any(bad for _, bad in told) else None
+    _, bad = run_cases_over(tree, "the released program", kept, {})
+    return "the released program does not do what the cases want" if bad else None
 
 
 def look_at_release(tree):

@@ -1,4 +1,7 @@
-"""Images of the compiler, read as docs/MACHINE.md tells: the sizes in their tables, and the listing of their code. Written from that page alone."""
+"""Images of the compiler, read as docs/MACHINE.md tells: the sizes in their tables, and the listing of their code.
+
+Written from that page alone.
+"""
 
 import re
 import struct
@@ -35,7 +38,7 @@ class Image:
         return table[int(name[1:])][1] if table else int(name)
 
     def sum(self, text):
-        """A sum as `F0 + 1000 F1 - 4`: Fr is the frame of routine r, Gt an object of pointer type t, both in bytes; `code` and `globals` are bytes too."""
+        """A sum as `F0 + 1000 F1 - 4`, in bytes: Fr is the frame of routine r, Gt an object of pointer type t."""
         total = 0
         for sign, times, name in SUM.findall(text):
             total += (-1 if sign == "-" else 1) * int(times or 1) * self.size(name)
@@ -88,7 +91,8 @@ def content_of_number(word, u, v):
 
 
 def memory(word, u, v):
-    return f"{'ST' if u else 'LD'}{'B' if v else ''} R{word >> 24 & 15}, R{word >> 20 & 15}, {signed(word & 0xFFFFF, 20)}"
+    name = f"{'ST' if u else 'LD'}{'B' if v else ''}"
+    return f"{name} R{word >> 24 & 15}, R{word >> 20 & 15}, {signed(word & 0xFFFFF, 20)}"
 
 
 def branch(word, u, v):
