@@ -24,8 +24,8 @@ from cases import Case
 from images import Image
 
 SECONDS = 60
-SECONDS_TO_ANSWER = 20  # of a conversation
-SECONDS_TO_BE_SEEN = 2  # what is said, where the program goes on without end
+SECONDS_TO_ANSWER = 60  # of a conversation, wide since other work may hold the machine
+SECONDS_TO_BE_SEEN = 5  # what is said, where the program goes on without end
 NOTHING = "nothing"
 # what the driver itself makes in the folder of a case
 IMAGE_OF_CASE, STANDARD_OUTPUT = "image of the case", "standard output"
