@@ -1,5 +1,6 @@
-// What a run shows: its transcript and how it ends, and what it means that two runs show the same. The definitions stand in
-// specs/; the functions here are laws about them.
+//! Definitions and laws: what a run shows, its transcript and its ending, and when two runs show the same.
+//!
+//! The definitions stand in specs/; the functions here are laws about them.
 #![tactic(auto)]
 
 pub mod laws;

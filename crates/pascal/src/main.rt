@@ -1,4 +1,4 @@
-//! The program `pascal`: see the crate pascal_cli.
+//! Program: the command `pascal`, which is one call of pascal_cli.
 #![tactic(auto)]
 
 use std::process::ExitCode;

@@ -1,4 +1,4 @@
-//! The command `pascal`: its words, what it reads and writes, its statuses and its messages.
+//! Code: the command `pascal`: its words, what it reads and writes, its statuses and its messages.
 #![tactic(auto)]
 
 mod ahead;

@@ -1,6 +1,5 @@
 // The phases of the compiler, one after another, up to one of them: `bench/phases` tells their shares of the time by it.
 
-use language_rows::{checked, parsed};
 use pascal_cli::{TEXT_LIMIT, read_standard_input};
 use ps_build::{Refusal, code_of_text};
 use ps_parse::release;
@@ -11,6 +10,7 @@ use risc_alloc::scan::Scan;
 use risc_emit::emit::emit;
 use risc_image::{Parts, write};
 use std::alloc::Global;
+use test_language::{checked, parsed};
 
 const DONE: u8 = 0;
 

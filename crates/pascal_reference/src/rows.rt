@@ -1,19 +1,19 @@
-// The rows of tables: what single calls of the compiler's layers give, as the crate `tables` reads and repeats them.
+// The rows of tables: what single calls of the compiler's layers give, as the crate `test_tables` reads and repeats them.
 
 mod command;
 
-use code_rows::Table as Code;
-use code_rows::programs::Asked as OfCode;
 use command::Table as Command;
 use command::programs::Asked as OfBuilt;
-use language_rows::Table as Language;
-use language_rows::blocks::Asked as OfBlock;
-use language_rows::check::Asked as OfProgram;
-use language_rows::front::Asked as OfTree;
-use language_rows::tokens::Asked as OfTokens;
 use std::alloc::{AllocError, Global};
 use std::io;
-use tables::{Answers, Line, answer_rows};
+use test_code::Table as Code;
+use test_code::programs::Asked as OfCode;
+use test_language::Table as Language;
+use test_language::blocks::Asked as OfBlock;
+use test_language::check::Asked as OfProgram;
+use test_language::front::Asked as OfTree;
+use test_language::tokens::Asked as OfTokens;
+use test_tables::{Answers, Line, answer_rows};
 
 /// What is asked of a row, by the name of its table.
 #[derive(Clone, Copy)]
@@ -122,8 +122,8 @@ fn table_named(name: &str) -> Table {
 #[derive(Drop)]
 struct Rows {
     table: Table,
-    language: language_rows::Job,
-    code: code_rows::Job,
+    language: test_language::Job,
+    code: test_code::Job,
     command: command::Job,
 }
 
@@ -147,8 +147,8 @@ impl Answers for Rows {
     fn answer(&mut self, alloc: Global, text: &[u8]) -> Result<String, AllocError> {
         let mut line = Line::new(alloc);
         self.put_answer(alloc, &mut line, text)?;
-        self.language = language_rows::untold(alloc);
-        self.code = code_rows::untold(alloc);
+        self.language = test_language::untold(alloc);
+        self.code = test_code::untold(alloc);
         self.command = command::untold();
         line.told()
     }
@@ -158,14 +158,14 @@ impl Rows {
     fn put_answer(&self, alloc: Global, line: &mut Line, text: &[u8]) -> Result<(), AllocError> {
         match self.table {
             Table::Unknown => line.word("no such table"),
-            Table::Language(table) => language_rows::answer(
+            Table::Language(table) => test_language::answer(
                 alloc,
                 line,
                 table,
                 text,
                 &self.language,
             ),
-            Table::Code(table) => return code_rows::answer(alloc, line, table, text, &self.code),
+            Table::Code(table) => return test_code::answer(alloc, line, table, text, &self.code),
             Table::Command(table) => {
                 return command::answer(alloc, line, table, text, self.command);
             }
@@ -179,8 +179,8 @@ pub fn answer_all<R: Input + Print + AllocGlobal>(rt: &R) -> io::Result<()> {
     let alloc = rt.alloc();
     let mut rows = Rows {
         table: Table::Unknown,
-        language: language_rows::untold(alloc),
-        code: code_rows::untold(alloc),
+        language: test_language::untold(alloc),
+        code: test_code::untold(alloc),
         command: command::untold(),
     };
     answer_rows(rt, &mut rows)

@@ -1,18 +1,18 @@
 // Runs of a text: by the two slow runners, that of its meaning and that of its three-address code, and by an image with a slot of the frame for
 // each temporary.
 
-use language_rows::checked;
 use ps_build::{
     Budget as ImageBudget, Outcome, Refusal, Trail, build_with, code_of_text, run_image,
 };
-use ps_runner::ending::Ending;
-use ps_runner::run::{
+use ps_meaning_runner::ending::Ending;
+use ps_meaning_runner::run::{
     Budget, Ran, Refusal as MeaningRefusal, TranscriptFault, output, reference_to_depth,
 };
 use risc_alloc::placer::EverySlot;
 use risc_machine::Fused;
 use std::alloc::{AllocError, Global};
-use tac_run as code;
+use tac_code_runner as code;
+use test_language::checked;
 
 /// How a text is run.
 #[derive(Clone, Copy)]

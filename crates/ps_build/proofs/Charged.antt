@@ -7,8 +7,8 @@ use Rattle.ps_tree.specs.Tree.{Program, Routine, no_routine, routine_at, domain_
 use Rattle.ps_meaning.specs.Costs.{Bounded}
 use Rattle.tac_code.specs.Meaning.{size}
 use Rattle.tac_rt.specs.Bodies.{run_time_routines}
-use Rattle.ps_code.specs.Programs.{tac_of, object_bytes, code_of}
-use Rattle.ps_bounds.specs.Sizes.{RoutinesAreBounded, ObjectsAreBounded}
+use Rattle.ps_lower_code.specs.Programs.{tac_of, object_bytes, code_of}
+use Rattle.ps_lower_bounds.specs.Sizes.{RoutinesAreBounded, ObjectsAreBounded}
 use Rattle.risc_image.specs.Image.{Image}
 use Rattle.risc_load.specs.Shows.{frame_bytes, object_bytes as charged_bytes}
 use Rattle.risc_emit.specs.Emitted.{HasBounds}

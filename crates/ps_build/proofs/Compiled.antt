@@ -3,25 +3,25 @@ use Rattle.std.proofs.Common.{◌≡◌, ◌≢◌, ℕ, ◌<◌, List, length, 
 use Rattle.std.proofs.lemmas.Grind.{get_or_default_zero}
 use Rattle.behavior.specs.Transcripts.{AreBytes}
 use Rattle.ps_tree.specs.Tree as Tree
-use Rattle.ps_regions.specs.declared.refusal.CheckRefusal.{CheckRefusal}
-use Rattle.ps_regions.specs.declared.refusal.CheckRefusal.TheVariants as k
-use Rattle.ps_regions.specs.declared.refusal.Rule.{Rule}
-use Rattle.ps_regions.specs.Refusal.{IsRefusal}
-use Rattle.ps_points.specs.Broken.{IsToldOf}
+use Rattle.ps_check_names.specs.declared.refusal.CheckRefusal.{CheckRefusal}
+use Rattle.ps_check_names.specs.declared.refusal.CheckRefusal.TheVariants as k
+use Rattle.ps_check_names.specs.declared.refusal.Rule.{Rule}
+use Rattle.ps_check_names.specs.Refusal.{IsRefusal}
+use Rattle.ps_check_points.specs.Broken.{IsToldOf}
 use Rattle.ps_check.specs.Programs.{program}
 use Rattle.ps_scan.specs.declared.token.Token.{Token}
 use Rattle.ps_scan.specs.Lexis.{IsTokens}
 use Rattle.ps_syntax.specs.declared.program.Program.{Program}
-use Rattle.ps_grammar.specs.Trees.{IsTreeOf}
+use Rattle.ps_parse_grammar.specs.Trees.{IsTreeOf}
 use Rattle.ps_text.specs.Lines.{IsSource}
 use Rattle.ps_parse.specs.declared.error.ParseRefusal.{ParseRefusal}
 use Rattle.ps_parse.specs.declared.error.ParseRefusal.TheVariants as p
 use Rattle.ps_parse.specs.Untaken.{IsFirstUntaken, IsFirstUntakenOn}
 use Rattle.tac_rt.specs.Bodies.{run_time_routines}
-use Rattle.ps_code.specs.Programs.{code_of}
-use Rattle.ps_lowers.specs.Fits.{ProgramFits}
-use Rattle.ps_accepts.specs.Formed.{IsFormed}
-use Rattle.ps_accepts.specs.Laws.{AcceptedFit, AcceptedFormed}
+use Rattle.ps_lower_code.specs.Programs.{code_of}
+use Rattle.ps_lower_laws.specs.Fits.{ProgramFits}
+use Rattle.ps_lower_accepted.specs.Formed.{IsFormed}
+use Rattle.ps_lower_accepted.specs.Laws.{AcceptedFit, AcceptedFormed}
 use Rattle.ps_build.specs.declared.refusal.Refusal.{Refusal}
 use Rattle.ps_build.specs.declared.refusal.Refusal.TheVariants.{TooLong, TooManyLines, OutOfMemory, BadByte, OpenComment, OpenString, EmptyString, SeparatorMissing, NumberTooLarge, RealNumber, NotAProgram, TooDeep, NotInProfile, Broken, CodeTooLarge}
 use Rattle.ps_build.specs.Refusals.{of_parse, of_check, OnlyTooLarge}

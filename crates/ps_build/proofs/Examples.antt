@@ -5,7 +5,7 @@ use Rattle.behavior.specs.Transcripts.{output}
 use Rattle.risc_machine.specs.Console.{World}
 use Rattle.risc_image.specs.Image.{Image}
 use Rattle.risc_load.specs.declared.budget.Budget.{Budget}
-use Rattle.risc_runs.specs.Outcome.{image_outcome}
+use Rattle.risc_emit_laws.specs.Outcome.{image_outcome}
 use Rattle.ps_tree.specs.Tree.{Program, no_routine, routine_at}
 use Rattle.ps_tree.specs.Counts.{routine_cells, routine_nodes, routine_extent, formals_extent, result_extent, variables_extent, statements_extent}
 use Rattle.ps_meaning.specs.Costs.{Bounded}

@@ -2,10 +2,10 @@
 use Rattle.std.proofs.Common.{refl, sym, subst}
 use Rattle.ps_tree.specs.Tree.{Program}
 use Rattle.tac_rt.specs.Bodies.{run_time_routines}
-use Rattle.ps_code.specs.Programs.{code_of}
-use Rattle.ps_run_time.specs.Laws.{WritesAreDone}
-use Rattle.ps_lowers.specs.Lowers.{AreRunTime, IsStuck, ProgramsLower, ProgramsGoOn}
-use Rattle.ps_lowers.specs.Fits.{ProgramFits}
+use Rattle.ps_lower_code.specs.Programs.{code_of}
+use Rattle.ps_lower_run_time.specs.Laws.{WritesAreDone}
+use Rattle.ps_lower_laws.specs.Lowers.{AreRunTime, IsStuck, ProgramsLower, ProgramsGoOn}
+use Rattle.ps_lower_laws.specs.Fits.{ProgramFits}
 use Rattle.ps_build.specs.Made.{IsCodeOf}
 
 module _ (writes_are_done : WritesAreDone) (programs_lower : ProgramsLower) (programs_go_on : ProgramsGoOn) where

@@ -9,12 +9,12 @@ use Rattle.ps_meaning.specs.Run.{run_within}
 use Rattle.tac_code.specs.Meaning.{Code}
 use Rattle.tac_code.specs.Sound.{IsSound}
 use Rattle.tac_code.specs.Run.{tac_run}
-use Rattle.risc_view.specs.Start as view
+use Rattle.risc_machine_laws.specs.Start as view
 use Rattle.risc_image.specs.Image.{Image}
 use Rattle.risc_image.specs.Format.{IsImage, header}
 use Rattle.risc_load.specs.Shows.{frame_bytes, object_bytes, IsBudget}
-use Rattle.risc_runs.specs.Outcome.{image_outcome}
-use Rattle.risc_runs.proofs.Same.{emission_keeps}
+use Rattle.risc_emit_laws.specs.Outcome.{image_outcome}
+use Rattle.risc_emit_laws.proofs.Same.{emission_keeps}
 use Rattle.ps_build.specs.Accepts.{IsProgramOf}
 use Rattle.ps_build.specs.Headline.{DoesAsMeant, Compiles}
 use Rattle.ps_build.specs.Made.{IsCodeOf, IsMadeOf, IsEmitted, AreMadeOf}

@@ -1,9 +1,9 @@
 -- What names denote in accepted and in refused texts.
 use Rattle.std.proofs.Common.{ℕ, List, sym, ◌∙◌}
 use Rattle.ps_tree.specs.Tree as Tree
-use Rattle.ps_names.proofs.Lists.{none_some}
-use Rattle.ps_names.proofs.Paths.{names_mean_their_points, forward_headings_have_blocks, checked_programs_are_read}
-use Rattle.ps_names.proofs.Programs.{read_programs_are_checked}
+use Rattle.ps_check_laws.proofs.Lists.{none_some}
+use Rattle.ps_check_laws.proofs.Paths.{names_mean_their_points, forward_headings_have_blocks, checked_programs_are_read}
+use Rattle.ps_check_laws.proofs.Programs.{read_programs_are_checked}
 use Rattle.ps_build.specs.Accepts.{IsProgramOf}
 use Rattle.ps_build.specs.Names.{NamesAreMeant, NamesOfBuiltTexts, NamesOfRefusedTexts}
 

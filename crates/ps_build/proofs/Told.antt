@@ -16,9 +16,9 @@ use Rattle.risc_load.specs.Loaded.{loaded_state}
 use Rattle.ps_build.specs.declared.outcome.Outcome.{Outcome}
 use Rattle.ps_build.specs.declared.outcome.Outcome.TheVariants.{Normal, Error, Stack, Heap, Steps, InputFault, OutputFault, Fault}
 use Rattle.risc_load.specs.Shows.{trap_rows, IsBudget}
-use Rattle.risc_runs.specs.Outcome.{calls_at, ending_of}
-use Rattle.risc_trail.specs.Told.{trail_of}
-use Rattle.risc_trail.proofs.Limit.{trail_is}
+use Rattle.risc_emit_laws.specs.Outcome.{calls_at, ending_of}
+use Rattle.risc_emit_trail.specs.Told.{trail_of}
+use Rattle.risc_emit_trail.proofs.Limit.{trail_is}
 use Rattle.ps_build.specs.Devices.{AsksInput, AsksOutput}
 use Rattle.ps_build.specs.Runs.{trail_told, outcome_told, trap_told, IsToldBy, Ends, Breaks, Tells, CountsFaults, Runs}
 use Rattle.ps_build.proofs.Asked.{Asked, Left, Shows}

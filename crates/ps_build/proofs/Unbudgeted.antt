@@ -11,7 +11,7 @@ use Rattle.risc_machine.proofs.Growth.{exec_grows}
 use Rattle.risc_image.specs.Image.{Image}
 use Rattle.risc_image.specs.Format.{word_bytes}
 use Rattle.risc_load.specs.Shows.{frame_bytes, object_bytes}
-use Rattle.risc_runs.specs.Outcome.{ending_of, outcome_of, image_outcome}
+use Rattle.risc_emit_laws.specs.Outcome.{ending_of, outcome_of, image_outcome}
 use Rattle.ps_meaning.specs.Run.{run, run_within}
 use Rattle.ps_meaning.proofs.Laws.{limits_only_stop}
 use Rattle.ps_build.specs.Laws.{ComesToTheMeaning}

@@ -16,10 +16,10 @@ use Rattle.risc_alloc.specs.declared.homes.Home.{Home}
 use Rattle.risc_alloc.specs.declared.homes.Home.TheVariants.{Slot, Reg}
 use Rattle.risc_alloc.specs.Slots.{every_slot}
 use Rattle.risc_alloc.proofs.Whole.{every_slot_valid}
-use Rattle.risc_related.specs.Context.{Context, home, is_program}
-use Rattle.risc_steps.specs.Pieces.{Label, Piece}
-use Rattle.risc_steps.specs.Forms as form
-use Rattle.risc_runs.specs.Drawn.{body_pieces, routine_pieces, routines_pieces, program_pieces, start_pieces, routines_texts}
+use Rattle.risc_emit_relation.specs.Context.{Context, home, is_program}
+use Rattle.risc_emit_forms.specs.Pieces.{Label, Piece}
+use Rattle.risc_emit_forms.specs.Forms as form
+use Rattle.risc_emit_laws.specs.Drawn.{body_pieces, routine_pieces, routines_pieces, program_pieces, start_pieces, routines_texts}
 use Rattle.risc_emit.specs.Layout.{laid_out}
 use Rattle.risc_emit.specs.Emitted.{code_words}
 use Rattle.ps_lower.specs.Refused.{most_instructions, instructions_of, instruction_count, IsRefused}

@@ -5,16 +5,16 @@ use Rattle.ps_text.specs.Lines.{IsSource, line_count}
 use Rattle.ps_scan.specs.declared.token.Token.{Token}
 use Rattle.ps_scan.specs.Lexis.{IsTokens}
 use Rattle.ps_syntax.specs.declared.program.Program.{Program}
-use Rattle.ps_grammar.specs.Trees.{IsTreeOf}
+use Rattle.ps_parse_grammar.specs.Trees.{IsTreeOf}
 use Rattle.ps_parse.specs.Untaken.{IsFirstUntakenOn}
-use Rattle.ps_regions.specs.declared.refusal.Rule.{Rule}
-use Rattle.ps_regions.specs.declared.refusal.CheckRefusal.TheVariants as refusal
-use Rattle.ps_points.specs.Broken.{IsToldOf}
+use Rattle.ps_check_names.specs.declared.refusal.Rule.{Rule}
+use Rattle.ps_check_names.specs.declared.refusal.CheckRefusal.TheVariants as refusal
+use Rattle.ps_check_points.specs.Broken.{IsToldOf}
 use Rattle.ps_build.specs.declared.refusal.Refusal.{Refusal}
 use Rattle.ps_build.specs.declared.refusal.Refusal.TheVariants.{TooLong, TooManyLines, OutOfMemory, BadByte, OpenComment, OpenString, EmptyString, SeparatorMissing, NumberTooLarge, RealNumber, NotAProgram, TooDeep, NotInProfile, Broken, CodeTooLarge}
 use Rattle.ps_tree.specs.Tree as Tree
 use Rattle.ps_check.specs.Programs.{program}
-use Rattle.ps_code.specs.Programs.{code_of}
+use Rattle.ps_lower_code.specs.Programs.{code_of}
 use Rattle.tac_rt.specs.Bodies.{run_time_routines}
 use Rattle.tac_code.specs.Meaning.{Code}
 use Rattle.risc_alloc.specs.declared.homes.Home.{Home}
@@ -58,7 +58,7 @@ pub record HasNoTree (text : List ℕ) (line at : ℕ) : Type 0 where
   pub none : (others : List Token) (tree : Program) → IsTokens text others → IsTreeOf text others tree → ⊥
   pub told : IsFirstUntakenOn text tokens line at
 
--- The text has a tree, which breaks a rule or a limit. The line is that of a token at which it breaks the rule, as far as ps_points tells of each rule.
+-- The text has a tree, which breaks a rule or a limit. The line is that of a token at which it breaks the rule, as far as ps_check_points tells of each rule.
 pub record HasNoProgram (text : List ℕ) (rule : Rule) (line : ℕ) : Type 0 where
   pub tokens : List Token
   pub tree : Program

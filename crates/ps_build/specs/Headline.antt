@@ -5,7 +5,7 @@ use Rattle.behavior.specs.Same.{Same}
 use Rattle.risc_image.specs.Image.{Image}
 use Rattle.risc_image.specs.Format.{IsImage}
 use Rattle.risc_load.specs.Shows.{frame_bytes, object_bytes, IsBudget}
-use Rattle.risc_runs.specs.Outcome.{image_outcome}
+use Rattle.risc_emit_laws.specs.Outcome.{image_outcome}
 use Rattle.ps_tree.specs.Tree.{Program}
 use Rattle.ps_meaning.specs.Run.{run_within}
 use Rattle.ps_meaning.specs.Costs.{Bounded}

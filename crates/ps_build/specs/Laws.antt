@@ -4,12 +4,12 @@ use Rattle.behavior.specs.Transcripts.{AreBytes}
 use Rattle.behavior.specs.Laws.{Stopped}
 use Rattle.risc_image.specs.Image.{Image}
 use Rattle.risc_load.specs.Shows.{IsBudget}
-use Rattle.risc_runs.specs.Outcome.{image_outcome}
+use Rattle.risc_emit_laws.specs.Outcome.{image_outcome}
 use Rattle.ps_tree.specs.Tree.{Program}
 use Rattle.ps_meaning.specs.Run.{run}
 use Rattle.risc_image.specs.Format.{IsImage}
-use Rattle.ps_code.specs.Programs.{code_of}
-use Rattle.ps_lowers.specs.Fits.{ProgramFits}
+use Rattle.ps_lower_code.specs.Programs.{code_of}
+use Rattle.ps_lower_laws.specs.Fits.{ProgramFits}
 use Rattle.tac_rt.specs.Bodies.{run_time_routines}
 use Rattle.ps_build.specs.Accepts.{IsProgramOf}
 use Rattle.ps_build.specs.Headline.{DoesAsMeant, Compiles}

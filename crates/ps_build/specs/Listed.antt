@@ -2,7 +2,7 @@
 use Rattle.std.specs.Prelude.{◌≡◌, ℕ, List}
 use Rattle.risc_image.specs.Image.{Image}
 use Rattle.risc_image.specs.Format.{IsImage}
-use Rattle.risc_list.specs.Listing.{listing}
+use Rattle.risc_image_list.specs.Listing.{listing}
 
 -- the bytes are an image
 pub record AreImage (bytes : List ℕ) : Type 0 where

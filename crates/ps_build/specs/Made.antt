@@ -14,7 +14,7 @@ use Rattle.risc_alloc.specs.Valid.{Valid}
 use Rattle.risc_image.specs.Image.{Image}
 use Rattle.risc_image.specs.Format.{IsImage}
 use Rattle.risc_load.specs.Shows.{frame_bytes, object_bytes}
-use Rattle.risc_runs.specs.Emits.{Emits}
+use Rattle.risc_emit_laws.specs.Emits.{Emits}
 
 -- The code does what the program means, under any costs and budgets and on any input of bytes, and there is a next step wherever it has
 -- not come to its end.

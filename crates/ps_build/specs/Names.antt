@@ -3,10 +3,10 @@ use Rattle.std.specs.Prelude.{ℕ, List}
 use Rattle.ps_scan.specs.declared.token.Token.{Token}
 use Rattle.ps_syntax.specs.declared.program.Program.{Program}
 use Rattle.ps_tree.specs.Tree as Tree
-use Rattle.ps_regions.specs.declared.refusal.Rule.{Rule}
-use Rattle.ps_names.specs.Read.{BlocksAreReadThere}
-use Rattle.ps_names.specs.Rule.{ProgramIsRead}
-use Rattle.ps_names.specs.Forward.{BlocksAreCompleted}
+use Rattle.ps_check_names.specs.declared.refusal.Rule.{Rule}
+use Rattle.ps_check_laws.specs.Read.{BlocksAreReadThere}
+use Rattle.ps_check_laws.specs.Rule.{ProgramIsRead}
+use Rattle.ps_check_laws.specs.Forward.{BlocksAreCompleted}
 use Rattle.ps_build.specs.declared.refusal.Refusal.TheVariants.{Broken}
 use Rattle.ps_build.specs.Accepts.{IsParsed, IsRefused}
 use Rattle.ps_build.specs.Headline.{Compiles}

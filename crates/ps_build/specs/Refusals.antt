@@ -6,11 +6,11 @@ use Rattle.ps_scan.specs.declared.refusal.ScanRefusal.{ScanRefusal}
 use Rattle.ps_scan.specs.declared.refusal.ScanRefusal.TheVariants as s
 use Rattle.ps_parse.specs.declared.error.ParseRefusal.{ParseRefusal}
 use Rattle.ps_parse.specs.declared.error.ParseRefusal.TheVariants as p
-use Rattle.ps_regions.specs.declared.refusal.Rule.{Rule}
-use Rattle.ps_regions.specs.declared.refusal.Rule.TheVariants as r
-use Rattle.ps_regions.specs.Refusal.{number_of_rule}
-use Rattle.ps_regions.specs.declared.refusal.CheckRefusal.{CheckRefusal}
-use Rattle.ps_regions.specs.declared.refusal.CheckRefusal.TheVariants as c
+use Rattle.ps_check_names.specs.declared.refusal.Rule.{Rule}
+use Rattle.ps_check_names.specs.declared.refusal.Rule.TheVariants as r
+use Rattle.ps_check_names.specs.Refusal.{number_of_rule}
+use Rattle.ps_check_names.specs.declared.refusal.CheckRefusal.{CheckRefusal}
+use Rattle.ps_check_names.specs.declared.refusal.CheckRefusal.TheVariants as c
 use Rattle.ps_lower.specs.declared.refusal.LowerRefusal.{LowerRefusal}
 use Rattle.ps_lower.specs.declared.refusal.LowerRefusal.TheVariants as w
 use Rattle.risc_emit.specs.declared.emit.EmitRefusal.{EmitRefusal}

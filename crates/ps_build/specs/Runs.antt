@@ -20,8 +20,8 @@ use Rattle.ps_build.specs.declared.refusal.Refusal.TheVariants.{OutOfMemory, Mag
 use Rattle.ps_build.specs.declared.outcome.Outcome.{Outcome}
 use Rattle.ps_build.specs.declared.outcome.Outcome.TheVariants.{Normal, Error, Stack, Heap, Steps, InputFault, OutputFault, Fault}
 use Rattle.risc_load.specs.Shows.{trap_rows, IsBudget}
-use Rattle.risc_runs.specs.Outcome.{image_outcome}
-use Rattle.risc_trail.specs.Told.{trail_of}
+use Rattle.risc_emit_laws.specs.Outcome.{image_outcome}
+use Rattle.risc_emit_trail.specs.Told.{trail_of}
 use Rattle.ps_build.specs.declared.outcome.FaultKind.TheVariants.{UnknownTrap}
 use Rattle.ps_build.specs.Faults.{kind_told}
 use Rattle.ps_build.specs.Devices.{reached, AsksInput, AsksOutput}

@@ -2,16 +2,16 @@
 
 ghost use Rattle.std.specs.Prelude.{◌≡◌, ℕ, ◌<◌, slice_index, IfOk, IfErr};
 ghost use Rattle.risc_image.specs.Format.{IsImage};
-ghost use Rattle.ps_accepts.specs.Formed.{IsFormed};
-ghost use Rattle.ps_lowers.specs.Fits.{ProgramFits};
+ghost use Rattle.ps_lower_accepted.specs.Formed.{IsFormed};
+ghost use Rattle.ps_lower_laws.specs.Fits.{ProgramFits};
 ghost use Rattle.ps_tree.specs.Checked.{program_in};
 ghost use Rattle.ps_build.specs.Accepts.{IsProgramOf, IsCodeOfText, IsRefused, IsFaulty, IsNotAccepted};
 ghost use Rattle.ps_build.specs.Headline.{Compiles};
 
 use crate::making::{code_made, image_made};
 use crate::refusal::Refusal;
-use ps_accepts::{accepted_are_formed, accepted_fit};
 use ps_check::check;
+use ps_lower_accepted::{accepted_are_formed, accepted_fit};
 use ps_parse::{parse, release};
 use ps_scan::scan;
 use ps_text::Source;

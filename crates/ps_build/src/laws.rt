@@ -2,8 +2,8 @@
 
 ghost use Rattle.ps_build.specs.Laws.{ComesToTheMeaning, CodeDoes, MadeCompiles};
 
-use ps_lowers::{programs_go_on, programs_lower};
-use ps_run_time::writes_are_done;
+use ps_lower_laws::{programs_go_on, programs_lower};
+use ps_lower_run_time::writes_are_done;
 
 /// An image that was built comes to all that its program means without budgets, or is stopped for stack or heap on the way; and what it
 /// shows is what the program shows, or a part of it.

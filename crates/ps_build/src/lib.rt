@@ -1,4 +1,4 @@
-//! Builds Pascal programs, and runs images.
+//! Code: the public calls that build programs, list them and run images, with the promises of the whole compiler.
 #![tactic(auto)]
 
 mod built;
@@ -14,9 +14,9 @@ mod slices;
 pub use built::{Built, build, build_with, code_of_text};
 pub use listing::list;
 pub use outcome::{FaultKind, Outcome};
-pub use ps_regions::refusal::Rule;
+pub use ps_check_names::refusal::Rule;
 pub use refusal::Refusal;
+pub use risc_emit_trail::Trail;
 pub use risc_load::Budget;
-pub use risc_trail::Trail;
 pub use run::{go, run_image};
 pub use slices::{Paced, go_in_slices, run_image_in_slices};

@@ -12,5 +12,5 @@ use std::alloc::{AllocError, Global};
 pub fn list(alloc: Global, built: &Built) -> Result<String, AllocError>
     ensures { IfOk result (λ text. IsListed built.now (string_bytes text)) }
 {
-    risc_list::list(alloc, &built.view())
+    risc_image_list::list(alloc, &built.view())
 }

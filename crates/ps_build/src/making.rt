@@ -1,9 +1,9 @@
 // Images that are made through three-address code.
 
 ghost use Rattle.std.specs.Prelude.{◌≡◌, IfOk, IfErr};
-ghost use Rattle.ps_accepts.specs.Formed.{IsFormed};
-ghost use Rattle.ps_code.specs.Programs.{code_of};
-ghost use Rattle.ps_lowers.specs.Fits.{ProgramFits};
+ghost use Rattle.ps_lower_accepted.specs.Formed.{IsFormed};
+ghost use Rattle.ps_lower_code.specs.Programs.{code_of};
+ghost use Rattle.ps_lower_laws.specs.Fits.{ProgramFits};
 ghost use Rattle.ps_tree.specs.Checked.{program_in};
 ghost use Rattle.risc_emit.specs.Emitted.{HasBounds};
 ghost use Rattle.tac_rt.specs.Bodies.{run_time_routines};
@@ -13,8 +13,10 @@ ghost use Rattle.ps_build.specs.Refusals.{OnlyTooLarge};
 
 use crate::laws::code_does;
 use crate::refusal::Refusal;
-use ps_bounds::{code_is_sound, objects_are_bounded, routines_are_bounded, weights_are_small};
 use ps_lower::lower::lower;
+use ps_lower_bounds::{
+    code_is_sound, objects_are_bounded, routines_are_bounded, weights_are_small,
+};
 use ps_tree::program::Checked;
 use risc_alloc::placer::Placer;
 use risc_emit::emit::emit;

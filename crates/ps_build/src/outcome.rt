@@ -4,8 +4,8 @@ ghost use Rattle.std.specs.Prelude.{◌≡◌};
 ghost use Rattle.risc_machine.specs.Exec.{fault_kind};
 ghost use Rattle.ps_build.specs.Faults.{kind_told};
 
+use risc_emit_trail::Trail;
 use risc_machine::Fault;
-use risc_trail::Trail;
 
 /// What a processor could not do, or a stop whose link the trap table doesn't have.
 #[derive(Clone, Copy, Debug)]

@@ -4,9 +4,9 @@ ghost use Rattle.std.specs.Prelude.{◌≡◌};
 ghost use Rattle.ps_build.specs.Refusals.{number_of, name_of, name_of_rule, line_of, of_text, of_scan, of_parse, of_check, of_lower, of_emit, of_image, of_load};
 ghost use Rattle.ps_build.specs.declared.refusal.Refusal.TheVariants.{OutOfMemory};
 
+use ps_check_names::refusal::{CheckRefusal, Rule};
 use ps_lower::refusal::LowerRefusal;
 use ps_parse::ParseRefusal;
-use ps_regions::refusal::{CheckRefusal, Rule};
 use ps_scan::ScanRefusal;
 use ps_text::TextRefusal;
 use risc_emit::emit::EmitRefusal;

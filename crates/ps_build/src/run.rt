@@ -8,10 +8,10 @@ ghost use Rattle.ps_build.specs.Goes.{Goes, IsGoRefused};
 use crate::built::build;
 use crate::outcome::{FaultKind, Outcome};
 use crate::refusal::Refusal;
+use risc_emit_trail::{Trail, trail};
 use risc_image::{ImageView, TrapRow};
 use risc_load::{Budget, load};
 use risc_machine::{Console, Machine, Stop, run};
-use risc_trail::{Trail, trail};
 use std::alloc::Global;
 
 // The outcome of a stop with this row, where these calls are open.

@@ -8,11 +8,11 @@ use Rattle.ps_syntax.specs.declared.program.Routine.{Routine}
 use Rattle.ps_syntax.specs.declared.program.Routine.TheVariants as v
 use Rattle.ps_tree.specs.Types.{DataType}
 use Rattle.ps_tree.specs.Tree as Tree
-use Rattle.ps_regions.specs.Option.{◌>>=◌, steps}
-use Rattle.ps_regions.specs.Spelling.{spelled, place, line_in}
-use Rattle.ps_regions.specs.Regions as Regions
-use Rattle.ps_regions.specs.Regions.{Region, BlockRegion, Meaning, Context}
-use Rattle.ps_declare.specs.Denoters.{Frame}
+use Rattle.ps_check_names.specs.Option.{◌>>=◌, steps}
+use Rattle.ps_check_names.specs.Spelling.{spelled, place, line_in}
+use Rattle.ps_check_names.specs.Regions as Regions
+use Rattle.ps_check_names.specs.Regions.{Region, BlockRegion, Meaning, Context}
+use Rattle.ps_check_declarations.specs.Denoters.{Frame}
 use Rattle.ps_check.specs.Readings.{BlockReading, RoutineReading, Routines, Gathered, Start, Done}
 use Rattle.ps_check.specs.Forwards.{block_names}
 use Rattle.ps_check.specs.Entries.{start}

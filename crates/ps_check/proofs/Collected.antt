@@ -8,7 +8,7 @@ use Rattle.ps_tree.specs.declared.types.Ty.{Ty}
 use Rattle.ps_tree.specs.Counts.{is_within_limits}
 use Rattle.ps_tree.specs.Checked.{Parts, program_in}
 use Rattle.ps_tree.specs.View as tree
-use Rattle.ps_regions.specs.Option.{◌>>=◌, provided, traverse}
+use Rattle.ps_check_names.specs.Option.{◌>>=◌, provided, traverse}
 use Rattle.ps_check.specs.declared.state.Gathered.{Gathered}
 use Rattle.ps_check.specs.declared.state.Done.{Done}
 use Rattle.ps_check.specs.Readings as spec

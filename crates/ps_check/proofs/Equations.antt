@@ -1,8 +1,8 @@
 -- What is read of headings, routines and blocks, construction by construction.
 use Rattle.std.proofs.Common.{◌≡◌, ℕ, true, false, List, [], ◌∷◌, length, nat_lt, Option, Some, None, refl, sym, ap, ◌∙◌}
-use Rattle.ps_declare.specs.Denoters.{Frame}
-use Rattle.ps_regions.specs.Option.{◌>>=◌, provided, steps}
-use Rattle.ps_declare.specs.Points.{add_name}
+use Rattle.ps_check_declarations.specs.Denoters.{Frame}
+use Rattle.ps_check_names.specs.Option.{◌>>=◌, provided, steps}
+use Rattle.ps_check_declarations.specs.Points.{add_name}
 use Rattle.ps_text.specs.declared.Span.{Span}
 use Rattle.ps_syntax.specs.declared.program.Heading.{Heading, out-roll-Heading}
 use Rattle.ps_syntax.specs.declared.program.Heading.TheVariants as h
@@ -13,8 +13,8 @@ use Rattle.ps_syntax.specs.declared.program.Routine.TheVariants as v
 use Rattle.ps_syntax.specs.declared.program.Block.{Block}
 use Rattle.ps_syntax.specs.declared.program.Routine.TheOpen.{Routine-F}
 use Rattle.ps_syntax.specs.declared.program.Routine.TheFolds.{fold-roll-Routine, fold_out-Block}
-use Rattle.ps_regions.specs.Regions as Regions
-use Rattle.ps_regions.specs.Regions.{Context, Region, Meaning}
+use Rattle.ps_check_names.specs.Regions as Regions
+use Rattle.ps_check_names.specs.Regions.{Context, Region, Meaning}
 use Rattle.ps_check.specs.Readings.{RoutineReading, BlockReading, heading_name, heading_list, layer_name, layer_list, layer_is_bare, is_bare, Routines, Start}
 use Rattle.ps_check.specs.Forwards.{is_waiting}
 use Rattle.ps_check.specs.Entries.{start, Entries, add_sections, first_entry}

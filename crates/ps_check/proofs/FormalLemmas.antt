@@ -11,13 +11,13 @@ use Rattle.ps_tree.specs.declared.tree.Formal.{Formal}
 use Rattle.ps_tree.specs.declared.tree.Formal as RustFormal
 use Rattle.ps_tree.proofs.FormalLemmas.{formal_of_Routine}
 use Rattle.ps_tree.specs.View as tree
-use Rattle.ps_regions.specs.declared.meaning.Section as Rust
-use Rattle.ps_regions.specs.declared.meaning.Meaning as RustMeaning
-use Rattle.ps_regions.specs.declared.meaning.Meaning.TheVariants as m
-use Rattle.ps_regions.proofs.ViewLemmas.{section_of_Routine}
-use Rattle.ps_regions.specs.Option.{◌>>=◌}
-use Rattle.ps_regions.specs.Regions.{Section, ValueSection, VariableSection, RoutineSection, Sections, no_section, section_before, formals_before, formals_of, values_before, variables_before, Meaning, ParameterMeaning, RoutineParameterMeaning, one_more}
-use Rattle.ps_regions.specs.Views.{section_of, sections_of, meaning_of}
+use Rattle.ps_check_names.specs.declared.meaning.Section as Rust
+use Rattle.ps_check_names.specs.declared.meaning.Meaning as RustMeaning
+use Rattle.ps_check_names.specs.declared.meaning.Meaning.TheVariants as m
+use Rattle.ps_check_names.proofs.ViewLemmas.{section_of_Routine}
+use Rattle.ps_check_names.specs.Option.{◌>>=◌}
+use Rattle.ps_check_names.specs.Regions.{Section, ValueSection, VariableSection, RoutineSection, Sections, no_section, section_before, formals_before, formals_of, values_before, variables_before, Meaning, ParameterMeaning, RoutineParameterMeaning, one_more}
+use Rattle.ps_check_names.specs.Views.{section_of, sections_of, meaning_of}
 use Rattle.ps_check.specs.Formals.{section_formals, formal_list}
 use Rattle.ps_check.specs.Views.{entries_of}
 use Rattle.ps_check.specs.Entries.{Entries, add_entry, add_parameters, add_section, add_sections}

@@ -4,11 +4,11 @@ use Rattle.std.proofs.Math.Seq.{drop-cons}
 use Rattle.std.proofs.lemmas.List.{drop_all, append-nil, map-append, drop-map}
 use Rattle.std.specs.List.{list_any, list_all}
 use Rattle.ps_text.specs.declared.Span.{Span}
-use Rattle.ps_declare.specs.Points.{Points, all}
+use Rattle.ps_check_declarations.specs.Points.{Points, all}
 use Rattle.std.proofs.Math.Path.{fun_ext}
 use Rattle.ps_tree.specs.Tree.{Routine}
-use Rattle.ps_changes.specs.Changes.{among, watched_of}
-use Rattle.ps_changes.specs.declared.place.Entries.TheVariants.{Marked}
+use Rattle.ps_check_changes.specs.Changes.{among, watched_of}
+use Rattle.ps_check_changes.specs.declared.place.Entries.TheVariants.{Marked}
 use Rattle.ps_check.specs.Threats.{routine_threatens}
 
 module _ {A B : Type 0} (p : B → Bool) (f : A → B) (xs : List A) where

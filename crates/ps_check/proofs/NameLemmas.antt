@@ -4,9 +4,9 @@ use Rattle.std.specs.Prelude.{if◌then◌else◌}
 use Rattle.std.proofs.lemmas.List.Folds.{list_any-append}
 use Rattle.std.proofs.lemmas.List.Elements.{Contains-append_left, Contains-append_right}
 use Rattle.ps_text.specs.declared.Span.{Span}
-use Rattle.ps_regions.specs.Option.{◌>>=◌, provided, steps}
-use Rattle.ps_regions.specs.Spelling.{spelled, same, has}
-use Rattle.ps_declare.specs.Points.{Points, add_point, add_points, block_points}
+use Rattle.ps_check_names.specs.Option.{◌>>=◌, provided, steps}
+use Rattle.ps_check_names.specs.Spelling.{spelled, same, has}
+use Rattle.ps_check_declarations.specs.Points.{Points, add_point, add_points, block_points}
 use Rattle.ps_check.specs.Readings.{RoutineReading}
 use Rattle.ps_check.specs.Forwards.{may_complete, add_routine, block_names}
 use Rattle.ps_check.specs.RegionNames.{AreApart, IsOfRoutine, NamesArePoints, Each}

@@ -5,10 +5,10 @@ use Rattle.ps_syntax.specs.declared.program.Block.{Block, out-Block}
 use Rattle.ps_syntax.specs.declared.program.Routine.{Routine, out-Routine, roll-Routine, roll-out-Routine}
 use Rattle.ps_syntax.specs.declared.program.Routine.TheVariants as v
 use Rattle.ps_syntax.specs.declared.program.Routine.TheOpen.{Routine-F}
-use Rattle.ps_regions.specs.Option.{steps}
-use Rattle.ps_regions.specs.Spelling.{spelled, place}
-use Rattle.ps_regions.specs.Regions.{Region, BlockRegion, Meaning, Context}
-use Rattle.ps_declare.specs.Denoters.{Frame}
+use Rattle.ps_check_names.specs.Option.{steps}
+use Rattle.ps_check_names.specs.Spelling.{spelled, place}
+use Rattle.ps_check_names.specs.Regions.{Region, BlockRegion, Meaning, Context}
+use Rattle.ps_check_declarations.specs.Denoters.{Frame}
 use Rattle.ps_check.specs.Readings.{Start, Gathered, Done, Routines, RoutineReading, BlockReading}
 use Rattle.ps_check.specs.Forwards.{block_names}
 use Rattle.ps_check.specs.Entries.{start}

@@ -1,7 +1,7 @@
 -- The table of required names is that of the definition.
 use Rattle.std.proofs.Common.{◌≡◌, map, Option, Some, None, refl, sym, ap, ◌∙◌}
-use Rattle.ps_regions.specs.Option.{steps}
-use Rattle.ps_regions.specs.Regions.{Region, BlockRegion}
+use Rattle.ps_check_names.specs.Option.{steps}
+use Rattle.ps_check_names.specs.Regions.{Region, BlockRegion}
 use Rattle.ps_check.specs.declared.program.TheConstants.{REQUIRED}
 use Rattle.ps_check.specs.Programs.{Files, no_files, add_required, required, required_names, required_types, required_routines, left_out}
 use Rattle.ps_check.specs.Views.{standard_meaning}

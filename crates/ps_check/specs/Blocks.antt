@@ -9,14 +9,14 @@ use Rattle.ps_syntax.specs.declared.program.Routine.TheFolds.{fold-Block, fold-R
 use Rattle.ps_tree.specs.Types.{DataType}
 use Rattle.ps_tree.specs.Tree as Tree
 use Rattle.ps_tree.specs.Counts.{routine_cells, routine_nodes}
-use Rattle.ps_regions.specs.Option.{◌>>=◌, provided, steps}
-use Rattle.ps_regions.specs.Spelling.{spelled, place, line_in}
-use Rattle.ps_regions.specs.Regions.{BlockRegion, Meaning, RoutineMeaning, Heading, Context, formals_of}
-use Rattle.ps_declare.specs.Points.{all}
-use Rattle.ps_declare.specs.Denoters.{Frame}
-use Rattle.ps_declare.specs.Declarations.{declarations}
-use Rattle.ps_declare.specs.Headings.{heading, section_list, section_points}
-use Rattle.ps_statements.specs.Statements.{statements}
+use Rattle.ps_check_names.specs.Option.{◌>>=◌, provided, steps}
+use Rattle.ps_check_names.specs.Spelling.{spelled, place, line_in}
+use Rattle.ps_check_names.specs.Regions.{BlockRegion, Meaning, RoutineMeaning, Heading, Context, formals_of}
+use Rattle.ps_check_declarations.specs.Points.{all}
+use Rattle.ps_check_declarations.specs.Denoters.{Frame}
+use Rattle.ps_check_declarations.specs.Declarations.{declarations}
+use Rattle.ps_check_declarations.specs.Headings.{heading, section_list, section_points}
+use Rattle.ps_check_statements.specs.Statements.{statements}
 use Rattle.ps_check.specs.Threats.{is_safe, assigns}
 use Rattle.ps_check.specs.Readings.{Gathered, Done, Routines, BlockReading, RoutineReading, RoutineLayer, BlockLayer, heading_name, heading_list}
 use Rattle.ps_check.specs.Forwards.{block_names, is_waiting, all_complete}

@@ -1,9 +1,9 @@
 -- The entries of a routine: a function's result, formal parameters, variables (6.6.3.1).
 use Rattle.std.specs.Prelude.{ℕ, zero, suc, List, [], ◌∷◌, ◌++◌, length, nat_lt, Option, Some, None}
 use Rattle.ps_tree.specs.Types.{DataType}
-use Rattle.ps_regions.specs.Option.{◌>>=◌, provided, steps}
-use Rattle.ps_regions.specs.Regions.{Meaning, ParameterMeaning, RoutineParameterMeaning, Heading, Section, ValueSection, VariableSection, RoutineSection, Sections, no_section, section_before, one_more}
-use Rattle.ps_declare.specs.Points.{add_name}
+use Rattle.ps_check_names.specs.Option.{◌>>=◌, provided, steps}
+use Rattle.ps_check_names.specs.Regions.{Meaning, ParameterMeaning, RoutineParameterMeaning, Heading, Section, ValueSection, VariableSection, RoutineSection, Sections, no_section, section_before, one_more}
+use Rattle.ps_check_declarations.specs.Points.{add_name}
 use Rattle.ps_check.specs.Readings.{Start}
 
 -- the number of the next one, and the meanings of those with names

@@ -2,10 +2,10 @@
 use Rattle.std.specs.Prelude.{ℕ, Bool, true, false, ◌&&◌, not, List, [], ◌∷◌, ◌++◌, slice_get, Option, Some, None, is_some, is_none, if◌then◌else◌}
 use Rattle.std.specs.List.{list_all}
 use Rattle.ps_tree.specs.Tree as Tree
-use Rattle.ps_regions.specs.Option.{◌>>=◌, provided, steps}
-use Rattle.ps_regions.specs.Spelling.{spelled, has}
-use Rattle.ps_regions.specs.Regions.{Meaning, RoutineMeaning, Heading}
-use Rattle.ps_declare.specs.Points.{add_points, block_points}
+use Rattle.ps_check_names.specs.Option.{◌>>=◌, provided, steps}
+use Rattle.ps_check_names.specs.Spelling.{spelled, has}
+use Rattle.ps_check_names.specs.Regions.{Meaning, RoutineMeaning, Heading}
+use Rattle.ps_check_declarations.specs.Points.{add_points, block_points}
 use Rattle.ps_check.specs.Readings.{Gathered, RoutineReading, BlockLayer, is_name_alone}
 
 -- ---- the names of a block's routines, which come behind those of its declarations

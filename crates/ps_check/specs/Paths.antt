@@ -5,8 +5,8 @@ use Rattle.ps_syntax.specs.declared.program.Routine.{Routine, out-Routine}
 use Rattle.ps_syntax.specs.declared.program.Routine.TheOpen.{Routine-F}
 use Rattle.ps_syntax.specs.declared.program.Program as syntax
 use Rattle.ps_tree.specs.Tree as Tree
-use Rattle.ps_regions.specs.Option.{◌>>=◌, steps}
-use Rattle.ps_regions.specs.Regions.{Region, BlockRegion, Meaning, Context}
+use Rattle.ps_check_names.specs.Option.{◌>>=◌, steps}
+use Rattle.ps_check_names.specs.Regions.{Region, BlockRegion, Meaning, Context}
 use Rattle.ps_check.specs.Readings.{Start, Gathered, Done}
 use Rattle.ps_check.specs.Blocks.{block, layer}
 use Rattle.ps_check.specs.Programs.{Files, no_files, list_file, program, program_context, required}

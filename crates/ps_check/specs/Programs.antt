@@ -5,13 +5,13 @@ use Rattle.ps_syntax.specs.declared.program.Program as syntax
 use Rattle.ps_tree.specs.Types.{OrdinalType}
 use Rattle.ps_tree.specs.Tree as Tree
 use Rattle.ps_tree.specs.Counts.{is_within_limits}
-use Rattle.ps_regions.specs.declared.meaning.File.TheVariants.{Input, Output}
-use Rattle.ps_regions.specs.declared.meaning.Required.TheVariants as routine
-use Rattle.ps_regions.specs.Option.{◌>>=◌, provided, steps, traverse}
-use Rattle.ps_regions.specs.Spelling.{spelled, same, has}
-use Rattle.ps_regions.specs.Regions.{Region, BlockRegion, Meaning, ConstantMeaning, TypeMeaning, FileMeaning, RequiredMeaning, LeftOutMeaning, Context}
-use Rattle.ps_regions.specs.Constants.{integer, char, boolean}
-use Rattle.ps_declare.specs.Points.{add_name}
+use Rattle.ps_check_names.specs.declared.meaning.File.TheVariants.{Input, Output}
+use Rattle.ps_check_names.specs.declared.meaning.Required.TheVariants as routine
+use Rattle.ps_check_names.specs.Option.{◌>>=◌, provided, steps, traverse}
+use Rattle.ps_check_names.specs.Spelling.{spelled, same, has}
+use Rattle.ps_check_names.specs.Regions.{Region, BlockRegion, Meaning, ConstantMeaning, TypeMeaning, FileMeaning, RequiredMeaning, LeftOutMeaning, Context}
+use Rattle.ps_check_names.specs.Constants.{integer, char, boolean}
+use Rattle.ps_check_declarations.specs.Points.{add_name}
 use Rattle.ps_check.specs.Readings.{Start, Gathered, Done}
 use Rattle.ps_check.specs.Blocks.{block}
 

@@ -8,7 +8,7 @@ use Rattle.ps_syntax.specs.declared.program.Section as syntax_section
 use Rattle.ps_syntax.specs.declared.program.Routine.TheOpen.{Routine-F, Block-F}
 use Rattle.ps_tree.specs.Types.{DataType}
 use Rattle.ps_tree.specs.Tree as Tree
-use Rattle.ps_regions.specs.Regions.{Region, Meaning}
+use Rattle.ps_check_names.specs.Regions.{Region, Meaning}
 
 -- ---- what is read
 

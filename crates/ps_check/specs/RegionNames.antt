@@ -1,7 +1,7 @@
 -- The names of a block's region are the spellings of its defining points, each once (6.2.2.1, 6.2.2.7).
 use Rattle.std.specs.Prelude.{◌≡◌, ℕ, true, false, List, [], ◌∷◌, ◌++◌, map, Some, Contains}
-use Rattle.ps_regions.specs.Spelling.{spelled, has}
-use Rattle.ps_declare.specs.Points.{block_points}
+use Rattle.ps_check_names.specs.Spelling.{spelled, has}
+use Rattle.ps_check_declarations.specs.Points.{block_points}
 use Rattle.ps_check.specs.Readings.{RoutineReading, BlockLayer}
 use Rattle.ps_check.specs.Forwards.{block_names}
 

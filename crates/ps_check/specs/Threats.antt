@@ -3,7 +3,7 @@ use Rattle.std.specs.Prelude.{ℕ, ◌-◌, Bool, true, false, ◌||◌, not, Li
 use Rattle.std.specs.List.{list_any}
 use Rattle.ps_tree.specs.Types.{DataType}
 use Rattle.ps_tree.specs.Tree as Tree
-use Rattle.ps_changes.specs.Changes.{among, statements_threaten, statements_control, statements_assign}
+use Rattle.ps_check_changes.specs.Changes.{among, statements_threaten, statements_control, statements_assign}
 
 -- A routine within a block is `length chain - depth` levels further in, where the chain of the block's routine has `depth` numbers.
 unfoldable pub routine_threatens : (depth : ℕ) → (watched : ℕ → Bool) → Option Tree.Routine → Bool

@@ -2,8 +2,8 @@
 use Rattle.std.specs.Prelude.{ℕ, List, map, Option, option_map}
 use Rattle.ps_tree.specs.View.{type_of, statements_of, routine_of}
 use Rattle.ps_tree.specs.Tree as Tree
-use Rattle.ps_regions.specs.Views.{meaning_of}
-use Rattle.ps_regions.specs.declared.meaning.Meaning as RustMeaning
+use Rattle.ps_check_names.specs.Views.{meaning_of}
+use Rattle.ps_check_names.specs.declared.meaning.Meaning as RustMeaning
 use Rattle.ps_check.specs.declared.state.Gathered as RustGathered
 use Rattle.ps_check.specs.declared.state.Start as RustStart
 use Rattle.ps_check.specs.declared.state.Done as RustDone
@@ -12,7 +12,7 @@ use Rattle.ps_check.specs.declared.program.Files as RustFiles
 use Rattle.ps_check.specs.declared.program.Standard as Standard
 use Rattle.ps_check.specs.declared.program.Standard.TheVariants as s
 use Rattle.ps_tree.specs.Types.{OrdinalType}
-use Rattle.ps_regions.specs.Regions.{Meaning, ConstantMeaning, TypeMeaning, RequiredMeaning, LeftOutMeaning}
+use Rattle.ps_check_names.specs.Regions.{Meaning, ConstantMeaning, TypeMeaning, RequiredMeaning, LeftOutMeaning}
 use Rattle.ps_check.specs.Readings.{Start, Gathered, Done, Routines}
 use Rattle.ps_check.specs.Entries.{Entries}
 use Rattle.ps_check.specs.Programs.{Files}

@@ -2,12 +2,12 @@
 
 ghost use Rattle.std.specs.Prelude.{◌≡◌, ◌∷◌, length, Some, None, IfOk, IfErr, OnOk, map};
 ghost use Rattle.ps_tree.specs.View.{type_of, statements_of};
-ghost use Rattle.ps_regions.specs.Option.{steps};
-ghost use Rattle.ps_regions.specs.Refusal.{IsFault};
-ghost use Rattle.ps_regions.specs.Regions.{BlockRegion};
-ghost use Rattle.ps_regions.specs.Views.{meaning_of, context_of, scope_of};
-ghost use Rattle.ps_declare.specs.Views.{frame_of};
-ghost use Rattle.ps_statements.specs.Statements.{statements};
+ghost use Rattle.ps_check_names.specs.Option.{steps};
+ghost use Rattle.ps_check_names.specs.Refusal.{IsFault};
+ghost use Rattle.ps_check_names.specs.Regions.{BlockRegion};
+ghost use Rattle.ps_check_names.specs.Views.{meaning_of, context_of, scope_of};
+ghost use Rattle.ps_check_declarations.specs.Views.{frame_of};
+ghost use Rattle.ps_check_statements.specs.Statements.{statements};
 ghost use Rattle.ps_check.specs.Forwards.{block_names};
 ghost use Rattle.ps_check.specs.Blocks.{with_domains, one_routine, read_block, declared, block_body, block, routine, layer};
 ghost use Rattle.ps_check.specs.Views.{gathered_of, start_of, done_of, routines_of};
@@ -19,19 +19,19 @@ use crate::routines::{
 };
 use crate::state::{Done, Gathered, Start};
 use crate::threats::{threatened, within};
-use ps_declare::declarations::declarations;
-use ps_declare::frame::{Declared, Frame};
-use ps_declare::points::add_block;
-use ps_regions::meaning::Meaning;
-use ps_regions::reading::Reading;
-use ps_regions::refusal::{Fault, Rule};
-use ps_regions::scope::Scope;
-use ps_statements::statement::statements;
+use ps_check_declarations::declarations::declarations;
+use ps_check_declarations::frame::{Declared, Frame};
+use ps_check_declarations::points::add_block;
+use ps_check_expressions::site::Site;
+use ps_check_names::meaning::Meaning;
+use ps_check_names::reading::Reading;
+use ps_check_names::refusal::{Fault, Rule};
+use ps_check_names::scope::Scope;
+use ps_check_statements::statement::statements;
 use ps_syntax::{Block, Routine, Statement};
 use ps_tree::names::Names;
 use ps_tree::tree::Statement as StatementTree;
 use ps_tree::types::Ty;
-use ps_typing::site::Site;
 use std::alloc::Global;
 use std::mem;
 
@@ -49,7 +49,7 @@ fn reading_with<'a>(reading: &Reading<'a>, domains: &'a [Ty]) -> Reading<'a>
 }
 
 /// The regions that enclose a place of a block, whose names have these meanings so far.
-#[tactic(auto, unfolding(ps_regions::specs::Views::scope_of))]
+#[tactic(auto, unfolding(ps_check_names::specs::Views::scope_of))]
 fn scope_within<'a>(frame: &'a Frame<'a>, known: &'a [Meaning]) -> Scope<'a>
     ensures { scope_of result ≡ BlockRegion frame.now.routine frame.now.names.now (map meaning_of known.now) ∷ scope_of frame.now.outer.now }
 {

@@ -2,7 +2,7 @@
 
 ghost use Rattle.std.specs.Prelude.{◌≤◌, length};
 
-use ps_regions::refusal::{Fault, Rule};
+use ps_check_names::refusal::{Fault, Rule};
 use ps_tree::tree::Routine;
 use std::alloc::{AllocError, Global};
 use std::marker::Model;
@@ -25,8 +25,8 @@ impl Model for Chain {
 
 impl Chain {
     ghost use Rattle.std.specs.Prelude.{◌≡◌, ◌≤◌, ◌∷◌, [], IfOk, IfErr, Some, None, length, nat_lt};
-    ghost use Rattle.ps_regions.specs.Option.{provided};
-    ghost use Rattle.ps_regions.specs.Refusal.{IsFault, IsToldAt};
+    ghost use Rattle.ps_check_names.specs.Option.{provided};
+    ghost use Rattle.ps_check_names.specs.Refusal.{IsFault, IsToldAt};
     ghost use Rattle.ps_check.specs.Blocks.{own_number};
     ghost use Rattle.ps_check.specs.Programs.{program_chain};
 

@@ -2,10 +2,10 @@
 
 ghost use Rattle.std.specs.Prelude.{◌≡◌, [], Some, None, IfOk, IfErr, codes};
 ghost use Rattle.ps_tree.specs.Checked.{program_in};
-ghost use Rattle.ps_regions.specs.Refusal.{IsFault, IsRefusal};
-ghost use Rattle.ps_regions.specs.Spelling.{has};
-ghost use Rattle.ps_regions.specs.Views.{context_of, scope_of};
-ghost use Rattle.ps_points.specs.Broken.{IsToldOf};
+ghost use Rattle.ps_check_names.specs.Refusal.{IsFault, IsRefusal};
+ghost use Rattle.ps_check_names.specs.Spelling.{has};
+ghost use Rattle.ps_check_names.specs.Views.{context_of, scope_of};
+ghost use Rattle.ps_check_points.specs.Broken.{IsToldOf};
 ghost use Rattle.ps_check.specs.Blocks.{block};
 ghost use Rattle.ps_check.specs.Programs.{nothing_gathered, program_chain, program_with, program};
 ghost use Rattle.ps_check.specs.Views.{files_of, gathered_of, start_of, done_of};
@@ -14,11 +14,11 @@ use crate::blocks::block;
 use crate::chain::Chain;
 use crate::program::{Files, list_files, program_of, required};
 use crate::state::{Done, Gathered, Start};
-use ps_points::broken::refusal;
-use ps_regions::answer::paired;
-use ps_regions::reading::Reading;
-use ps_regions::refusal::{CheckRefusal, Fault};
-use ps_regions::scope::Scope;
+use ps_check_names::answer::paired;
+use ps_check_names::reading::Reading;
+use ps_check_names::refusal::{CheckRefusal, Fault};
+use ps_check_names::scope::Scope;
+use ps_check_points::broken::refusal;
 use ps_syntax::Program;
 use ps_text::{LineTable, Source};
 use ps_tree::program::Checked;
@@ -49,7 +49,7 @@ fn read_program(
 }
 
 /// The checked tree of a program whose heading lists these files.
-#[tactic(auto, unfolding(crate::specs::Programs::program_with, ps_regions::specs::Views::scope_of))]
+#[tactic(auto, unfolding(crate::specs::Programs::program_with, ps_check_names::specs::Views::scope_of))]
 fn check_block(
     alloc: Global,
     reading: &Reading,
@@ -115,7 +115,7 @@ fn check_text(alloc: Global, heading: &Reading, written: &Program) -> Result<Che
 ///
 /// It is refused where the definition gives none: `Broken` tells a rule that the program breaks, and the line of the
 /// token that breaks it. Of `Unknown`, `Twice`, `UsedBefore`, `WrongKind`, `ControlVariable`, `ForwardOpen` and
-/// `NoInputOutput` the contract says that this is so, as ps_points defines it. Of the first two it is the token of the text
+/// `NoInputOutput` the contract says that this is so, as ps_check_points defines it. Of the first two it is the token of the text
 /// that breaks one of both first, and of `ForwardOpen` the first that breaks it. `OutOfMemory` is answered where a growth was
 /// refused, or where that token is not found again.
 pub fn check(alloc: Global, source: &Source, written: &Program) -> Result<Checked, CheckRefusal>

@@ -3,18 +3,18 @@
 ghost use Rattle.std.specs.Prelude.{◌≡◌, ◌++◌, Some, None, IfOk, IfErr, OnOk, map, option_map, replicate};
 ghost use Rattle.ps_tree.specs.Tree.{ValueFormal, VariableFormal};
 ghost use Rattle.ps_tree.specs.View.{type_of, formal_of, formals_of};
-ghost use Rattle.ps_regions.specs.Regions as regions;
-ghost use Rattle.ps_regions.specs.Regions.{ParameterMeaning, one_more};
-ghost use Rattle.ps_regions.specs.Refusal.{IsFault, IsToldAt};
-ghost use Rattle.ps_regions.specs.Views.{section_of, sections_of};
+ghost use Rattle.ps_check_names.specs.Regions as regions;
+ghost use Rattle.ps_check_names.specs.Regions.{ParameterMeaning, one_more};
+ghost use Rattle.ps_check_names.specs.Refusal.{IsFault, IsToldAt};
+ghost use Rattle.ps_check_names.specs.Views.{section_of, sections_of};
 ghost use Rattle.ps_check.specs.Entries.{add_entry, add_parameters, add_section, add_sections, first_entry};
 ghost use Rattle.ps_check.specs.Formals.{section_formals};
 ghost use Rattle.ps_check.specs.Views.{entries_of};
 
-use ps_regions::answer::paired;
-use ps_regions::meaning::{Meaning, Section};
-use ps_regions::refusal::{Fault, Rule};
-use ps_regions::scope::one_more;
+use ps_check_names::answer::paired;
+use ps_check_names::meaning::{Meaning, Section};
+use ps_check_names::refusal::{Fault, Rule};
+use ps_check_names::scope::one_more;
 use ps_tree::tree::Formal;
 use ps_tree::types::Ty;
 use std::alloc::{AllocError, Global};
@@ -52,7 +52,7 @@ fn add_variables(count: u32, ty: &Ty, formals: &mut Vec<Formal>) -> Result<(), A
 
 /// The formal parameters of one more section.
 #[cycle(formals)]
-#[tactic(auto, using(crate::proofs::FormalLemmas::routine_pushed), unfolding(crate::specs::Formals::section_formals, ps_regions::specs::Views::section_of))]
+#[tactic(auto, using(crate::proofs::FormalLemmas::routine_pushed), unfolding(crate::specs::Formals::section_formals, ps_check_names::specs::Views::section_of))]
 fn add_formals(
     section: &Section,
     alloc: Global,
@@ -102,7 +102,7 @@ fn entry_behind(entry: u32, at: u32) -> Result<u32, Fault>
 }
 
 /// One more value or variable parameter.
-#[tactic(auto, unfolding(ps_regions::specs::Views::meaning_of))]
+#[tactic(auto, unfolding(ps_check_names::specs::Views::meaning_of))]
 fn add_parameter(ty: &Ty, entry: u32, known: &mut Vec<Meaning>, at: u32) -> Result<u32, Fault>
     ensures ok { IfOk result (λ next. add_entry (λ i. ParameterMeaning i (type_of ty.now)) (entries_of entry known.old.items) ≡ Some (entries_of next known.new.items)) }
     ensures err { IfErr result (λ fault. IsFault fault → add_entry (λ i. ParameterMeaning i (type_of ty.now)) (entries_of entry known.old.items) ≡ None) }
@@ -136,7 +136,7 @@ fn add_parameters(
 }
 
 /// The entries of one more section.
-#[tactic(auto, using(crate::proofs::FormalLemmas::routine_entered), unfolding(crate::specs::Entries::add_section, ps_regions::specs::Views::section_of, ps_regions::specs::Views::meaning_of))]
+#[tactic(auto, using(crate::proofs::FormalLemmas::routine_entered), unfolding(crate::specs::Entries::add_section, ps_check_names::specs::Views::section_of, ps_check_names::specs::Views::meaning_of))]
 fn add_section(
     section: &Section,
     entry: u32,

@@ -1,24 +1,24 @@
 //! New headings.
 
 ghost use Rattle.std.specs.Prelude.{◌≡◌, ◌++◌, Some, None, IfOk, IfErr, OnOk, length, map, nat_lt};
-ghost use Rattle.ps_regions.specs.Option.{provided};
-ghost use Rattle.ps_regions.specs.Refusal.{IsFault};
-ghost use Rattle.ps_regions.specs.Regions.{RoutineMeaning};
-ghost use Rattle.ps_regions.specs.Spelling.{spelled};
-ghost use Rattle.ps_regions.specs.Views.{meaning_of};
-ghost use Rattle.ps_declare.specs.Points.{all};
-ghost use Rattle.ps_declare.specs.Headings.{section_list, section_points};
-ghost use Rattle.ps_declare.specs.Views.{frame_of, signature_of};
+ghost use Rattle.ps_check_names.specs.Option.{provided};
+ghost use Rattle.ps_check_names.specs.Refusal.{IsFault};
+ghost use Rattle.ps_check_names.specs.Regions.{RoutineMeaning};
+ghost use Rattle.ps_check_names.specs.Spelling.{spelled};
+ghost use Rattle.ps_check_names.specs.Views.{meaning_of};
+ghost use Rattle.ps_check_declarations.specs.Points.{all};
+ghost use Rattle.ps_check_declarations.specs.Headings.{section_list, section_points};
+ghost use Rattle.ps_check_declarations.specs.Views.{frame_of, signature_of};
 ghost use Rattle.ps_check.specs.Readings.{heading_name, heading_list, is_bare};
 ghost use Rattle.ps_check.specs.Blocks.{new_heading};
 ghost use Rattle.ps_check.specs.Views.{routines_of};
 
 use crate::state::Gathered;
-use ps_declare::frame::{Frame, Hidden};
-use ps_declare::headings::{Signature, heading};
-use ps_regions::meaning::{Heading, Meaning};
-use ps_regions::reading::Reading;
-use ps_regions::refusal::{Fault, Rule};
+use ps_check_declarations::frame::{Frame, Hidden};
+use ps_check_declarations::headings::{Signature, heading};
+use ps_check_names::meaning::{Heading, Meaning};
+use ps_check_names::reading::Reading;
+use ps_check_names::refusal::{Fault, Rule};
 use ps_syntax::{Heading as HeadingDenoter, Section};
 use ps_text::Span;
 use std::alloc::{AllocError, Global};
@@ -73,7 +73,7 @@ fn add_spellings(
 }
 
 /// The spellings of the names of a section's parameters.
-#[tactic(auto, using(ps_declare::proofs::HeadingLemmas::points_Value, ps_declare::proofs::HeadingLemmas::points_Variable, ps_declare::proofs::HeadingLemmas::points_Procedure, ps_declare::proofs::HeadingLemmas::points_Function))]
+#[tactic(auto, using(ps_check_declarations::proofs::HeadingLemmas::points_Value, ps_check_declarations::proofs::HeadingLemmas::points_Variable, ps_check_declarations::proofs::HeadingLemmas::points_Procedure, ps_check_declarations::proofs::HeadingLemmas::points_Function))]
 fn add_names(
     written: &Section,
     frame: &Frame,
@@ -128,7 +128,7 @@ fn next_number(gathered: &Gathered, at: u32) -> Result<u32, Fault>
 }
 
 /// The meaning of the name of a routine, whose heading says this.
-#[tactic(auto, using(ps_declare::proofs::HeadingLemmas::list_of_sections), unfolding(ps_regions::specs::Views::meaning_of))]
+#[tactic(auto, using(ps_check_declarations::proofs::HeadingLemmas::list_of_sections), unfolding(ps_check_names::specs::Views::meaning_of))]
 fn routine_meaning(
     written: &HeadingDenoter,
     number: u32,
@@ -152,7 +152,7 @@ fn routine_meaning(
 }
 
 /// A new heading, with the next number.
-#[tactic(auto, unfolding(crate::specs::Blocks::new_heading, ps_declare::specs::Views::hidden_of))]
+#[tactic(auto, unfolding(crate::specs::Blocks::new_heading, ps_check_declarations::specs::Views::hidden_of))]
 pub fn new_heading(
     written: &HeadingDenoter,
     is_forward: bool,

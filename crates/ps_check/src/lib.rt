@@ -1,4 +1,4 @@
-//! The checker: routines, blocks and programs (ISO 7185, 6.2.1, 6.6.1, 6.6.2, 6.10), and the call that checks a program.
+//! Code: checks routines, blocks and whole programs, by the public call `check` (ISO 7185, 6.2.1, 6.6 and 6.10).
 #![tactic(auto)]
 
 mod blocks;

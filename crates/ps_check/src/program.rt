@@ -3,11 +3,11 @@
 ghost use Rattle.std.specs.Prelude.{◌≡◌, ◌++◌, ◌∷◌, [], Some, None, IfOk, IfErr, OnOk, map, option_map};
 ghost use Rattle.ps_tree.specs.View.{routine_of};
 ghost use Rattle.ps_tree.specs.Checked.{program_in};
-ghost use Rattle.ps_regions.specs.Option.{steps, traverse};
-ghost use Rattle.ps_regions.specs.Refusal.{IsFault, IsToldAt};
-ghost use Rattle.ps_regions.specs.Regions.{BlockRegion, FileMeaning};
-ghost use Rattle.ps_regions.specs.Views.{meaning_of};
-ghost use Rattle.ps_declare.specs.Points.{add_name};
+ghost use Rattle.ps_check_names.specs.Option.{steps, traverse};
+ghost use Rattle.ps_check_names.specs.Refusal.{IsFault, IsToldAt};
+ghost use Rattle.ps_check_names.specs.Regions.{BlockRegion, FileMeaning};
+ghost use Rattle.ps_check_names.specs.Views.{meaning_of};
+ghost use Rattle.ps_check_declarations.specs.Points.{add_name};
 ghost use Rattle.ps_check.specs.Programs.{required, add_required, file_named, list_file, no_files, assembled, program_routine, program_of};
 ghost use Rattle.ps_check.specs.declared.state.Gathered.{Gathered};
 ghost use Rattle.ps_check.specs.Views.{standard_meaning, files_of, finished_of, gathered_of, done_of};
@@ -15,10 +15,10 @@ ghost use Rattle.ps_check.specs.Views.{standard_meaning, files_of, finished_of, 
 use crate::chain::{Chain, Finished};
 use crate::routines::put;
 use crate::state::{Done, Gathered};
-use ps_regions::constants::{BOOLEAN, CHAR, INTEGER};
-use ps_regions::meaning::{File, Meaning, Required};
-use ps_regions::reading::Reading;
-use ps_regions::refusal::{Fault, Rule};
+use ps_check_names::constants::{BOOLEAN, CHAR, INTEGER};
+use ps_check_names::meaning::{File, Meaning, Required};
+use ps_check_names::reading::Reading;
+use ps_check_names::refusal::{Fault, Rule};
 use ps_text::Span;
 use ps_tree::names::Names;
 use ps_tree::program::Checked;
@@ -78,7 +78,7 @@ const REQUIRED: [(&[u8], Standard); 38] = [
 ];
 
 /// What a required name stands for, to be kept.
-#[tactic(auto, unfolding(crate::specs::Views::standard_meaning, ps_regions::specs::Views::meaning_of, ps_tree::specs::View::type_of))]
+#[tactic(auto, unfolding(crate::specs::Views::standard_meaning, ps_check_names::specs::Views::meaning_of, ps_tree::specs::View::type_of))]
 fn meaning(standard: Standard) -> Meaning
     ensures { meaning_of result ≡ standard_meaning standard }
 {
@@ -169,7 +169,7 @@ fn listed_file(name: &[u8], at: u32) -> Result<File, Fault>
 }
 
 /// One more file, whose name is new. `at` is where a fault is told.
-#[tactic(auto, unfolding(ps_regions::specs::Views::meaning_of))]
+#[tactic(auto, unfolding(ps_check_names::specs::Views::meaning_of))]
 fn add_file(files: &mut Files, name: Vec<u8>, file: File, at: u32) -> Result<(), Fault>
     ensures names { OnOk result (add_name files.old.names name.items ≡ Some files.new.names) }
     ensures known { OnOk result (map meaning_of files.new.known.items ≡ map meaning_of files.old.known.items ++ FileMeaning file ∷ []) }

@@ -2,14 +2,14 @@
 
 ghost use Rattle.std.specs.Prelude.{◌≡◌, ◌⊎◌, [], true, false, Some, None, IfOk, IfErr, OnOk, map, option_map, slice_get, slice_set};
 ghost use Rattle.ps_tree.specs.View.{routine_of};
-ghost use Rattle.ps_regions.specs.Option.{steps};
-ghost use Rattle.ps_regions.specs.Refusal.{IsFault, IsToldAt};
-ghost use Rattle.ps_regions.specs.declared.refusal.Fault.TheVariants.{Broken};
-ghost use Rattle.ps_regions.specs.Regions.{Context};
-ghost use Rattle.ps_regions.specs.Spelling.{spelled, place};
-ghost use Rattle.ps_regions.specs.Views.{meaning_of, heading_of, context_of};
-ghost use Rattle.ps_declare.specs.Points.{add_name};
-ghost use Rattle.ps_declare.specs.Views.{frame_of};
+ghost use Rattle.ps_check_names.specs.Option.{steps};
+ghost use Rattle.ps_check_names.specs.Refusal.{IsFault, IsToldAt};
+ghost use Rattle.ps_check_names.specs.declared.refusal.Fault.TheVariants.{Broken};
+ghost use Rattle.ps_check_names.specs.Regions.{Context};
+ghost use Rattle.ps_check_names.specs.Spelling.{spelled, place};
+ghost use Rattle.ps_check_names.specs.Views.{meaning_of, heading_of, context_of};
+ghost use Rattle.ps_check_declarations.specs.Points.{add_name};
+ghost use Rattle.ps_check_declarations.specs.Views.{frame_of};
 ghost use Rattle.ps_check.specs.Forwards.{may_complete, add_routine, is_open, is_waiting, is_complete, all_complete};
 ghost use Rattle.ps_check.specs.Entries.{start, add_sections, first_entry};
 ghost use Rattle.ps_check.specs.Blocks.{introduce, heading_at, routine_tree, is_small_routine, finished, routine};
@@ -21,11 +21,11 @@ use crate::formals::{add_sections, copy_result, first_entry, formals_of};
 use crate::headings::{heading_name, is_bare, new_heading};
 use crate::state::{Done, Gathered, Start};
 use crate::threats::assigns;
-use ps_declare::frame::Frame;
-use ps_regions::answer::paired;
-use ps_regions::meaning::{Heading, Meaning};
-use ps_regions::reading::Reading;
-use ps_regions::refusal::{Fault, Rule};
+use ps_check_declarations::frame::Frame;
+use ps_check_names::answer::paired;
+use ps_check_names::meaning::{Heading, Meaning};
+use ps_check_names::reading::Reading;
+use ps_check_names::refusal::{Fault, Rule};
 use ps_syntax::Routine;
 use ps_text::Span;
 use ps_tree::names::Names;
@@ -131,7 +131,7 @@ fn is_open(gathered: &Gathered, heading: &Heading) -> bool
 }
 
 /// Whether the meaning is that of a forward heading without its block, which the routine completes.
-#[tactic(auto, using(crate::proofs::Equations::routine_Whole, crate::proofs::Equations::routine_Forward, crate::proofs::Equations::routine_Completion), unfolding(crate::specs::Forwards::is_waiting, ps_regions::specs::Views::meaning_of))]
+#[tactic(auto, using(crate::proofs::Equations::routine_Whole, crate::proofs::Equations::routine_Forward, crate::proofs::Equations::routine_Completion), unfolding(crate::specs::Forwards::is_waiting, ps_check_names::specs::Views::meaning_of))]
 fn is_waiting(gathered: &Gathered, written: &Routine, meaning: &Meaning) -> bool
     ensures { (c : Context) → result ≡ is_waiting (gathered_of gathered.now) (routine c written.now) (meaning_of meaning.now) }
 {
@@ -156,7 +156,7 @@ fn is_waiting(gathered: &Gathered, written: &Routine, meaning: &Meaning) -> bool
 }
 
 /// Whether it isn't a forward heading that still waits for its block.
-#[tactic(auto, unfolding(crate::specs::Forwards::is_complete, ps_regions::specs::Views::meaning_of))]
+#[tactic(auto, unfolding(crate::specs::Forwards::is_complete, ps_check_names::specs::Views::meaning_of))]
 pub fn is_complete(gathered: &Gathered, meaning: &Meaning) -> bool
     ensures { result ≡ is_complete (gathered_of gathered.now) (meaning_of meaning.now) }
 {
@@ -234,7 +234,7 @@ pub fn introduce(
 }
 
 /// The heading with this index among the meanings of a block's names. `at` is where a fault is told.
-#[tactic(auto, unfolding(crate::specs::Blocks::heading_at, ps_regions::specs::Views::meaning_of))]
+#[tactic(auto, unfolding(crate::specs::Blocks::heading_at, ps_check_names::specs::Views::meaning_of))]
 pub fn heading_at(known: &[Meaning], index: usize, at: u32) -> Result<&Heading, Fault>
     ensures ok { IfOk result (λ heading. heading_at (slice_get (map meaning_of known.now) index) ≡ Some (heading_of heading.now)) }
     ensures err { IfErr result (λ fault. IsFault fault → heading_at (slice_get (map meaning_of known.now) index) ≡ None) }

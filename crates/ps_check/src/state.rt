@@ -1,7 +1,7 @@
 //! What is read so far.
 
 use crate::chain::Finished;
-use ps_regions::meaning::Meaning;
+use ps_check_names::meaning::Meaning;
 use ps_tree::line::Line;
 use ps_tree::names::Names;
 use ps_tree::tree::Statement;

@@ -3,16 +3,16 @@
 ghost use Rattle.std.specs.Prelude.{◌≡◌, not, is_some, IfOk, drop, map, option_map};
 ghost use Rattle.std.specs.List.{list_any};
 ghost use Rattle.ps_tree.specs.View.{type_of, statements_of};
-ghost use Rattle.ps_changes.specs.Changes.{watched_of};
+ghost use Rattle.ps_check_changes.specs.Changes.{watched_of};
 ghost use Rattle.ps_check.specs.Threats.{routine_threatens, is_safe, routine_assigns, assigns};
 ghost use Rattle.ps_check.specs.Views.{finished_of};
 
 use crate::chain::Finished;
-use ps_changes::assigned;
-use ps_changes::control::control_variables;
-use ps_changes::marks::marks;
-use ps_changes::place::Entries;
-use ps_changes::threat::threat;
+use ps_check_changes::assigned;
+use ps_check_changes::control::control_variables;
+use ps_check_changes::marks::marks;
+use ps_check_changes::place::Entries;
+use ps_check_changes::threat::threat;
 use ps_tree::tree::{Routine, Statement};
 use ps_tree::types::Ty;
 use std::alloc::{AllocError, Global};

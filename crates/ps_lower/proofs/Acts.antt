@@ -11,9 +11,9 @@ use Rattle.ps_tree.specs.declared.tree.Statement.{Statement, Empty, Assign, Comp
 use Rattle.ps_tree.specs.View.{place_of, expr_of, write_of, statement_of, statements_of}
 use Rattle.ps_tree.proofs.StatementLemmas.{statement_of_Compound, statement_of_Repeat}
 use Rattle.tac_code.specs.declared.code.Instruction.{Instruction}
-use Rattle.ps_code.specs.Scopes.{Scope}
-use Rattle.ps_code.specs.Statements.{statement_code}
-use Rattle.ps_bounds.specs.Weights.{statement_weight}
+use Rattle.ps_lower_code.specs.Scopes.{Scope}
+use Rattle.ps_lower_code.specs.Statements.{statement_code}
+use Rattle.ps_lower_bounds.specs.Weights.{statement_weight}
 use Rattle.ps_lower.specs.Refused.{Adds}
 use Rattle.ps_lower.specs.declared.refusal.LowerRefusal.{LowerRefusal}
 

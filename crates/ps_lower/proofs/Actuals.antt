@@ -5,9 +5,9 @@ use Rattle.std.proofs.lemmas.List.{append-nil, drop_all, drop-drop}
 use Rattle.ps_tree.specs.declared.tree.Argument.{Argument}
 use Rattle.ps_tree.specs.View.{argument_of, arguments_of}
 use Rattle.tac_code.specs.declared.code.Instruction.{Instruction}
-use Rattle.ps_code.specs.Scopes.{Scope, held}
-use Rattle.ps_code.specs.Calling as code
-use Rattle.ps_code.specs.Values.{argument_code, arguments_code, argument_words, arguments_words, argument_end, arguments_end, argument_scratch}
+use Rattle.ps_lower_code.specs.Scopes.{Scope, held}
+use Rattle.ps_lower_code.specs.Calling as code
+use Rattle.ps_lower_code.specs.Values.{argument_code, arguments_code, argument_words, arguments_words, argument_end, arguments_end, argument_scratch}
 
 abbrev pub calling_in : List Argument → Bool
 calling_in l = code.arguments_call (arguments_of l)

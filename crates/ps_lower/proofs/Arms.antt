@@ -16,10 +16,10 @@ use Rattle.tac_code.specs.declared.code.Instruction.{Instruction}
 use Rattle.tac_code.specs.declared.code.Instruction.TheVariants as i
 use Rattle.tac_code.specs.declared.code.Operand.TheVariants as operand
 use Rattle.tac_code.specs.declared.code.Operator.TheVariants as operator
-use Rattle.ps_code.specs.Scopes.{Scope, kept, even_from, moved, unless_known}
-use Rattle.ps_code.specs.Calling.{expr_calls, steps_call, operands_call}
-use Rattle.ps_code.specs.Values.{literal_of, negated, truth_finish, minus_code, front_code, steps_code, operands_code}
-use Rattle.ps_code.specs.Statements.{expr_code}
+use Rattle.ps_lower_code.specs.Scopes.{Scope, kept, even_from, moved, unless_known}
+use Rattle.ps_lower_code.specs.Calling.{expr_calls, steps_call, operands_call}
+use Rattle.ps_lower_code.specs.Values.{literal_of, negated, truth_finish, minus_code, front_code, steps_code, operands_code}
+use Rattle.ps_lower_code.specs.Statements.{expr_code}
 use Rattle.ps_lower.proofs.Appends.{and_then}
 
 pub number_is : (x : Expr) (n : _) → x ≡ Number n → t.Number n ≡ expr_of x

@@ -12,12 +12,12 @@ use Rattle.ps_tree.specs.View.{type_of, routine_of}
 use Rattle.tac_code.specs.declared.code.Base.TheVariants as base
 use Rattle.tac_code.specs.declared.code.Instruction.{Instruction}
 use Rattle.tac_code.specs.declared.code.Instruction.TheVariants.{Literal, Load, Return}
-use Rattle.ps_layout.specs.Shapes.{shape_of, word_count}
-use Rattle.ps_layout.specs.Frames.{Kind, Kinds, no_kind, kind_before, kind_words, words_of_all, places_from, result_kinds, listed_kinds, kinds_of, variable_kinds, is_program_block, entries, entry_offset, layout_of}
-use Rattle.ps_bounds.specs.Weights.{first_weight, firsts_weight}
-use Rattle.ps_code.specs.Scopes.{Scope}
-use Rattle.ps_code.specs.Statements.{first_code, statements_code}
-use Rattle.ps_code.specs.Routines.{result_code, parameter_code, parameter_words, parameters_code, variables_code, result_entries, count_kinds, parameter_total, begin_code, result_end, end_code}
+use Rattle.ps_lower_layout.specs.Shapes.{shape_of, word_count}
+use Rattle.ps_lower_layout.specs.Frames.{Kind, Kinds, no_kind, kind_before, kind_words, words_of_all, places_from, result_kinds, listed_kinds, kinds_of, variable_kinds, is_program_block, entries, entry_offset, layout_of}
+use Rattle.ps_lower_bounds.specs.Weights.{first_weight, firsts_weight}
+use Rattle.ps_lower_code.specs.Scopes.{Scope}
+use Rattle.ps_lower_code.specs.Statements.{first_code, statements_code}
+use Rattle.ps_lower_code.specs.Routines.{result_code, parameter_code, parameter_words, parameters_code, variables_code, result_entries, count_kinds, parameter_total, begin_code, result_end, end_code}
 use Rattle.ps_lower.specs.Firsts.{firsts_code, result_at, parameters_at, head_code}
 use Rattle.ps_lower.proofs.Appends.{and_then}
 use Rattle.ps_lower.proofs.Arms.{behind}

@@ -8,9 +8,9 @@ use Rattle.tac_code.specs.declared.code.Relation.TheVariants.{Equal}
 use Rattle.tac_code.specs.declared.code.Instruction.{Instruction}
 use Rattle.tac_code.specs.declared.code.Instruction.TheVariants as i
 use Rattle.ps_meaning.specs.Operators.{is_between}
-use Rattle.ps_layout.specs.Words.{bits_from}
-use Rattle.ps_code.specs.Scopes.{even_from}
-use Rattle.ps_code.specs.Values.{holds_all, outside_bits, joined_word, outside_code, set_check}
+use Rattle.ps_lower_layout.specs.Words.{bits_from}
+use Rattle.ps_lower_code.specs.Scopes.{even_from}
+use Rattle.ps_lower_code.specs.Values.{holds_all, outside_bits, joined_word, outside_code, set_check}
 use Rattle.ps_lower.specs.Sets.{filled_code, cleared_code, numbers_below, numbers_to, lowest_bits}
 use Rattle.ps_lower.proofs.Appends.{and_then, unchanged}
 use Rattle.ps_lower.proofs.Arms.{behind}

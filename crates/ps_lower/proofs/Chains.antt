@@ -11,9 +11,9 @@ use Rattle.tac_code.specs.declared.code.Operand.{Operand}
 use Rattle.tac_code.specs.declared.code.Operand.TheVariants as operand
 use Rattle.tac_code.specs.declared.code.Operator.{Operator}
 use Rattle.tac_code.specs.declared.code.BitOperator.{BitOperator}
-use Rattle.ps_code.specs.Scopes.{Scope, even_from, operand_of, unless_known}
-use Rattle.ps_code.specs.Values.{literal_of, operator_of, bit_operator_of, truth_finish, front_code, steps_code, operands_code}
-use Rattle.ps_code.specs.Statements.{expr_code}
+use Rattle.ps_lower_code.specs.Scopes.{Scope, even_from, operand_of, unless_known}
+use Rattle.ps_lower_code.specs.Values.{literal_of, operator_of, bit_operator_of, truth_finish, front_code, steps_code, operands_code}
+use Rattle.ps_lower_code.specs.Statements.{expr_code}
 
 abbrev pub steps_added : Scope → (a x : ℕ) → List ArithmeticStep → List Instruction
 steps_added k a x l = steps_code k (arithmetic_of l) a x

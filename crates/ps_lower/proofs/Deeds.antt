@@ -8,9 +8,9 @@ use Rattle.ps_tree.specs.declared.tree.Argument.{Argument}
 use Rattle.ps_tree.specs.declared.tree.Statement.{Statement, AssignStructure, Call, CallFormal, With}
 use Rattle.ps_tree.specs.View.{place_of, structure_of, arguments_of, statement_of}
 use Rattle.tac_code.specs.declared.code.Instruction.{Instruction}
-use Rattle.ps_code.specs.Scopes.{Scope}
-use Rattle.ps_code.specs.Calling.{places_call, statement_calls}
-use Rattle.ps_code.specs.Statements.{with_code, with_scope, with_depth, statement_code}
+use Rattle.ps_lower_code.specs.Scopes.{Scope}
+use Rattle.ps_lower_code.specs.Calling.{places_call, statement_calls}
+use Rattle.ps_lower_code.specs.Statements.{with_code, with_scope, with_depth, statement_code}
 use Rattle.ps_lower.specs.Refused.{Adds}
 use Rattle.ps_lower.specs.declared.refusal.LowerRefusal.{LowerRefusal}
 use Rattle.ps_lower.proofs.Refusing.{adds_behind}

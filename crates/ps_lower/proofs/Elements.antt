@@ -13,8 +13,8 @@ use Rattle.tac_code.specs.declared.code.Operand.TheVariants as operand
 use Rattle.tac_code.specs.declared.code.Relation.TheVariants.{Equal, NotEqual}
 use Rattle.tac_code.specs.declared.code.Instruction.{Instruction}
 use Rattle.tac_code.specs.declared.code.Instruction.TheVariants as i
-use Rattle.ps_code.specs.Scopes.{Scope}
-use Rattle.ps_code.specs.Statements.{expr_code, tests_code, statement_code, elements_code}
+use Rattle.ps_lower_code.specs.Scopes.{Scope}
+use Rattle.ps_lower_code.specs.Statements.{expr_code, tests_code, statement_code, elements_code}
 use Rattle.ps_lower.specs.Cases.{test_code, first_tests, last_test, element_code, open_elements, ends_from}
 use Rattle.ps_lower.proofs.Appends.{and_then}
 use Rattle.ps_lower.proofs.Jumps.{Fills, jump_past_room, room_behind}

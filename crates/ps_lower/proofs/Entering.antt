@@ -7,10 +7,10 @@ use Rattle.ps_tree.specs.View.{formal_of, formals_of}
 use Rattle.tac_code.specs.declared.code.Base.TheVariants as base
 use Rattle.tac_code.specs.declared.code.Instruction.{Instruction}
 use Rattle.tac_code.specs.declared.code.Instruction.TheVariants as i
-use Rattle.ps_layout.specs.Shapes.{Shape, ByteShape, ArrayShape, byte_count}
-use Rattle.ps_layout.specs.Frames.{Kind, kind_of, kinds_of, kind_words, listed_kinds, words_of_all}
-use Rattle.ps_code.specs.Scopes.{Scope, beside, copy_code}
-use Rattle.ps_code.specs.Routines.{own_code, parameter_code, parameter_words, count_parameters}
+use Rattle.ps_lower_layout.specs.Shapes.{Shape, ByteShape, ArrayShape, byte_count}
+use Rattle.ps_lower_layout.specs.Frames.{Kind, kind_of, kinds_of, kind_words, listed_kinds, words_of_all}
+use Rattle.ps_lower_code.specs.Scopes.{Scope, beside, copy_code}
+use Rattle.ps_lower_code.specs.Routines.{own_code, parameter_code, parameter_words, count_parameters}
 use Rattle.ps_lower.specs.Firsts.{parameters_at}
 use Rattle.ps_lower.proofs.Appends.{and_then}
 

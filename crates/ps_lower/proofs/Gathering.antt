@@ -16,10 +16,10 @@ use Rattle.ps_tree.proofs.TreeLemmas.{set_of_Load, set_of_Constructor, set_of_Co
 use Rattle.tac_code.specs.declared.code.Base.TheVariants as base
 use Rattle.tac_code.specs.declared.code.Instruction.{Instruction}
 use Rattle.tac_code.specs.declared.code.Instruction.TheVariants as i
-use Rattle.ps_code.specs.Scopes.{Scope, Site, held, even_from, beside, moved, site_code, copy_code, fitting_code, helper, IsMember}
-use Rattle.ps_code.specs.Calling.{expr_calls}
-use Rattle.ps_code.specs.Values.{set_routine, clear_code, sets_code, set_check, range_members, literal_of, gives_byte, front_code, place_code, place_site, set_code, set_steps_code, member_code, members_code, argument_code}
-use Rattle.ps_code.specs.Statements.{expr_code, statement_code}
+use Rattle.ps_lower_code.specs.Scopes.{Scope, Site, held, even_from, beside, moved, site_code, copy_code, fitting_code, helper, IsMember}
+use Rattle.ps_lower_code.specs.Calling.{expr_calls}
+use Rattle.ps_lower_code.specs.Values.{set_routine, clear_code, sets_code, set_check, range_members, literal_of, gives_byte, front_code, place_code, place_site, set_code, set_steps_code, member_code, members_code, argument_code}
+use Rattle.ps_lower_code.specs.Statements.{expr_code, statement_code}
 use Rattle.ps_lower.specs.Sets.{offsets_code, combined_code, copied_code, kept_code, one_member}
 use Rattle.ps_lower.proofs.Appends.{and_then}
 use Rattle.ps_lower.proofs.Arms.{behind}

@@ -12,11 +12,11 @@ use Rattle.ps_tree.specs.View.{type_of, place_of, expr_of, structure_of, argumen
 use Rattle.ps_tree.proofs.TreeLemmas.{structure_of_Contents, expr_of_Call, expr_of_CallFormal}
 use Rattle.tac_code.specs.declared.code.Instruction.{Instruction}
 use Rattle.tac_code.specs.declared.code.Instruction.TheVariants as i
-use Rattle.ps_layout.specs.Shapes.{shape_of, byte_count}
-use Rattle.ps_code.specs.Scopes.{Scope, Site, held, beside, even_from, site_code, helper, copy_code, CompareBytes, link_code, formal_code}
-use Rattle.ps_code.specs.Calling.{structure_calls}
-use Rattle.ps_code.specs.Values.{text_length, structure_bytes, place_code, place_site, place_temporary, structure_code, front_code, arguments_code, arguments_words, arguments_end}
-use Rattle.ps_code.specs.Statements.{statement_code}
+use Rattle.ps_lower_layout.specs.Shapes.{shape_of, byte_count}
+use Rattle.ps_lower_code.specs.Scopes.{Scope, Site, held, beside, even_from, site_code, helper, copy_code, CompareBytes, link_code, formal_code}
+use Rattle.ps_lower_code.specs.Calling.{structure_calls}
+use Rattle.ps_lower_code.specs.Values.{text_length, structure_bytes, place_code, place_site, place_temporary, structure_code, front_code, arguments_code, arguments_words, arguments_end}
+use Rattle.ps_lower_code.specs.Statements.{statement_code}
 use Rattle.ps_lower.proofs.Appends.{and_then}
 use Rattle.ps_lower.proofs.Arms.{behind}
 

@@ -4,7 +4,7 @@ use Rattle.std.proofs.lemmas.List.{append-nil}
 use Rattle.tac_code.specs.declared.code.Base.TheVariants as base
 use Rattle.tac_code.specs.declared.code.Instruction.{Instruction}
 use Rattle.tac_code.specs.declared.code.Instruction.TheVariants as i
-use Rattle.ps_code.specs.Scopes.{Scope, is_outermost, hops, frame_code, frame_base, link_code}
+use Rattle.ps_lower_code.specs.Scopes.{Scope, is_outermost, hops, frame_code, frame_base, link_code}
 use Rattle.ps_lower.proofs.Appends.{and_then, unchanged}
 use Rattle.ps_lower.proofs.Arms.{behind}
 

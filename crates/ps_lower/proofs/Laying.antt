@@ -8,8 +8,8 @@ use Rattle.ps_tree.specs.declared.types.Ty.{Ty}
 use Rattle.ps_tree.specs.declared.tree.Formal.{Formal}
 use Rattle.ps_tree.specs.declared.tree.Routine.{Routine}
 use Rattle.ps_tree.specs.View.{type_of, formal_of, formals_of, routine_of}
-use Rattle.ps_layout.specs.Shapes.{shape_of}
-use Rattle.ps_layout.specs.Frames.{Kind, Own, kind_of, kinds_of, listed_kinds, variable_kinds, kind_words, words_of_all, places_from, entries, entry_offset, layout_of}
+use Rattle.ps_lower_layout.specs.Shapes.{shape_of}
+use Rattle.ps_lower_layout.specs.Frames.{Kind, Own, kind_of, kinds_of, listed_kinds, variable_kinds, kind_words, words_of_all, places_from, entries, entry_offset, layout_of}
 use Rattle.ps_lower.specs.Levels.{is_reference_at}
 use Rattle.ps_lower.specs.Tables.{spot_at, spots_from, Contents, contents_of, contents_in, AreTables}
 use Rattle.ps_lower.specs.declared.frame.Spot.{Spot}

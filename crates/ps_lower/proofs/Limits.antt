@@ -9,11 +9,11 @@ use Rattle.ps_tree.specs.Counts.{is_within_limits, are_routines_within_limits, i
 use Rattle.ps_tree.specs.Checked.{Parts, program_in}
 use Rattle.ps_tree.specs.Tree as t
 use Rattle.ps_tree.specs.View.{type_of, routine_of}
-use Rattle.ps_layout.specs.Frames.{result_kinds, listed_kinds, kinds_of, variable_kinds, words_of_all, entries, layout_of}
-use Rattle.ps_code.specs.Programs.{object_bytes}
-use Rattle.ps_bounds.proofs.Cells.{words_cells, words_both, entries_words}
-use Rattle.ps_bounds.proofs.Offsets.{routine_limits, routines_part}
-use Rattle.ps_bounds.specs.Weights.{routine_weight, AreLight}
+use Rattle.ps_lower_layout.specs.Frames.{result_kinds, listed_kinds, kinds_of, variable_kinds, words_of_all, entries, layout_of}
+use Rattle.ps_lower_code.specs.Programs.{object_bytes}
+use Rattle.ps_lower_bounds.proofs.Cells.{words_cells, words_both, entries_words}
+use Rattle.ps_lower_bounds.proofs.Offsets.{routine_limits, routines_part}
+use Rattle.ps_lower_bounds.specs.Weights.{routine_weight, AreLight}
 
 left : (a b : Bool) → (a && b) ≡ true → a ≡ true
 left true b e = refl

@@ -11,8 +11,8 @@ use Rattle.tac_code.specs.declared.code.Relation.{Relation}
 use Rattle.tac_code.specs.declared.code.Relation.TheVariants.{NotEqual}
 use Rattle.tac_code.specs.declared.code.Instruction.{Instruction}
 use Rattle.tac_code.specs.declared.code.Instruction.TheVariants as i
-use Rattle.ps_code.specs.Scopes.{Scope}
-use Rattle.ps_code.specs.Statements.{past_relation, statement_code}
+use Rattle.ps_lower_code.specs.Scopes.{Scope}
+use Rattle.ps_lower_code.specs.Statements.{past_relation, statement_code}
 use Rattle.ps_lower.specs.Loops.{bounds_code, checks_code, first_turn_code, opening_code, loop_code}
 use Rattle.ps_lower.specs.declared.turns.Control.{Control}
 use Rattle.ps_lower.specs.declared.turns.Turns.{Turns}

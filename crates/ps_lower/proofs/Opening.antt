@@ -8,10 +8,10 @@ use Rattle.ps_tree.specs.Tree as t
 use Rattle.ps_tree.specs.declared.tree.Place.{Place}
 use Rattle.ps_tree.specs.View.{place_of}
 use Rattle.tac_code.specs.declared.code.Instruction.{Instruction}
-use Rattle.ps_code.specs.Scopes.{Scope, Site as CodeSite, held}
-use Rattle.ps_code.specs.Values.{place_code, place_site, place_temporary}
-use Rattle.ps_code.specs.Statements.{within_site, with_code, with_scope, with_depth}
-use Rattle.ps_bounds.specs.Weights.{place_weight, with_weight}
+use Rattle.ps_lower_code.specs.Scopes.{Scope, Site as CodeSite, held}
+use Rattle.ps_lower_code.specs.Values.{place_code, place_site, place_temporary}
+use Rattle.ps_lower_code.specs.Statements.{within_site, with_code, with_scope, with_depth}
+use Rattle.ps_lower_bounds.specs.Weights.{place_weight, with_weight}
 use Rattle.ps_lower.specs.declared.site.Site.{Site}
 use Rattle.ps_lower.specs.Levels.{site_of, within}
 

@@ -5,10 +5,10 @@ use Rattle.ps_tree.specs.Tree as t
 use Rattle.ps_tree.specs.declared.tree.Range.{Range}
 use Rattle.ps_tree.specs.Types.{DataType}
 use Rattle.tac_code.specs.declared.code.Instruction.{Instruction}
-use Rattle.ps_code.specs.Scopes.{Scope, Site, kept, even_from, fitting_code}
-use Rattle.ps_code.specs.Calling.{selectors_call, expr_calls}
-use Rattle.ps_code.specs.Values.{literal_of, gives_byte, known_steps, index_code, name_code, name_site, selectors_code, selectors_site, place_code, place_site, place_temporary, is_byte, load_code, store_code, front_code}
-use Rattle.ps_code.specs.Statements.{expr_code, statement_code}
+use Rattle.ps_lower_code.specs.Scopes.{Scope, Site, kept, even_from, fitting_code}
+use Rattle.ps_lower_code.specs.Calling.{selectors_call, expr_calls}
+use Rattle.ps_lower_code.specs.Values.{literal_of, gives_byte, known_steps, index_code, name_code, name_site, selectors_code, selectors_site, place_code, place_site, place_temporary, is_byte, load_code, store_code, front_code}
+use Rattle.ps_lower_code.specs.Statements.{expr_code, statement_code}
 use Rattle.ps_lower.specs.Sites.{selector_code}
 use Rattle.ps_lower.proofs.Appends.{and_then}
 use Rattle.ps_lower.proofs.Arms.{behind}

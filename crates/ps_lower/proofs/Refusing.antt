@@ -8,9 +8,9 @@ use Rattle.ps_tree.specs.View.{statement_of, elements_of}
 use Rattle.ps_tree.specs.declared.tree.Statement.{Statement}
 use Rattle.tac_code.specs.declared.code.Instruction.{Instruction}
 use Rattle.tac_code.specs.declared.code.Instruction.TheVariants as i
-use Rattle.ps_code.specs.Scopes.{Scope}
-use Rattle.ps_code.specs.Values.{front_code, opposite, relation_in, left_in, right_in}
-use Rattle.ps_code.specs.Statements.{expr_code, past_relation, statement_code, statements_code, elements_code}
+use Rattle.ps_lower_code.specs.Scopes.{Scope}
+use Rattle.ps_lower_code.specs.Values.{front_code, opposite, relation_in, left_in, right_in}
+use Rattle.ps_lower_code.specs.Statements.{expr_code, past_relation, statement_code, statements_code, elements_code}
 use Rattle.ps_lower.specs.Cases.{first_tests, last_test, element_code, open_elements}
 use Rattle.ps_lower.specs.Levels.{then_code}
 use Rattle.ps_lower.specs.Loops.{bounds_code, checks_code, first_turn_code, opening_code, loop_code}

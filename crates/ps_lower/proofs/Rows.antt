@@ -5,11 +5,11 @@ use Rattle.ps_tree.specs.declared.tree.WriteParameter.{WriteParameter}
 use Rattle.ps_tree.specs.declared.tree.Statement.{Statement}
 use Rattle.ps_tree.specs.View.{write_of, statement_of, statements_of}
 use Rattle.tac_code.specs.declared.code.Instruction.{Instruction}
-use Rattle.ps_code.specs.Scopes.{Scope, RunTime, helper, held, even_from}
-use Rattle.ps_code.specs.Calling.{width_calls}
+use Rattle.ps_lower_code.specs.Scopes.{Scope, RunTime, helper, held, even_from}
+use Rattle.ps_lower_code.specs.Calling.{width_calls}
 use Rattle.ps_lower.proofs.Appends.{and_then}
 use Rattle.ps_lower.proofs.Arms.{behind}
-use Rattle.ps_code.specs.Statements.{expr_code, width_code, write_code, writes_code, statement_code, statements_code}
+use Rattle.ps_lower_code.specs.Statements.{expr_code, width_code, write_code, writes_code, statement_code, statements_code}
 
 abbrev pub writes_added : Scope → (d : ℕ) → List WriteParameter → List Instruction
 writes_added k d l = writes_code k (map write_of l) d

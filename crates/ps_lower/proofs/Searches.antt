@@ -9,7 +9,7 @@ use Rattle.ps_tree.specs.declared.tree.ArithmeticStep.{ArithmeticStep, out-Arith
 use Rattle.ps_tree.specs.declared.tree.Statement.{Statement}
 use Rattle.ps_tree.specs.declared.tree.CaseElement.{CaseElement, out-CaseElement}
 use Rattle.ps_tree.specs.View.{place_of, selector_of, selectors_of, expr_of, arithmetic_of, operands_of, statement_of, statements_of, elements_of}
-use Rattle.ps_code.specs.Calling as code
+use Rattle.ps_lower_code.specs.Calling as code
 
 -- it holds of none of the items before i
 pub record Passed {A : Type 0} (f : List A → Bool) (items : List A) (i : ℕ) : Type 0 where

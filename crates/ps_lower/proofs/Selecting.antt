@@ -6,8 +6,8 @@ use Rattle.ps_tree.specs.Tree as t
 use Rattle.ps_tree.specs.declared.tree.Selector.{Selector}
 use Rattle.ps_tree.specs.View.{selector_of, selectors_of}
 use Rattle.tac_code.specs.declared.code.Instruction.{Instruction}
-use Rattle.ps_code.specs.Scopes.{Scope, Site}
-use Rattle.ps_code.specs.Values.{selectors_code, selectors_site, is_byte_selector, is_byte_after}
+use Rattle.ps_lower_code.specs.Scopes.{Scope, Site}
+use Rattle.ps_lower_code.specs.Values.{selectors_code, selectors_site, is_byte_selector, is_byte_after}
 use Rattle.ps_lower.specs.Sites.{selector_code, selector_site}
 
 pub first_code : (k : Scope) (s : t.Selector) (rest : t.Selectors) (site : Site) (a x : ℕ) → selectors_code k (t.selector_before s rest) site a x ≡ selector_code k s site a x ++ selectors_code k rest (selector_site s site a) a x

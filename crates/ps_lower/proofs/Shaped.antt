@@ -2,7 +2,7 @@
 use Rattle.std.proofs.Common.{◌≡◌, ℕ, zero, suc, ◌-◌, ◌*◌, ◌^◌, ◌≤◌, min, refl, arith}
 use Rattle.ps_tree.specs.Types.{DataType, DataTypes, no_type, type_before, FieldList, field_list, field_types}
 use Rattle.ps_tree.specs.Sizes.{bytes, bytes_before}
-use Rattle.ps_layout.specs.Shapes.{shape_of, shapes_of, field_shapes, byte_count, words_before}
+use Rattle.ps_lower_layout.specs.Shapes.{shape_of, shapes_of, field_shapes, byte_count, words_before}
 use Rattle.ps_lower.proofs.Sizes.{words_in}
 
 pub bytes_told : (t : DataType) (n : ℕ) → n ≡ min (bytes t) (2 ^ 32 - 1) → byte_count (shape_of t) ≤ 2147483647 → n ≡ byte_count (shape_of t)

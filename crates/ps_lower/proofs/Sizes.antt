@@ -3,7 +3,7 @@ use Rattle.std.proofs.Common.{◌≡◌, ℕ, ◌-◌, ◌*◌, ◌/◌, ◌^◌
 use Rattle.std.proofs.Math.Nat.{mul_left_comm}
 use Rattle.ps_tree.specs.Types.{DataType, OrdinalType, PointerType, NilType, SetType, EmptySetType, TextType, ArrayType, RecordType, field_list, DataTypes, no_type, type_before}
 use Rattle.ps_tree.specs.Sizes.{bytes, record_bytes, field_bytes, whole_words, value_count, fits_byte}
-use Rattle.ps_layout.specs.Shapes.{Shape, ByteShape, ArrayShape, shape_of, shapes_of, word_count, word_counts, first_of}
+use Rattle.ps_lower_layout.specs.Shapes.{Shape, ByteShape, ArrayShape, shape_of, shapes_of, word_count, word_counts, first_of}
 
 times : (n w b : ℕ) → b ≡ 4 * w → n * b ≡ 4 * (n * w)
 times n w b e = ap (λ m. n * m) e ∙ mul_left_comm n 4 w

@@ -4,9 +4,9 @@ use Rattle.std.proofs.Math.Nat.{mul_left_comm}
 use Rattle.std.proofs.lemmas.Bool.Decides.{nat_tests}
 use Rattle.tac_code.specs.declared.code.Base.{Base}
 use Rattle.tac_code.specs.declared.code.Instruction.{Instruction}
-use Rattle.ps_layout.specs.Shapes.{Shape, ArrayShape, word_count, byte_count}
-use Rattle.ps_code.specs.Scopes.{Scope}
-use Rattle.ps_code.specs.Statements.{bytes_below, spread_code, first_code}
+use Rattle.ps_lower_layout.specs.Shapes.{Shape, ArrayShape, word_count, byte_count}
+use Rattle.ps_lower_code.specs.Scopes.{Scope}
+use Rattle.ps_lower_code.specs.Statements.{bytes_below, spread_code, first_code}
 
 -- ---- bytes of one value
 

@@ -9,10 +9,10 @@ use Rattle.tac_code.specs.declared.code.Base.{Base}
 use Rattle.tac_code.specs.declared.code.Instruction.{Instruction}
 use Rattle.ps_tree.specs.declared.types.Ty.{Ty}
 use Rattle.ps_tree.specs.View.{type_of, types_of}
-use Rattle.ps_layout.specs.Shapes.{Shape, ArrayShape, RecordShape, shape_of, shapes_of, word_count, byte_count}
-use Rattle.ps_bounds.specs.Weights.{first_weight}
-use Rattle.ps_code.specs.Scopes.{Scope}
-use Rattle.ps_code.specs.Statements.{spread_code, first_code, fields_code}
+use Rattle.ps_lower_layout.specs.Shapes.{Shape, ArrayShape, RecordShape, shape_of, shapes_of, word_count, byte_count}
+use Rattle.ps_lower_bounds.specs.Weights.{first_weight}
+use Rattle.ps_lower_code.specs.Scopes.{Scope}
+use Rattle.ps_lower_code.specs.Statements.{spread_code, first_code, fields_code}
 use Rattle.ps_lower.specs.declared.task.Task.{Task}
 use Rattle.ps_lower.specs.declared.task.Task.TheVariants.{FirstValue, Copies, FieldsLeft}
 use Rattle.ps_lower.proofs.Spreading.{nothing_repeated, first_repeated}

@@ -17,12 +17,12 @@ use Rattle.ps_tree.specs.declared.tree.Statement.{Statement}
 use Rattle.ps_tree.specs.declared.tree.CaseElement.{CaseElement, out-CaseElement}
 use Rattle.ps_tree.proofs.TreeLemmas.{structure_of_Contents, argument_of_Variable}
 use Rattle.ps_tree.specs.View.{place_of, structure_of, expr_of, arithmetic_of, operands_of, set_of, set_steps_of, member_of, members_of, selector_of, selectors_of, argument_of, arguments_of, read_of, write_of, statement_of, statements_of, elements_of}
-use Rattle.ps_layout.specs.Frames.{Kind, Own, Reference, Closure}
-use Rattle.ps_code.specs.Scopes.{Scope, Site, held, kept, kind_at}
-use Rattle.ps_code.specs.Calling.{steps_call, operands_call, arguments_call, places_call, statement_calls}
-use Rattle.ps_code.specs.Values.{literal_of, known_steps, element_site, entry_site, name_site, place_temporary, argument_end, argument_scratch, arguments_end}
-use Rattle.ps_code.specs.Statements.{with_scope, with_depth}
-use Rattle.ps_bounds.specs.Weights.{steps_reach, selectors_reach, steps_more, operands_more, name_reach, place_weight, selectors_weight, expr_weight, steps_weight, operands_weight, set_weight, set_steps_weight, member_weight, members_weight, structure_weight, argument_weight, arguments_weight, read_weight, reads_weight, write_weight, writes_weight, statement_weight, statements_weight, elements_weight}
+use Rattle.ps_lower_layout.specs.Frames.{Kind, Own, Reference, Closure}
+use Rattle.ps_lower_code.specs.Scopes.{Scope, Site, held, kept, kind_at}
+use Rattle.ps_lower_code.specs.Calling.{steps_call, operands_call, arguments_call, places_call, statement_calls}
+use Rattle.ps_lower_code.specs.Values.{literal_of, known_steps, element_site, entry_site, name_site, place_temporary, argument_end, argument_scratch, arguments_end}
+use Rattle.ps_lower_code.specs.Statements.{with_scope, with_depth}
+use Rattle.ps_lower_bounds.specs.Weights.{steps_reach, selectors_reach, steps_more, operands_more, name_reach, place_weight, selectors_weight, expr_weight, steps_weight, operands_weight, set_weight, set_steps_weight, member_weight, members_weight, structure_weight, argument_weight, arguments_weight, read_weight, reads_weight, write_weight, writes_weight, statement_weight, statements_weight, elements_weight}
 use Rattle.ps_lower.specs.Sites.{selector_site}
 
 -- ---- items of lists, of which the heaviest counts

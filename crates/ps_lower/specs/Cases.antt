@@ -5,8 +5,8 @@ use Rattle.tac_code.specs.declared.code.Operand.TheVariants as operand
 use Rattle.tac_code.specs.declared.code.Relation.TheVariants.{Equal, NotEqual}
 use Rattle.tac_code.specs.declared.code.Instruction.{Instruction}
 use Rattle.tac_code.specs.declared.code.Instruction.TheVariants as i
-use Rattle.ps_code.specs.Scopes.{Scope}
-use Rattle.ps_code.specs.Statements.{tests_code, statement_code}
+use Rattle.ps_lower_code.specs.Scopes.{Scope}
+use Rattle.ps_lower_code.specs.Statements.{tests_code, statement_code}
 
 -- the test of a constant behind which so many others stand
 abbrev pub test_code : ℤ → (others d : ℕ) → List Instruction

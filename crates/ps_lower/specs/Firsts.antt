@@ -8,11 +8,11 @@ use Rattle.tac_code.specs.declared.code.Base.{Base}
 use Rattle.tac_code.specs.declared.code.Base.TheVariants as base
 use Rattle.tac_code.specs.declared.code.Instruction.{Instruction}
 use Rattle.tac_code.specs.declared.code.Instruction.TheVariants.{Literal, Store}
-use Rattle.ps_layout.specs.Shapes.{Shape, ByteShape, ArrayShape, shape_of, first_of, word_count}
-use Rattle.ps_layout.specs.Frames.{Kinds, no_kind, kind_before, kind_words, words_of_all, entries, is_program_block, link_offset}
-use Rattle.ps_code.specs.Scopes.{Scope}
-use Rattle.ps_code.specs.Statements.{byte_word, spread_code, first_code}
-use Rattle.ps_code.specs.Routines.{parameter_code, parameter_words, input_code}
+use Rattle.ps_lower_layout.specs.Shapes.{Shape, ByteShape, ArrayShape, shape_of, first_of, word_count}
+use Rattle.ps_lower_layout.specs.Frames.{Kinds, no_kind, kind_before, kind_words, words_of_all, entries, is_program_block, link_offset}
+use Rattle.ps_lower_code.specs.Scopes.{Scope}
+use Rattle.ps_lower_code.specs.Statements.{byte_word, spread_code, first_code}
+use Rattle.ps_lower_code.specs.Routines.{parameter_code, parameter_words, input_code}
 
 -- the first values of variables that stand one behind another, from a word of the frame on
 abbrev pub firsts_code : Scope → (free place : ℕ) → List DataType → List Instruction

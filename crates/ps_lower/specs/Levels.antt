@@ -4,10 +4,10 @@ use Rattle.ps_tree.specs.Checked.{program_in}
 use Rattle.ps_tree.specs.Tree.{Expr, Statement}
 use Rattle.tac_code.specs.declared.code.Instruction.{Instruction}
 use Rattle.tac_code.specs.declared.code.Instruction.TheVariants.{Branch}
-use Rattle.ps_layout.specs.Frames.{Kind}
-use Rattle.ps_code.specs.Scopes.{Scope, Site as CodeSite}
-use Rattle.ps_code.specs.Values.{front_code, opposite, relation_in, left_in, right_in}
-use Rattle.ps_code.specs.Statements.{statement_code}
+use Rattle.ps_lower_layout.specs.Frames.{Kind}
+use Rattle.ps_lower_code.specs.Scopes.{Scope, Site as CodeSite}
+use Rattle.ps_lower_code.specs.Values.{front_code, opposite, relation_in, left_in, right_in}
+use Rattle.ps_lower_code.specs.Statements.{statement_code}
 use Rattle.ps_lower.specs.Tables.{is_reference}
 use Rattle.ps_lower.specs.declared.level.Level.{Level}
 use Rattle.ps_lower.specs.declared.site.Site.{Site}

@@ -7,11 +7,11 @@ use Rattle.tac_code.specs.declared.code.Base.TheVariants as base
 use Rattle.tac_code.specs.declared.code.BitOperator.TheVariants as bits
 use Rattle.tac_code.specs.declared.code.Instruction.{Instruction}
 use Rattle.tac_code.specs.declared.code.Instruction.TheVariants as i
-use Rattle.ps_layout.specs.Frames.{entry_offset}
-use Rattle.ps_code.specs.Scopes.{Scope, even_from, held, operand_of, check_code, operand_check, unless_known, routine_up}
-use Rattle.ps_code.specs.Calling.{expr_calls}
-use Rattle.ps_code.specs.Values.{literal_of}
-use Rattle.ps_code.specs.Statements.{expr_code, step_number, body_depth, for_code, statement_code}
+use Rattle.ps_lower_layout.specs.Frames.{entry_offset}
+use Rattle.ps_lower_code.specs.Scopes.{Scope, even_from, held, operand_of, check_code, operand_check, unless_known, routine_up}
+use Rattle.ps_lower_code.specs.Calling.{expr_calls}
+use Rattle.ps_lower_code.specs.Values.{literal_of}
+use Rattle.ps_lower_code.specs.Statements.{expr_code, step_number, body_depth, for_code, statement_code}
 use Rattle.ps_lower.specs.declared.turns.Control.{Control}
 use Rattle.ps_lower.specs.declared.turns.Turns.{Turns}
 

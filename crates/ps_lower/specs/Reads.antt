@@ -4,7 +4,7 @@ use Rattle.ps_tree.specs.declared.tree.Range.TheVariants.{Within}
 use Rattle.tac_code.specs.declared.code.Base.TheVariants as base
 use Rattle.tac_code.specs.declared.code.Instruction.{Instruction}
 use Rattle.tac_code.specs.declared.code.Instruction.TheVariants as i
-use Rattle.ps_code.specs.Scopes.{Scope, beside, greatest, range_code, fitting_code, ReadCharacter, ReadNumber, ReadLine, helper}
+use Rattle.ps_lower_code.specs.Scopes.{Scope, beside, greatest, range_code, fitting_code, ReadCharacter, ReadNumber, ReadLine, helper}
 
 -- a character, a number, or the rest of a line from the input whose address is in t
 abbrev pub character_taken : Scope → (low high : ℤ) → (line t : ℕ) → List Instruction

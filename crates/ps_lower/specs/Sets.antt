@@ -5,8 +5,8 @@ use Rattle.tac_code.specs.declared.code.Base.TheVariants as base
 use Rattle.tac_code.specs.declared.code.Instruction.{Instruction}
 use Rattle.tac_code.specs.declared.code.Instruction.TheVariants as i
 use Rattle.tac_code.specs.Numbers.{natural}
-use Rattle.ps_code.specs.Scopes.{Scope, Site, beside, site_code, copy_code, helper, AddRange, IsIncluded}
-use Rattle.ps_code.specs.Values.{set_routine}
+use Rattle.ps_lower_code.specs.Scopes.{Scope, Site, beside, site_code, copy_code, helper, AddRange, IsIncluded}
+use Rattle.ps_lower_code.specs.Values.{set_routine}
 
 -- the first words of the set from x on, each filled from t
 unfoldable pub filled_code : (t x words : ℕ) → List Instruction

@@ -4,9 +4,9 @@ use Rattle.ps_tree.specs.Tree.{Selector, Element, Field, Target, no_selector, se
 use Rattle.tac_code.specs.declared.code.Base.TheVariants as base
 use Rattle.tac_code.specs.declared.code.Instruction.{Instruction}
 use Rattle.tac_code.specs.declared.code.Instruction.TheVariants as i
-use Rattle.ps_code.specs.Scopes.{Scope, Site, even_from}
-use Rattle.ps_code.specs.Values.{literal_of, known_steps, index_code, selectors_site}
-use Rattle.ps_code.specs.Statements.{expr_code}
+use Rattle.ps_lower_code.specs.Scopes.{Scope, Site, even_from}
+use Rattle.ps_lower_code.specs.Values.{literal_of, known_steps, index_code, selectors_site}
+use Rattle.ps_lower_code.specs.Statements.{expr_code}
 
 abbrev pub selector_code : Scope → Selector → Site → (t x : ℕ) → List Instruction
 selector_code k (Element type e line) s t x = index_code (known_steps type (literal_of e)) type s t (even_from (suc t)) line (expr_code k e (even_from (suc t)) x)

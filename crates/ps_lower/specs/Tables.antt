@@ -3,7 +3,7 @@ use Rattle.std.specs.Prelude.{◌≡◌, ℕ, ◌+◌, ◌*◌, Bool, true, fals
 use Rattle.ps_tree.specs.Checked.{Parts, program_in}
 use Rattle.ps_tree.specs.Counts.{is_within_limits}
 use Rattle.ps_tree.specs.Tree.{Routine}
-use Rattle.ps_layout.specs.Frames.{Kind, Reference, kind_words, words_of_all, entries}
+use Rattle.ps_lower_layout.specs.Frames.{Kind, Reference, kind_words, words_of_all, entries}
 use Rattle.ps_lower.specs.declared.frame.Spot.{Spot}
 use Rattle.ps_lower.specs.declared.frame.Table.{Table}
 

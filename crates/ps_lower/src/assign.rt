@@ -1,8 +1,8 @@
 // The code of assignments.
 
 ghost use Rattle.std.specs.Prelude.{◌≡◌, ◌++◌, ◌+◌, ◌≤◌, OnOk};
-ghost use Rattle.ps_bounds.specs.Weights.{statement_weight};
-ghost use Rattle.ps_code.specs.Statements.{statement_code};
+ghost use Rattle.ps_lower_bounds.specs.Weights.{statement_weight};
+ghost use Rattle.ps_lower_code.specs.Statements.{statement_code};
 ghost use Rattle.ps_lower.specs.Levels.{scope_of};
 ghost use Rattle.ps_tree.specs.Tree as tree;
 ghost use Rattle.ps_tree.specs.View.{place_of, expr_of, structure_of, set_of};

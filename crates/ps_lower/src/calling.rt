@@ -1,7 +1,7 @@
 // Whether the code of a part of the tree calls a routine, be it of the program or of the run-time ones.
 
 ghost use Rattle.std.specs.Prelude.{◌≡◌, ◌||◌, map};
-ghost use Rattle.ps_code.specs.Calling.{place_calls, selectors_call, selector_calls, expr_calls, steps_call, operands_call, structure_calls, argument_calls, arguments_call, width_calls, places_call, statement_calls, statements_call, elements_call};
+ghost use Rattle.ps_lower_code.specs.Calling.{place_calls, selectors_call, selector_calls, expr_calls, steps_call, operands_call, structure_calls, argument_calls, arguments_call, width_calls, places_call, statement_calls, statements_call, elements_call};
 ghost use Rattle.ps_tree.specs.View.{place_of, selector_of, selectors_of, expr_of, arithmetic_of, operands_of, structure_of, argument_of, arguments_of, width_of, statement_of, statements_of, elements_of};
 
 use ps_tree::tree::{

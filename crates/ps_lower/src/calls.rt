@@ -1,11 +1,11 @@
 // Calls: their actual parameters by where these stand, and what stands behind their code.
 
 ghost use Rattle.std.specs.Prelude.{ℕ, ◌≡◌, ◌++◌, ◌+◌, ◌≤◌, ◌∷◌, [], OnOk, IfOk, if◌then◌else◌, suc, drop};
-ghost use Rattle.ps_code.specs.Calling.{argument_calls, arguments_call};
-ghost use Rattle.ps_code.specs.Scopes.{routine_up, even_from, beside, link_code, formal_code, copy_code};
-ghost use Rattle.ps_code.specs.Values.{argument_words, argument_end, argument_scratch, arguments_words, arguments_end};
-ghost use Rattle.ps_layout.specs.Frames.{entry_offset};
-ghost use Rattle.ps_layout.specs.Shapes.{shape_of, byte_count};
+ghost use Rattle.ps_lower_code.specs.Calling.{argument_calls, arguments_call};
+ghost use Rattle.ps_lower_code.specs.Scopes.{routine_up, even_from, beside, link_code, formal_code, copy_code};
+ghost use Rattle.ps_lower_code.specs.Values.{argument_words, argument_end, argument_scratch, arguments_words, arguments_end};
+ghost use Rattle.ps_lower_layout.specs.Frames.{entry_offset};
+ghost use Rattle.ps_lower_layout.specs.Shapes.{shape_of, byte_count};
 ghost use Rattle.ps_lower.specs.Levels.{scope_of};
 ghost use Rattle.ps_tree.specs.View.{type_of, argument_of, arguments_of};
 ghost use Rattle.tac_code.specs.declared.code.Base.TheVariants as base;

@@ -1,8 +1,8 @@
 // The tests of `case` elements, and the ways out of them.
 
 ghost use Rattle.std.specs.Prelude.{◌≡◌, ◌++◌, ◌∷◌, ℕ, List, [], length, OnOk, IfOk};
-ghost use Rattle.ps_code.specs.Scopes.{Scope};
-ghost use Rattle.ps_code.specs.Statements.{elements_code};
+ghost use Rattle.ps_lower_code.specs.Scopes.{Scope};
+ghost use Rattle.ps_lower_code.specs.Statements.{elements_code};
 ghost use Rattle.ps_lower.specs.Cases.{test_code, first_tests, last_test, open_elements, ends_from};
 ghost use Rattle.ps_tree.specs.Tree.{Elements};
 ghost use Rattle.tac_code.specs.declared.code.Instruction.{Instruction};

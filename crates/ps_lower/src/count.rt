@@ -1,7 +1,7 @@
 // How many temporaries the instructions of a routine name, and how many bytes of the scratch block they mean.
 
 ghost use Rattle.std.specs.Prelude.{◌≡◌, ◌+◌, suc, max};
-ghost use Rattle.ps_code.specs.Programs.{in_operand, in_base, in_list, named_in, temporaries_in, scratch_at, meant_by, scratch_in};
+ghost use Rattle.ps_lower_code.specs.Programs.{in_operand, in_base, in_list, named_in, temporaries_in, scratch_at, meant_by, scratch_in};
 
 use tac_code::code::{Base, Instruction, Operand};
 

@@ -1,7 +1,7 @@
 // Temporaries by their classes: what stays alive across a call is in an odd one, all else in an even one.
 
 ghost use Rattle.std.specs.Prelude.{◌≡◌, ◌+◌, ◌≤◌, suc, true};
-ghost use Rattle.ps_code.specs.Scopes.{even_from, held, kept, beside};
+ghost use Rattle.ps_lower_code.specs.Scopes.{even_from, held, kept, beside};
 
 /// The most that a number of the code may be, a depth among them. What the tree weighs keeps it below.
 pub const DEEPEST: u32 = 0x7FFF_FFFF;

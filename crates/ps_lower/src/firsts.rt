@@ -1,11 +1,11 @@
 // First values: as long as the text of a type, and not as its cells.
 
 ghost use Rattle.std.specs.Prelude.{◌≡◌, ◌++◌, ◌+◌, ◌*◌, ◌≤◌, ◌≤ℤ◌, ◌&&◌, pos, [], ◌∷◌, if◌then◌else◌, map, OnOk, IfOk};
-ghost use Rattle.ps_bounds.specs.Weights.{first_weight, fields_weight, firsts_weight};
-ghost use Rattle.ps_code.specs.Scopes.{beside, copy_code};
-ghost use Rattle.ps_code.specs.Statements.{bytes_below, byte_word, spread_code, zero_code, bytes_code, first_code};
-ghost use Rattle.ps_layout.specs.Frames.{variable_kinds, words_of_all};
-ghost use Rattle.ps_layout.specs.Shapes.{ByteShape, ArrayShape, RecordShape, shape_of, shapes_of, first_of, word_count, byte_count};
+ghost use Rattle.ps_lower_bounds.specs.Weights.{first_weight, fields_weight, firsts_weight};
+ghost use Rattle.ps_lower_code.specs.Scopes.{beside, copy_code};
+ghost use Rattle.ps_lower_code.specs.Statements.{bytes_below, byte_word, spread_code, zero_code, bytes_code, first_code};
+ghost use Rattle.ps_lower_layout.specs.Frames.{variable_kinds, words_of_all};
+ghost use Rattle.ps_lower_layout.specs.Shapes.{ByteShape, ArrayShape, RecordShape, shape_of, shapes_of, first_of, word_count, byte_count};
 ghost use Rattle.ps_lower.specs.Firsts.{firsts_code, whole_bytes, last_bytes, array_shape};
 ghost use Rattle.ps_lower.specs.FirstTasks.{weight, task_code, task_weight, task_reach, IsDone, IsLeft, AreLeft};
 ghost use Rattle.ps_lower.specs.Levels.{scope_of};

@@ -1,7 +1,7 @@
 // The words of variables, and where the entries of a routine's frame stand.
 
 ghost use Rattle.std.specs.Prelude.{◌≡◌, ◌≤◌};
-ghost use Rattle.ps_layout.specs.Shapes.{shape_of, word_count, byte_count};
+ghost use Rattle.ps_lower_layout.specs.Shapes.{shape_of, word_count, byte_count};
 ghost use Rattle.ps_tree.specs.View.{type_of};
 
 use ps_tree::types::Ty;

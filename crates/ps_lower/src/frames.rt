@@ -1,7 +1,7 @@
 // The frames of a program's routines, laid out once.
 
 ghost use Rattle.std.specs.Prelude.{◌≡◌, ◌+◌, ◌*◌, ◌≤◌, ◌++◌, ◌∷◌, [], length, true, map, option_map, slice_get, OnOk, IfOk};
-ghost use Rattle.ps_layout.specs.Frames.{kind_of, result_kinds, listed_kinds, kinds_of, variable_kinds, kind_words, words_of_all, entries, entry_offset, layout_of};
+ghost use Rattle.ps_lower_layout.specs.Frames.{kind_of, result_kinds, listed_kinds, kinds_of, variable_kinds, kind_words, words_of_all, entries, entry_offset, layout_of};
 ghost use Rattle.ps_lower.specs.Levels.{is_reference_at};
 ghost use Rattle.ps_lower.specs.Tables.{spot, spot_at, spots_from, contents_of, contents_in, AreTables};
 ghost use Rattle.ps_tree.specs.Checked.{program_in};

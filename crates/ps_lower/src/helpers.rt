@@ -1,8 +1,8 @@
 // Calls of run-time routines.
 
 ghost use Rattle.std.specs.Prelude.{◌≡◌, ◌++◌, ◌≤◌, ◌∷◌, [], pos, OnOk};
-ghost use Rattle.ps_code.specs.Scopes.{RunTime, CompareBytes, run_time_number, beside, helper, copy_code};
-ghost use Rattle.ps_code.specs.Values.{text_length};
+ghost use Rattle.ps_lower_code.specs.Scopes.{RunTime, CompareBytes, run_time_number, beside, helper, copy_code};
+ghost use Rattle.ps_lower_code.specs.Values.{text_length};
 ghost use Rattle.ps_lower.specs.Levels.{scope_of};
 ghost use Rattle.ps_tree.specs.View.{structure_of};
 ghost use Rattle.tac_code.specs.declared.code.Instruction.TheVariants as i;

@@ -1,7 +1,7 @@
 // What is asked of the input ahead of its use.
 
 ghost use Rattle.std.specs.Prelude.{◌≡◌, ◌++◌, ◌≤◌, ◌∷◌, [], pos, OnOk};
-ghost use Rattle.ps_code.specs.Scopes.{even_from, input_site, site_code, helper, LookAhead};
+ghost use Rattle.ps_lower_code.specs.Scopes.{even_from, input_site, site_code, helper, LookAhead};
 ghost use Rattle.ps_lower.specs.Levels.{scope_of, site_of};
 ghost use Rattle.tac_code.specs.declared.code.Instruction.TheVariants as i;
 

@@ -1,8 +1,8 @@
 // What the code of an expression is known to leave: a number, or a relation between two operands.
 
 ghost use Rattle.std.specs.Prelude.{◌≡◌, ◌+◌, ◌≤◌, suc};
-ghost use Rattle.ps_code.specs.Scopes.{is_any, has_bytes, operand_of};
-ghost use Rattle.ps_code.specs.Values.{negated, literal_of, operator_of, bit_operator_of, relation_of, pointer_relation_of, opposite, is_relation, is_truth, relation_in, left_in, right_in, gives_byte};
+ghost use Rattle.ps_lower_code.specs.Scopes.{is_any, has_bytes, operand_of};
+ghost use Rattle.ps_lower_code.specs.Values.{negated, literal_of, operator_of, bit_operator_of, relation_of, pointer_relation_of, opposite, is_relation, is_truth, relation_in, left_in, right_in, gives_byte};
 ghost use Rattle.ps_meaning.specs.Operators.{is_between};
 ghost use Rattle.ps_tree.specs.View.{expr_of};
 

@@ -1,8 +1,8 @@
 // The frames of the routines round a routine, the entries in them, and the numbers of run-time routines.
 
 ghost use Rattle.std.specs.Prelude.{◌≡◌, ◌≤◌, ◌+◌, ◌++◌, get_or, length, OnOk, IfOk};
-ghost use Rattle.ps_code.specs.Scopes.{kind_at, routine_up, is_outermost, hops, frame_code, frame_base, link_code, formal_code};
-ghost use Rattle.ps_layout.specs.Frames.{entry_offset};
+ghost use Rattle.ps_lower_code.specs.Scopes.{kind_at, routine_up, is_outermost, hops, frame_code, frame_base, link_code, formal_code};
+ghost use Rattle.ps_lower_layout.specs.Frames.{entry_offset};
 ghost use Rattle.ps_lower.specs.Levels.{scope_of, is_reference_at};
 ghost use Rattle.ps_tree.specs.Checked.{program_in};
 

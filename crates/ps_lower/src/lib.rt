@@ -1,4 +1,4 @@
-//! The lowering: the three-address code of a checked program, with the run-time routines behind it.
+//! Code: the lowering, from a checked program to three-address code with the run-time routines behind it.
 #![tactic(auto)]
 
 mod assign;

@@ -1,8 +1,8 @@
 // The lowering of a program.
 
 ghost use Rattle.std.specs.Prelude.{◌≡◌, ◌≤◌, true, map, IfOk, IfErr, OnOk};
-ghost use Rattle.ps_bounds.specs.Weights.{AreLight};
-ghost use Rattle.ps_code.specs.Programs.{tac_of, object_bytes, code_of};
+ghost use Rattle.ps_lower_bounds.specs.Weights.{AreLight};
+ghost use Rattle.ps_lower_code.specs.Programs.{tac_of, object_bytes, code_of};
 ghost use Rattle.tac_rt.specs.Bodies.{run_time_routines};
 ghost use Rattle.ps_tree.specs.Checked.{program_in};
 ghost use Rattle.ps_tree.specs.Counts.{are_small};

@@ -1,9 +1,9 @@
 // New objects.
 
 ghost use Rattle.std.specs.Prelude.{◌≡◌, ◌++◌, ◌+◌, ◌∷◌, ◌≤◌, OnOk};
-ghost use Rattle.ps_bounds.specs.Weights.{first_weight, statement_weight};
-ghost use Rattle.ps_code.specs.Statements.{first_code, statement_code};
-ghost use Rattle.ps_layout.specs.Shapes.{shape_of};
+ghost use Rattle.ps_lower_bounds.specs.Weights.{first_weight, statement_weight};
+ghost use Rattle.ps_lower_code.specs.Statements.{first_code, statement_code};
+ghost use Rattle.ps_lower_layout.specs.Shapes.{shape_of};
 ghost use Rattle.ps_lower.specs.Levels.{scope_of};
 ghost use Rattle.ps_lower.specs.Refused.{Adds};
 ghost use Rattle.ps_tree.specs.Tree as tree;

@@ -1,9 +1,9 @@
 // `with`: records are opened one after another, each within those before it.
 
 ghost use Rattle.std.specs.Prelude.{◌≡◌, ◌++◌, ◌+◌, ◌≤◌, map, OnOk, IfOk};
-ghost use Rattle.ps_bounds.specs.Weights.{place_weight, with_weight};
-ghost use Rattle.ps_code.specs.Statements.{with_code, with_scope, with_depth};
-ghost use Rattle.ps_code.specs.Values.{place_code, place_site};
+ghost use Rattle.ps_lower_bounds.specs.Weights.{place_weight, with_weight};
+ghost use Rattle.ps_lower_code.specs.Statements.{with_code, with_scope, with_depth};
+ghost use Rattle.ps_lower_code.specs.Values.{place_code, place_site};
 ghost use Rattle.ps_lower.specs.Levels.{scope_of, site_of, within};
 ghost use Rattle.ps_tree.specs.View.{place_of};
 

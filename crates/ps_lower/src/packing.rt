@@ -1,11 +1,11 @@
 // Pack and unpack.
 
 ghost use Rattle.std.specs.Prelude.{◌≡◌, ◌++◌, ◌∷◌, ◌≤◌, ◌+◌, ◌-◌, ◌*◌, ◌+ℤ◌, [], pos, Bool, OnOk};
-ghost use Rattle.ps_bounds.specs.Weights.{excess, unless, part_weight, statement_weight};
-ghost use Rattle.ps_code.specs.Scopes.{RunTime, PackBytes, UnpackBytes, run_time_number, helper};
-ghost use Rattle.ps_code.specs.Values.{is_byte_array};
-ghost use Rattle.ps_code.specs.Statements.{components_code, room_code, statement_code};
-ghost use Rattle.ps_layout.specs.Shapes.{shape_of, component_bytes};
+ghost use Rattle.ps_lower_bounds.specs.Weights.{excess, unless, part_weight, statement_weight};
+ghost use Rattle.ps_lower_code.specs.Scopes.{RunTime, PackBytes, UnpackBytes, run_time_number, helper};
+ghost use Rattle.ps_lower_code.specs.Values.{is_byte_array};
+ghost use Rattle.ps_lower_code.specs.Statements.{components_code, room_code, statement_code};
+ghost use Rattle.ps_lower_layout.specs.Shapes.{shape_of, component_bytes};
 ghost use Rattle.ps_lower.specs.Levels.{scope_of, site_of};
 ghost use Rattle.ps_meaning.specs.Expressions.{index_of};
 ghost use Rattle.ps_tree.specs.Sizes.{value_count};

@@ -1,10 +1,10 @@
 // The parameters of a routine, as they come in temporaries and go to the frame.
 
 ghost use Rattle.std.specs.Prelude.{ℕ, ◌≡◌, ◌++◌, ◌+◌, ◌*◌, ◌≤◌, [], ◌∷◌, suc, if◌then◌else◌, List, OnOk, IfOk};
-ghost use Rattle.ps_code.specs.Routines.{own_code, parameter_code, parameter_words, count_parameters};
-ghost use Rattle.ps_code.specs.Scopes.{Scope, beside, copy_code};
-ghost use Rattle.ps_layout.specs.Frames.{kind_of, kinds_of, kind_words, listed_kinds, words_of_all};
-ghost use Rattle.ps_layout.specs.Shapes.{shape_of, byte_count};
+ghost use Rattle.ps_lower_code.specs.Routines.{own_code, parameter_code, parameter_words, count_parameters};
+ghost use Rattle.ps_lower_code.specs.Scopes.{Scope, beside, copy_code};
+ghost use Rattle.ps_lower_layout.specs.Frames.{kind_of, kinds_of, kind_words, listed_kinds, words_of_all};
+ghost use Rattle.ps_lower_layout.specs.Shapes.{shape_of, byte_count};
 ghost use Rattle.ps_lower.specs.Firsts.{parameters_at};
 ghost use Rattle.ps_lower.specs.Levels.{scope_of};
 ghost use Rattle.ps_tree.specs.View.{type_of, formal_of, formals_of};

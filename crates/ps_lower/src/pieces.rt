@@ -1,8 +1,8 @@
 // The pieces of code that stand behind that of operands.
 
 ghost use Rattle.std.specs.Prelude.{◌≡◌, ◌++◌, ◌≤◌, [], ◌∷◌, pos, OnOk};
-ghost use Rattle.ps_code.specs.Scopes.{moved, range_code, check_code, fitting_code, operand_check};
-ghost use Rattle.ps_code.specs.Values.{relation_code, finish, truth_finish, function_code};
+ghost use Rattle.ps_lower_code.specs.Scopes.{moved, range_code, check_code, fitting_code, operand_check};
+ghost use Rattle.ps_lower_code.specs.Values.{relation_code, finish, truth_finish, function_code};
 ghost use Rattle.ps_tree.specs.View.{expr_of};
 ghost use Rattle.ps_tree.specs.declared.tree.RequiredFunction.TheVariants.{Abs};
 ghost use Rattle.tac_code.specs.declared.code.Instruction.TheVariants as i;

@@ -1,10 +1,10 @@
 // Variables: what reaches them, and where they stand then.
 
 ghost use Rattle.std.specs.Prelude.{◌≡◌, ◌++◌, ◌≤◌, ◌∷◌, [], ◌+◌, None, option_map, slice_get, false, OnOk, IfOk};
-ghost use Rattle.ps_code.specs.Scopes.{kind_at, frame_base, site_code};
-ghost use Rattle.ps_code.specs.Values.{field_site, reference_code, entry_site, name_code, name_site, place_temporary, element_site, index_code, is_byte_selector, is_byte_after, is_byte, load_code, store_code};
-ghost use Rattle.ps_bounds.specs.Weights.{name_reach};
-ghost use Rattle.ps_layout.specs.Shapes.{shape_of, component_bytes, field_offset};
+ghost use Rattle.ps_lower_code.specs.Scopes.{kind_at, frame_base, site_code};
+ghost use Rattle.ps_lower_code.specs.Values.{field_site, reference_code, entry_site, name_code, name_site, place_temporary, element_site, index_code, is_byte_selector, is_byte_after, is_byte, load_code, store_code};
+ghost use Rattle.ps_lower_bounds.specs.Weights.{name_reach};
+ghost use Rattle.ps_lower_layout.specs.Shapes.{shape_of, component_bytes, field_offset};
 ghost use Rattle.ps_lower.specs.Levels.{scope_of, site_of};
 ghost use Rattle.ps_lower.specs.Sites.{site_behind, site_at};
 ghost use Rattle.ps_tree.specs.View.{type_of, base_of, selector_of, selectors_of, place_of};

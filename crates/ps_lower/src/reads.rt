@@ -1,9 +1,9 @@
 // The code of read and readln.
 
 ghost use Rattle.std.specs.Prelude.{◌≡◌, ◌++◌, ◌+◌, ◌≤◌, ◌∷◌, [], pos, true, None, map, OnOk};
-ghost use Rattle.ps_bounds.specs.Weights.{read_weight, reads_weight, statement_weight};
-ghost use Rattle.ps_code.specs.Scopes.{even_from, beside, greatest, range_code, fitting_code, site_code, input_site, ReadCharacter, ReadNumber, ReadLine, helper};
-ghost use Rattle.ps_code.specs.Statements.{read_code, reads_code, statement_code};
+ghost use Rattle.ps_lower_bounds.specs.Weights.{read_weight, reads_weight, statement_weight};
+ghost use Rattle.ps_lower_code.specs.Scopes.{even_from, beside, greatest, range_code, fitting_code, site_code, input_site, ReadCharacter, ReadNumber, ReadLine, helper};
+ghost use Rattle.ps_lower_code.specs.Statements.{read_code, reads_code, statement_code};
 ghost use Rattle.ps_lower.specs.Levels.{scope_of};
 ghost use Rattle.ps_lower.specs.Reads.{character_taken, number_taken, line_taken};
 ghost use Rattle.ps_tree.specs.Tree as tree;

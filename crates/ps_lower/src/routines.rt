@@ -1,11 +1,11 @@
 // The code of routines.
 
 ghost use Rattle.std.specs.Prelude.{◌≡◌, ◌++◌, ◌+◌, ◌*◌, ◌≤◌, length, OnOk, IfOk, MatchResult, option_map};
-ghost use Rattle.ps_bounds.specs.Weights.{statements_weight, result_weight, begin_weight, routine_weight};
-ghost use Rattle.ps_code.specs.Programs.{tac_of};
-ghost use Rattle.ps_code.specs.Routines.{input_code, parameter_total, begin_code, result_end, end_code, routine_code, scope_of as scope_in};
-ghost use Rattle.ps_code.specs.Statements.{statements_code};
-ghost use Rattle.ps_layout.specs.Frames.{is_program_block, result_kinds, words_of_all, layout_of};
+ghost use Rattle.ps_lower_bounds.specs.Weights.{statements_weight, result_weight, begin_weight, routine_weight};
+ghost use Rattle.ps_lower_code.specs.Programs.{tac_of};
+ghost use Rattle.ps_lower_code.specs.Routines.{input_code, parameter_total, begin_code, result_end, end_code, routine_code, scope_of as scope_in};
+ghost use Rattle.ps_lower_code.specs.Statements.{statements_code};
+ghost use Rattle.ps_lower_layout.specs.Frames.{is_program_block, result_kinds, words_of_all, layout_of};
 ghost use Rattle.ps_lower.specs.Firsts.{result_at, head_code, words_in};
 ghost use Rattle.ps_lower.specs.Levels.{scope_of};
 ghost use Rattle.ps_lower.specs.Refused.{IsRefused, Adds};

@@ -1,8 +1,8 @@
 // Sets, each of which stands in the scratch block from a byte on, and what is made of them there.
 
 ghost use Rattle.std.specs.Prelude.{◌≡◌, ◌++◌, ◌+◌, ◌≤◌, ◌∷◌, [], pos, suc, OnOk};
-ghost use Rattle.ps_code.specs.Scopes.{even_from, moved, helper, AddRange, IsMember, run_time_number};
-ghost use Rattle.ps_code.specs.Values.{set_routine, holds_all, outside_bits, masked, joined_word, outside_code, set_check, included_code, same_sets_code, sets_code, range_members};
+ghost use Rattle.ps_lower_code.specs.Scopes.{even_from, moved, helper, AddRange, IsMember, run_time_number};
+ghost use Rattle.ps_lower_code.specs.Values.{set_routine, holds_all, outside_bits, masked, joined_word, outside_code, set_check, included_code, same_sets_code, sets_code, range_members};
 ghost use Rattle.ps_lower.specs.Levels.{scope_of, site_of};
 ghost use Rattle.ps_lower.specs.Sets.{cleared_code, offsets_code, combined_code, includes_code, numbers_below, numbers_to, lowest_bits, one_member, copied_code, kept_code};
 ghost use Rattle.tac_code.specs.declared.code.Base.TheVariants as base;

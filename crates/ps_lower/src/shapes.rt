@@ -1,10 +1,10 @@
 // How the variables of a type lie in memory.
 
 ghost use Rattle.std.specs.Prelude.{◌≡◌, ◌≤◌};
-ghost use Rattle.ps_code.specs.Values.{literal_of, steps_before, known_steps, is_byte_array};
-ghost use Rattle.ps_layout.specs.Shapes.{shape_of, byte_count, component_bytes, field_offset};
+ghost use Rattle.ps_lower_code.specs.Values.{literal_of, steps_before, known_steps, is_byte_array};
+ghost use Rattle.ps_lower_layout.specs.Shapes.{shape_of, byte_count, component_bytes, field_offset};
 ghost use Rattle.ps_meaning.specs.Expressions.{index_of};
-ghost use Rattle.ps_bounds.specs.Weights.{steps_reach};
+ghost use Rattle.ps_lower_bounds.specs.Weights.{steps_reach};
 ghost use Rattle.ps_tree.specs.Sizes.{fits_byte};
 ghost use Rattle.ps_tree.specs.View.{type_of, expr_of};
 

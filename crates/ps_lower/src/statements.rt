@@ -1,8 +1,8 @@
 // The code of statements. The scratch block holds nothing from one to the next.
 
 ghost use Rattle.std.specs.Prelude.{◌≡◌, ◌++◌, ◌+◌, ◌≤◌, ◌∷◌, [], length, map, IfOk};
-ghost use Rattle.ps_bounds.specs.Weights.{statement_weight, statements_weight, elements_weight};
-ghost use Rattle.ps_code.specs.Statements.{statement_code, statements_code};
+ghost use Rattle.ps_lower_bounds.specs.Weights.{statement_weight, statements_weight, elements_weight};
+ghost use Rattle.ps_lower_code.specs.Statements.{statement_code, statements_code};
 ghost use Rattle.ps_lower.specs.Cases.{element_code, open_elements, ends_from};
 ghost use Rattle.ps_lower.specs.Levels.{scope_of, then_code};
 ghost use Rattle.ps_lower.specs.Refused.{Adds};

@@ -1,10 +1,10 @@
 // Strings of the text, as constants of the code.
 
 ghost use Rattle.std.specs.Prelude.{◌≡◌, ◌++◌, ◌≤◌, ◌∷◌, ◌+◌, ◌*◌, ◌/◌, [], codes, OnOk};
-ghost use Rattle.ps_code.specs.Scopes.{Scope};
-ghost use Rattle.ps_code.specs.Statements.{truth_text};
-ghost use Rattle.ps_code.specs.Values.{text_length, structure_bytes};
-ghost use Rattle.ps_layout.specs.Words.{filled};
+ghost use Rattle.ps_lower_code.specs.Scopes.{Scope};
+ghost use Rattle.ps_lower_code.specs.Statements.{truth_text};
+ghost use Rattle.ps_lower_code.specs.Values.{text_length, structure_bytes};
+ghost use Rattle.ps_lower_layout.specs.Words.{filled};
 ghost use Rattle.ps_tree.specs.Tree as tree;
 ghost use Rattle.ps_tree.specs.Tree.{Place};
 ghost use Rattle.ps_tree.specs.View.{type_of, structure_of};

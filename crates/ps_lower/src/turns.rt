@@ -1,9 +1,9 @@
 // The turns of `for` statements.
 
 ghost use Rattle.std.specs.Prelude.{◌≡◌, ◌++◌, ◌+◌, ◌-◌, ◌≤◌, ◌∷◌, [], length, Bool, OnOk, IfOk};
-ghost use Rattle.ps_bounds.specs.Weights.{expr_weight};
-ghost use Rattle.ps_code.specs.Scopes.{check_code, operand_check};
-ghost use Rattle.ps_code.specs.Statements.{past_relation, step_number};
+ghost use Rattle.ps_lower_bounds.specs.Weights.{expr_weight};
+ghost use Rattle.ps_lower_code.specs.Scopes.{check_code, operand_check};
+ghost use Rattle.ps_lower_code.specs.Statements.{past_relation, step_number};
 ghost use Rattle.ps_lower.specs.Levels.{scope_of};
 ghost use Rattle.ps_tree.specs.View.{expr_of};
 ghost use Rattle.ps_lower.specs.Loops.{turns_of, bounds_code, checks_code, first_turn_code, opening_code};

@@ -2,11 +2,11 @@
 // and writes no temporary below.
 
 ghost use Rattle.std.specs.Prelude.{◌≡◌, ◌++◌, ◌+◌, ◌≤◌, suc, OnOk, IfOk};
-ghost use Rattle.ps_bounds.specs.Weights.{steps_reach, selectors_reach, place_weight, selectors_weight, expr_weight, steps_weight, operands_weight, set_weight, set_steps_weight, member_weight, members_weight, structure_weight, argument_weight, arguments_weight};
-ghost use Rattle.ps_code.specs.Scopes.{even_from, unless_known};
-ghost use Rattle.ps_layout.specs.Shapes.{shape_of, component_bytes};
-ghost use Rattle.ps_code.specs.Values.{literal_of, negated, known_steps, minus_code, front_code, steps_code, operands_code, place_code, place_site, selectors_code, selectors_site, structure_code, argument_code, arguments_code, set_code, set_steps_code, members_code, member_code};
-ghost use Rattle.ps_code.specs.Statements.{expr_code};
+ghost use Rattle.ps_lower_bounds.specs.Weights.{steps_reach, selectors_reach, place_weight, selectors_weight, expr_weight, steps_weight, operands_weight, set_weight, set_steps_weight, member_weight, members_weight, structure_weight, argument_weight, arguments_weight};
+ghost use Rattle.ps_lower_code.specs.Scopes.{even_from, unless_known};
+ghost use Rattle.ps_lower_layout.specs.Shapes.{shape_of, component_bytes};
+ghost use Rattle.ps_lower_code.specs.Values.{literal_of, negated, known_steps, minus_code, front_code, steps_code, operands_code, place_code, place_site, selectors_code, selectors_site, structure_code, argument_code, arguments_code, set_code, set_steps_code, members_code, member_code};
+ghost use Rattle.ps_lower_code.specs.Statements.{expr_code};
 ghost use Rattle.ps_lower.specs.Levels.{scope_of, site_of};
 ghost use Rattle.ps_lower.specs.Sites.{selector_code, selector_site};
 ghost use Rattle.ps_tree.specs.Tree as tree;

@@ -1,9 +1,9 @@
 // The code of write and writeln.
 
 ghost use Rattle.std.specs.Prelude.{◌≡◌, ◌++◌, ◌+◌, ◌≤◌, ◌∷◌, [], pos, map, OnOk};
-ghost use Rattle.ps_bounds.specs.Weights.{width_weight, write_weight, writes_weight};
-ghost use Rattle.ps_code.specs.Scopes.{even_from};
-ghost use Rattle.ps_code.specs.Statements.{width_code, write_code, writes_code};
+ghost use Rattle.ps_lower_bounds.specs.Weights.{width_weight, write_weight, writes_weight};
+ghost use Rattle.ps_lower_code.specs.Scopes.{even_from};
+ghost use Rattle.ps_lower_code.specs.Statements.{width_code, write_code, writes_code};
 ghost use Rattle.ps_lower.specs.Levels.{scope_of};
 ghost use Rattle.ps_tree.specs.Tree as tree;
 ghost use Rattle.ps_tree.specs.View.{expr_of, structure_of, width_of, write_of};

@@ -1,5 +1,6 @@
-// What a program means: its run, with the bytes that it writes, its looks at the input, and how it ends. The definitions
-// stand in specs/, in the order of the standard's sections; the functions here are laws about them.
+//! Definitions and laws: what a program means: the bytes that it writes, its looks at the input, and how it ends.
+//!
+//! The definitions stand in specs/, in the order of the standard's sections; the functions here are laws about them.
 #![tactic(auto)]
 
 ghost use Rattle.ps_meaning.specs.Laws.{LimitsOnlyStop, FreeNeverStops, FuelOnlyExtends, ErrorsStay};

@@ -2,7 +2,7 @@
 use Rattle.std.proofs.Common.{◌≡◌, Ok, Err, Result, Some, ap, sym, subst}
 use Rattle.std.specs.Prelude.{◌≢◌, IsErrAnd}
 use Rattle.ps_text.specs.declared.Span.{Span}
-use Rattle.ps_grammar.specs.Symbols.{Tokens}
+use Rattle.ps_parse_grammar.specs.Symbols.{Tokens}
 use Rattle.ps_parse.specs.declared.error.Fault.{Fault}
 use Rattle.ps_parse.specs.declared.error.Fault.TheVariants.{OutOfMemory}
 use Rattle.ps_parse.specs.Steps.{Outcome, Reads, left_of, and_then, pure}

@@ -3,7 +3,7 @@ use Rattle.std.proofs.Common.{◌≡◌, ℕ, ◌<◌, ◌≤◌, Bool, true, fa
 use Rattle.ps_scan.specs.declared.token.Kind.{Kind}
 use Rattle.ps_scan.specs.declared.token.Kind.TheVariants as k
 use Rattle.ps_scan.specs.Kinds.{same}
-use Rattle.ps_grammar.specs.Symbols.{Tokens}
+use Rattle.ps_parse_grammar.specs.Symbols.{Tokens}
 use Rattle.ps_parse.specs.Steps.{sees}
 use Rattle.ps_parse.proofs.Exact.{same_is}
 

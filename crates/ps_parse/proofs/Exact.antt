@@ -6,7 +6,7 @@ use Rattle.ps_scan.specs.declared.token.Token.{Token}
 use Rattle.ps_scan.specs.Kinds.{same}
 use Rattle.ps_scan.specs.contracts.token.Kind.{the_type}
 use denote.Enum.Bare.{same_true, true_same}
-use Rattle.ps_grammar.specs.Symbols.{Tokens, Symbol, nothing, token}
+use Rattle.ps_parse_grammar.specs.Symbols.{Tokens, Symbol, nothing, token}
 use Rattle.ps_parse.specs.Steps.{Outcome, Parser, and_then, sees, after, eat, accept, look, expect, refuse}
 use Rattle.ps_parse.specs.ReadExpressions.{eat_operator}
 

@@ -22,8 +22,8 @@ use Rattle.ps_syntax.specs.declared.expression.Factor.{Factor}
 use Rattle.ps_syntax.specs.declared.expression.Selector.{Selector}
 use Rattle.ps_syntax.specs.declared.expression.Selector.TheVariants as s
 use Rattle.ps_syntax.specs.declared.expression.Member.{Member}
-use Rattle.ps_grammar.specs.Symbols.{Tokens, Symbol, nothing, token, Many, Separated, none, more, one, several}
-use Rattle.ps_grammar.specs.Expressions.{IsMember, single, range, IsSelector, index, field, content, IsVariable, selected, IsFactor, variable, call, number, text, nil, empty, set, group, not, IsMultiplied, multiplied, IsTerm, term, IsAdded, added, IsSimple, plain, signed, IsExpr, alone, compare, multiplying_kind, adding_kind, relation_kind, sign_kind, factor_within, expr_within}
+use Rattle.ps_parse_grammar.specs.Symbols.{Tokens, Symbol, nothing, token, Many, Separated, none, more, one, several}
+use Rattle.ps_parse_grammar.specs.Expressions.{IsMember, single, range, IsSelector, index, field, content, IsVariable, selected, IsFactor, variable, call, number, text, nil, empty, set, group, not, IsMultiplied, multiplied, IsTerm, term, IsAdded, added, IsSimple, plain, signed, IsExpr, alone, compare, multiplying_kind, adding_kind, relation_kind, sign_kind, factor_within, expr_within}
 use Rattle.ps_parse.specs.Steps.{Parser, and_then, sees, expect, separated, many, refuse}
 use Rattle.ps_parse.specs.ReadExpressions as read
 use Rattle.ps_parse.proofs.Exact.{Exact, Perhaps, both_steps, in_steps, at_last, expect_sound, expect_complete, eat_found, eat_missed, eat_sound, operator_found, operator_missed, operator_ended, refused, operator_sound}

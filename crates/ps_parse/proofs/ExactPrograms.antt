@@ -16,9 +16,9 @@ use Rattle.ps_syntax.specs.declared.program.Routine.{Routine}
 use Rattle.ps_syntax.specs.declared.program.Routine.TheVariants as q
 use Rattle.ps_syntax.specs.declared.program.Block.{Block}
 use Rattle.ps_syntax.specs.declared.program.Program.{Program}
-use Rattle.ps_grammar.specs.Symbols.{Tokens, Symbol, token, Many, Separated, none, more, one, several}
-use Rattle.ps_grammar.specs.Statements.{IsConstant, IsSequence, statement_within}
-use Rattle.ps_grammar.specs.Programs.{name, IsNames, IsSection, value, variable, routine, IsFormals, absent, present, IsFormalList, formals, IsHeading, procedure, function, formals_within, heading_within, IsPart, without, filled, IsConstantDefinition, constant, IsTypeDefinition, definition, IsVariables, variables, IsRoutine, whole, forward, completion, IsBlock, parts, block_within, IsProgram, plain, listed, DerivesWithin, type_within}
+use Rattle.ps_parse_grammar.specs.Symbols.{Tokens, Symbol, token, Many, Separated, none, more, one, several}
+use Rattle.ps_parse_grammar.specs.Statements.{IsConstant, IsSequence, statement_within}
+use Rattle.ps_parse_grammar.specs.Programs.{name, IsNames, IsSection, value, variable, routine, IsFormals, absent, present, IsFormalList, formals, IsHeading, procedure, function, formals_within, heading_within, IsPart, without, filled, IsConstantDefinition, constant, IsTypeDefinition, definition, IsVariables, variables, IsRoutine, whole, forward, completion, IsBlock, parts, block_within, IsProgram, plain, listed, DerivesWithin, type_within}
 use Rattle.ps_parse.specs.Steps.{Parser, sees, expect, separated, many, part, if_begins, pure, refuse_from}
 use Rattle.ps_parse.specs.ReadStatements.{read_statement}
 use Rattle.ps_parse.specs.ReadStatements as st

@@ -16,9 +16,9 @@ use Rattle.ps_syntax.specs.declared.statement.Parameter.{Parameter}
 use Rattle.ps_syntax.specs.declared.statement.Statement.{Statement}
 use Rattle.ps_syntax.specs.declared.statement.Statement.TheVariants as s
 use Rattle.ps_syntax.specs.declared.statement.Element.{Element}
-use Rattle.ps_grammar.specs.Symbols.{Tokens, Symbol, token, Many, Separated, Terminated, none, one, several}
-use Rattle.ps_grammar.specs.Expressions.{sign_kind, IsSelector, IsVariable, selected, expr_within}
-use Rattle.ps_grammar.specs.Statements.{IsConstant, number, signed_number, name, signed_name, text, IsParameter, unformatted, formatted, IsElement, element, InSequence, in_sequence, IsSequence, IsStatement, empty, assign, procedure, call, compound, if_then, if_else, case, while, repeat, for, with, direction_kind, statement_within}
+use Rattle.ps_parse_grammar.specs.Symbols.{Tokens, Symbol, token, Many, Separated, Terminated, none, one, several}
+use Rattle.ps_parse_grammar.specs.Expressions.{sign_kind, IsSelector, IsVariable, selected, expr_within}
+use Rattle.ps_parse_grammar.specs.Statements.{IsConstant, number, signed_number, name, signed_name, text, IsParameter, unformatted, formatted, IsElement, element, InSequence, in_sequence, IsSequence, IsStatement, empty, assign, procedure, call, compound, if_then, if_else, case, while, repeat, for, with, direction_kind, statement_within}
 use Rattle.ps_parse.specs.Steps.{Parser, sees, accept, expect, separated, terminated, many}
 use Rattle.ps_parse.specs.ReadExpressions.{eat_operator, sign_of, selector, variable, read_expr}
 use Rattle.ps_parse.specs.ReadStatements as read

@@ -3,7 +3,7 @@ use Rattle.std.proofs.Common.{◌⊎◌, inr, subst}
 use Rattle.std.specs.Result.{result_and}
 use Rattle.std.specs.Prelude.{◌≡◌, ◌≢◌, Ok, Err, Result, IsOkAnd, IfOk, IfErr}
 use Rattle.ps_text.specs.declared.Span.{Span}
-use Rattle.ps_grammar.specs.Symbols.{Tokens}
+use Rattle.ps_parse_grammar.specs.Symbols.{Tokens}
 use Rattle.ps_parse.specs.declared.error.Fault.{Fault}
 use Rattle.ps_parse.specs.declared.error.Fault.TheVariants.{OutOfMemory}
 use Rattle.ps_parse.specs.Steps.{Outcome, Reads, left_of}

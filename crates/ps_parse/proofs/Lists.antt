@@ -2,8 +2,8 @@
 use Rattle.std.proofs.Common.{◌≡◌, ℕ, zero, suc, ◌+◌, ◌<◌, ◌≤◌, Bool, true, false, List, [], ◌∷◌, ◌++◌, length, Option, Some, None, Ok, inl, inr, refl, sym, ap, ◌∙◌, subst, arith, append_assoc, append-nil, if◌then◌else◌}
 use Rattle.ps_text.specs.declared.Span.{Span}
 use Rattle.ps_scan.specs.declared.token.Kind.{Kind}
-use Rattle.ps_grammar.specs.Symbols.{Tokens, Symbol, token, Many, Separated, Terminated, none, more, one, several, exactly, trailing}
-use Rattle.ps_grammar.specs.Programs.{IsPart, without, filled}
+use Rattle.ps_parse_grammar.specs.Symbols.{Tokens, Symbol, token, Many, Separated, Terminated, none, more, one, several, exactly, trailing}
+use Rattle.ps_parse_grammar.specs.Programs.{IsPart, without, filled}
 use Rattle.ps_parse.specs.Steps.{Parser, and_then, if_some, ◌>>=◌, pure, sees, separated, separated_from, many, many_from, terminated, terminated_from, if_begins, part}
 use Rattle.ps_parse.proofs.Exact.{Exact, ExactOption, Perhaps, at_last, both_steps, first_part, second_part, eat_found, eat_missed, eat_sound, look_is}
 

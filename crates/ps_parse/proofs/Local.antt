@@ -4,7 +4,7 @@ use Rattle.ps_text.specs.declared.Span.{Span}
 use Rattle.ps_scan.specs.declared.token.Kind.{Kind}
 use Rattle.ps_scan.specs.declared.token.Token.{Token}
 use Rattle.ps_scan.specs.Kinds.{same}
-use Rattle.ps_grammar.specs.Symbols.{Tokens}
+use Rattle.ps_parse_grammar.specs.Symbols.{Tokens}
 use Rattle.ps_parse.specs.Steps.{Outcome, Parser, and_then, first, rest, skip, sees, eat, accept, accept_one, look, expect, if_some, if_begins, pure, refuse, ◌>>=◌, ◌>>◌, ◌<$>◌}
 use Rattle.ps_parse.specs.ReadExpressions.{eat_operator, taken}
 use Rattle.ps_parse.proofs.Exact.{both_steps, first_part, second_part, expect_sound}

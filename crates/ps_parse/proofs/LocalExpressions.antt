@@ -12,7 +12,7 @@ use Rattle.ps_syntax.specs.declared.expression.Factor.{Factor}
 use Rattle.ps_syntax.specs.declared.expression.Factor.TheVariants.{Set}
 use Rattle.ps_syntax.specs.declared.expression.AddedTerm.{roll-AddedTerm}
 use Rattle.ps_syntax.specs.declared.expression.Selector.{Selector}
-use Rattle.ps_grammar.specs.Symbols.{Tokens}
+use Rattle.ps_parse_grammar.specs.Symbols.{Tokens}
 use Rattle.ps_parse.specs.Steps.{Parser, if_some, ◌>>=◌, ◌<$>◌, pure, refuse, eat, expect, separated, many}
 use Rattle.ps_parse.specs.ReadExpressions as read
 use Rattle.ps_parse.specs.ReadExpressions.{eat_operator, multiplying_of, adding_of, sign_of, relation_of, taken}

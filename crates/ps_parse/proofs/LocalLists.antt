@@ -3,7 +3,7 @@ use Rattle.std.proofs.Common.{◌≡◌, ℕ, zero, suc, ◌+◌, ◌<◌, ◌�
 use Rattle.std.proofs.lemmas.List.{append_cancel_right}
 use Rattle.ps_scan.specs.declared.token.Kind.{Kind}
 use Rattle.ps_scan.specs.declared.token.Token.{Token}
-use Rattle.ps_grammar.specs.Symbols.{Tokens}
+use Rattle.ps_parse_grammar.specs.Symbols.{Tokens}
 use Rattle.ps_parse.specs.Steps.{Outcome, Parser, and_then, first, if_some, ◌>>=◌, ◌<$>◌, pure, sees, after, eat, look, separated, separated_from, many, many_from, terminated, terminated_from, if_begins, part}
 use Rattle.ps_parse.proofs.Exact.{both_steps, second_part}
 use Rattle.ps_parse.proofs.Local.{Local, local_pure, local_bind, local_if, local_if_some, local_eat, local_look, local_if_begins, no_longer, Takes, first_takes, none_some}

@@ -17,7 +17,7 @@ use Rattle.ps_syntax.specs.declared.program.Heading.{Heading}
 use Rattle.ps_syntax.specs.declared.program.Routine.{Routine}
 use Rattle.ps_syntax.specs.declared.program.Routine.TheVariants as q
 use Rattle.ps_syntax.specs.declared.program.Block.{Block}
-use Rattle.ps_grammar.specs.Symbols.{Tokens}
+use Rattle.ps_parse_grammar.specs.Symbols.{Tokens}
 use Rattle.ps_parse.specs.Steps.{Parser, if_some, first, skip, sees, ◌>>=◌, ◌>>◌, ◌<$>◌, pure, refuse, refuse_from, accept_one, eat, accept, expect, separated, terminated, many, part, if_begins}
 use Rattle.ps_parse.specs.ReadStatements.{constant, read_statement}
 use Rattle.ps_parse.specs.ReadPrograms as read

@@ -2,7 +2,7 @@
 use Rattle.std.proofs.Common.{◌≡◌, ◌≢◌, ℕ, ◌<◌, Bool, true, false, if◌then◌else◌, List, [], ◌∷◌, ◌++◌, length, Option, Some, None, Ok, Err, Result, ap, sym, refl, ◌∙◌, arith}
 use Rattle.std.specs.Prelude.{IsOkAnd}
 use Rattle.ps_scan.specs.declared.token.Kind.{Kind}
-use Rattle.ps_grammar.specs.Symbols.{Tokens}
+use Rattle.ps_parse_grammar.specs.Symbols.{Tokens}
 use Rattle.ps_parse.specs.declared.error.Fault.{Fault}
 use Rattle.ps_parse.specs.declared.error.Fault.TheVariants.{OutOfMemory}
 use Rattle.ps_parse.specs.Steps.{Outcome, Parser, Reads, left_of, and_then, pure, sees, after, eat, look, separated, separated_from, terminated, terminated_from, many, many_from, if_begins, part}

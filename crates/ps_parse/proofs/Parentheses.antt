@@ -18,9 +18,9 @@ use Rattle.ps_syntax.specs.declared.expression.Term.{Term, roll-Term}
 use Rattle.ps_syntax.specs.declared.expression.MultipliedFactor.{MultipliedFactor}
 use Rattle.ps_syntax.specs.declared.expression.Factor.{Factor}
 use Rattle.ps_syntax.specs.declared.expression.Factor.TheVariants as f
-use Rattle.ps_grammar.specs.Groups.{inside, stripped, grouped}
-use Rattle.ps_grammar.specs.Symbols.{Tokens, token}
-use Rattle.ps_grammar.proofs.Groups.{inside_compare, inside_added, inside_multiplied, within_begins, stripped_none, stripped_group}
+use Rattle.ps_parse_grammar.specs.Groups.{inside, stripped, grouped}
+use Rattle.ps_parse_grammar.specs.Symbols.{Tokens, token}
+use Rattle.ps_parse_grammar.proofs.Groups.{inside_compare, inside_added, inside_multiplied, within_begins, stripped_none, stripped_group}
 use Rattle.ps_parse.specs.declared.error.Fault.{Fault}
 use Rattle.ps_parse.specs.Steps.{Reads, Outcome, Parser, and_then, if_some, sees, after, expect, many, many_from, ◌>>=◌, ◌>>◌, ◌<$>◌, pure}
 use Rattle.ps_parse.specs.ReadExpressions.{multiplying_of, adding_of, relation_of, is_operator, sees_operator, eat_operator, group, factor, multiplied, term_from, term, added, simple_from, simple, compared_from, compared, simple_after, expr_after, parentheses, read_expr, read_factor}

@@ -2,10 +2,10 @@
 use Rattle.std.proofs.Common.{◌≡◌, ◌≢◌, ℕ, ◌-◌, List, [], ◌∷◌, ◌++◌, length, take, drop, Ok, Err, refl, sym, ap, ◌∙◌, subst, arith, append-nil, length-append, length-drop}
 use Rattle.std.proofs.lemmas.List.{take-append-drop}
 use Rattle.ps_syntax.specs.declared.program.Program.{Program}
-use Rattle.ps_grammar.specs.Symbols.{Tokens}
-use Rattle.ps_grammar.specs.Forward.{is_forward}
-use Rattle.ps_grammar.specs.Trees.{IsTreeOf}
-use Rattle.ps_grammar.proofs.ProgramLevels.{low_is_within}
+use Rattle.ps_parse_grammar.specs.Symbols.{Tokens}
+use Rattle.ps_parse_grammar.specs.Forward.{is_forward}
+use Rattle.ps_parse_grammar.specs.Trees.{IsTreeOf}
+use Rattle.ps_parse_grammar.proofs.ProgramLevels.{low_is_within}
 use Rattle.ps_parse.specs.Steps.{Outcome, Parser, first}
 use Rattle.ps_parse.specs.ReadPrograms.{program, read_block}
 use Rattle.ps_parse.specs.Untaken.{NoneTakes, NoneTakesAt}

@@ -7,7 +7,7 @@ use Rattle.ps_syntax.specs.declared.expression.Expr.TheVariants as e
 use Rattle.ps_syntax.specs.declared.expression.Simple.{roll-Simple}
 use Rattle.ps_syntax.specs.declared.expression.Term.{roll-Term}
 use Rattle.ps_syntax.specs.declared.expression.Factor.{Factor}
-use Rattle.ps_grammar.specs.Symbols.{Tokens}
+use Rattle.ps_parse_grammar.specs.Symbols.{Tokens}
 use Rattle.ps_parse.specs.Steps.{Parser, many, many_from}
 use Rattle.ps_parse.specs.ReadExpressions.{sees_operator, multiplying_of, adding_of, relation_of, eat_operator, sign_of, multiplied, added, term, simple, compared, read_factor, read_expr, expr_after}
 

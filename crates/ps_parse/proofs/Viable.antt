@@ -4,8 +4,8 @@ use Rattle.ps_text.specs.declared.Span.{Span}
 use Rattle.ps_scan.specs.declared.token.Kind.{Kind}
 use Rattle.ps_scan.specs.declared.token.Token.{Token}
 use Rattle.ps_scan.specs.Kinds.{same}
-use Rattle.ps_grammar.specs.Symbols.{Tokens, Symbol, token, Many, Separated, Terminated, none, more, one, several, exactly, trailing}
-use Rattle.ps_grammar.specs.Programs.{IsPart, without, filled}
+use Rattle.ps_parse_grammar.specs.Symbols.{Tokens, Symbol, token, Many, Separated, Terminated, none, more, one, several, exactly, trailing}
+use Rattle.ps_parse_grammar.specs.Programs.{IsPart, without, filled}
 use Rattle.ps_parse.specs.Steps.{Outcome, Parser, and_then, if_some, first, ◌>>=◌, ◌<$>◌, pure, refuse, sees, eat, look, accept, expect, separated, separated_from, many, many_from, terminated, terminated_from, if_begins, part}
 use Rattle.ps_parse.specs.ReadExpressions.{eat_operator}
 use Rattle.ps_parse.proofs.Exact.{Perhaps, sees_cases, eat_found, eat_missed, accept_found, accept_missed, operator_found, operator_missed, operator_ended, same_is, same_self}

@@ -9,8 +9,8 @@ use Rattle.ps_syntax.specs.declared.expression.Term.{Term}
 use Rattle.ps_syntax.specs.declared.expression.Factor.{Factor}
 use Rattle.ps_syntax.specs.declared.expression.Factor.TheVariants as f
 use Rattle.ps_syntax.specs.declared.expression.Member.TheVariants as m
-use Rattle.ps_grammar.specs.Symbols.{Tokens, Symbol, token}
-use Rattle.ps_grammar.specs.Expressions.{multiplying_kind, adding_kind, relation_kind, sign_kind, IsMember, single, range, IsSelector, index, field, content, IsVariable, selected, IsFactor, variable, call, number, text, nil, empty, set, group, not, IsMultiplied, multiplied, IsTerm, term, IsAdded, added, IsSimple, plain, signed, IsExpr, alone, compare, factor_within, expr_within}
+use Rattle.ps_parse_grammar.specs.Symbols.{Tokens, Symbol, token}
+use Rattle.ps_parse_grammar.specs.Expressions.{multiplying_kind, adding_kind, relation_kind, sign_kind, IsMember, single, range, IsSelector, index, field, content, IsVariable, selected, IsFactor, variable, call, number, text, nil, empty, set, group, not, IsMultiplied, multiplied, IsTerm, term, IsAdded, added, IsSimple, plain, signed, IsExpr, alone, compare, factor_within, expr_within}
 use Rattle.ps_parse.specs.Steps.{Parser}
 use Rattle.ps_parse.specs.ReadExpressions as read
 use Rattle.ps_parse.proofs.Exact.{Perhaps}

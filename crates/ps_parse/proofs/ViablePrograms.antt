@@ -13,9 +13,9 @@ use Rattle.ps_syntax.specs.declared.program.Heading.TheVariants as h
 use Rattle.ps_syntax.specs.declared.program.Routine.{Routine}
 use Rattle.ps_syntax.specs.declared.program.Routine.TheVariants as q
 use Rattle.ps_syntax.specs.declared.program.Block.{Block, roll-Block}
-use Rattle.ps_grammar.specs.Symbols.{Tokens, Symbol, token, none, one}
-use Rattle.ps_grammar.specs.Statements.{InSequence, in_sequence, empty, statement_within}
-use Rattle.ps_grammar.specs.Programs.{name, IsNames, IsSection, value, variable, routine, IsFormals, absent, present, IsFormalList, formals, IsHeading, procedure, function, formals_within, without, IsConstantDefinition, constant, IsTypeDefinition, definition, IsVariables, variables, IsRoutine, whole, forward, completion, IsBlock, parts, block_within, IsProgram, plain, listed, type_within}
+use Rattle.ps_parse_grammar.specs.Symbols.{Tokens, Symbol, token, none, one}
+use Rattle.ps_parse_grammar.specs.Statements.{InSequence, in_sequence, empty, statement_within}
+use Rattle.ps_parse_grammar.specs.Programs.{name, IsNames, IsSection, value, variable, routine, IsFormals, absent, present, IsFormalList, formals, IsHeading, procedure, function, formals_within, without, IsConstantDefinition, constant, IsTypeDefinition, definition, IsVariables, variables, IsRoutine, whole, forward, completion, IsBlock, parts, block_within, IsProgram, plain, listed, type_within}
 use Rattle.ps_parse.specs.Steps.{Outcome, Parser, pure, refuse_from, sees, if_begins, ◌<$>◌}
 use Rattle.ps_parse.specs.ReadStatements.{read_statement}
 use Rattle.ps_parse.specs.ReadPrograms as read

@@ -17,9 +17,9 @@ use Rattle.ps_syntax.specs.declared.statement.Statement.TheOpen.{Statement-F}
 use Rattle.ps_syntax.specs.declared.statement.Statement.TheFolds.{fold-Statement, fold-roll-Statement}
 use Rattle.ps_syntax.specs.declared.statement.Element.{roll-Element}
 use Rattle.ps_syntax.specs.declared.statement.Constant.TheVariants as c
-use Rattle.ps_grammar.specs.Symbols.{Tokens, Symbol, token, Many, Separated}
-use Rattle.ps_grammar.specs.Expressions.{sign_kind, IsSelector, IsVariable, selected, expr_within}
-use Rattle.ps_grammar.specs.Statements.{IsConstant, number, signed_number, name, signed_name, text, IsParameter, unformatted, formatted, IsElement, element, InSequence, in_sequence, IsSequence, IsStatement, empty, assign, procedure, call, compound, if_then, if_else, case, while, repeat, for, with, direction_kind, statement_within}
+use Rattle.ps_parse_grammar.specs.Symbols.{Tokens, Symbol, token, Many, Separated}
+use Rattle.ps_parse_grammar.specs.Expressions.{sign_kind, IsSelector, IsVariable, selected, expr_within}
+use Rattle.ps_parse_grammar.specs.Statements.{IsConstant, number, signed_number, name, signed_name, text, IsParameter, unformatted, formatted, IsElement, element, InSequence, in_sequence, IsSequence, IsStatement, empty, assign, procedure, call, compound, if_then, if_else, case, while, repeat, for, with, direction_kind, statement_within}
 use Rattle.ps_parse.specs.Steps.{Parser, sees, accept, ◌>>=◌}
 use Rattle.ps_parse.specs.ReadExpressions.{sign_of, selector, read_expr}
 use Rattle.ps_parse.specs.ReadStatements as read

@@ -10,10 +10,10 @@ use Rattle.ps_syntax.specs.declared.program.Ordinal.TheVariants as o
 use Rattle.ps_syntax.specs.declared.program.TypeDenoter.{TypeDenoter}
 use Rattle.ps_syntax.specs.declared.program.TypeDenoter.TheVariants as t
 use Rattle.ps_syntax.specs.declared.program.Structure.TheVariants as u
-use Rattle.ps_grammar.specs.Symbols.{Tokens, Symbol, token}
-use Rattle.ps_grammar.specs.Statements.{IsConstant}
-use Rattle.ps_grammar.specs.Statements as st
-use Rattle.ps_grammar.specs.Programs.{IsName, name, IsNames, IsOrdinal, named, enumeration, subrange, IsFields, fields, IsStructure, array, empty_record, filled_record, set, IsType, ordinal, pointer, structure, packed, index_within, type_within}
+use Rattle.ps_parse_grammar.specs.Symbols.{Tokens, Symbol, token}
+use Rattle.ps_parse_grammar.specs.Statements.{IsConstant}
+use Rattle.ps_parse_grammar.specs.Statements as st
+use Rattle.ps_parse_grammar.specs.Programs.{IsName, name, IsNames, IsOrdinal, named, enumeration, subrange, IsFields, fields, IsStructure, array, empty_record, filled_record, set, IsType, ordinal, pointer, structure, packed, index_within, type_within}
 use Rattle.ps_parse.specs.Steps.{Parser, expect, ◌<$>◌}
 use Rattle.ps_parse.specs.ReadStatements.{constant}
 use Rattle.ps_parse.specs.ReadPrograms as read

@@ -2,9 +2,9 @@
 use Rattle.std.proofs.Common.{◌≡◌, ℕ, suc, ◌-◌, List, [], ◌++◌, length, take, Ok, Err, sym, ap, ◌∙◌, subst, arith, append-nil, length-append, refl}
 use Rattle.std.proofs.lemmas.List.{take_at}
 use Rattle.ps_syntax.specs.declared.program.Program.{Program}
-use Rattle.ps_grammar.specs.Symbols.{Tokens, Symbol}
-use Rattle.ps_grammar.specs.Programs.{IsProgram, block_within}
-use Rattle.ps_grammar.specs.Forward.{is_forward}
+use Rattle.ps_parse_grammar.specs.Symbols.{Tokens, Symbol}
+use Rattle.ps_parse_grammar.specs.Programs.{IsProgram, block_within}
+use Rattle.ps_parse_grammar.specs.Forward.{is_forward}
 use Rattle.ps_parse.specs.Steps.{Outcome, Parser}
 use Rattle.ps_parse.specs.ReadPrograms.{program, read_block}
 use Rattle.ps_parse.specs.Begun.{Begins, BeginsUntil}

@@ -1,11 +1,11 @@
 -- What the reading of all tokens tells.
 use Rattle.std.proofs.Common.{◌≡◌, ◌≢◌, ℕ, List, [], ◌∷◌, length, Ok, Err, refl, sym, ap, ◌∙◌, arith}
 use Rattle.ps_syntax.specs.declared.program.Program.{Program}
-use Rattle.ps_grammar.specs.Symbols.{Tokens}
-use Rattle.ps_grammar.specs.Programs.{DerivesWithin}
-use Rattle.ps_grammar.specs.Forward.{is_forward}
-use Rattle.ps_grammar.specs.Trees.{IsTreeOf}
-use Rattle.ps_grammar.proofs.ProgramLevels.{within_is_low, low_is_within}
+use Rattle.ps_parse_grammar.specs.Symbols.{Tokens}
+use Rattle.ps_parse_grammar.specs.Programs.{DerivesWithin}
+use Rattle.ps_parse_grammar.specs.Forward.{is_forward}
+use Rattle.ps_parse_grammar.specs.Trees.{IsTreeOf}
+use Rattle.ps_parse_grammar.proofs.ProgramLevels.{within_is_low, low_is_within}
 use Rattle.ps_parse.specs.Steps.{Outcome}
 use Rattle.ps_parse.specs.ReadPrograms.{program, read_block}
 use Rattle.ps_parse.proofs.Exact.{first_part, second_part}

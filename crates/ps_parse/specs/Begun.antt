@@ -1,9 +1,9 @@
 -- What a refusal tells of the tokens before the one that it is told at: they begin a program (this project's format).
 use Rattle.std.specs.Prelude.{ℕ, List, ◌++◌, take}
 use Rattle.ps_syntax.specs.declared.program.Program.{Program}
-use Rattle.ps_grammar.specs.Symbols.{Tokens}
-use Rattle.ps_grammar.specs.Programs.{Derives}
-use Rattle.ps_grammar.specs.Forward.{is_forward}
+use Rattle.ps_parse_grammar.specs.Symbols.{Tokens}
+use Rattle.ps_parse_grammar.specs.Programs.{Derives}
+use Rattle.ps_parse_grammar.specs.Forward.{is_forward}
 
 -- With some tokens behind them they derive from `program`. Of that program's height nothing is said: where a construction lies as deep as one may, only a deeper one goes on.
 abbrev pub Begins : List ℕ → Tokens → Type 0

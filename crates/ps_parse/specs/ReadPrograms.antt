@@ -24,7 +24,7 @@ use Rattle.ps_syntax.specs.declared.program.Routine.{Routine}
 use Rattle.ps_syntax.specs.declared.program.Routine.TheVariants as q
 use Rattle.ps_syntax.specs.declared.program.Block.{Block, roll-Block}
 use Rattle.ps_syntax.specs.declared.program.Program.{Program}
-use Rattle.ps_grammar.specs.Symbols.{Tokens}
+use Rattle.ps_parse_grammar.specs.Symbols.{Tokens}
 use Rattle.ps_parse.specs.Steps.{Parser, if_some, first, skip, sees, ◌>>=◌, ◌>>◌, ◌<$>◌, pure, refuse, refuse_from, eat, accept, expect, separated, terminated, many, part, if_begins}
 use Rattle.ps_parse.specs.ReadStatements.{constant, read_statement}
 

@@ -3,7 +3,7 @@ use Rattle.std.specs.Prelude.{◌≡◌, ℕ, ◌-◌, ◌≤◌, min, Bool, tru
 use Rattle.ps_text.specs.Lines.{line_at}
 use Rattle.ps_scan.specs.declared.token.Kind.{Kind}
 use Rattle.ps_scan.specs.declared.token.Kind.TheVariants as k
-use Rattle.ps_grammar.specs.Symbols.{Tokens}
+use Rattle.ps_parse_grammar.specs.Symbols.{Tokens}
 use Rattle.ps_parse.specs.Steps.{sees}
 use Rattle.ps_parse.specs.declared.error.Fault.{Fault}
 use Rattle.ps_parse.specs.declared.error.Fault.TheVariants as fault

@@ -4,7 +4,7 @@ use Rattle.ps_text.specs.declared.Span.{Span}
 use Rattle.ps_scan.specs.declared.token.Kind.{Kind}
 use Rattle.ps_scan.specs.declared.token.Token.{Token}
 use Rattle.ps_scan.specs.Kinds.{same}
-use Rattle.ps_grammar.specs.Symbols.{Tokens}
+use Rattle.ps_parse_grammar.specs.Symbols.{Tokens}
 use Rattle.ps_parse.specs.declared.error.Fault.{Fault}
 use Rattle.ps_parse.specs.declared.error.Fault.TheVariants.{OutOfMemory, Unexpected, TooDeep, NotInProfile}
 

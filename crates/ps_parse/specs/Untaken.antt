@@ -1,8 +1,8 @@
 -- What a refusal tells of the token that it is told at: it is the first that no derivation takes (this project's format).
 use Rattle.std.specs.Prelude.{◌≡◌, ℕ, ◌≤◌, List, [], ◌∷◌, ◌++◌, length, take, drop}
 use Rattle.ps_syntax.specs.declared.program.Program.{Program}
-use Rattle.ps_grammar.specs.Symbols.{Tokens}
-use Rattle.ps_grammar.specs.Trees.{IsTreeOf}
+use Rattle.ps_parse_grammar.specs.Symbols.{Tokens}
+use Rattle.ps_parse_grammar.specs.Trees.{IsTreeOf}
 use Rattle.ps_parse.specs.Refusals.{token_line}
 use Rattle.ps_parse.specs.Begun.{BeginsUntil}
 use Rattle.ps_parse.specs.declared.error.ParseRefusal.{ParseRefusal}

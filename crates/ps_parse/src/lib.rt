@@ -1,4 +1,4 @@
-//! The parser: from a text's tokens to the tree that derives from them (ISO 7185 6.2 to 6.10).
+//! Code: the parser, from a text's tokens to the tree that derives from them (ISO 7185, 6.2 to 6.10).
 #![tactic(auto)]
 
 mod answer;

@@ -6,7 +6,7 @@ ghost use Rattle.ps_syntax.specs.declared.program.Section.TheVariants as x;
 ghost use Rattle.ps_parse.specs.Steps.{Reads, many, part, if_begins};
 ghost use Rattle.ps_parse.specs.ReadStatements.{read_statement};
 ghost use Rattle.ps_parse.specs.ReadPrograms as read;
-ghost use Rattle.ps_grammar.specs.Forward.{is_forward};
+ghost use Rattle.ps_parse_grammar.specs.Forward.{is_forward};
 ghost use Rattle.ps_parse.specs.Refusals as refusals;
 
 use crate::answer::{beside, push_answer};

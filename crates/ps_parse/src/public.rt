@@ -4,7 +4,7 @@ ghost use Rattle.std.specs.Prelude.{◌≡◌, ◌≢◌, ◌-◌, ◌<◌, ◌�
 ghost use Rattle.ps_syntax.specs.declared.program.Program.{Program};
 ghost use Rattle.ps_parse.specs.declared.error.Fault.TheVariants as faults;
 ghost use Rattle.ps_parse.specs.declared.error.ParseRefusal.TheVariants.{OutOfMemory};
-ghost use Rattle.ps_grammar.specs.Trees.{IsTreeOf};
+ghost use Rattle.ps_parse_grammar.specs.Trees.{IsTreeOf};
 ghost use Rattle.ps_parse.specs.Refusals as refusals;
 ghost use Rattle.ps_parse.specs.Steps.{left_of};
 ghost use Rattle.ps_parse.specs.Begun.{BeginsUntil};
@@ -13,7 +13,7 @@ ghost use Rattle.ps_parse.specs.Refusals.{IsPlaced, token_line};
 
 use crate::error::{Fault, ParseRefusal};
 use crate::parser::Parser;
-use ps_grammar::MAX_HEIGHT;
+use ps_parse_grammar::MAX_HEIGHT;
 use ps_scan::Token;
 use ps_syntax::Program;
 use ps_text::Source;

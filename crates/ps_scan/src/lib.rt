@@ -1,4 +1,4 @@
-//! Tokens: their kinds and spans, and the scanner that finds them in a text.
+//! Code: the scanner, from a text to its tokens with their kinds and spans (ISO 7185, 6.1).
 #![tactic(auto)]
 
 mod lexeme;

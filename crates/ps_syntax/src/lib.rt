@@ -1,4 +1,6 @@
-//! The syntax tree of a program (ISO 7185 6.2 to 6.10). Names, numbers and strings are spans of the text.
+//! Code: the syntax tree of a program (ISO 7185, 6.2 to 6.10), and its height.
+//!
+//! Names, numbers and strings are spans of the text.
 //!
 //! Contracts see a tree as plain data: its lists are `Items` and its single children `Boxed`, which
 //! have no pointer and no capacity in their value, so that two trees that read alike are equal.

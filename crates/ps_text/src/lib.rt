@@ -1,4 +1,4 @@
-//! Source texts: bytes within the limits, spans of them, and their lines.
+//! Code: source texts within the limits, spans of them, and their lines.
 #![tactic(auto)]
 
 ghost use Rattle.std.specs.Prelude.{◌≡◌, ◌<◌, ◌≤◌, ◌+◌, ◌↔◌, ℕ, List, IsTrue, length, slice_range, IfOk, IsOk};

@@ -1,4 +1,4 @@
-// The types of a program, and its checked tree, in which every name is resolved.
+//! Code: the types of a program, and its checked tree, in which every name is resolved.
 #![tactic(auto)]
 
 pub mod characters;

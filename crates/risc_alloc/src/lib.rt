@@ -1,4 +1,4 @@
-// Placement: a home for each temporary of three-address code, and the test that what is alive keeps its home to itself.
+//! Code: homes for the temporaries of three-address code, and the test that what is alive has its home to itself.
 #![tactic(auto)]
 
 mod claims;

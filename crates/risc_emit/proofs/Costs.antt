@@ -3,7 +3,7 @@ use Rattle.std.proofs.Common.{◌≡◌, ℕ, ◌+◌, ◌*◌, ◌<◌, true, c
 use Rattle.tac_code.specs.Meaning.{Code, routines}
 use Rattle.tac_code.specs.Sound.{IsSound}
 use Rattle.risc_alloc.specs.Homes.{temporaries_in}
-use Rattle.risc_runs.proofs.Built.{sound_routine}
+use Rattle.risc_emit_laws.proofs.Built.{sound_routine}
 use Rattle.risc_emit.specs.Layout.{frame_in, scratch_in, slots_at, used, frame_cost}
 use Rattle.risc_emit.proofs.Places.{get_there}
 

@@ -6,17 +6,17 @@ use Rattle.tac_code.specs.Sound.{IsSound}
 use Rattle.risc_alloc.specs.declared.homes.Home.{Home}
 use Rattle.risc_alloc.specs.Homes.{temporaries_in}
 use Rattle.risc_alloc.specs.Valid.{Valid}
-use Rattle.risc_view.specs.View.{IsAt}
+use Rattle.risc_machine_laws.specs.View.{IsAt}
 use Rattle.risc_image.specs.Image.{Image, IsWellFormed}
-use Rattle.risc_steps.specs.Pieces.{Piece, instr_at}
-use Rattle.risc_runs.specs.Plan as plan
-use Rattle.risc_runs.specs.Plan.{context}
-use Rattle.risc_runs.specs.Emits.{Emits}
-use Rattle.risc_runs.specs.Drawn.{program_pieces, entry_place, site_place, frame_rows_of, object_rows_of, IsTabled, IsTexted, IsDrawn}
-use Rattle.risc_runs.proofs.Drawn.{drawn_emits}
-use Rattle.risc_runs.proofs.Formed.{formed}
-use Rattle.risc_runs.proofs.Charged.{frames_charged, objects_charged}
-use Rattle.risc_runs.proofs.Texts.{texts_placed}
+use Rattle.risc_emit_forms.specs.Pieces.{Piece, instr_at}
+use Rattle.risc_emit_laws.specs.Plan as plan
+use Rattle.risc_emit_laws.specs.Plan.{context}
+use Rattle.risc_emit_laws.specs.Emits.{Emits}
+use Rattle.risc_emit_laws.specs.Drawn.{program_pieces, entry_place, site_place, frame_rows_of, object_rows_of, IsTabled, IsTexted, IsDrawn}
+use Rattle.risc_emit_laws.proofs.Drawn.{drawn_emits}
+use Rattle.risc_emit_laws.proofs.Formed.{formed}
+use Rattle.risc_emit_laws.proofs.Charged.{frames_charged, objects_charged}
+use Rattle.risc_emit_laws.proofs.Texts.{texts_placed}
 use Rattle.risc_emit.specs.Layout.{frame_in, scratch_in, frame_cost, object_cost, object_cost_in, used, laid_out}
 use Rattle.risc_emit.proofs.Laid.{plan_of, alike_laid, is_laid, parameters_first, cost_program, offsets_program}
 

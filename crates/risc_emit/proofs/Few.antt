@@ -7,7 +7,7 @@ use Rattle.tac_code.specs.declared.check.Limits.{Limits}
 use Rattle.tac_code.specs.Meaning.{Code, routines}
 use Rattle.tac_code.specs.Sound.{IsSound, IsSoundAt, limits_of}
 use Rattle.risc_emit.specs.Passes.{PassesFew}
-use Rattle.risc_runs.proofs.Built.{sound_routine}
+use Rattle.risc_emit_laws.proofs.Built.{sound_routine}
 
 few_at : (l : Limits) (k : ℕ) (i : Instruction) → IsSoundAt l k i → PassesFew i
 few_at l k (Call t r list line) s = s.2.0

@@ -1,7 +1,7 @@
 -- Parts appended one after the other, of which the second hangs on the register that the first tells.
 use Rattle.std.proofs.Common.{◌≡◌, ℕ, ℤ, List, ◌++◌, Result, Ok, Err, OnOk, ap, ◌∙◌}
 use Rattle.std.proofs.lemmas.List.{append_assoc, map-append}
-use Rattle.risc_steps.specs.Pieces.{Piece}
+use Rattle.risc_emit_forms.specs.Pieces.{Piece}
 use Rattle.risc_emit.specs.declared.pieces.Piece.{Piece as Word}
 use Rattle.risc_emit.specs.Meant.{meant, all_meant}
 

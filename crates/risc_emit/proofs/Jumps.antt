@@ -1,7 +1,7 @@
 -- The places that a body's instructions jump to: one instruction more is marked.
 use Rattle.std.proofs.Common.{◌≡◌, ℕ, suc, ◌+◌, ◌≤◌, Bool, List, length, drop, Some, slice_get, sym, ap, ◌∙◌, subst, arith}
 use Rattle.tac_code.specs.declared.code.Instruction.{Instruction}
-use Rattle.risc_steps.specs.Told.{jump_of, set_in, marked}
+use Rattle.risc_emit_forms.specs.Told.{jump_of, set_in, marked}
 use Rattle.risc_emit.proofs.Rows.{drop_get, drop_past}
 
 pub marked_more : (body : List Instruction) (place : ℕ) (i : Instruction) (marks more all : List Bool) → slice_get body place ≡ Some i → more ≡ set_in (jump_of i place) marks → marked (drop place body) place marks ≡ all → marked (drop (place + 1) body) (place + 1) more ≡ all

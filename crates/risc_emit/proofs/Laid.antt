@@ -7,12 +7,12 @@ use Rattle.risc_alloc.specs.declared.homes.Home.{Home}
 use Rattle.risc_alloc.specs.Homes.{temporaries_in}
 use Rattle.risc_alloc.specs.Valid.{Valid}
 use Rattle.risc_image.specs.Image.{Image}
-use Rattle.risc_related.specs.Context.{is_program}
-use Rattle.risc_runs.specs.Plan as plan
-use Rattle.risc_runs.specs.Plan.{Plan, context}
-use Rattle.risc_runs.specs.Emits.{IsLaidOut}
-use Rattle.risc_runs.specs.Drawn.{Alike}
-use Rattle.risc_runs.proofs.Built.{sound_routine}
+use Rattle.risc_emit_relation.specs.Context.{is_program}
+use Rattle.risc_emit_laws.specs.Plan as plan
+use Rattle.risc_emit_laws.specs.Plan.{Plan, context}
+use Rattle.risc_emit_laws.specs.Emits.{IsLaidOut}
+use Rattle.risc_emit_laws.specs.Drawn.{Alike}
+use Rattle.risc_emit_laws.proofs.Built.{sound_routine}
 use Rattle.risc_emit.specs.Layout.{routine_at, frame_in, scratch_in, link_at, slots_at, frame_at, scratch_at, used, frame_cost, object_cost_in, laid_out}
 
 -- the plan with this layout

@@ -2,10 +2,10 @@
 use Rattle.std.proofs.Common.{◌≡◌, ℕ, ◌+◌, ◌<◌, Bool, true, nat_lt, List, ◌++◌, length, length-append, take, Some, slice_get, ap, arith}
 use Rattle.tac_code.specs.declared.code.TacRoutine.{TacRoutine}
 use Rattle.tac_code.specs.Meaning.{routines}
-use Rattle.risc_related.specs.Context.{Context}
-use Rattle.risc_steps.specs.Pieces.{Piece}
-use Rattle.risc_steps.specs.Forms.{entry_form}
-use Rattle.risc_runs.specs.Drawn.{body_pieces, program_pieces, entry_place, body_texts, routines_texts}
+use Rattle.risc_emit_relation.specs.Context.{Context}
+use Rattle.risc_emit_forms.specs.Pieces.{Piece}
+use Rattle.risc_emit_forms.specs.Forms.{entry_form}
+use Rattle.risc_emit_laws.specs.Drawn.{body_pieces, program_pieces, entry_place, body_texts, routines_texts}
 use Rattle.risc_emit.specs.declared.marks.Mark.{Mark}
 use Rattle.risc_emit.proofs.Places.{site_low, text_low}
 use Rattle.risc_emit.proofs.Drafting.{Drafted}

@@ -6,9 +6,9 @@ use Rattle.tac_code.specs.declared.code.Operand.{Operand}
 use Rattle.risc_word.specs.declared.instr.Condition.TheVariants as on
 use Rattle.risc_word.specs.declared.instr.Operation.TheVariants as op
 use Rattle.risc_word.specs.declared.instr.Instr.TheVariants as word
-use Rattle.risc_related.specs.Context.{Context, home}
-use Rattle.risc_steps.specs.Pieces.{Piece, Plain, Fails}
-use Rattle.risc_steps.specs.Forms.{form, skip, fetch, fetched, target, save, receive, right, right_operand, both, rounded, is_divisor, divisor, quotient, quotient_by_negative, divide_form}
+use Rattle.risc_emit_relation.specs.Context.{Context, home}
+use Rattle.risc_emit_forms.specs.Pieces.{Piece, Plain, Fails}
+use Rattle.risc_emit_forms.specs.Forms.{form, skip, fetch, fetched, target, save, receive, right, right_operand, both, rounded, is_divisor, divisor, quotient, quotient_by_negative, divide_form}
 
 -- a first part, and all that comes behind it
 pub then_all : {X E : Type 0} (r : Result X E) (p0 p1 p2 first rest : List Piece) → p1 ≡ p0 ++ first → OnOk r (p2 ≡ p1 ++ rest) → OnOk r (p2 ≡ p0 ++ (first ++ rest))

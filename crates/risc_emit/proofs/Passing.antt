@@ -1,9 +1,9 @@
 -- One parameter or operand more is one fewer left.
 use Rattle.std.proofs.Common.{◌≡◌, ℕ, suc, ◌+◌, ◌-◌, ◌<◌, List, ◌++◌, slice_index, ap, ◌∙◌, subst, arith}
 use Rattle.std.proofs.lemmas.List.{append_assoc}
-use Rattle.risc_related.specs.Context.{Context, home}
-use Rattle.risc_steps.specs.Pieces.{Piece}
-use Rattle.risc_steps.specs.Forms.{carry_one, carry, spill_one, spill, parameter, parameters}
+use Rattle.risc_emit_relation.specs.Context.{Context, home}
+use Rattle.risc_emit_forms.specs.Pieces.{Piece}
+use Rattle.risc_emit_forms.specs.Forms.{carry_one, carry, spill_one, spill, parameter, parameters}
 
 module _ (c : Context) (r : ℕ) where
   next : (j : ℕ) → suc j ≡ j + 1

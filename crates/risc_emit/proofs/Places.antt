@@ -4,12 +4,12 @@ use Rattle.tac_code.specs.declared.code.Instruction.{Instruction}
 use Rattle.tac_code.specs.declared.code.TacRoutine.{TacRoutine}
 use Rattle.tac_code.specs.Meaning.{Code, routines}
 use Rattle.risc_alloc.specs.declared.homes.Home.{Home}
-use Rattle.risc_related.specs.Context.{Context}
-use Rattle.risc_related.proofs.Basics.{get_within}
-use Rattle.risc_steps.specs.Pieces.{AtPlace, AtEntry, AtText}
-use Rattle.risc_steps.specs.Forms.{form, entry_form}
-use Rattle.risc_runs.specs.Drawn.{body_pieces, routine_pieces, routines_pieces, start_pieces, program_pieces, entry_place, site_place, instruction_texts, body_texts, routines_texts, text_place}
-use Rattle.risc_runs.proofs.Drawn.{routine_step}
+use Rattle.risc_emit_relation.specs.Context.{Context}
+use Rattle.risc_emit_relation.proofs.Basics.{get_within}
+use Rattle.risc_emit_forms.specs.Pieces.{AtPlace, AtEntry, AtText}
+use Rattle.risc_emit_forms.specs.Forms.{form, entry_form}
+use Rattle.risc_emit_laws.specs.Drawn.{body_pieces, routine_pieces, routines_pieces, start_pieces, program_pieces, entry_place, site_place, instruction_texts, body_texts, routines_texts, text_place}
+use Rattle.risc_emit_laws.proofs.Drawn.{routine_step}
 use Rattle.risc_emit.specs.declared.marks.Mark.{Mark}
 use Rattle.risc_emit.specs.declared.marks.Marks.{Marks}
 use Rattle.risc_emit.specs.Layout.{laid_out}

@@ -3,14 +3,14 @@ use Rattle.std.proofs.Common.{◌≡◌, ℕ, zero, suc, ◌+◌, ◌*◌, ◌<�
 use Rattle.std.proofs.lemmas.List.{append-nil, append_assoc}
 use Rattle.tac_code.specs.declared.code.TacRoutine.{TacRoutine}
 use Rattle.risc_word.specs.Words.{Denotes}
-use Rattle.risc_view.specs.View.{IsAt}
+use Rattle.risc_machine_laws.specs.View.{IsAt}
 use Rattle.risc_image.specs.declared.rows.FrameRow.{FrameRow}
 use Rattle.risc_image.specs.declared.rows.ObjectRow.{ObjectRow}
 use Rattle.risc_image.specs.declared.rows.TrapRow.{TrapRow}
 use Rattle.risc_image.specs.declared.rows.CallRow.{CallRow}
-use Rattle.risc_related.specs.Context.{Context}
-use Rattle.risc_steps.specs.Pieces.{instr_at}
-use Rattle.risc_runs.specs.Drawn.{entry_place, trap_row_of, trap_rows_of, call_row_of, call_rows_of, frame_rows_of, object_rows_of}
+use Rattle.risc_emit_relation.specs.Context.{Context}
+use Rattle.risc_emit_forms.specs.Pieces.{instr_at}
+use Rattle.risc_emit_laws.specs.Drawn.{entry_place, trap_row_of, trap_rows_of, call_row_of, call_rows_of, frame_rows_of, object_rows_of}
 use Rattle.risc_emit.specs.declared.pieces.Piece.{Piece}
 use Rattle.risc_emit.specs.Meant.{meant, all_meant}
 use Rattle.risc_emit.specs.Placed.{AreWordsTo}

@@ -4,10 +4,10 @@ use Rattle.tac_code.specs.declared.code.Instruction.{Instruction}
 use Rattle.tac_code.specs.declared.code.TacRoutine.{TacRoutine}
 use Rattle.tac_code.specs.declared.code.Instruction.TheVariants.{Literal, Copy, Arithmetic, Bits, Compare, CheckRange, CheckPointer, Text, Offset, Index, RoutineValue, Load, Store, LoadByte, StoreByte, Jump, JumpBack, Branch, BranchBack, Call, CallValue, Return, Trap, Take, Put, New, End}
 use Rattle.tac_code.specs.Meaning.{routines, fetch}
-use Rattle.risc_steps.proofs.Flags.{bent_load_is}
+use Rattle.risc_emit_forms.proofs.Flags.{bent_load_is}
 use Rattle.risc_emit.specs.Passes.{LoadsNear}
-use Rattle.risc_related.specs.Context.{Context}
-use Rattle.risc_steps.specs.Told.{jumped, told, told_in, told_at, bend, bent, bent_in, bent_at}
+use Rattle.risc_emit_relation.specs.Context.{Context}
+use Rattle.risc_emit_forms.specs.Told.{jumped, told, told_in, told_at, bend, bent, bent_in, bent_at}
 
 pub told_here : (c : Context) (r k : ℕ) (routine : TacRoutine) (body : List Instruction) (t : Option ℕ) → slice_get (routines c.code) r ≡ Some routine → body ≡ routine.body → t ≡ told body k → t ≡ told_at c r k
 told_here c r k routine body t own same is =

@@ -3,7 +3,7 @@ use Rattle.std.proofs.Common.{◌≡◌, ℕ, zero, suc, ◌+◌, ◌*◌, ◌/�
 use Rattle.std.specs.Int.{w32, from_le_bytes, cast_unsigned, cast_signed}
 use Rattle.std.proofs.lemmas.Int.{of_z-to_z}
 use Rattle.std.proofs.lemmas.List.{append-nil}
-use Rattle.risc_runs.specs.Drawn.{text_words}
+use Rattle.risc_emit_laws.specs.Drawn.{text_words}
 
 -- what four bytes spell
 abbrev pub spelled : (a b c d : ℕ) → ℕ

@@ -6,15 +6,15 @@ use Rattle.tac_code.specs.Meaning.{Code, routines}
 use Rattle.tac_code.specs.Sound.{IsSound}
 use Rattle.risc_alloc.specs.declared.homes.Home.{Home}
 use Rattle.risc_alloc.specs.Valid.{Valid}
-use Rattle.risc_view.specs.View.{IsAt}
+use Rattle.risc_machine_laws.specs.View.{IsAt}
 use Rattle.risc_image.specs.Image.{Image, IsWellFormed}
-use Rattle.risc_related.specs.Context.{Context}
-use Rattle.risc_related.proofs.Basics.{get_within}
-use Rattle.risc_steps.specs.Pieces as piece
-use Rattle.risc_steps.specs.Pieces.{AtPlace, AtEntry, AtText, Plain, Goes, Fails, Enters, Joins, EntersAt, High, Low, instr_at}
-use Rattle.risc_runs.specs.Plan.{context}
-use Rattle.risc_runs.specs.Emits.{Emits}
-use Rattle.risc_runs.specs.Drawn.{program_pieces, trap_rows_of, call_rows_of, frame_rows_of, object_rows_of, routines_texts, text_place, IsTabled}
+use Rattle.risc_emit_relation.specs.Context.{Context}
+use Rattle.risc_emit_relation.proofs.Basics.{get_within}
+use Rattle.risc_emit_forms.specs.Pieces as piece
+use Rattle.risc_emit_forms.specs.Pieces.{AtPlace, AtEntry, AtText, Plain, Goes, Fails, Enters, Joins, EntersAt, High, Low, instr_at}
+use Rattle.risc_emit_laws.specs.Plan.{context}
+use Rattle.risc_emit_laws.specs.Emits.{Emits}
+use Rattle.risc_emit_laws.specs.Drawn.{program_pieces, trap_rows_of, call_rows_of, frame_rows_of, object_rows_of, routines_texts, text_place, IsTabled}
 use Rattle.risc_emit.specs.declared.pieces.Piece.{Piece}
 use Rattle.risc_emit.specs.declared.marks.Marks.{Marks}
 use Rattle.risc_emit.specs.Layout.{object_cost_in, laid_out}

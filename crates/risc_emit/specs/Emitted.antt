@@ -4,8 +4,8 @@ use Rattle.tac_code.specs.declared.code.TacRoutine.{TacRoutine}
 use Rattle.tac_code.specs.Meaning.{Code, routines, size}
 use Rattle.risc_alloc.specs.declared.homes.Home.{Home}
 use Rattle.risc_image.specs.Image.{Image}
-use Rattle.risc_runs.specs.Plan.{frame_cost, object_cost}
-use Rattle.risc_runs.specs.Drawn.{program_pieces, routines_texts}
+use Rattle.risc_emit_laws.specs.Plan.{frame_cost, object_cost}
+use Rattle.risc_emit_laws.specs.Drawn.{program_pieces, routines_texts}
 use Rattle.risc_emit.specs.Layout.{laid_out}
 
 -- the words of the pieces, and then those of the constants

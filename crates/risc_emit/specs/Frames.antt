@@ -4,7 +4,7 @@ use Rattle.tac_code.specs.Meaning.{Code, routines}
 use Rattle.risc_alloc.specs.declared.homes.Home.{Home}
 use Rattle.risc_alloc.specs.declared.homes.Home.TheVariants.{Reg}
 use Rattle.risc_alloc.specs.Homes.{homes_of}
-use Rattle.risc_related.specs.Context.{Context}
+use Rattle.risc_emit_relation.specs.Context.{Context}
 use Rattle.risc_emit.specs.declared.frame.Offsets.{Offsets}
 use Rattle.risc_emit.specs.Layout.{laid_out, link_at, slots_at, frame_at, scratch_at, frame_cost}
 

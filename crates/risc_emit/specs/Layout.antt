@@ -6,7 +6,7 @@ use Rattle.tac_code.specs.declared.code.TacRoutine.{TacRoutine}
 use Rattle.tac_code.specs.Meaning.{Code, routines}
 use Rattle.risc_alloc.specs.declared.homes.Home.{Home}
 use Rattle.risc_alloc.specs.Homes.{temporaries_in}
-use Rattle.risc_related.specs.Context.{Context}
+use Rattle.risc_emit_relation.specs.Context.{Context}
 
 abbrev pub is_of_program : Code → ℕ → Bool
 is_of_program code r = nat_lt r (length code.program)

@@ -2,8 +2,8 @@
 use Rattle.std.specs.Prelude.{◌≡◌, ℕ, suc, ◌≤◌, List, length, slice_get, Some}
 use Rattle.tac_code.specs.declared.code.TacRoutine.{TacRoutine}
 use Rattle.tac_code.specs.Meaning.{routines}
-use Rattle.risc_related.specs.Context.{Context}
-use Rattle.risc_runs.specs.Drawn.{entry_place, site_place, text_place}
+use Rattle.risc_emit_relation.specs.Context.{Context}
+use Rattle.risc_emit_laws.specs.Drawn.{entry_place, site_place, text_place}
 use Rattle.risc_emit.specs.declared.marks.Mark.{Mark}
 use Rattle.risc_emit.specs.declared.marks.Marks.{Marks}
 

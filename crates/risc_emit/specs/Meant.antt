@@ -2,8 +2,8 @@
 use Rattle.std.specs.Prelude.{suc, ◌+◌, ◌-◌, List, map}
 use Rattle.risc_alloc.specs.declared.homes.Home.{Home}
 use Rattle.risc_alloc.specs.declared.homes.Home.TheVariants as home
-use Rattle.risc_steps.specs.Pieces as piece
-use Rattle.risc_steps.specs.Pieces.{AtPlace, AtEntry, AtText}
+use Rattle.risc_emit_forms.specs.Pieces as piece
+use Rattle.risc_emit_forms.specs.Pieces.{AtPlace, AtEntry, AtText}
 use Rattle.risc_emit.specs.declared.pieces.Label.{Label}
 use Rattle.risc_emit.specs.declared.pieces.Label.TheVariants.{Forward, Back, Entry, Text}
 use Rattle.risc_emit.specs.declared.pieces.Piece.{Piece}

@@ -1,8 +1,8 @@
 -- Where labels lead, by the marks of a draft. A label that leads nowhere has place 0.
 use Rattle.std.specs.Prelude.{◌≡◌, ℕ, ◌+◌, ◌<◌, ◌≤◌, List, [], ◌++◌, length, slice_get, Option, Some, None}
-use Rattle.risc_view.specs.View.{IsAt}
-use Rattle.risc_related.specs.Context.{Context}
-use Rattle.risc_steps.specs.Pieces.{Label, label_place, instr_at}
+use Rattle.risc_machine_laws.specs.View.{IsAt}
+use Rattle.risc_emit_relation.specs.Context.{Context}
+use Rattle.risc_emit_forms.specs.Pieces.{Label, label_place, instr_at}
 use Rattle.risc_emit.specs.declared.pieces.Piece.{Piece}
 use Rattle.risc_emit.specs.Meant.{meant}
 use Rattle.risc_emit.specs.declared.marks.Mark.{Mark}

@@ -1,8 +1,8 @@
 // Where a register is short of the offset of a block: between an index and the load by it.
 
 ghost use Rattle.std.specs.Prelude.{◌≡◌, ◌<◌, slice_get, Some, IfSome};
-ghost use Rattle.risc_related.specs.Context.{home};
-ghost use Rattle.risc_steps.specs.Told.{jumped, block_at, bend_in, bend_load, bend, bent};
+ghost use Rattle.risc_emit_relation.specs.Context.{home};
+ghost use Rattle.risc_emit_forms.specs.Told.{jumped, block_at, bend_in, bend_load, bend, bent};
 ghost use Rattle.risc_emit.specs.Frames.{context_of};
 
 use crate::frame::Frame;

@@ -1,9 +1,9 @@
 // The words of each instruction.
 
 ghost use Rattle.std.specs.Prelude.{◌≡◌, suc, ◌++◌, OnOk};
-ghost use Rattle.risc_related.specs.Context.{home};
-ghost use Rattle.risc_steps.specs.Told.{told_at, bent_at};
-ghost use Rattle.risc_steps.specs.Forms as form;
+ghost use Rattle.risc_emit_relation.specs.Context.{home};
+ghost use Rattle.risc_emit_forms.specs.Told.{told_at, bent_at};
+ghost use Rattle.risc_emit_forms.specs.Forms as form;
 ghost use Rattle.risc_emit.specs.Frames.{context_of};
 ghost use Rattle.risc_emit.specs.Meant.{label_of};
 ghost use Rattle.risc_emit.specs.Passes.{PassesFew, LoadsNear};

@@ -5,9 +5,9 @@ ghost use Rattle.risc_word.specs.declared.instr.Operation.TheVariants as op;
 ghost use Rattle.risc_word.specs.declared.instr.Operand.TheVariants.{Content};
 ghost use Rattle.risc_word.specs.declared.instr.Width.TheVariants.{Word};
 ghost use Rattle.risc_word.specs.declared.instr.Instr.TheVariants as word;
-ghost use Rattle.risc_related.specs.Context.{home};
-ghost use Rattle.risc_steps.specs.Pieces as piece;
-ghost use Rattle.risc_steps.specs.Forms as form;
+ghost use Rattle.risc_emit_relation.specs.Context.{home};
+ghost use Rattle.risc_emit_forms.specs.Pieces as piece;
+ghost use Rattle.risc_emit_forms.specs.Forms as form;
 ghost use Rattle.risc_emit.specs.Frames.{context_of};
 
 use crate::frame::Frame;

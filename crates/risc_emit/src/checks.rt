@@ -2,9 +2,9 @@
 
 ghost use Rattle.std.specs.Prelude.{◌≡◌, ◌++◌, [], ◌∷◌, OnOk, IfOk};
 ghost use Rattle.risc_word.specs.declared.instr.Condition.TheVariants as on;
-ghost use Rattle.risc_related.specs.Context.{home};
-ghost use Rattle.risc_steps.specs.Pieces as piece;
-ghost use Rattle.risc_steps.specs.Forms as form;
+ghost use Rattle.risc_emit_relation.specs.Context.{home};
+ghost use Rattle.risc_emit_forms.specs.Pieces as piece;
+ghost use Rattle.risc_emit_forms.specs.Forms as form;
 ghost use Rattle.risc_emit.specs.Frames.{context_of};
 
 use crate::frame::Frame;

@@ -4,9 +4,9 @@ ghost use Rattle.std.specs.Prelude.{◌≡◌, suc, ◌+◌, ◌*◌, ◌<◌, �
 ghost use Rattle.std.specs.Int.{w32, from_le_bytes};
 ghost use Rattle.tac_code.specs.Meaning.{routines};
 ghost use Rattle.risc_alloc.specs.Valid.{Valid};
-ghost use Rattle.risc_steps.specs.Told.{told_at, bent_at};
-ghost use Rattle.risc_steps.specs.Forms as form;
-ghost use Rattle.risc_runs.specs.Drawn.{program_pieces, routine_pieces, entry_place, text_words, instruction_texts, body_texts, routines_texts};
+ghost use Rattle.risc_emit_forms.specs.Told.{told_at, bent_at};
+ghost use Rattle.risc_emit_forms.specs.Forms as form;
+ghost use Rattle.risc_emit_laws.specs.Drawn.{program_pieces, routine_pieces, entry_place, text_words, instruction_texts, body_texts, routines_texts};
 ghost use Rattle.risc_emit.specs.Frames.{context_of};
 ghost use Rattle.risc_emit.specs.Layout.{laid_out};
 ghost use Rattle.risc_emit.specs.Passes.{PassesFew, LoadsNear};

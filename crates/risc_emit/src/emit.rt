@@ -3,8 +3,8 @@
 ghost use Rattle.std.specs.Prelude.{◌≡◌, ◌<◌, ◌≤◌, ◌+◌, ◌*◌, length, slice_get, IfOk, IfErr, OnOk};
 ghost use Rattle.tac_code.specs.Meaning.{routines};
 ghost use Rattle.risc_alloc.specs.Valid.{Valid};
-ghost use Rattle.risc_runs.specs.Emits.{Emits};
-ghost use Rattle.risc_runs.specs.Drawn.{program_pieces, entry_place, routines_texts, frame_rows_of, object_rows_of};
+ghost use Rattle.risc_emit_laws.specs.Emits.{Emits};
+ghost use Rattle.risc_emit_laws.specs.Drawn.{program_pieces, entry_place, routines_texts, frame_rows_of, object_rows_of};
 ghost use Rattle.risc_emit.specs.Layout.{frame_cost, object_cost_in, laid_out};
 ghost use Rattle.risc_emit.specs.Marked.{AreMarked};
 ghost use Rattle.risc_emit.specs.Placed.{entry_at, placed, AreNear, AreWordsOf};

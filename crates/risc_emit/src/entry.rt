@@ -5,10 +5,10 @@ ghost use Rattle.risc_word.specs.declared.instr.Operand.TheVariants.{Constant};
 ghost use Rattle.risc_word.specs.declared.instr.Width.TheVariants.{Word};
 ghost use Rattle.risc_word.specs.declared.instr.Condition.TheVariants as on;
 ghost use Rattle.risc_word.specs.declared.instr.Instr.TheVariants as word;
-ghost use Rattle.risc_related.specs.Context.{home};
-ghost use Rattle.risc_steps.specs.Forms as form;
-ghost use Rattle.risc_steps.specs.Pieces as piece;
-ghost use Rattle.risc_runs.specs.Emits.{start_form};
+ghost use Rattle.risc_emit_relation.specs.Context.{home};
+ghost use Rattle.risc_emit_forms.specs.Forms as form;
+ghost use Rattle.risc_emit_forms.specs.Pieces as piece;
+ghost use Rattle.risc_emit_laws.specs.Emits.{start_form};
 ghost use Rattle.risc_emit.specs.Frames.{context_of};
 
 use crate::calls::{CARRIED, LIMIT_AT, NEXT_AT};

@@ -41,7 +41,7 @@ impl<'a> Model for Frame<'a> {
 }
 
 ghost use Rattle.std.specs.Prelude.{◌≡◌, ℕ, ◌+◌, ◌<◌, ◌≤◌, length, take, drop, slice_get, Some, pos, ◌≤ℤ◌};
-ghost use Rattle.risc_related.specs.Context.{home, slot_at, is_program};
+ghost use Rattle.risc_emit_relation.specs.Context.{home, slot_at, is_program};
 ghost use Rattle.risc_emit.specs.Meant.{home_of_seat};
 ghost use Rattle.risc_emit.specs.Layout.{object_cost};
 ghost use Rattle.risc_emit.specs.Frames.{place_of, context_of};

@@ -1,7 +1,7 @@
 // Where the words of instructions, routines and constants stand.
 
 ghost use Rattle.std.specs.Prelude.{◌≡◌, suc, ◌+◌, ◌-◌, ◌≤◌, slice_get};
-ghost use Rattle.risc_steps.specs.Pieces.{label_place};
+ghost use Rattle.risc_emit_forms.specs.Pieces.{label_place};
 ghost use Rattle.risc_emit.specs.Meant.{label_of};
 ghost use Rattle.risc_emit.specs.Placed.{site_of, text_of, site_at, text_at, entry_at, constant_at, placed, AreNear};
 

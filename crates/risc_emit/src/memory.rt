@@ -1,8 +1,8 @@
 // Addresses, loads and stores.
 
 ghost use Rattle.std.specs.Prelude.{◌≡◌, ◌++◌, pos, ◌≤ℤ◌, OnOk, IfOk};
-ghost use Rattle.risc_related.specs.Context.{home};
-ghost use Rattle.risc_steps.specs.Forms as form;
+ghost use Rattle.risc_emit_relation.specs.Context.{home};
+ghost use Rattle.risc_emit_forms.specs.Forms as form;
 ghost use Rattle.risc_emit.specs.Frames.{context_of};
 ghost use Rattle.risc_emit.specs.Meant.{label_of};
 ghost use Rattle.risc_emit.specs.Passes.{IsNear};

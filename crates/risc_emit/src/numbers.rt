@@ -1,7 +1,7 @@
 // Numbers and words of a frame, near and far.
 
 ghost use Rattle.std.specs.Prelude.{◌≡◌, ◌++◌, pos, OnOk};
-ghost use Rattle.risc_steps.specs.Forms as form;
+ghost use Rattle.risc_emit_forms.specs.Forms as form;
 
 use crate::pieces::{Piece, Pieces};
 use crate::words::{computed, constant, loaded, r15, set, stored};

@@ -3,9 +3,9 @@
 ghost use Rattle.std.specs.Prelude.{◌≡◌, ◌++◌, [], ◌∷◌, length, pos, ◌≤ℤ◌, OnOk, IfOk};
 ghost use Rattle.risc_word.specs.declared.instr.Instr.TheVariants as word;
 ghost use Rattle.tac_code.specs.declared.code.Operand.TheVariants as operand;
-ghost use Rattle.risc_related.specs.Context.{home};
-ghost use Rattle.risc_steps.specs.Pieces as piece;
-ghost use Rattle.risc_steps.specs.Forms as form;
+ghost use Rattle.risc_emit_relation.specs.Context.{home};
+ghost use Rattle.risc_emit_forms.specs.Pieces as piece;
+ghost use Rattle.risc_emit_forms.specs.Forms as form;
 ghost use Rattle.risc_emit.specs.Frames.{context_of};
 ghost use Rattle.risc_emit.specs.Meant.{all_meant, home_of_seat};
 

@@ -42,7 +42,7 @@ pub(crate) struct Pieces {
 
 impl Model for Pieces {
     ghost use Rattle.std.specs.Prelude.{List};
-    ghost use Rattle.risc_steps.specs.Pieces.{Piece as Meaning};
+    ghost use Rattle.risc_emit_forms.specs.Pieces.{Piece as Meaning};
     ghost use Rattle.risc_emit.specs.Meant.{all_meant};
 
     ghost Value = { List Meaning };
@@ -51,7 +51,7 @@ impl Model for Pieces {
 }
 
 ghost use Rattle.std.specs.Prelude.{◌≡◌, [], ◌∷◌, ◌++◌, length, OnOk};
-ghost use Rattle.risc_steps.specs.Pieces as piece;
+ghost use Rattle.risc_emit_forms.specs.Pieces as piece;
 ghost use Rattle.risc_emit.specs.Meant.{meant, all_meant};
 
 impl Pieces {

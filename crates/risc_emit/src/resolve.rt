@@ -5,9 +5,9 @@ ghost use Rattle.risc_word.specs.declared.instr.Operation.TheVariants.{Add};
 ghost use Rattle.risc_word.specs.declared.instr.Operand.TheVariants.{Constant};
 ghost use Rattle.risc_word.specs.declared.instr.Target.TheVariants.{Relative};
 ghost use Rattle.risc_word.specs.declared.instr.Instr.TheVariants as word;
-ghost use Rattle.risc_view.specs.Numbers.{distance};
-ghost use Rattle.risc_steps.specs.Pieces.{instr_at};
-ghost use Rattle.risc_runs.specs.Drawn.{trap_row_of, trap_rows_of, call_row_of, call_rows_of};
+ghost use Rattle.risc_machine_laws.specs.Numbers.{distance};
+ghost use Rattle.risc_emit_forms.specs.Pieces.{instr_at};
+ghost use Rattle.risc_emit_laws.specs.Drawn.{trap_row_of, trap_rows_of, call_row_of, call_rows_of};
 ghost use Rattle.risc_emit.specs.Meant.{meant, all_meant};
 ghost use Rattle.risc_emit.specs.Placed.{placed, AreNear, AreWordsTo};
 

@@ -1,7 +1,7 @@
 // Where the flags are those of a temporary: behind an instruction whose last word sets them by its result, if no jump leads there.
 
 ghost use Rattle.std.specs.Prelude.{◌≡◌, suc, ◌+◌, ◌-◌, true, if◌then◌else◌, Some, None, slice_set, IfOk};
-ghost use Rattle.risc_steps.specs.Told.{sets_flags, flagged_by, jump_of, set_in, jumped, told};
+ghost use Rattle.risc_emit_forms.specs.Told.{sets_flags, flagged_by, jump_of, set_in, jumped, told};
 
 use std::alloc::Global;
 use tac_code::code::{Instruction, Operator, OutOfMemory};

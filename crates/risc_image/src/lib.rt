@@ -1,4 +1,4 @@
-//! The image file: a program for the processor, with its tables, as bytes.
+//! Code: the image file, a program for the processor with its tables, as bytes.
 //!
 //! An image is a magic, a header of little-endian words, the code, and the tables of frames, objects,
 //! traps and, in the second version, calls. `write` makes the one image of its parts; `ImageView::read`

@@ -1,4 +1,4 @@
-//! The loader: from an image and a budget to a machine in the loaded state.
+//! Code: the loader, from an image and a budget to a machine in the loaded state.
 #![tactic(auto)]
 
 mod budget;

@@ -1,4 +1,4 @@
-// The emulator of the processor: a machine, its steps, and runs of them over a console.
+//! Code: the emulator of the processor: a machine, its steps, and runs of them over a console.
 #![tactic(auto)]
 
 mod arithmetic;

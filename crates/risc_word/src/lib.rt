@@ -1,4 +1,4 @@
-// The words of the processor: their instructions, the two ways between them, and the printed form.
+//! Code: the processor's words and the instructions that they encode, both ways, and their printed form.
 #![tactic(auto)]
 
 pub mod field;

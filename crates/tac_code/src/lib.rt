@@ -1,4 +1,4 @@
-// Three-address code: its instructions, the test of its parts, its meaning, and what it means that two runs are the same.
+//! Code: the instructions of three-address code, the test of its parts, its meaning and its printed form.
 #![tactic(auto)]
 
 pub mod check;

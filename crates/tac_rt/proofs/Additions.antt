@@ -11,8 +11,8 @@ use Rattle.tac_code.specs.declared.code.BitOperator.TheVariants.{Or, ShiftLeft, 
 use Rattle.tac_code.specs.Numbers.{bits}
 use Rattle.tac_code.specs.Memory.{Memory, load, store, with_word}
 use Rattle.tac_code.specs.Meaning.{Temporaries, put, State, text_at, related}
-use Rattle.tac_steps.specs.Runs.{Machine, Comes}
-use Rattle.tac_steps.proofs.Runs.{one_step, a_step, leads_then, ◌>>◌}
+use Rattle.tac_code_steps.specs.Runs.{Machine, Comes}
+use Rattle.tac_code_steps.proofs.Runs.{one_step, a_step, leads_then, ◌>>◌}
 use Rattle.tac_rt.specs.declared.sets.TheConstants.{ADD_RANGE}
 use Rattle.tac_rt.specs.Bodies.{routine_of}
 use Rattle.tac_rt.specs.Calls.{HasRoutines}

@@ -5,8 +5,8 @@ use Rattle.tac_code.specs.declared.code.Block.{Block}
 use Rattle.tac_code.specs.declared.code.Block.TheVariants.{Frame, Scratch, Object, Constant}
 use Rattle.tac_code.specs.declared.code.Value.{Value}
 use Rattle.tac_code.specs.Memory.{Words, Living, Memory, Constants, living, words_in, behind, instead, changed, changed_object, with_frames, with_scratch, with_objects, value_in, byte_value_in, load, load_byte, changed_in}
-use Rattle.tac_steps.proofs.Temporaries.{eq_no}
-use Rattle.tac_steps.specs.Routines.{AreBelow}
+use Rattle.tac_code_steps.proofs.Temporaries.{eq_no}
+use Rattle.tac_code_steps.specs.Routines.{AreBelow}
 
 -- no block that lives has the next activation's number
 pub record IsFresh (next : ℕ) (memory : Memory) : Type 0 where

@@ -9,9 +9,9 @@ use Rattle.tac_code.specs.declared.code.Relation.TheVariants.{Equal, NotEqual}
 use Rattle.tac_code.specs.declared.code.TacRoutine.{TacRoutine}
 use Rattle.tac_code.specs.Memory.{load_byte}
 use Rattle.tac_code.specs.Meaning.{Temporaries, put, State, text_at, related}
-use Rattle.tac_steps.specs.Runs.{Machine, Comes}
-use Rattle.tac_steps.proofs.Runs.{one_step, a_step, leads_then, ◌>>◌}
-use Rattle.tac_steps.proofs.Temporaries.{eq_no}
+use Rattle.tac_code_steps.specs.Runs.{Machine, Comes}
+use Rattle.tac_code_steps.proofs.Runs.{one_step, a_step, leads_then, ◌>>◌}
+use Rattle.tac_code_steps.proofs.Temporaries.{eq_no}
 use Rattle.tac_rt.specs.declared.words.TheConstants.{COMPARE}
 use Rattle.tac_rt.specs.Bodies.{routine_of}
 use Rattle.tac_rt.specs.Calls.{HasRoutines, BytesAt}

@@ -19,10 +19,10 @@ use Rattle.tac_code.specs.declared.code.TacRoutine.{TacRoutine}
 use Rattle.tac_code.specs.Numbers.{truth, computed, Gives, bits, is_in_range, natural, steps_above}
 use Rattle.tac_code.specs.Memory.{Words, Memory, load, load_byte, store, store_byte, with_word, with_byte_at}
 use Rattle.tac_code.specs.Meaning.{Temporaries, put, Tape, State, Step, Goes, Over, routines, body_at, fetch, text_at, onward, giving, with_some, values_of, operand_value, related, gives, gives_address, gives_component, gives_computed, told, end_taken, takes, unwritten, open_bytes, entered, enter}
-use Rattle.tac_steps.specs.Runs.{Machine, step_of, Leads, Comes}
-use Rattle.tac_steps.specs.Routines.{Does}
-use Rattle.tac_steps.proofs.Runs.{a_step, leads_comes}
-use Rattle.tac_steps.proofs.Instructions.{At, literal_step, copy_step, arithmetic_step, bits_step, compare_step, offset_step, index_step, load_step, load_byte_step, store_step, store_byte_step, jump_step, jump_back_step, branch_step, branch_back_step, take_step, put_step, call_step, return_step}
+use Rattle.tac_code_steps.specs.Runs.{Machine, step_of, Leads, Comes}
+use Rattle.tac_code_steps.specs.Routines.{Does}
+use Rattle.tac_code_steps.proofs.Runs.{a_step, leads_comes}
+use Rattle.tac_code_steps.proofs.Instructions.{At, literal_step, copy_step, arithmetic_step, bits_step, compare_step, offset_step, index_step, load_step, load_byte_step, store_step, store_byte_step, jump_step, jump_back_step, branch_step, branch_back_step, take_step, put_step, call_step, return_step}
 use Rattle.tac_rt.specs.Bodies.{run_time_routines}
 use Rattle.tac_rt.specs.Calls.{HasRoutines}
 use Rattle.tac_rt.proofs.Arithmetic.{lt-ltb-no, counted_down}

@@ -14,8 +14,8 @@ use Rattle.tac_code.specs.declared.code.TacRoutine.{TacRoutine}
 use Rattle.tac_code.specs.Numbers.{is_integer, same_number, within, computed, compared, Gives}
 use Rattle.tac_code.specs.Memory.{Memory, load, store, with_word}
 use Rattle.tac_code.specs.Meaning.{Temporaries, put, Tape, State, text_at, related}
-use Rattle.tac_steps.specs.Runs.{Machine, Comes}
-use Rattle.tac_steps.proofs.Runs.{a_step, ◌>>◌}
+use Rattle.tac_code_steps.specs.Runs.{Machine, Comes}
+use Rattle.tac_code_steps.proofs.Runs.{a_step, ◌>>◌}
 use Rattle.ps_meaning.specs.Text.{Input, Scanned, EndFound, NoInteger, Integer, is_blank, after_blanks, is_digit, has_sign, after_sign, number_written, is_empty, scan_integer, marks_to, after_integer}
 use Rattle.tac_rt.specs.declared.reading.TheConstants.{READ_NUMBER}
 use Rattle.tac_rt.specs.Bodies.{routine_of}

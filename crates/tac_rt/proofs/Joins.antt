@@ -13,9 +13,9 @@ use Rattle.tac_code.specs.declared.code.TacRoutine.{TacRoutine}
 use Rattle.tac_code.specs.Numbers.{bits}
 use Rattle.tac_code.specs.Memory.{Memory, load, store, with_word}
 use Rattle.tac_code.specs.Meaning.{Temporaries, put, State, text_at}
-use Rattle.tac_steps.specs.Runs.{Machine, Comes}
-use Rattle.tac_steps.proofs.Runs.{one_step, a_step, leads_then, ◌>>◌}
-use Rattle.tac_steps.proofs.Temporaries.{eq_no}
+use Rattle.tac_code_steps.specs.Runs.{Machine, Comes}
+use Rattle.tac_code_steps.proofs.Runs.{one_step, a_step, leads_then, ◌>>◌}
+use Rattle.tac_code_steps.proofs.Temporaries.{eq_no}
 use Rattle.tac_rt.specs.declared.step.Step.{Step}
 use Rattle.tac_rt.specs.declared.step.Step.TheVariants as step
 use Rattle.tac_rt.specs.Bodies.{routine_of, run_time_routines}

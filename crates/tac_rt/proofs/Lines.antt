@@ -9,8 +9,8 @@ use Rattle.tac_code.specs.declared.code.TacRoutine.{TacRoutine}
 use Rattle.tac_code.specs.Numbers.{truth, same_number}
 use Rattle.tac_code.specs.Memory.{Memory, load, store, with_word}
 use Rattle.tac_code.specs.Meaning.{Temporaries, put, Tape, State, text_at, related}
-use Rattle.tac_steps.specs.Runs.{Machine, Comes}
-use Rattle.tac_steps.proofs.Runs.{one_step, a_step, leads_then, ◌>>◌}
+use Rattle.tac_code_steps.specs.Runs.{Machine, Comes}
+use Rattle.tac_code_steps.proofs.Runs.{one_step, a_step, leads_then, ◌>>◌}
 use Rattle.ps_meaning.specs.Text.{Input, next_of, has_line_end, after_line_end, after_line, line_marks}
 use Rattle.tac_rt.specs.declared.reading.TheConstants.{READ_LINE}
 use Rattle.tac_rt.specs.Bodies.{routine_of}

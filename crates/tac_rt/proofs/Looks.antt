@@ -7,8 +7,8 @@ use Rattle.tac_code.specs.declared.code.Relation.TheVariants.{Equal, NotEqual}
 use Rattle.tac_code.specs.declared.code.TacRoutine.{TacRoutine}
 use Rattle.tac_code.specs.Memory.{Memory, load, store, with_word}
 use Rattle.tac_code.specs.Meaning.{Temporaries, put, Tape, State, text_at, related}
-use Rattle.tac_steps.specs.Runs.{Machine, Comes}
-use Rattle.tac_steps.proofs.Runs.{one_step, a_step, leads_then, ◌>>◌}
+use Rattle.tac_code_steps.specs.Runs.{Machine, Comes}
+use Rattle.tac_code_steps.proofs.Runs.{one_step, a_step, leads_then, ◌>>◌}
 use Rattle.ps_meaning.specs.Text.{Input, next_of, looked_at, look_marks}
 use Rattle.tac_rt.specs.declared.reading.TheConstants.{LOOK}
 use Rattle.tac_rt.specs.Bodies.{routine_of}

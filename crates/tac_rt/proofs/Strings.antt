@@ -9,10 +9,10 @@ use Rattle.tac_code.specs.declared.code.Relation.TheVariants.{Equal, NotEqual, L
 use Rattle.tac_code.specs.declared.code.TacRoutine.{TacRoutine}
 use Rattle.tac_code.specs.Memory.{Memory, load_byte}
 use Rattle.tac_code.specs.Meaning.{Temporaries, put, Tape, State, text_at, related, told}
-use Rattle.tac_steps.specs.Runs.{Machine, Comes}
-use Rattle.tac_steps.specs.Routines.{wrote}
-use Rattle.tac_steps.proofs.Runs.{one_step, a_step, leads_then, ◌>>◌}
-use Rattle.tac_steps.proofs.Temporaries.{eq_no}
+use Rattle.tac_code_steps.specs.Runs.{Machine, Comes}
+use Rattle.tac_code_steps.specs.Routines.{wrote}
+use Rattle.tac_code_steps.proofs.Runs.{one_step, a_step, leads_then, ◌>>◌}
+use Rattle.tac_code_steps.proofs.Temporaries.{eq_no}
 use Rattle.ps_meaning.specs.Text.{right_aligned, fitted}
 use Rattle.tac_rt.specs.declared.writing.TheConstants.{WRITE_STRING}
 use Rattle.tac_rt.specs.Bodies.{routine_of}

@@ -2,7 +2,7 @@
 use Rattle.std.specs.Prelude.{◌≡◌, ℕ, ◌+◌, ◌<◌, List, [], ◌∷◌, Some}
 use Rattle.tac_code.specs.declared.code.Block.{Block}
 use Rattle.tac_code.specs.Memory.{Memory, Constants, load_byte}
-use Rattle.tac_steps.specs.Runs.{Machine}
+use Rattle.tac_code_steps.specs.Runs.{Machine}
 use Rattle.tac_rt.specs.Bodies.{run_time_routines}
 
 -- the run-time routines stand behind the program's

@@ -10,8 +10,8 @@ use Rattle.tac_code.specs.Memory.{Memory, Constants, load, load_byte, store, sto
 use Rattle.tac_code.specs.Numbers.{is_integer, bits, truth, same_number, is_in_range}
 use Rattle.tac_code.specs.Meaning.{Code, State, Tape, text_at, fetch, values_of, giving}
 use Rattle.tac_code.specs.Sound.{AreSoundRoutines, AreLeaves}
-use Rattle.tac_steps.specs.Runs.{Machine, Comes}
-use Rattle.tac_steps.specs.Routines.{Does, Fresh, wrote}
+use Rattle.tac_code_steps.specs.Runs.{Machine, Comes}
+use Rattle.tac_code_steps.specs.Routines.{Does, Fresh, wrote}
 use Rattle.tac_code.specs.declared.code.Instruction.TheVariants.{Call}
 use Rattle.ps_meaning.specs.Text.{Input, next_character, looked_at, look_marks, taken, as_character, Reading, EndFound, NoInteger, Integer, scan_integer, marks_to, after_integer, after_line, line_marks, right_aligned, fitted, integer_text}
 use Rattle.tac_rt.specs.Bodies.{run_time_routines}

@@ -1,4 +1,4 @@
-//! The run-time routines of compiled programs: copies, sets, strings, and what `read` and `write` do, as three-address code.
+//! Code: the run-time routines for copies, sets, strings, reads and writes, as three-address code.
 #![tactic(auto)]
 
 pub mod laws;

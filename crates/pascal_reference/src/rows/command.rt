@@ -8,8 +8,8 @@ mod transfers;
 
 pub(crate) use programs::{Job, untold};
 use std::alloc::{AllocError, Global};
-use tables::Line;
-use tables::words::letters;
+use test_tables::Line;
+use test_tables::words::letters;
 
 /// What is asked of a row.
 #[derive(Clone, Copy)]

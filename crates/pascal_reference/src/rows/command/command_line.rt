@@ -2,7 +2,7 @@
 
 use pascal_cli::{CommandFault, Job, Task, command};
 use std::alloc::{AllocError, Global};
-use tables::Line;
+use test_tables::Line;
 
 /// What a task is, in two words and the names of its files behind them.
 fn parts_of(task: Task<'_>) -> [&str; 4] {

@@ -4,8 +4,8 @@ use pascal_cli::message;
 use ps_build::{Budget, Built, Outcome, Refusal, build, go, list, run_image};
 use risc_machine::{Fused, Streams};
 use std::alloc::{AllocError, Global};
-use tables::Line;
-use tables::words::{u32_of, u64_of};
+use test_tables::Line;
+use test_tables::words::{u32_of, u64_of};
 
 /// What is told of a run: its budget, its steps, and the put that fails.
 #[derive(Clone, Copy)]

@@ -3,8 +3,8 @@
 use pascal_cli::{message, status};
 use ps_build::{FaultKind, Outcome, Refusal, Rule, Trail};
 use std::alloc::Global;
-use tables::Line;
-use tables::words::number;
+use test_tables::Line;
+use test_tables::words::number;
 
 fn refusal(name: &str, line: u32) -> Refusal {
     match name {

@@ -7,8 +7,8 @@ use ps_build::{Budget, go};
 use risc_machine::Streams;
 use std::alloc::Global;
 use std::io;
-use tables::Line;
-use tables::words::{number, u32_of};
+use test_tables::Line;
+use test_tables::words::{number, u32_of};
 
 /// Puts what a writer takes of ten digits. The row has the room that it has, and whether it fails then or takes no byte.
 pub(crate) fn put_taken(alloc: Global, line: &mut Line, row: &str) {

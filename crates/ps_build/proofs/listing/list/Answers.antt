@@ -1,7 +1,7 @@
 -- The listing of the image that was read is that of the bytes.
 use Rattle.std.proofs.Common.{◌≡◌}
 use Rattle.std.specs.String.{string_bytes}
-use Rattle.risc_list.specs.Listing.{listing}
+use Rattle.risc_image_list.specs.Listing.{listing}
 use Rattle.ps_build.specs.Listed.{IsListed}
 use Rattle.ps_build.proofs.Results.{if_ok}
 use Rattle.ps_build.proofs.listing.list.Goals as goal

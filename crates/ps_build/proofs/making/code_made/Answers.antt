@@ -1,7 +1,7 @@
 -- The code keeps its invariant, and the program weighs little; where its code is refused, no image has room for it.
 use Rattle.tac_rt.specs.Bodies.{run_time_routines}
 use Rattle.ps_tree.specs.Checked.{program_in}
-use Rattle.ps_code.specs.Programs.{code_of}
+use Rattle.ps_lower_code.specs.Programs.{code_of}
 use Rattle.ps_build.proofs.Words.{refused}
 use Rattle.ps_build.proofs.making.code_made.Goals as goal
 

@@ -1,8 +1,8 @@
 use Rattle.std.proofs.Common.{sym, ◌∙◌}
 use Rattle.std.proofs.lemmas.List.{length-map}
 use Rattle.std.proofs.lemmas.Result.{on_ok_weaker}
-use Rattle.ps_regions.proofs.Lists.{stepped_start, stepped_next_map, stepped_fault_map, stepped_end_map}
-use Rattle.ps_regions.proofs.Refused.{refused, still_refused}
+use Rattle.ps_check_names.proofs.Lists.{stepped_start, stepped_next_map, stepped_fault_map, stepped_end_map}
+use Rattle.ps_check_names.proofs.Refused.{refused, still_refused}
 use Rattle.ps_check.specs.Views.{finished_of}
 use Rattle.ps_check.proofs.BlockLemmas.{no_heading, no_start, no_block, not_finished, whole_routine, no_place, not_introduced, forward_read, no_names, no_declarations, no_routines, no_body, whole_block}
 use Rattle.ps_check.proofs.blocks.+block.Goals as goal

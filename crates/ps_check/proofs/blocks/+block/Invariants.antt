@@ -1,7 +1,7 @@
 use Rattle.std.proofs.Common.{map}
-use Rattle.ps_regions.proofs.Lists.{Stepped}
-use Rattle.ps_regions.specs.Views.{context_of}
-use Rattle.ps_declare.specs.Views.{frame_of}
+use Rattle.ps_check_names.proofs.Lists.{Stepped}
+use Rattle.ps_check_names.specs.Views.{context_of}
+use Rattle.ps_check_declarations.specs.Views.{frame_of}
 use Rattle.ps_check.specs.Blocks.{one_routine, routine}
 use Rattle.ps_check.specs.Views.{routines_of}
 use Rattle.ps_check.proofs.blocks.+block.Given as goal

@@ -1,5 +1,5 @@
 use Rattle.std.proofs.Common.{refl}
-use Rattle.ps_regions.proofs.Refused.{refused}
+use Rattle.ps_check_names.proofs.Refused.{refused}
 use Rattle.ps_check.specs.Blocks.{declared}
 use Rattle.ps_check.proofs.blocks.declare.Goals as goal
 

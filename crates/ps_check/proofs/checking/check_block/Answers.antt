@@ -1,6 +1,6 @@
 use Rattle.std.proofs.Common.{refl}
-use Rattle.ps_regions.proofs.Refused.{refused}
-use Rattle.ps_regions.specs.Views.{scope_of}
+use Rattle.ps_check_names.proofs.Refused.{refused}
+use Rattle.ps_check_names.specs.Views.{scope_of}
 use Rattle.ps_check.specs.Programs.{program_with}
 use Rattle.ps_check.proofs.checking.check_block.Goals as goal
 

@@ -1,6 +1,6 @@
 use Rattle.std.proofs.Common.{rules, ◌≡◌, ◌<◌, ◌≤◌, None, arith}
 use Rattle.ps_tree.specs.View.{type_of}
-use Rattle.ps_regions.specs.Regions.{ParameterMeaning}
+use Rattle.ps_check_names.specs.Regions.{ParameterMeaning}
 use Rattle.ps_check.specs.Entries.{add_entry, add_parameters}
 use Rattle.ps_check.specs.Views.{entries_of}
 use Rattle.ps_check.proofs.FormalLemmas.{repeated_start, repeated_next, repeated_fault, repeated_end}

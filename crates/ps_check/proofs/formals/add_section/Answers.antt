@@ -1,5 +1,5 @@
 use Rattle.std.proofs.Common.{arith}
-use Rattle.ps_regions.proofs.Refused.{refused}
+use Rattle.ps_check_names.proofs.Refused.{refused}
 use Rattle.ps_check.proofs.FormalLemmas.{routine_not_entered, routine_entered}
 use Rattle.ps_check.proofs.formals.add_section.Goals as goal
 

@@ -1,5 +1,5 @@
 use Rattle.std.proofs.Common.{rules, ◌≡◌, None}
-use Rattle.ps_regions.specs.Views.{section_of, sections_of}
+use Rattle.ps_check_names.specs.Views.{section_of, sections_of}
 use Rattle.ps_check.specs.Entries.{add_section, add_sections}
 use Rattle.ps_check.specs.Views.{entries_of}
 use Rattle.ps_check.proofs.FormalLemmas.{entered_start, entered_next, entered_fault, entered_end}

@@ -1,5 +1,5 @@
 use Rattle.std.proofs.Common.{◌≡◌, ◌++◌, map, take}
-use Rattle.ps_regions.specs.Spelling.{spelled}
+use Rattle.ps_check_names.specs.Spelling.{spelled}
 use Rattle.ps_check.proofs.headings.add_spellings.Given as goal
 
 abbrev pub invariant-loop-point : goal.invariant-loop-point

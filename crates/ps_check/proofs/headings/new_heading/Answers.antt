@@ -1,9 +1,9 @@
 use Rattle.std.proofs.Common.{refl}
 use Rattle.std.proofs.lemmas.List.{length-map}
-use Rattle.ps_regions.proofs.Refused.{refused}
+use Rattle.ps_check_names.proofs.Refused.{refused}
 use Rattle.ps_check.specs.Blocks.{new_heading}
 use Rattle.ps_check.specs.Views.{finished_of}
-use Rattle.ps_declare.specs.Views.{hidden_of}
+use Rattle.ps_check_declarations.specs.Views.{hidden_of}
 use Rattle.ps_check.proofs.headings.new_heading.Goals as goal
 
 pub returns-in_err-number-clause-err : goal.returns-in_err-number-clause-err

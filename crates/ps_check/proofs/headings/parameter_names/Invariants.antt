@@ -1,8 +1,8 @@
 use Rattle.std.proofs.Common.{map}
-use Rattle.ps_regions.specs.Spelling.{spelled}
-use Rattle.ps_regions.specs.Views.{meaning_of}
-use Rattle.ps_declare.specs.Headings.{section_points}
-use Rattle.ps_declare.specs.Views.{frame_of}
+use Rattle.ps_check_names.specs.Spelling.{spelled}
+use Rattle.ps_check_names.specs.Views.{meaning_of}
+use Rattle.ps_check_declarations.specs.Headings.{section_points}
+use Rattle.ps_check_declarations.specs.Views.{frame_of}
 use Rattle.ps_check.proofs.Lists.{Gained}
 use Rattle.ps_check.proofs.headings.parameter_names.Given as goal
 

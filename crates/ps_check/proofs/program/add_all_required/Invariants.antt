@@ -1,5 +1,5 @@
 use Rattle.std.proofs.Common.{◌≡◌, length, map}
-use Rattle.ps_regions.specs.Option.{steps}
+use Rattle.ps_check_names.specs.Option.{steps}
 use Rattle.ps_check.specs.Programs.{add_required}
 use Rattle.ps_check.specs.Views.{standard_meaning, files_of}
 use Rattle.ps_check.proofs.program.add_all_required.Given as goal

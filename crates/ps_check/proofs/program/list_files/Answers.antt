@@ -1,5 +1,5 @@
-use Rattle.ps_regions.proofs.Lists.{stepped_start, stepped_next, stepped_fault, stepped_end}
-use Rattle.ps_regions.proofs.Refused.{refused}
+use Rattle.ps_check_names.proofs.Lists.{stepped_start, stepped_next, stepped_fault, stepped_end}
+use Rattle.ps_check_names.proofs.Refused.{refused}
 use Rattle.ps_check.proofs.program.list_files.Goals as goal
 
 pub loop-at-init : goal.loop-at-init

@@ -1,6 +1,6 @@
 use Rattle.std.proofs.Common.{refl, ◌∙◌}
 use Rattle.std.proofs.lemmas.Result.{on_ok_weaker}
-use Rattle.ps_regions.proofs.Refused.{still_refused}
+use Rattle.ps_check_names.proofs.Refused.{still_refused}
 use Rattle.ps_check.proofs.Equations.{introduce_Whole, introduce_Forward, introduce_Completion}
 use Rattle.ps_check.proofs.routines.add_heading.Goals as goal
 

@@ -1,5 +1,5 @@
-use Rattle.ps_regions.proofs.Lists.{stepped_start, stepped_next_map, stepped_fault_map, stepped_end_map}
-use Rattle.ps_regions.proofs.Refused.{refused}
+use Rattle.ps_check_names.proofs.Lists.{stepped_start, stepped_next_map, stepped_fault_map, stepped_end_map}
+use Rattle.ps_check_names.proofs.Refused.{refused}
 use Rattle.ps_check.proofs.routines.add_routines.Goals as goal
 
 pub loop-written-init : goal.loop-written-init

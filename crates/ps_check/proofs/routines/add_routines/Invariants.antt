@@ -1,6 +1,6 @@
 use Rattle.std.proofs.Common.{map}
-use Rattle.ps_regions.proofs.Lists.{Stepped}
-use Rattle.ps_regions.specs.Views.{context_of}
+use Rattle.ps_check_names.proofs.Lists.{Stepped}
+use Rattle.ps_check_names.specs.Views.{context_of}
 use Rattle.ps_check.specs.Forwards.{add_routine}
 use Rattle.ps_check.specs.Blocks.{routine}
 use Rattle.ps_check.proofs.routines.add_routines.Given as goal

@@ -1,4 +1,4 @@
-use Rattle.ps_regions.specs.Views.{meaning_of}
+use Rattle.ps_check_names.specs.Views.{meaning_of}
 use Rattle.ps_check.specs.Forwards.{is_complete}
 use Rattle.ps_check.specs.Views.{gathered_of}
 use Rattle.ps_check.proofs.Lists.{AllBefore}

@@ -1,5 +1,5 @@
 use Rattle.std.proofs.Common.{rules, ◌≡◌, true, false, sym, ◌∙◌}
-use Rattle.ps_regions.specs.Views.{context_of, meaning_of}
+use Rattle.ps_check_names.specs.Views.{context_of, meaning_of}
 use Rattle.ps_check.specs.Forwards.{is_waiting}
 use Rattle.ps_check.specs.Blocks.{routine}
 use Rattle.ps_check.specs.Views.{gathered_of}

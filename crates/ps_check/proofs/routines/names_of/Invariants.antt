@@ -1,6 +1,6 @@
 use Rattle.std.proofs.Common.{[], map}
-use Rattle.ps_regions.proofs.Lists.{Stepped}
-use Rattle.ps_declare.specs.Points.{add_name}
+use Rattle.ps_check_names.proofs.Lists.{Stepped}
+use Rattle.ps_check_declarations.specs.Points.{add_name}
 use Rattle.ps_check.proofs.routines.names_of.Given as goal
 
 abbrev pub invariant-loop-name : goal.invariant-loop-name

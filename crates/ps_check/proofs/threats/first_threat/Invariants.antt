@@ -1,4 +1,4 @@
-use Rattle.ps_changes.specs.Changes.{watched_of}
+use Rattle.ps_check_changes.specs.Changes.{watched_of}
 use Rattle.ps_check.specs.Threats.{routine_threatens}
 use Rattle.ps_check.specs.Views.{finished_of}
 use Rattle.ps_check.proofs.Lists.{NoneBefore}

@@ -1,6 +1,6 @@
 use Rattle.std.proofs.Common.{ap, ◌∙◌}
 use Rattle.ps_tree.specs.View.{place_of, expr_of}
-use Rattle.ps_code.specs.Scopes.{kept}
+use Rattle.ps_lower_code.specs.Scopes.{kept}
 use Rattle.ps_lower.specs.Levels.{scope_of, site_of}
 use Rattle.ps_lower.proofs.Placing.{assign_told}
 use Rattle.ps_lower.proofs.assign.assign.Goals as goal

@@ -1,6 +1,6 @@
 use Rattle.std.proofs.Common.{ap, ◌∙◌}
 use Rattle.ps_tree.specs.View.{place_of, structure_of}
-use Rattle.ps_code.specs.Scopes.{held}
+use Rattle.ps_lower_code.specs.Scopes.{held}
 use Rattle.ps_lower.specs.Levels.{scope_of, site_of}
 use Rattle.ps_lower.proofs.Handing.{assign_structure_told}
 use Rattle.ps_lower.proofs.assign.assign_structure.Goals as goal

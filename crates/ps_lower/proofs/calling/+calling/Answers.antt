@@ -1,7 +1,7 @@
 use Rattle.std.proofs.Common.{sym, ap, ◌∙◌, ⊎_elim}
 use Rattle.ps_tree.specs.View.{place_of, selector_of, expr_of}
 use Rattle.ps_tree.proofs.TreeLemmas.{expr_of_Load, expr_of_Arithmetic, expr_of_Logic}
-use Rattle.ps_code.specs.Calling as code
+use Rattle.ps_lower_code.specs.Calling as code
 use Rattle.ps_lower.proofs.Searches.{passed_start, passed_next, passed_found, passed_all, or_first, or_second, selectors_in, selectors_none, selectors_more, step_in, steps_in, steps_none, steps_more, operands_in, operands_none, operands_more}
 use Rattle.ps_lower.proofs.calling.+calling.Goals as goal
 

@@ -1,7 +1,7 @@
 use Rattle.std.proofs.Common.{sym, ap, ◌∙◌}
 use Rattle.ps_tree.specs.View.{place_of, expr_of, statement_of}
 use Rattle.ps_tree.proofs.StatementLemmas.{statement_of_Compound, statement_of_Repeat, statement_of_Case}
-use Rattle.ps_code.specs.Calling as code
+use Rattle.ps_lower_code.specs.Calling as code
 use Rattle.ps_lower.proofs.Searches.{passed_start, passed_next, passed_found, passed_all, or_first, or_second, places_in, statements_in, statements_none, statements_more, element_in, elements_in, elements_none, elements_more}
 use Rattle.ps_lower.proofs.calling.+calling_statements.Goals as goal
 

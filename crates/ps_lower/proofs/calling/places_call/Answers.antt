@@ -1,6 +1,6 @@
 use Rattle.std.proofs.Common.{refl, ap, ◌∙◌}
 use Rattle.ps_tree.specs.View.{place_of}
-use Rattle.ps_code.specs.Calling as code
+use Rattle.ps_lower_code.specs.Calling as code
 use Rattle.ps_lower.proofs.Searches.{passed_start, passed_next, passed_found, passed_all, places_in, places_more}
 use Rattle.ps_lower.proofs.calling.places_call.Goals as goal
 

@@ -1,6 +1,6 @@
 use Rattle.std.proofs.Common.{ap, ◌∙◌}
 use Rattle.ps_tree.specs.View.{argument_of}
-use Rattle.ps_code.specs.Calling as code
+use Rattle.ps_lower_code.specs.Calling as code
 use Rattle.ps_lower.proofs.Searches.{passed_start, passed_next, passed_found, passed_all}
 use Rattle.ps_lower.proofs.Actuals.{calling_in, calling_none, calling_more}
 use Rattle.ps_lower.proofs.calls.arguments_call.Goals as goal

@@ -1,7 +1,7 @@
 use Rattle.std.proofs.Common.{ap, ◌∙◌, arith}
 use Rattle.ps_tree.specs.View.{argument_of}
-use Rattle.ps_code.specs.Scopes.{held}
-use Rattle.ps_code.specs.Values.{argument_end}
+use Rattle.ps_lower_code.specs.Scopes.{held}
+use Rattle.ps_lower_code.specs.Values.{argument_end}
 use Rattle.ps_lower.proofs.Actuals.{slot, ended_start, ended_next, ended_all}
 use Rattle.ps_lower.proofs.Weighing.{ending_one}
 use Rattle.ps_lower.proofs.calls.arguments_end.Goals as goal

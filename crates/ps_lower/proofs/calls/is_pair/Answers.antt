@@ -1,6 +1,6 @@
 use Rattle.std.proofs.Common.{ap, ⊎_elim}
 use Rattle.ps_tree.specs.View.{argument_of}
-use Rattle.ps_code.specs.Values.{argument_words, argument_end}
+use Rattle.ps_lower_code.specs.Values.{argument_words, argument_end}
 use Rattle.ps_lower.proofs.calls.is_pair.Goals as goal
 
 pub returns-in-Routine-clause-words : goal.returns-in-Routine-clause-words

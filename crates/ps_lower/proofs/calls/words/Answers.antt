@@ -1,7 +1,7 @@
 use Rattle.std.proofs.Common.{◌++◌, ◌∷◌, [], ap, ◌∙◌, arith}
 use Rattle.ps_tree.specs.View.{argument_of}
-use Rattle.ps_code.specs.Scopes.{held}
-use Rattle.ps_code.specs.Values.{argument_end, argument_words}
+use Rattle.ps_lower_code.specs.Scopes.{held}
+use Rattle.ps_lower_code.specs.Values.{argument_end, argument_words}
 use Rattle.ps_lower.proofs.Actuals.{slot, worded_start, worded_next, worded_all, ended_start, ended_next}
 use Rattle.ps_lower.proofs.Weighing.{ending_one}
 use Rattle.ps_lower.proofs.calls.words.Goals as goal

@@ -2,8 +2,8 @@ use Rattle.std.proofs.Common.{◌≡◌, ℕ, List, ◌∷◌, [], ◌++◌, len
 use Rattle.ps_tree.specs.Tree.{Elements}
 use Rattle.tac_code.specs.declared.code.Instruction.{Instruction}
 use Rattle.tac_code.specs.declared.code.Instruction.TheVariants as i
-use Rattle.ps_code.specs.Scopes.{Scope}
-use Rattle.ps_code.specs.Statements.{elements_code}
+use Rattle.ps_lower_code.specs.Scopes.{Scope}
+use Rattle.ps_lower_code.specs.Statements.{elements_code}
 use Rattle.ps_lower.specs.Cases.{open_elements, ends_from}
 use Rattle.ps_lower.proofs.Elements.{Closing}
 use Rattle.ps_lower.proofs.cases.close_elements.Given as goal

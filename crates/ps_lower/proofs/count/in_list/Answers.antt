@@ -1,5 +1,5 @@
 use Rattle.std.proofs.Common.{suc, refl}
-use Rattle.ps_code.specs.Programs.{in_list}
+use Rattle.ps_lower_code.specs.Programs.{in_list}
 use Rattle.ps_lower.proofs.Largest.{largest_start, largest_next, largest_all}
 use Rattle.ps_lower.proofs.count.in_list.Goals as goal
 

@@ -1,4 +1,4 @@
-use Rattle.ps_code.specs.Programs.{in_list}
+use Rattle.ps_lower_code.specs.Programs.{in_list}
 use Rattle.ps_lower.proofs.Largest.{Largest}
 use Rattle.ps_lower.proofs.count.in_list.Given as goal
 

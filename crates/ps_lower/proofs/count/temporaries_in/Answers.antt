@@ -1,5 +1,5 @@
 use Rattle.std.proofs.Common.{refl, ap, ◌∙◌}
-use Rattle.ps_code.specs.Programs.{temporaries_in, named_in}
+use Rattle.ps_lower_code.specs.Programs.{temporaries_in, named_in}
 use Rattle.ps_lower.proofs.Largest.{largest_start, largest_next, largest_all}
 use Rattle.ps_lower.proofs.count.temporaries_in.Goals as goal
 

@@ -1,4 +1,4 @@
-use Rattle.ps_code.specs.Programs.{temporaries_in}
+use Rattle.ps_lower_code.specs.Programs.{temporaries_in}
 use Rattle.ps_lower.proofs.Largest.{Largest}
 use Rattle.ps_lower.proofs.count.temporaries_in.Given as goal
 

@@ -1,6 +1,6 @@
 use Rattle.ps_tree.specs.Sizes.{value_count}
 use Rattle.ps_tree.specs.View.{type_of}
-use Rattle.ps_layout.specs.Shapes.{shape_of}
+use Rattle.ps_lower_layout.specs.Shapes.{shape_of}
 use Rattle.ps_lower.proofs.Tasks.{nothing_left, component_left, when_left}
 use Rattle.ps_lower.proofs.firsts.components.Goals as goal
 

@@ -1,6 +1,6 @@
 use Rattle.ps_tree.specs.View.{type_of}
-use Rattle.ps_layout.specs.Shapes.{shape_of}
-use Rattle.ps_code.specs.Statements.{first_code}
+use Rattle.ps_lower_layout.specs.Shapes.{shape_of}
+use Rattle.ps_lower_code.specs.Statements.{first_code}
 use Rattle.ps_lower.specs.Levels.{scope_of}
 use Rattle.ps_lower.proofs.Tasks.{doing_next, doing_less, doing_near, task_near}
 use Rattle.ps_lower.proofs.firsts.first.Goals as goal

@@ -1,7 +1,7 @@
 use Rattle.std.proofs.Common.{◌≤◌}
-use Rattle.ps_layout.specs.Shapes.{shape_of}
+use Rattle.ps_lower_layout.specs.Shapes.{shape_of}
 use Rattle.ps_tree.specs.View.{type_of}
-use Rattle.ps_code.specs.Statements.{first_code}
+use Rattle.ps_lower_code.specs.Statements.{first_code}
 use Rattle.ps_lower.specs.FirstTasks.{tasks_weight, tasks_reach}
 use Rattle.ps_lower.specs.Levels.{scope_of}
 use Rattle.ps_lower.proofs.Tasks.{Doing}

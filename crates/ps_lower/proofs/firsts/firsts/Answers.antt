@@ -2,8 +2,8 @@ use Rattle.std.proofs.Common.{◌++◌, ◌+◌, ◌*◌, ap, ◌∙◌}
 use Rattle.ps_tree.specs.View.{type_of}
 use Rattle.ps_tree.specs.declared.types.Ty.{Ty}
 use Rattle.tac_code.specs.declared.code.Base.TheVariants as base
-use Rattle.ps_layout.specs.Shapes.{shape_of, word_count}
-use Rattle.ps_code.specs.Statements.{first_code}
+use Rattle.ps_lower_layout.specs.Shapes.{shape_of, word_count}
+use Rattle.ps_lower_code.specs.Statements.{first_code}
 use Rattle.ps_lower.specs.Levels.{scope_of}
 use Rattle.ps_lower.proofs.Begins.{begun_start, begun_next, begun_all, beginning_start, beginning_one, beginning_next}
 use Rattle.ps_lower.proofs.firsts.firsts.Goals as goal

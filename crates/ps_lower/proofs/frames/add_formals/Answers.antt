@@ -1,5 +1,5 @@
 use Rattle.std.proofs.Common.{[], ◌∷◌, ◌++◌, ◌+◌, ap, ◌∙◌}
-use Rattle.ps_layout.specs.Frames.{kind_words}
+use Rattle.ps_lower_layout.specs.Frames.{kind_words}
 use Rattle.ps_lower.specs.Tables.{spot_at}
 use Rattle.ps_lower.proofs.Laying.{laid_start, laid_next, laid_spots, laid_words, laid_room, kinds_of_formals, kind_of_formal, first_formal, no_formals}
 use Rattle.ps_lower.proofs.frames.add_formals.Goals as goal

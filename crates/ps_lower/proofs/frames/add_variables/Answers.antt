@@ -1,5 +1,5 @@
 use Rattle.std.proofs.Common.{◌+◌, ap, ◌∙◌, arith}
-use Rattle.ps_layout.specs.Frames.{kind_words}
+use Rattle.ps_lower_layout.specs.Frames.{kind_words}
 use Rattle.ps_lower.proofs.Laying.{laid_start, laid_next, laid_spots, laid_words, laid_room, kinds_of_variables, kind_of_variable, first_variable, no_variables}
 use Rattle.ps_lower.proofs.frames.add_variables.Goals as goal
 

@@ -1,6 +1,6 @@
 use Rattle.std.proofs.Common.{◌+◌, ◌*◌, ◌≤◌, ◌++◌, ◌∙◌, ap, map, option_map, refl, subst, sym, arith}
 use Rattle.ps_tree.specs.View.{type_of, formals_of, routine_of}
-use Rattle.ps_layout.specs.Frames.{result_kinds, kinds_of, listed_kinds, variable_kinds, words_of_all}
+use Rattle.ps_lower_layout.specs.Frames.{result_kinds, kinds_of, listed_kinds, variable_kinds, words_of_all}
 use Rattle.ps_lower.specs.Tables.{spots_from}
 use Rattle.ps_lower.proofs.Laying.{laid_all}
 use Rattle.ps_lower.proofs.Limits.{parts_few}

@@ -1,8 +1,8 @@
 use Rattle.std.proofs.Common.{◌≡◌, ◌++◌, ◌∷◌, [], pos, OnOk, refl, ap, subst, ◌∙◌}
 use Rattle.ps_tree.specs.View.{structure_of}
 use Rattle.tac_code.specs.declared.code.Instruction.TheVariants as i
-use Rattle.ps_code.specs.Scopes.{CompareBytes, helper}
-use Rattle.ps_code.specs.Values.{text_length}
+use Rattle.ps_lower_code.specs.Scopes.{CompareBytes, helper}
+use Rattle.ps_lower_code.specs.Values.{text_length}
 use Rattle.ps_lower.specs.Levels.{scope_of}
 use Rattle.ps_lower.proofs.Arms.{behind}
 use Rattle.ps_lower.proofs.helpers.compare_strings.Goals as goal

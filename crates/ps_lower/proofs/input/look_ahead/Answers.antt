@@ -1,5 +1,5 @@
 use Rattle.std.proofs.Common.{refl}
-use Rattle.ps_code.specs.Scopes.{LookAhead}
+use Rattle.ps_lower_code.specs.Scopes.{LookAhead}
 use Rattle.ps_lower.specs.Levels.{scope_of, site_of}
 use Rattle.ps_lower.proofs.Looking.{look_told}
 use Rattle.ps_lower.proofs.input.look_ahead.Goals as goal

@@ -1,7 +1,7 @@
 use Rattle.std.proofs.Common.{◌≡◌, slice_get, subst}
 use Rattle.ps_tree.specs.Checked.{program_in}
 use Rattle.ps_tree.specs.Tree.{routine_at}
-use Rattle.ps_layout.specs.Frames.{entries, entry_offset}
+use Rattle.ps_lower_layout.specs.Frames.{entries, entry_offset}
 use Rattle.ps_lower.specs.Levels.{is_reference_at}
 use Rattle.ps_lower.proofs.levels.entry.Goals as goal
 

@@ -3,7 +3,7 @@ use Rattle.ps_tree.specs.Checked.{Parts, program_in}
 use Rattle.ps_tree.specs.Counts.{are_small}
 use Rattle.ps_tree.specs.View.{type_of}
 use Rattle.ps_lower.proofs.Limits.{domains_keep}
-use Rattle.ps_code.specs.Programs.{tac_of}
+use Rattle.ps_lower_code.specs.Programs.{tac_of}
 use Rattle.ps_lower.specs.Refused.{instructions_of, IsRefused}
 use Rattle.ps_lower.proofs.Counting.{passed_on}
 use Rattle.ps_lower.proofs.lower.lower.Goals as goal

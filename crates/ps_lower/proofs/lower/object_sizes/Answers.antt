@@ -1,6 +1,6 @@
 use Rattle.std.proofs.Common.{ap, ◌∙◌}
 use Rattle.ps_tree.specs.View.{type_of}
-use Rattle.ps_code.specs.Programs.{object_bytes}
+use Rattle.ps_lower_code.specs.Programs.{object_bytes}
 use Rattle.ps_lower.proofs.Mapping.{made_start, made_next, made_all}
 use Rattle.ps_lower.proofs.Limits.{object_few}
 use Rattle.ps_lower.proofs.lower.object_sizes.Goals as goal

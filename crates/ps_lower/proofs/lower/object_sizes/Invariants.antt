@@ -1,4 +1,4 @@
-use Rattle.ps_code.specs.Programs.{object_bytes}
+use Rattle.ps_lower_code.specs.Programs.{object_bytes}
 use Rattle.ps_tree.specs.View.{type_of}
 use Rattle.ps_lower.proofs.Mapping.{Made}
 use Rattle.ps_lower.proofs.lower.object_sizes.Given as goal

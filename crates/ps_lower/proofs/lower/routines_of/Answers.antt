@@ -1,7 +1,7 @@
 use Rattle.std.proofs.Common.{◌≡◌, ◌+◌, ◌-◌, ◌<◌, ◌≤◌, map, length, sym, ap, subst, ◌∙◌, arith}
 use Rattle.ps_tree.specs.Checked.{program_in}
 use Rattle.ps_tree.specs.View.{routine_of}
-use Rattle.ps_code.specs.Programs.{tac_of}
+use Rattle.ps_lower_code.specs.Programs.{tac_of}
 use Rattle.ps_lower.specs.Refused.{most_instructions, instructions_of, IsRefused}
 use Rattle.ps_lower.proofs.Limits.{routine_light}
 use Rattle.ps_lower.proofs.Mapping.{made_start, made_next, made_all}

@@ -1,5 +1,5 @@
 use Rattle.std.specs.Prelude.{◌≡◌, ◌+◌}
-use Rattle.ps_code.specs.Programs.{tac_of}
+use Rattle.ps_lower_code.specs.Programs.{tac_of}
 use Rattle.ps_tree.specs.Checked.{program_in}
 use Rattle.ps_tree.specs.View.{routine_of}
 use Rattle.ps_lower.specs.Refused.{most_instructions, instructions_of}

@@ -1,6 +1,6 @@
 use Rattle.ps_tree.specs.Tree as tree
 use Rattle.ps_tree.specs.View.{place_of}
-use Rattle.ps_code.specs.Statements.{statement_code}
+use Rattle.ps_lower_code.specs.Statements.{statement_code}
 use Rattle.ps_lower.specs.Levels.{scope_of, site_of}
 use Rattle.ps_lower.proofs.Packed.{held_told, new_made}
 use Rattle.ps_lower.proofs.objects.create.Goals as goal

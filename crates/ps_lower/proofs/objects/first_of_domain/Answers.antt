@@ -2,9 +2,9 @@ use Rattle.std.proofs.Common.{◌≡◌, ◌++◌, OnOk, ap, sym, subst, ◌∙�
 use Rattle.ps_tree.specs.Types.{DataType, PointerType}
 use Rattle.ps_tree.specs.View.{type_of}
 use Rattle.tac_code.specs.declared.code.Base.TheVariants as base
-use Rattle.ps_layout.specs.Shapes.{shape_of}
-use Rattle.ps_bounds.specs.Weights.{first_weight}
-use Rattle.ps_code.specs.Statements.{first_code}
+use Rattle.ps_lower_layout.specs.Shapes.{shape_of}
+use Rattle.ps_lower_bounds.specs.Weights.{first_weight}
+use Rattle.ps_lower_code.specs.Statements.{first_code}
 use Rattle.ps_lower.specs.Levels.{scope_of}
 use Rattle.ps_lower.proofs.Packed.{typed, untyped, pointer_type}
 use Rattle.ps_lower.proofs.objects.first_of_domain.Goals as goal

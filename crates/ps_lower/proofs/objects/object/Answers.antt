@@ -2,8 +2,8 @@ use Rattle.std.proofs.Common.{◌∷◌, []}
 use Rattle.tac_code.specs.declared.code.Base.TheVariants as base
 use Rattle.tac_code.specs.declared.code.Instruction.TheVariants as i
 use Rattle.ps_tree.specs.Tree.{domain_at}
-use Rattle.ps_layout.specs.Shapes.{shape_of}
-use Rattle.ps_code.specs.Statements.{first_code}
+use Rattle.ps_lower_layout.specs.Shapes.{shape_of}
+use Rattle.ps_lower_code.specs.Statements.{first_code}
 use Rattle.ps_lower.specs.Levels.{scope_of}
 use Rattle.ps_lower.proofs.Arms.{behind}
 use Rattle.ps_lower.proofs.objects.object.Goals as goal

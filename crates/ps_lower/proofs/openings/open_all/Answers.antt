@@ -1,7 +1,7 @@
 use Rattle.std.proofs.Common.{◌+◌, ◌≤◌, ◌++◌, refl, ap, subst, sym, ◌∙◌}
-use Rattle.ps_bounds.specs.Weights.{place_weight}
+use Rattle.ps_lower_bounds.specs.Weights.{place_weight}
 use Rattle.ps_tree.specs.View.{place_of}
-use Rattle.ps_code.specs.Values.{place_code, place_site, place_temporary}
+use Rattle.ps_lower_code.specs.Values.{place_code, place_site, place_temporary}
 use Rattle.ps_lower.specs.Levels.{scope_of, within}
 use Rattle.ps_lower.proofs.Opening.{opening_start, opening_next, opening_code, opening_scope, opening_end, widening_start, widening_one, widening_next}
 use Rattle.ps_lower.proofs.openings.open_all.Goals as goal

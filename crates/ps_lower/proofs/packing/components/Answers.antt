@@ -1,5 +1,5 @@
 use Rattle.std.proofs.Common.{◌≡◌, ◌++◌, OnOk, refl, subst}
-use Rattle.ps_code.specs.Scopes.{PackBytes, UnpackBytes, copy_code}
+use Rattle.ps_lower_code.specs.Scopes.{PackBytes, UnpackBytes, copy_code}
 use Rattle.ps_lower.specs.Levels.{scope_of}
 use Rattle.ps_lower.proofs.Packed.{packed_told, unpacked_told, words_told}
 use Rattle.ps_lower.proofs.packing.components.Goals as goal

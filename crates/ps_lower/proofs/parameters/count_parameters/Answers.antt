@@ -1,5 +1,5 @@
 use Rattle.std.proofs.Common.{◌+◌, ap, ◌∙◌}
-use Rattle.ps_code.specs.Routines.{parameter_words}
+use Rattle.ps_lower_code.specs.Routines.{parameter_words}
 use Rattle.ps_lower.proofs.Entering.{kind_at, counted_start, counted_next, counted_all, counted_small}
 use Rattle.ps_lower.proofs.parameters.count_parameters.Goals as goal
 

@@ -1,6 +1,6 @@
 use Rattle.std.proofs.Common.{◌++◌, ◌+◌, ◌*◌, ap, ◌∙◌}
-use Rattle.ps_layout.specs.Frames.{kind_words}
-use Rattle.ps_code.specs.Routines.{parameter_code, parameter_words}
+use Rattle.ps_lower_layout.specs.Frames.{kind_words}
+use Rattle.ps_lower_code.specs.Routines.{parameter_code, parameter_words}
 use Rattle.ps_lower.specs.Levels.{scope_of}
 use Rattle.ps_lower.proofs.Entering.{kind_at, entered_start, entered_next, entered_all, entered_small, entered_room, all_taken}
 use Rattle.ps_lower.proofs.parameters.parameters.Goals as goal

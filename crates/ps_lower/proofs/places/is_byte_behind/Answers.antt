@@ -1,6 +1,6 @@
 use Rattle.std.proofs.Common.{ap, ◌∙◌}
 use Rattle.ps_tree.specs.View.{selector_of}
-use Rattle.ps_code.specs.Values.{is_byte_selector}
+use Rattle.ps_lower_code.specs.Values.{is_byte_selector}
 use Rattle.ps_lower.proofs.Selecting.{tested_start, tested_next, tested_all}
 use Rattle.ps_lower.proofs.places.is_byte_behind.Goals as goal
 

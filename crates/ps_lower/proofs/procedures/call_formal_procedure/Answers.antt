@@ -1,8 +1,8 @@
 use Rattle.std.proofs.Common.{◌≡◌, ◌∷◌, [], ◌++◌, OnOk, refl, subst, arith}
 use Rattle.ps_tree.specs.View.{arguments_of}
 use Rattle.tac_code.specs.declared.code.Instruction.TheVariants as i
-use Rattle.ps_code.specs.Scopes.{beside, formal_code}
-use Rattle.ps_code.specs.Values.{arguments_code, arguments_words}
+use Rattle.ps_lower_code.specs.Scopes.{beside, formal_code}
+use Rattle.ps_lower_code.specs.Values.{arguments_code, arguments_words}
 use Rattle.ps_lower.specs.Levels.{scope_of}
 use Rattle.ps_lower.proofs.Weighing.{arguments_far}
 use Rattle.ps_lower.proofs.Handing.{link_at, call_formal_made}

@@ -1,6 +1,6 @@
 use Rattle.std.proofs.Common.{◌++◌, refl, ap, ◌∙◌, arith}
 use Rattle.ps_tree.specs.View.{read_of}
-use Rattle.ps_code.specs.Statements.{read_code}
+use Rattle.ps_lower_code.specs.Statements.{read_code}
 use Rattle.ps_lower.specs.Levels.{scope_of}
 use Rattle.ps_lower.proofs.Appends.{added_start, added_next, added_all}
 use Rattle.ps_lower.proofs.Reading.{reads_added, reads_further}

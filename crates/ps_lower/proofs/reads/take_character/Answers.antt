@@ -1,7 +1,7 @@
 use Rattle.std.proofs.Common.{true, ◌∷◌, [], pos, None, refl}
 use Rattle.ps_tree.specs.declared.tree.Range.TheVariants.{Within}
 use Rattle.tac_code.specs.declared.code.Instruction.TheVariants as i
-use Rattle.ps_code.specs.Scopes.{ReadCharacter, greatest, fitting_code, helper}
+use Rattle.ps_lower_code.specs.Scopes.{ReadCharacter, greatest, fitting_code, helper}
 use Rattle.ps_lower.specs.Levels.{scope_of}
 use Rattle.ps_lower.proofs.Appends.{and_then}
 use Rattle.ps_lower.proofs.Arms.{behind}

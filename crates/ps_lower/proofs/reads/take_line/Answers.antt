@@ -1,6 +1,6 @@
 use Rattle.std.proofs.Common.{◌∷◌, [], pos, refl}
 use Rattle.tac_code.specs.declared.code.Instruction.TheVariants as i
-use Rattle.ps_code.specs.Scopes.{ReadLine, helper}
+use Rattle.ps_lower_code.specs.Scopes.{ReadLine, helper}
 use Rattle.ps_lower.specs.Levels.{scope_of}
 use Rattle.ps_lower.proofs.Arms.{behind}
 use Rattle.ps_lower.proofs.reads.take_line.Goals as goal

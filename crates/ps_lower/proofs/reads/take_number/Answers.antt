@@ -1,5 +1,5 @@
 use Rattle.std.proofs.Common.{refl}
-use Rattle.ps_code.specs.Scopes.{ReadNumber}
+use Rattle.ps_lower_code.specs.Scopes.{ReadNumber}
 use Rattle.ps_lower.specs.Levels.{scope_of}
 use Rattle.ps_lower.proofs.Reading.{number_made}
 use Rattle.ps_lower.proofs.reads.take_number.Goals as goal

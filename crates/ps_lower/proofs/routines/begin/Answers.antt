@@ -1,7 +1,7 @@
 use Rattle.std.proofs.Common.{◌+◌, ◌*◌, ◌≤◌, ◌++◌, List, OnOk, map, ap, subst, sym, ◌∙◌, ◌≡◌, arith}
 use Rattle.ps_tree.specs.declared.types.Ty.{Ty}
 use Rattle.ps_tree.specs.View.{type_of, formals_of, routine_of}
-use Rattle.ps_layout.specs.Frames.{kinds_of, listed_kinds, variable_kinds, words_of_all}
+use Rattle.ps_lower_layout.specs.Frames.{kinds_of, listed_kinds, variable_kinds, words_of_all}
 use Rattle.ps_lower.specs.Firsts.{firsts_code, parameters_at}
 use Rattle.ps_lower.specs.Levels.{scope_of}
 use Rattle.ps_lower.proofs.Begins.{begin_made}

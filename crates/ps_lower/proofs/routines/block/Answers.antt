@@ -1,7 +1,7 @@
 use Rattle.std.proofs.Common.{◌++◌, length, ap, subst, ◌∙◌}
 use Rattle.ps_tree.specs.View.{routine_of, statements_of}
-use Rattle.ps_code.specs.Routines.{begin_code, end_code}
-use Rattle.ps_code.specs.Statements.{statements_code}
+use Rattle.ps_lower_code.specs.Routines.{begin_code, end_code}
+use Rattle.ps_lower_code.specs.Statements.{statements_code}
 use Rattle.ps_lower.specs.Levels.{scope_of}
 use Rattle.ps_lower.specs.Refused.{IsRefused}
 use Rattle.ps_lower.proofs.Begins.{block_made}

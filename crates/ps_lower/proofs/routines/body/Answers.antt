@@ -1,8 +1,8 @@
 use Rattle.std.proofs.Common.{◌++◌, ap}
 use Rattle.ps_tree.specs.Checked.{program_in}
 use Rattle.ps_tree.specs.View.{routine_of}
-use Rattle.ps_code.specs.Routines.{begin_code, end_code, routine_code}
-use Rattle.ps_code.specs.Statements.{statements_code}
+use Rattle.ps_lower_code.specs.Routines.{begin_code, end_code, routine_code}
+use Rattle.ps_lower_code.specs.Statements.{statements_code}
 use Rattle.ps_lower.specs.Levels.{scope_of}
 use Rattle.ps_lower.proofs.Refusing.{whole_refused}
 use Rattle.ps_lower.proofs.routines.body.Goals as goal

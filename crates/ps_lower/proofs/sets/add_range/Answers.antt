@@ -1,5 +1,5 @@
 use Rattle.std.proofs.Common.{refl}
-use Rattle.ps_code.specs.Scopes.{AddRange}
+use Rattle.ps_lower_code.specs.Scopes.{AddRange}
 use Rattle.ps_lower.proofs.sets.add_range.Goals as goal
 
 pub returns : goal.returns

@@ -1,4 +1,4 @@
-use Rattle.ps_code.specs.Values.{set_routine}
+use Rattle.ps_lower_code.specs.Values.{set_routine}
 use Rattle.ps_lower.specs.Levels.{scope_of}
 use Rattle.ps_lower.proofs.Gathering.{combined_made}
 use Rattle.ps_lower.proofs.sets.combined.Goals as goal

@@ -1,5 +1,5 @@
 use Rattle.std.proofs.Common.{refl}
-use Rattle.ps_code.specs.Scopes.{IsIncluded}
+use Rattle.ps_lower_code.specs.Scopes.{IsIncluded}
 use Rattle.ps_lower.proofs.Arms.{behind}
 use Rattle.ps_lower.proofs.sets.included.Goals as goal
 

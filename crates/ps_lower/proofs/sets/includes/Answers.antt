@@ -1,5 +1,5 @@
 use Rattle.std.proofs.Common.{◌≡◌, [], ◌∷◌, ◌++◌, OnOk, refl, subst}
-use Rattle.ps_code.specs.Scopes.{helper, IsIncluded}
+use Rattle.ps_lower_code.specs.Scopes.{helper, IsIncluded}
 use Rattle.ps_lower.specs.Levels.{scope_of}
 use Rattle.ps_lower.specs.Sets.{offsets_code}
 use Rattle.ps_lower.proofs.Arms.{behind}

@@ -1,5 +1,5 @@
 use Rattle.std.proofs.Common.{refl}
-use Rattle.ps_code.specs.Scopes.{IsMember}
+use Rattle.ps_lower_code.specs.Scopes.{IsMember}
 use Rattle.ps_lower.proofs.Arms.{behind}
 use Rattle.ps_lower.proofs.sets.is_member.Goals as goal
 

@@ -1,5 +1,5 @@
 use Rattle.std.proofs.Common.{◌≡◌, ◌≤◌, ◌++◌}
-use Rattle.ps_code.specs.Values.{outside_code}
+use Rattle.ps_lower_code.specs.Values.{outside_code}
 use Rattle.ps_lower.proofs.sets.outside.Given as goal
 
 abbrev pub invariant-loop-word : goal.invariant-loop-word

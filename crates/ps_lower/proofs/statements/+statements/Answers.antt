@@ -3,8 +3,8 @@ use borrow.Author.Rules.{get_or_read}
 use Rattle.ps_tree.specs.declared.tree.Statement.TheFolds.{the_lemmas}
 use Rattle.ps_tree.specs.View.{expr_of, place_of, statement_of, statements_of, elements_of}
 use Rattle.ps_tree.specs.declared.tree.CaseElement.{out-CaseElement}
-use Rattle.ps_code.specs.Values.{front_code, opposite}
-use Rattle.ps_code.specs.Statements.{statement_code, statements_code}
+use Rattle.ps_lower_code.specs.Values.{front_code, opposite}
+use Rattle.ps_lower_code.specs.Statements.{statement_code, statements_code}
 use Rattle.ps_lower.specs.Levels.{scope_of, within}
 use Rattle.ps_lower.proofs.Gathering.{assign_set_is}
 use Rattle.ps_lower.proofs.Deeds.{assign_structure_is, procedure_is, formal_procedure_is, with_is, with_told}
@@ -22,7 +22,7 @@ use Rattle.ps_lower.proofs.Refusing.{handed_on, item_refused, element_refused, a
 use Rattle.ps_lower.proofs.Elements.{case_is, element_made, element_end, one_element, opened_start, opened_next, opened_all, ends_all, case_made}
 use Rattle.ps_tree.specs.Tree as tree
 use Rattle.tac_code.specs.declared.code.Instruction.TheVariants as i
-use Rattle.ps_bounds.specs.Weights.{statement_weight}
+use Rattle.ps_lower_bounds.specs.Weights.{statement_weight}
 use Rattle.ps_lower.proofs.Weighing.{statement_in, element_in, body_room}
 use Rattle.ps_lower.proofs.statements.+statements.Goals as goal
 

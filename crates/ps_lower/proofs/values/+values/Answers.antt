@@ -9,9 +9,9 @@ use Rattle.ps_tree.specs.declared.tree.ArithmeticStep.{out-ArithmeticStep}
 use Rattle.ps_tree.specs.declared.tree.SetStep.{out-SetStep}
 use Rattle.ps_tree.specs.View.{type_of, base_of, selector_of, selectors_of, place_of, expr_of, arithmetic_of, operands_of, structure_of, argument_of, arguments_of, set_of, member_of, members_of}
 use Rattle.tac_code.specs.declared.code.Instruction.TheVariants as i
-use Rattle.ps_code.specs.Scopes.{kept, held, beside, even_from, unless_known, helper, CompareBytes}
-use Rattle.ps_code.specs.Statements.{expr_code}
-use Rattle.ps_code.specs.Values.{literal_of, element_site, index_code, truth_finish, is_byte, text_length, structure_code, argument_code, argument_end, argument_scratch, arguments_end, selectors_code, selectors_site, set_code, member_code}
+use Rattle.ps_lower_code.specs.Scopes.{kept, held, beside, even_from, unless_known, helper, CompareBytes}
+use Rattle.ps_lower_code.specs.Statements.{expr_code}
+use Rattle.ps_lower_code.specs.Values.{literal_of, element_site, index_code, truth_finish, is_byte, text_length, structure_code, argument_code, argument_end, argument_scratch, arguments_end, selectors_code, selectors_site, set_code, member_code}
 use Rattle.ps_lower.specs.Levels.{scope_of, site_of}
 use Rattle.ps_lower.specs.Sites.{selector_code, selector_site, site_behind}
 use Rattle.ps_lower.proofs.Selecting.{led_start, led_next, led_code, led_site}
@@ -24,7 +24,7 @@ use Rattle.ps_lower.proofs.Looking.{eof_is, eoln_is}
 use Rattle.ps_lower.proofs.Appends.{and_then, unchanged, added_start, added_next, added_all}
 use Rattle.ps_lower.proofs.Chains.{steps_added, steps_nothing, steps_further, step_added, step_told, operands_added, operands_nothing, operands_further, operand_added, operand_told}
 use Rattle.ps_lower.proofs.Weighing.{depth_near, depth_far, depth_farther, scratch_near, chain_far, step_in, operand_in, set_step_in, member_in, sum_room, truth_room, leads_start, leads_depth, leads_reach, leads_next, handing_start, handing_one, handing_next, arguments_far, variable_room, contents_room}
-use Rattle.ps_bounds.specs.Weights.{place_weight, expr_weight, steps_weight, operands_weight, set_weight, structure_weight, arguments_weight}
+use Rattle.ps_lower_bounds.specs.Weights.{place_weight, expr_weight, steps_weight, operands_weight, set_weight, structure_weight, arguments_weight}
 use Rattle.ps_lower.proofs.values.+values.Goals as goal
 
 pub front-returns-in-Number : goal.front-returns-in-Number

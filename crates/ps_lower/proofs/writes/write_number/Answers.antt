@@ -1,6 +1,6 @@
 use Rattle.std.proofs.Common.{refl, ap, ◌∙◌}
 use Rattle.ps_tree.specs.View.{expr_of, width_of}
-use Rattle.ps_code.specs.Scopes.{WriteNumber, held}
+use Rattle.ps_lower_code.specs.Scopes.{WriteNumber, held}
 use Rattle.ps_lower.specs.Levels.{scope_of}
 use Rattle.ps_lower.proofs.Rows.{write_made}
 use Rattle.ps_lower.proofs.writes.write_number.Goals as goal

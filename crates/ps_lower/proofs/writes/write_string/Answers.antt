@@ -1,6 +1,6 @@
 use Rattle.std.proofs.Common.{refl, ap, ◌∙◌}
 use Rattle.ps_tree.specs.View.{structure_of, width_of}
-use Rattle.ps_code.specs.Scopes.{WriteString, held}
+use Rattle.ps_lower_code.specs.Scopes.{WriteString, held}
 use Rattle.ps_lower.specs.Levels.{scope_of}
 use Rattle.ps_lower.proofs.Strings.{string_made}
 use Rattle.ps_lower.proofs.writes.write_string.Goals as goal

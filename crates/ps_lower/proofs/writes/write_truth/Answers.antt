@@ -1,6 +1,6 @@
 use Rattle.std.proofs.Common.{refl, ap, ◌∙◌}
 use Rattle.ps_tree.specs.View.{expr_of, width_of}
-use Rattle.ps_code.specs.Scopes.{WriteString, held}
+use Rattle.ps_lower_code.specs.Scopes.{WriteString, held}
 use Rattle.ps_lower.specs.Levels.{scope_of}
 use Rattle.ps_lower.proofs.Strings.{truth_made}
 use Rattle.ps_lower.proofs.writes.write_truth.Goals as goal

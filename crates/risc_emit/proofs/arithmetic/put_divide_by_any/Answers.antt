@@ -1,8 +1,8 @@
 use Rattle.std.proofs.Common.{◌≡◌, ◌+◌, [], ◌∷◌, ◌++◌, length, rules, arith}
 use Rattle.std.proofs.lemmas.Grind.{common_steps}
 use Rattle.risc_word.specs.declared.instr.Condition.TheVariants as on
-use Rattle.risc_steps.specs.Pieces as piece
-use Rattle.risc_steps.specs.Forms as form
+use Rattle.risc_emit_forms.specs.Pieces as piece
+use Rattle.risc_emit_forms.specs.Forms as form
 use Rattle.risc_emit.specs.Frames.{context_of}
 use Rattle.risc_emit.proofs.Parts.{divided}
 use Rattle.risc_emit.proofs.arithmetic.put_divide_by_any.Goals as goal

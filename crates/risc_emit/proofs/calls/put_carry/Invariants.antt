@@ -1,6 +1,6 @@
 -- The pieces of the operands that are left are what is missing.
 use Rattle.std.proofs.Common.{◌≡◌, ◌≤◌, ◌++◌}
-use Rattle.risc_steps.specs.Forms.{carry}
+use Rattle.risc_emit_forms.specs.Forms.{carry}
 use Rattle.risc_emit.specs.Frames.{context_of}
 use Rattle.risc_emit.proofs.calls.put_carry.Given as goal
 

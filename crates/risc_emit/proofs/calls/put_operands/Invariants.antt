@@ -1,6 +1,6 @@
 -- The pieces of the operands that are left are what is missing.
 use Rattle.std.proofs.Common.{◌≡◌, ◌++◌, drop}
-use Rattle.risc_steps.specs.Forms.{pass}
+use Rattle.risc_emit_forms.specs.Forms.{pass}
 use Rattle.risc_emit.specs.Frames.{context_of}
 use Rattle.risc_emit.proofs.calls.put_operands.Given as goal
 

@@ -1,6 +1,6 @@
 use Rattle.std.proofs.Math.Facts.{to_z-of_z}
-use Rattle.risc_related.specs.Context.{home}
-use Rattle.risc_steps.specs.Forms as form
+use Rattle.risc_emit_relation.specs.Context.{home}
+use Rattle.risc_emit_forms.specs.Forms as form
 use Rattle.risc_emit.specs.Frames.{context_of}
 use Rattle.risc_emit.proofs.Joined.{both_put, read_back}
 use Rattle.risc_emit.proofs.checks.put_check.Goals as goal

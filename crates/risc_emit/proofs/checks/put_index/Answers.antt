@@ -1,7 +1,7 @@
 use Rattle.std.proofs.Common.{ap, ◌∙◌}
 use Rattle.std.proofs.Math.Facts.{to_z-of_z}
-use Rattle.risc_related.specs.Context.{home}
-use Rattle.risc_steps.specs.Forms as form
+use Rattle.risc_emit_relation.specs.Context.{home}
+use Rattle.risc_emit_forms.specs.Forms as form
 use Rattle.risc_emit.specs.Frames.{context_of}
 use Rattle.risc_emit.proofs.Joined.{both_put, then_put, read_back}
 use Rattle.risc_emit.proofs.checks.put_index.Goals as goal

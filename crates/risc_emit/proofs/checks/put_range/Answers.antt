@@ -1,6 +1,6 @@
 use Rattle.std.proofs.Common.{ap, ◌∙◌}
 use Rattle.std.proofs.Math.Facts.{to_z-of_z}
-use Rattle.risc_steps.specs.Forms as form
+use Rattle.risc_emit_forms.specs.Forms as form
 use Rattle.risc_emit.specs.Frames.{context_of}
 use Rattle.risc_emit.proofs.Ranged.{holds_none, holds_some}
 use Rattle.risc_emit.proofs.checks.put_range.Goals as goal

@@ -1,6 +1,6 @@
 use Rattle.std.proofs.Common.{◌+◌, ◌≤◌, length, length-append, slice_get, take, sym, ap, ◌∙◌, arith, rules}
 use Rattle.tac_code.specs.Meaning.{routines}
-use Rattle.risc_runs.specs.Drawn.{entry_place, routines_texts}
+use Rattle.risc_emit_laws.specs.Drawn.{entry_place, routines_texts}
 use Rattle.risc_emit.specs.Layout.{laid_out}
 use Rattle.risc_emit.specs.Frames.{Place, context_of}
 use Rattle.risc_emit.proofs.Homes.{homes_room, before_none, before_next}

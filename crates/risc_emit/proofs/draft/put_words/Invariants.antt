@@ -1,6 +1,6 @@
 -- The words that are left are what is missing.
 use Rattle.std.proofs.Common.{◌≡◌, ◌*◌, ◌++◌, drop}
-use Rattle.risc_runs.specs.Drawn.{text_words}
+use Rattle.risc_emit_laws.specs.Drawn.{text_words}
 use Rattle.risc_emit.proofs.draft.put_words.Given as goal
 
 abbrev pub invariant-loop-k : goal.invariant-loop-k

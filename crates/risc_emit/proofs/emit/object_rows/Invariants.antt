@@ -1,6 +1,6 @@
 -- The rows of the types that are left are what is missing.
 use Rattle.std.proofs.Common.{◌≡◌, ◌++◌, drop}
-use Rattle.risc_runs.specs.Drawn.{object_rows_of}
+use Rattle.risc_emit_laws.specs.Drawn.{object_rows_of}
 use Rattle.risc_emit.specs.Layout.{laid_out}
 use Rattle.risc_emit.proofs.emit.object_rows.Given as goal
 

@@ -1,6 +1,6 @@
 use Rattle.std.proofs.Common.{◌≡◌, ◌++◌, subst}
-use Rattle.risc_related.specs.Context.{home}
-use Rattle.risc_steps.specs.Forms.{carried, parameter}
+use Rattle.risc_emit_relation.specs.Context.{home}
+use Rattle.risc_emit_forms.specs.Forms.{carried, parameter}
 use Rattle.risc_emit.specs.Frames.{context_of}
 use Rattle.risc_emit.proofs.Passing.{parameter_more}
 use Rattle.risc_emit.proofs.entry.put_parameters.Goals as goal

@@ -1,6 +1,6 @@
 -- The pieces of the parameters that are left are what is missing.
 use Rattle.std.proofs.Common.{◌≡◌, ◌-◌, ◌++◌}
-use Rattle.risc_steps.specs.Forms.{carried, spill}
+use Rattle.risc_emit_forms.specs.Forms.{carried, spill}
 use Rattle.risc_emit.specs.Frames.{context_of}
 use Rattle.risc_emit.proofs.entry.put_spills.Given as goal
 

@@ -1,4 +1,4 @@
-use Rattle.risc_steps.specs.Pieces.{AtText}
+use Rattle.risc_emit_forms.specs.Pieces.{AtText}
 use Rattle.risc_emit.proofs.marks.label_place.Goals as goal
 
 pub constant_at-requires : goal.constant_at-requires

@@ -1,4 +1,4 @@
-use Rattle.risc_steps.specs.Pieces.{AtEntry}
+use Rattle.risc_emit_forms.specs.Pieces.{AtEntry}
 use Rattle.risc_emit.proofs.Places.{no_greater}
 use Rattle.risc_emit.proofs.resolve.instr_at.Goals as goal
 

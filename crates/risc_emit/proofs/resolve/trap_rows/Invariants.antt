@@ -1,6 +1,6 @@
 -- The rows of the pieces that are left are what is missing.
 use Rattle.std.proofs.Common.{◌≡◌, ◌++◌, drop}
-use Rattle.risc_runs.specs.Drawn.{trap_rows_of}
+use Rattle.risc_emit_laws.specs.Drawn.{trap_rows_of}
 use Rattle.risc_emit.specs.Meant.{all_meant}
 use Rattle.risc_emit.proofs.resolve.trap_rows.Given as goal
 

@@ -1,6 +1,6 @@
 -- The marks of what is left are what is missing.
 use Rattle.std.proofs.Common.{◌≡◌, drop}
-use Rattle.risc_steps.specs.Told.{marked, jumped}
+use Rattle.risc_emit_forms.specs.Told.{marked, jumped}
 use Rattle.risc_emit.proofs.told.jumped_places.Given as goal
 
 abbrev pub invariant-loop-place : goal.invariant-loop-place

@@ -1,5 +1,5 @@
 use Rattle.std.proofs.Common.{slice_get, ap, ◌∙◌}
-use Rattle.ps_layout.specs.Frames.{entries, entry_offset}
+use Rattle.ps_lower_layout.specs.Frames.{entries, entry_offset}
 use Rattle.ps_lower.specs.Levels.{is_reference_at}
 use Rattle.ps_lower.proofs.Laying.{offset_found, reference_found, no_entry_offset, no_entry_reference}
 use Rattle.ps_tree.specs.Checked.{Parts, program_in}

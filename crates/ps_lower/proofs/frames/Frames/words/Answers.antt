@@ -1,5 +1,5 @@
 use Rattle.std.proofs.Common.{ap, ◌∙◌, arith}
-use Rattle.ps_layout.specs.Frames.{layout_of}
+use Rattle.ps_lower_layout.specs.Frames.{layout_of}
 use Rattle.ps_lower.proofs.Laying.{words_found}
 use Rattle.ps_lower.proofs.Limits.{input_few}
 use Rattle.ps_tree.specs.Checked.{Parts, program_in}

@@ -1,6 +1,6 @@
 use Rattle.std.proofs.Common.{inl, inr, ◌≡◌, suc, ◌-◌, arith, sym, ◌∙◌, refl}
 use Rattle.ps_parse.specs.Steps.{many_from, if_begins, eat}
-use Rattle.ps_grammar.specs.Forward.{is_forward}
+use Rattle.ps_parse_grammar.specs.Forward.{is_forward}
 use Rattle.ps_parse.specs.ReadPrograms as program
 use Rattle.ps_parse.proofs.Loops.{next_refused, next_put, item_shorter, many_begun, begins_one, begins_none}
 use Rattle.ps_parse.proofs.LocalPrograms.{routine_takes, routine_turn}

@@ -1,6 +1,6 @@
 use Rattle.std.proofs.Common.{◌≡◌, ◌+◌, ◌*◌, length}
 use Rattle.ps_parse.specs.Steps.{if_begins, many, many_from}
-use Rattle.ps_grammar.specs.Forward.{is_forward}
+use Rattle.ps_parse_grammar.specs.Forward.{is_forward}
 use Rattle.ps_parse.specs.ReadPrograms as program
 use Rattle.ps_parse.proofs.parser.Parser.+block.Given as goal
 

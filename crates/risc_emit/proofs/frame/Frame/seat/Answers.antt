@@ -1,5 +1,5 @@
 use Rattle.std.proofs.Common.{ap, ◌∙◌}
-use Rattle.risc_related.specs.Context.{home}
+use Rattle.risc_emit_relation.specs.Context.{home}
 use Rattle.risc_emit.specs.Frames.{Place, context_of}
 use Rattle.risc_emit.proofs.Homes.{home_is, register_below}
 use Rattle.risc_emit.proofs.frame.Frame.seat.Goals as goal

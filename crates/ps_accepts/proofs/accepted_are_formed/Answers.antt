@@ -1,6 +1,0 @@
-use Rattle.ps_accepts.proofs.Whole.{formed}
-use Rattle.ps_accepts.proofs.accepted_are_formed.Goals as goal
-
--- src/lib.rt:13:1
-pub returns : goal.returns
-returns c = formed

@@ -1,0 +1,103 @@
+-- The headings of routines (6.6.1, 6.6.2) and their formal parameters (6.6.3.1).
+use Rattle.std.specs.Prelude.{ℕ, zero, suc, ◌+◌, Bool, true, false, List, [], ◌∷◌, ◌++◌, length, map, nat_le, Option, Some, None}
+use Rattle.ps_text.specs.declared.Span.{Span}
+use Rattle.ps_syntax.specs.declared.program.Section as syntax
+use Rattle.ps_syntax.specs.declared.program.Heading as syntax_heading
+use Rattle.ps_syntax.specs.declared.program.Heading.TheOpen.{Heading-F, Section-F}
+use Rattle.ps_syntax.specs.declared.program.Heading.TheFolds.{fold-Heading, fold-Section}
+use Rattle.ps_tree.specs.Types.{DataType, OrdinalType, PointerType}
+use Rattle.ps_check_names.specs.Option.{◌>>=◌, provided, steps}
+use Rattle.ps_check_names.specs.Regions.{Meaning, ParameterMeaning, RoutineParameterMeaning, Section, ValueSection, VariableSection, RoutineSection, Sections, no_section, section_before}
+use Rattle.ps_check_declarations.specs.Points.{Points, all, add_points}
+use Rattle.ps_check_declarations.specs.Denoters.{Frame, Hidden, regions, type_named}
+
+-- 6.6.2: the result of a function is of an ordinal or pointer type
+unfoldable pub is_result : DataType → Bool
+is_result (OrdinalType o) = true
+is_result (PointerType number) = true
+is_result _ = false
+
+-- sections in their order
+abbrev pub section_list : List Section → Sections
+section_list [] = no_section
+section_list (s ∷ ss) = section_before s (section_list ss)
+
+-- What a heading says: its sections, and a function's result.
+abbrev pub Signature : Type 0
+Signature = List Section × Option DataType
+
+-- A section: its names, and what it is by the names that are hidden from it.
+abbrev pub SectionReading : Type 0
+SectionReading = Points × (Hidden → Option Section)
+
+-- A heading: its name, and what it says.
+abbrev pub HeadingReading : Type 0
+HeadingReading = Span × (Hidden → Option Signature)
+
+-- A heading has at most 32 formal parameters (this project's limit), and so a section has.
+abbrev pub few : ℕ → Option ℕ
+few n = provided (nat_le n 32) n
+
+module _ (f : Frame) (known : List Meaning) where
+  -- the type that a name denotes there
+  abbrev pub formal_type : Hidden → Span → Option DataType
+  formal_type hidden name = type_named f.text (regions f hidden known) name
+
+  unfoldable pub section_step : Section-F HeadingReading SectionReading → SectionReading
+  section_step (Section-F.Value names type) = (names, λ hidden. few (length names) >>= (λ n. formal_type hidden type >>= (λ t. Some (ValueSection n t))))
+  section_step (Section-F.Variable names type) = (names, λ hidden. few (length names) >>= (λ n. formal_type hidden type >>= (λ t. Some (VariableSection n t))))
+  section_step (Section-F.Routine h) = (h.0 ∷ [], λ hidden. h.1 hidden >>= (λ s. Some (RoutineSection (section_list s.0) s.1)))
+
+  -- one more section
+  abbrev pub add_section : Hidden → List Section → SectionReading → Option (List Section)
+  add_section hidden done x = x.1 hidden >>= (λ s. Some (done ++ s ∷ []))
+
+  -- the names of a list's parameters, which are defined for the list
+  unfoldable pub list_names : List SectionReading → Option (List (List ℕ))
+  list_names xs = add_points f.text [] (all (map (λ x. x.0) xs))
+
+  -- in the list they hide others of their spelling
+  unfoldable pub sections_of : List SectionReading → Hidden → Option (List Section)
+  sections_of xs hidden = do
+    names ← list_names xs
+    count ← few (length names)
+    steps (add_section (names ∷ hidden)) [] xs
+
+  -- the type of a function's result, which stands behind the list
+  abbrev pub result_type : Hidden → Span → Option DataType
+  result_type hidden name = formal_type hidden name >>= (λ type. provided (is_result type) type)
+
+  unfoldable pub heading_step : Heading-F HeadingReading SectionReading → HeadingReading
+  heading_step (Heading-F.Procedure name xs) = (name, λ hidden. sections_of xs hidden >>= (λ ss. Some (ss, None)))
+  heading_step (Heading-F.Function name xs type) = (name, λ hidden. sections_of xs hidden >>= (λ ss. result_type hidden type >>= (λ t. Some (ss, Some t))))
+
+  abbrev pub heading : syntax_heading.Heading → HeadingReading
+  heading = fold-Heading HeadingReading SectionReading heading_step section_step
+
+  abbrev pub section : syntax.Section → SectionReading
+  section = fold-Section HeadingReading SectionReading heading_step section_step
+
+  -- the names of a section's parameters
+  unfoldable pub section_points : syntax.Section → Points
+  section_points x = (section x).0
+
+-- ---- a formal parameter in its routine's block: it has an entry, behind that of a function's result
+
+abbrev pub parameters : ℕ → ℕ → DataType → List Meaning
+parameters entry zero type = []
+parameters entry (suc n) type = ParameterMeaning entry type ∷ parameters (entry + 1) n type
+
+unfoldable pub section_meanings : ℕ → Section → List Meaning
+section_meanings entry (ValueSection count type) = parameters entry count type
+section_meanings entry (VariableSection count type) = parameters entry count type
+section_meanings entry (RoutineSection sections result) = RoutineParameterMeaning entry sections result ∷ []
+
+-- how many parameters a section has
+unfoldable pub section_count : Section → ℕ
+section_count (ValueSection count type) = count
+section_count (VariableSection count type) = count
+section_count (RoutineSection sections result) = 1
+
+unfoldable pub formal_meanings : ℕ → Sections → List Meaning
+formal_meanings entry no_section = []
+formal_meanings entry (section_before s rest) = section_meanings entry s ++ formal_meanings (entry + section_count s) rest

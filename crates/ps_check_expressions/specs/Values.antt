@@ -1,0 +1,108 @@
+-- What variables and expressions stand for: the checked tree, and the type.
+use Rattle.std.specs.Prelude.{ℕ, pos, Bool, false, List, [], ◌∷◌, Option, Some, None}
+use Rattle.ps_text.specs.declared.Span.{Span}
+use Rattle.ps_tree.specs.declared.types.Host.{Host}
+use Rattle.ps_tree.specs.declared.types.Host.TheVariants.{Integer, Char, Boolean, Enumeration}
+use Rattle.ps_tree.specs.declared.types.Ordinal.{Ordinal}
+use Rattle.ps_tree.specs.declared.types.Packing.{Packing}
+use Rattle.ps_tree.specs.declared.types.Packing.TheVariants.{Either}
+use Rattle.ps_tree.specs.declared.tree.Range.{Range}
+use Rattle.ps_tree.specs.declared.tree.Range.TheVariants.{Any, Within}
+use Rattle.ps_tree.specs.Types.{DataType, OrdinalType, PointerType, SetType, EmptySetType, ArrayType, RecordType, is_same_host}
+use Rattle.ps_tree.specs.Tree as Tree
+use Rattle.ps_check_names.specs.Constants.{integer, char, boolean}
+
+-- An expression is of one of three kinds by its values: ordinals and pointers, sets, and arrays, records and strings.
+pub data Value : Type 0 where
+  SimpleValue : Tree.Expr → DataType → Value
+  SetValue : Tree.SetExpr → DataType → Value
+  StructureValue : Tree.Structure → DataType → Value
+
+-- A variable, and whether it ends in an index or a field of a packed variable (6.6.3.3).
+pub record Variable : Type 0 where
+  pub place : Tree.Place
+  pub type : DataType
+  pub in_packed : Bool
+
+-- What an expression is seen as: where it begins, its value, and the variable or the name that it is, where it is one alone.
+pub record Operand : Type 0 where
+  pub first : ℕ
+  pub value : Option Value
+  pub variable : Option Variable
+  pub name : Option Span
+
+-- an expression that is neither a variable nor a name
+abbrev pub plain : ℕ → Option Value → Operand
+plain first value = record { first = first; value = value; variable = None; name = None }
+
+-- 6.7.1: an operand of a subrange type counts as of its host type
+abbrev pub host_type : Host → Ordinal
+host_type Integer = integer
+host_type Char = char
+host_type Boolean = boolean
+host_type (Enumeration at greatest) = record { host = Enumeration at greatest; subrange = None; low = pos 0; high = greatest }
+
+-- ---- the kinds of types
+
+abbrev pub has_host : Host → DataType → Bool
+has_host host (OrdinalType o) = is_same_host o.host host
+has_host host _ = false
+
+abbrev pub is_integer : DataType → Bool
+is_integer type = has_host Integer type
+
+abbrev pub is_boolean : DataType → Bool
+is_boolean type = has_host Boolean type
+
+abbrev pub is_packed : DataType → Bool
+is_packed (ArrayType at packed index component) = packed
+is_packed (RecordType at packed fields) = packed
+is_packed _ = false
+
+-- the values that a variable of a simple type takes
+abbrev pub range_of : DataType → Range
+range_of (OrdinalType o) = Within o.low o.high
+range_of _ = Any
+
+-- an expression of an ordinal type
+unfoldable pub ordinal_of : Value → Option (Tree.Expr × Ordinal)
+ordinal_of (SimpleValue e (OrdinalType o)) = Some (e, o)
+ordinal_of _ = None
+
+-- ---- sets (6.7.2.4)
+
+-- two sets are taken together: the one that is packed or not settles it
+abbrev pub packing_of_both : Packing → Packing → Packing
+packing_of_both Either l = l
+packing_of_both k l = k
+
+-- the type of an operation on two sets
+abbrev pub set_type_of_both : DataType → DataType → DataType
+set_type_of_both (SetType a k o) (SetType b l p) = SetType None (packing_of_both k l) o
+set_type_of_both (SetType a k o) _ = SetType None k o
+set_type_of_both _ (SetType b l p) = SetType None l p
+set_type_of_both _ _ = EmptySetType
+
+-- ---- the contents of a variable
+unfoldable pub contents : Tree.Place → DataType → Option Value
+contents place (OrdinalType o) = Some (SimpleValue (Tree.Load place) (OrdinalType o))
+contents place (PointerType n) = Some (SimpleValue (Tree.Load place) (PointerType n))
+contents place (SetType a k o) = Some (SetValue (Tree.LoadSet place) (SetType a k o))
+contents place (ArrayType at packed index component) =
+    Some (StructureValue (Tree.Contents place (ArrayType at packed index component)) (ArrayType at packed index component))
+contents place (RecordType at packed fields) =
+    Some (StructureValue (Tree.Contents place (RecordType at packed fields)) (RecordType at packed fields))
+contents place _ = None
+
+abbrev pub loaded : Variable → Option Value
+loaded v = contents v.place v.type
+
+-- ---- lists of the checked tree
+
+abbrev pub argument_list : List Tree.Argument → Tree.Arguments
+argument_list [] = Tree.no_argument
+argument_list (a ∷ rest) = Tree.argument_before a (argument_list rest)
+
+abbrev pub member_list : List Tree.Member → Tree.Members
+member_list [] = Tree.no_member
+member_list (m ∷ rest) = Tree.member_before m (member_list rest)

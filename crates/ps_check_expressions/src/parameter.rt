@@ -1,0 +1,284 @@
+//! Formal and actual parameters (ISO 7185, 6.6.3).
+
+ghost use Rattle.std.specs.Prelude.{◌≡◌, ◌&&◌, ◌++◌, [], List, map, option_map, IfOk, IfErr, Some, None};
+ghost use Rattle.ps_tree.specs.View.{type_of, set_of, argument_of};
+ghost use Rattle.ps_check_names.specs.Refusal.{IsFault, IsToldAt};
+ghost use Rattle.ps_check_names.specs.Regions.{Section as SectionOf};
+ghost use Rattle.ps_check_names.specs.Views.{point_of, section_of, sections_of};
+ghost use Rattle.ps_check_expressions.specs.Values.{SetValue};
+ghost use Rattle.ps_check_expressions.specs.Calls.{are_one_type, congruous, are_alike, times, with_parameters, parameters, by_value, by_variable, by_routine};
+ghost use Rattle.ps_check_expressions.specs.View.{value_of, variable_of};
+
+use crate::operators::wrong_type;
+use crate::place::{misplaced, wrong_kind};
+use crate::value::{TypedPlace, TypedValue, range_of};
+use ps_check_names::meaning::{Meaning, Section};
+use ps_check_names::refusal::{Fault, Rule};
+use ps_check_names::scope::Found;
+use ps_tree::line::Line;
+use ps_tree::tree::{Argument, SetExpr};
+use ps_tree::types::{Ty, assignable, same_type};
+use std::alloc::{AllocError, Global};
+
+fn are_one_type(a: &Option<Ty>, b: &Option<Ty>) -> bool
+    ensures { result ≡ are_one_type (option_map type_of a.now) (option_map type_of b.now) }
+{
+    match (a, b) {
+        (None, None) => true,
+        (Some(a), Some(b)) => same_type(a, b),
+        (None | Some(_), _) => false,
+    }
+}
+
+/// Two lists of formal parameters are congruous (6.6.3.6).
+#[cycle(congruity)]
+#[tactic(auto, using(crate::proofs::ParameterLemmas::congruous_uneven))]
+pub(crate) fn congruous(a: &[Section], b: &[Section]) -> bool
+    ensures { result ≡ congruous (sections_of a.now) (sections_of b.now) }
+{
+    if a.len() != b.len() {
+        return false;
+    }
+    for i in 0..a.len() {
+        if !are_alike(&a[i], &b[i]) {
+            return false;
+        }
+    }
+    true
+}
+
+#[cycle(congruity)]
+#[tactic(auto, using(ps_check_names::proofs::ViewLemmas::section_of_Routine), unfolding(crate::specs::Calls::are_alike, ps_check_names::specs::Views::section_of))]
+fn are_alike(a: &Section, b: &Section) -> bool
+    ensures { result ≡ are_alike (section_of a.now) (section_of b.now) }
+{
+    match a {
+        Section::Value { count: m, ty: s } => match b {
+            Section::Value { count: n, ty: t } => m == n && same_type(s, t),
+            Section::Variable { .. } | Section::Routine { .. } => false,
+        },
+        Section::Variable { count: m, ty: s } => match b {
+            Section::Variable { count: n, ty: t } => m == n && same_type(s, t),
+            Section::Value { .. } | Section::Routine { .. } => false,
+        },
+        Section::Routine {
+            sections: s,
+            result: r,
+        } => match b {
+            Section::Routine {
+                sections: t,
+                result: q,
+            } => congruous(s, t) && are_one_type(r, q),
+            Section::Value { .. } | Section::Variable { .. } => false,
+        },
+    }
+}
+
+/// An actual parameter by value that is a set, or else what is wrong.
+#[tactic(auto, unfolding(crate::specs::Calls::by_value, ps_tree::specs::View::type_of, ps_tree::specs::View::argument_of))]
+fn set_by_value(
+    ty: &Ty,
+    value: SetExpr,
+    from: Ty,
+    line: Line,
+    wrong: Fault,
+) -> Result<Argument, Fault>
+    ensures ok { IfOk result (λ a. by_value (type_of ty.now) (SetValue (set_of value) (type_of from)) line.number ≡ Some (argument_of a)) }
+    ensures err { IfErr result (λ fault. IsFault fault → by_value (type_of ty.now) (SetValue (set_of value) (type_of from)) line.number ≡ None) }
+    ensures told { IfErr result (λ fault. fault ≡ wrong) }
+{
+    match ty {
+        Ty::Set { base, .. } => {
+            if !assignable(&from, ty) {
+                drop(value);
+                return Err(wrong);
+            }
+            Ok(Argument::Set {
+                value,
+                low: base.low,
+                high: base.high,
+                line,
+            })
+        }
+        Ty::Simple(_)
+        | Ty::Pointer { .. }
+        | Ty::Nil
+        | Ty::EmptySet
+        | Ty::Text { .. }
+        | Ty::Array { .. }
+        | Ty::Record { .. } => {
+            drop(value);
+            Err(wrong)
+        }
+    }
+}
+
+/// An actual parameter by value, for a formal one of type `ty`.
+#[tactic(auto, unfolding(crate::specs::Calls::by_value, crate::specs::View::value_of, ps_tree::specs::View::type_of, ps_tree::specs::View::argument_of))]
+pub fn by_value(ty: &Ty, value: TypedValue, line: Line, at: u32) -> Result<Argument, Fault>
+    ensures ok { IfOk result (λ a. by_value (type_of ty.now) (value_of value) line.number ≡ Some (argument_of a)) }
+    ensures err { IfErr result (λ fault. IsFault fault → by_value (type_of ty.now) (value_of value) line.number ≡ None) }
+    ensures told { IfErr result (IsToldAt at) }
+{
+    let wrong = Fault::Broken {
+        rule: Rule::NotAssignable,
+        at,
+    };
+    match value {
+        TypedValue::Simple(value, from) => {
+            if !assignable(&from, ty) {
+                drop(value);
+                return Err(wrong);
+            }
+            let range = range_of(ty);
+            Ok(Argument::Value { value, range, line })
+        }
+        TypedValue::Set(value, from) => set_by_value(ty, value, from, line, wrong),
+        TypedValue::Structure(value, from) => {
+            if !assignable(&from, ty) {
+                drop(value);
+                return Err(wrong);
+            }
+            let ty = ty.copy()?;
+            Ok(Argument::Copy { value, ty })
+        }
+    }
+}
+
+/// An actual variable parameter, for a formal one of type `ty`.
+#[tactic(auto, using(ps_tree::proofs::TreeLemmas::argument_of_Variable))]
+pub fn by_variable(ty: &Ty, variable: TypedPlace, at: u32) -> Result<Argument, Fault>
+    ensures ok { IfOk result (λ a. by_variable (type_of ty.now) (variable_of variable) ≡ Some (argument_of a)) }
+    ensures err { IfErr result (λ fault. IsFault fault → by_variable (type_of ty.now) (variable_of variable) ≡ None) }
+    ensures told { IfErr result (IsToldAt at) }
+{
+    let TypedPlace {
+        place,
+        ty: from,
+        in_packed,
+    } = variable;
+    if !same_type(&from, ty) {
+        return Err(wrong_type(at));
+    }
+    if in_packed {
+        return Err(Fault::Broken {
+            rule: Rule::PackedVariable,
+            at,
+        });
+    }
+    Ok(Argument::Variable(place))
+}
+
+/// Whether routines with these formal parameters and results may stand for one another (6.6.3.4, 6.6.3.5).
+fn are_exchangeable(
+    sections: &[Section],
+    result_type: &Option<Ty>,
+    others: &[Section],
+    other: &Option<Ty>,
+) -> bool
+    ensures { result ≡ (congruous (sections_of sections.now) (sections_of others.now) && are_one_type (option_map type_of result_type.now) (option_map type_of other.now)) }
+{
+    congruous(sections, others) && are_one_type(result_type, other)
+}
+
+/// Whether a functional parameter's result and a routine's are there or not both.
+fn are_of_one_kind(a: &Option<Ty>, b: &Option<Ty>) -> bool {
+    a.is_some() == b.is_some()
+}
+
+fn not_congruous(a: &Option<Ty>, b: &Option<Ty>, at: u32) -> Fault
+    ensures fault { IsFault result }
+    ensures told { IsToldAt at result }
+{
+    let rule = if are_of_one_kind(a, b) {
+        Rule::NotCongruous
+    } else {
+        Rule::WrongKind
+    };
+    Fault::Broken { rule, at }
+}
+
+/// An actual procedural or functional parameter; its name is at `at`.
+#[tactic(auto, unfolding(crate::specs::Calls::by_routine, ps_check_names::specs::Views::meaning_of, ps_tree::specs::View::argument_of))]
+pub fn by_routine(
+    sections: &[Section],
+    result_type: &Option<Ty>,
+    found: Found<'_>,
+    at: u32,
+) -> Result<Argument, Fault>
+    ensures ok { IfOk result (λ a. by_routine (sections_of sections.now) (option_map type_of result_type.now) (point_of found.entry) ≡ Some (argument_of a)) }
+    ensures err { IfErr result (λ fault. IsFault fault → by_routine (sections_of sections.now) (option_map type_of result_type.now) (point_of found.entry) ≡ None) }
+    ensures told { IfErr result (IsToldAt at) }
+{
+    match found {
+        Found::Field { .. } => Err(wrong_kind(at)),
+        Found::Name { up, meaning } => match meaning {
+            Meaning::Routine(heading) => {
+                if !are_exchangeable(sections, result_type, &heading.sections, &heading.result) {
+                    return Err(not_congruous(result_type, &heading.result, at));
+                }
+                Ok(Argument::Routine {
+                    routine: heading.number,
+                    up,
+                })
+            }
+            Meaning::RoutineParameter {
+                entry,
+                sections: others,
+                result: other,
+            } => {
+                if !are_exchangeable(sections, result_type, others, other) {
+                    return Err(not_congruous(result_type, other, at));
+                }
+                Ok(Argument::Formal { up, index: *entry })
+            }
+            Meaning::Constant { .. }
+            | Meaning::Text(_)
+            | Meaning::Type(_)
+            | Meaning::Variable { .. }
+            | Meaning::Parameter { .. }
+            | Meaning::Required(_)
+            | Meaning::File(_)
+            | Meaning::LeftOut => Err(misplaced(meaning, at)),
+        },
+    }
+}
+
+/// Adds a section to the list as often as it has names.
+fn push_times<'a>(
+    list: &mut Vec<&'a Section>,
+    section: &'a Section,
+    count: u32,
+) -> Result<(), AllocError>
+    ensures { IfOk result (λ _. map (λ s. section_of s.now) list.new.items ≡ map (λ s. section_of s.now) list.old.items ++ times count (section_of section.now) []) }
+{
+    for time in 0..count {
+        list.push(section)?;
+    }
+    Ok(())
+}
+
+/// How many formal parameters a section has.
+#[tactic(auto, using(ps_check_names::proofs::ViewLemmas::section_of_Routine), unfolding(ps_check_names::specs::Views::section_of))]
+fn count_of(section: &Section) -> u32
+    ensures { (rest : List SectionOf) → with_parameters (section_of section.now) rest ≡ times result (section_of section.now) rest }
+{
+    match section {
+        Section::Value { count, .. } | Section::Variable { count, .. } => *count,
+        Section::Routine { .. } => 1,
+    }
+}
+
+/// The formal parameters of a list, each by its section.
+pub fn parameters<'a>(
+    alloc: Global,
+    sections: &'a [Section],
+) -> Result<Vec<&'a Section>, AllocError>
+    ensures { IfOk result (λ list. map (λ s. section_of s.now) list.items ≡ parameters (sections_of sections.entry.now)) }
+{
+    let mut list = Vec::new(alloc);
+    for section in sections {
+        push_times(&mut list, section, count_of(section))?;
+    }
+    Ok(list)
+}

@@ -1,0 +1,291 @@
+//! Variables (ISO 7185, 6.5), step by step.
+
+ghost use Rattle.std.specs.Prelude.{◌≡◌, ℕ, false, IfOk, IfErr, Some, None};
+ghost use Rattle.ps_tree.specs.Tree as Tree;
+ghost use Rattle.ps_tree.specs.View.{type_of, expr_of, place_of, base_of};
+ghost use Rattle.ps_check_names.specs.Refusal.{IsFault, IsToldAt};
+ghost use Rattle.ps_check_names.specs.declared.refusal.Fault.TheVariants.{Broken};
+ghost use Rattle.ps_check_names.specs.declared.refusal.Rule.TheVariants.{WrongKind};
+ghost use Rattle.ps_check_names.specs.Views.{point_of, meaning_of};
+ghost use Rattle.ps_tree.specs.Chains.{selected};
+ghost use Rattle.ps_check_expressions.specs.Values.{is_packed};
+ghost use Rattle.ps_check_expressions.specs.Names.{misplacement};
+ghost use Rattle.ps_check_expressions.specs.Places.{variable_at, index_operand, element, component, target};
+ghost use Rattle.ps_check_expressions.specs.View.{context_at, value_of, variable_of};
+
+use crate::operators::{Operands, wrong_type};
+use crate::site::Site;
+use crate::value::{TypedPlace, TypedValue, is_packed};
+use ps_check_names::answer::paired;
+use ps_check_names::meaning::Meaning;
+use ps_check_names::refusal::{Fault, Rule};
+use ps_check_names::scope::Found;
+use ps_tree::line::Line;
+use ps_tree::tree::{Expr, Place, PlaceBase, Selector};
+use ps_tree::types::{Ordinal, Ty, compatible};
+use std::alloc::Global;
+
+/// A name that is of another kind than its place needs.
+pub fn wrong_kind(at: u32) -> Fault
+    ensures fault { IsFault result }
+    ensures told { result ≡ Broken WrongKind at }
+{
+    Fault::Broken {
+        rule: Rule::WrongKind,
+        at,
+    }
+}
+
+/// Why a name that has such a meaning, at `at`, is not what its place needs. The profile leaves some out, there or
+/// everywhere: the files stand as first parameters of some required routines alone.
+#[tactic(auto, unfolding(crate::specs::Names::misplacement, ps_check_names::specs::Views::meaning_of))]
+pub(crate) fn misplaced(meaning: &Meaning, at: u32) -> Fault
+    ensures fault { IsFault result }
+    ensures told { result ≡ Broken (misplacement (meaning_of meaning.now)) at }
+{
+    match meaning {
+        Meaning::File(_) | Meaning::LeftOut => Fault::Broken {
+            rule: Rule::NotInProfile,
+            at,
+        },
+        Meaning::Constant { .. }
+        | Meaning::Text(_)
+        | Meaning::Type(_)
+        | Meaning::Variable { .. }
+        | Meaning::Parameter { .. }
+        | Meaning::RoutineParameter { .. }
+        | Meaning::Routine(_)
+        | Meaning::Required(_) => wrong_kind(at),
+    }
+}
+
+/// A variable without selectors; its name is at `at`.
+#[tactic(auto, unfolding(ps_tree::specs::View::selectors_of))]
+fn entire(alloc: Global, base: PlaceBase, at: u32) -> Place
+    ensures place { place_of result ≡ Tree.Variable (base_of base) Tree.no_selector }
+    ensures at { result.at ≡ at }
+{
+    Place {
+        base,
+        selectors: Vec::new(alloc),
+        at,
+    }
+}
+
+/// The variable that a name denotes; the name is at `at`.
+#[tactic(auto, unfolding(crate::specs::Places::variable_at, ps_check_names::specs::Views::meaning_of))]
+pub fn variable_found(alloc: Global, found: Found<'_>, at: u32) -> Result<TypedPlace, Fault>
+    ensures ok { IfOk result (λ v. variable_at (point_of found.entry) ≡ Some (variable_of v)) }
+    ensures err { IfErr result (λ fault. IsFault fault → variable_at (point_of found.entry) ≡ None) }
+    ensures told { IfErr result (IsToldAt at) }
+    ensures named { IfOk result (λ v. v.place.at ≡ at) }
+{
+    match found {
+        Found::Field {
+            which,
+            record,
+            number,
+            ty,
+        } => {
+            let opened = record.copy()?;
+            let ty = ty.copy()?;
+            let base = PlaceBase::Opened {
+                which,
+                ty: opened,
+                number,
+            };
+            Ok(TypedPlace {
+                place: entire(alloc, base, at),
+                ty,
+                in_packed: is_packed(record),
+            })
+        }
+        Found::Name { up, meaning } => match meaning {
+            Meaning::Variable { entry, ty } | Meaning::Parameter { entry, ty } => {
+                let ty = ty.copy()?;
+                let base = PlaceBase::Entry { up, index: *entry };
+                Ok(TypedPlace {
+                    place: entire(alloc, base, at),
+                    ty,
+                    in_packed: false,
+                })
+            }
+            Meaning::Constant { .. }
+            | Meaning::Text(_)
+            | Meaning::Type(_)
+            | Meaning::RoutineParameter { .. }
+            | Meaning::Routine(_)
+            | Meaning::Required(_)
+            | Meaning::File(_)
+            | Meaning::LeftOut => Err(misplaced(meaning, at)),
+        },
+    }
+}
+
+/// An index of a type that is compatible with an array's; it begins at `at`.
+#[tactic(auto, unfolding(crate::specs::Places::index_operand, crate::specs::View::value_of, ps_tree::specs::View::type_of))]
+fn index_operand(index: TypedValue, array: Ordinal, at: u32) -> Result<Expr, Fault>
+    ensures ok { IfOk result (λ e. index_operand array (value_of index) ≡ Some (expr_of e)) }
+    ensures err { IfErr result (λ fault. IsFault fault → index_operand array (value_of index) ≡ None) }
+{
+    match index {
+        TypedValue::Simple(index, ty) => {
+            if compatible(&ty, &Ty::Simple(array)) {
+                Ok(index)
+            } else {
+                drop(index);
+                Err(wrong_type(at))
+            }
+        }
+        other @ (TypedValue::Set(..) | TypedValue::Structure(..)) => {
+            drop(other);
+            Err(wrong_type(at))
+        }
+    }
+}
+
+fn copy_of(ty: &Ty) -> Result<Ty, Fault>
+    ensures ok { IfOk result (λ copy. type_of copy ≡ type_of ty.now) }
+    ensures err { IfErr result (λ fault. IsFault fault → ⊥) }
+{
+    Ok(ty.copy()?)
+}
+
+/// The index of an element of an array of type `ty`, which begins at `at.first`, and the element's type. The index begins
+/// at `at.second`.
+#[tactic(auto, unfolding(crate::specs::Places::element, ps_tree::specs::View::type_of))]
+fn index_of(ty: &Ty, index: TypedValue, at: Operands) -> Result<(Expr, Ty), Fault>
+    ensures ok { IfOk result (λ e. (place : Tree.Place) (line : ℕ) → element place (type_of ty.now) (value_of index) line ≡ Some (record { place = selected place (Tree.Element (type_of ty.now) (expr_of e.0) line); type = type_of e.1; in_packed = is_packed (type_of ty.now) })) }
+    ensures err { IfErr result (λ fault. IsFault fault → (place : Tree.Place) (line : ℕ) → element place (type_of ty.now) (value_of index) line ≡ None) }
+{
+    match ty {
+        Ty::Array {
+            index: bounds,
+            component,
+            ..
+        } => paired(
+            index_operand(index, *bounds, at.second),
+            copy_of(component.ty()),
+        ),
+        Ty::Simple(_)
+        | Ty::Pointer { .. }
+        | Ty::Nil
+        | Ty::Set { .. }
+        | Ty::EmptySet
+        | Ty::Text { .. }
+        | Ty::Record { .. } => {
+            drop(index);
+            Err(wrong_type(at.first))
+        }
+    }
+}
+
+/// The element of an array, which begins at `at.first`, at an index, which begins at `at.second`.
+#[tactic(auto, unfolding(ps_tree::specs::View::selector_of))]
+pub(crate) fn element(
+    array: TypedPlace,
+    index: TypedValue,
+    line: Line,
+    at: Operands,
+) -> Result<TypedPlace, Fault>
+    ensures ok { IfOk result (λ v. element (place_of array.place) (type_of array.ty) (value_of index) line.number ≡ Some (variable_of v)) }
+    ensures err { IfErr result (λ fault. IsFault fault → element (place_of array.place) (type_of array.ty) (value_of index) line.number ≡ None) }
+{
+    let TypedPlace { place, ty, .. } = array;
+    let in_packed = is_packed(&ty);
+    let (index, component) = index_of(&ty, index, at)?;
+    let place = place.selected(Selector::Element { ty, index, line })?;
+    Ok(TypedPlace {
+        place,
+        ty: component,
+        in_packed,
+    })
+}
+
+/// The place and the type of a field of a record of type `ty`, which begins at `first`; the field's name is at `at`.
+#[tactic(auto, unfolding(crate::specs::Places::component, ps_tree::specs::View::type_of))]
+fn field_of(ty: &Ty, name: &[u8], first: u32, at: u32) -> Result<(u32, Ty), Fault>
+    ensures ok { IfOk result (λ f. (place : Tree.Place) → component place (type_of ty.now) name.now ≡ Some (record { place = selected place (Tree.Field (type_of ty.now) f.0); type = type_of f.1; in_packed = is_packed (type_of ty.now) })) }
+    ensures err { IfErr result (λ fault. IsFault fault → (place : Tree.Place) → component place (type_of ty.now) name.now ≡ None) }
+{
+    match ty {
+        Ty::Record { fields, .. } => match fields.find(name) {
+            None => Err(Fault::Broken {
+                rule: Rule::Unknown,
+                at,
+            }),
+            Some((number, field)) => Ok((number, field.copy()?)),
+        },
+        Ty::Simple(_)
+        | Ty::Pointer { .. }
+        | Ty::Nil
+        | Ty::Set { .. }
+        | Ty::EmptySet
+        | Ty::Text { .. }
+        | Ty::Array { .. } => Err(wrong_type(first)),
+    }
+}
+
+/// The field of a record, which begins at `first`; the field's name is at `at`.
+#[tactic(auto, unfolding(ps_tree::specs::View::selector_of))]
+pub(crate) fn component(
+    base: TypedPlace,
+    name: &[u8],
+    first: u32,
+    at: u32,
+) -> Result<TypedPlace, Fault>
+    ensures ok { IfOk result (λ v. component (place_of base.place) (type_of base.ty) name.now ≡ Some (variable_of v)) }
+    ensures err { IfErr result (λ fault. IsFault fault → component (place_of base.place) (type_of base.ty) name.now ≡ None) }
+{
+    let TypedPlace { place, ty, .. } = base;
+    let (number, field) = field_of(&ty, name, first, at)?;
+    let packed = is_packed(&ty);
+    let place = place.selected(Selector::Field { ty, number })?;
+    Ok(TypedPlace {
+        place,
+        ty: field,
+        in_packed: packed,
+    })
+}
+
+/// The number of a pointer's type, and the type of what a pointer of type `ty`, which begins at `first`, identifies.
+#[tactic(auto, unfolding(crate::specs::Places::target, ps_tree::specs::View::type_of))]
+fn domain_of(site: Site<'_>, ty: &Ty, first: u32) -> Result<(u32, Ty), Fault>
+    ensures ok { IfOk result (λ d. (place : Tree.Place) (line : ℕ) → target (context_at site.entry).domains place (type_of ty.now) line ≡ Some (record { place = selected place (Tree.Target d.0 line); type = type_of d.1; in_packed = false })) }
+    ensures err { IfErr result (λ fault. IsFault fault → (place : Tree.Place) (line : ℕ) → target (context_at site.entry).domains place (type_of ty.now) line ≡ None) }
+{
+    match ty {
+        Ty::Pointer { number } => match site.reading.domains.get(*number as usize) {
+            None => Err(wrong_type(first)),
+            Some(domain) => Ok((*number, domain.copy()?)),
+        },
+        Ty::Simple(_)
+        | Ty::Nil
+        | Ty::Set { .. }
+        | Ty::EmptySet
+        | Ty::Text { .. }
+        | Ty::Array { .. }
+        | Ty::Record { .. } => Err(wrong_type(first)),
+    }
+}
+
+/// What a pointer, which begins at `first`, identifies; `line` is that of the `^`.
+#[tactic(auto, unfolding(ps_tree::specs::View::selector_of))]
+pub(crate) fn target(
+    site: Site<'_>,
+    variable: TypedPlace,
+    line: Line,
+    first: u32,
+) -> Result<TypedPlace, Fault>
+    ensures ok { IfOk result (λ v. target (context_at site.entry).domains (place_of variable.place) (type_of variable.ty) line.number ≡ Some (variable_of v)) }
+    ensures err { IfErr result (λ fault. IsFault fault → target (context_at site.entry).domains (place_of variable.place) (type_of variable.ty) line.number ≡ None) }
+{
+    let TypedPlace { place, ty, .. } = variable;
+    let (pointer, domain) = domain_of(site, &ty, first)?;
+    let place = place.selected(Selector::Target { pointer, line })?;
+    Ok(TypedPlace {
+        place,
+        ty: domain,
+        in_packed: false,
+    })
+}

@@ -1,0 +1,33 @@
+-- What the names in the statements of a block denote (6.2.2, 6.8.3.10): each use is told where it stands in the tree, with the records that are opened round it.
+use Rattle.std.specs.Prelude.{◌≡◌, ℕ, List, [], ◌∷◌, ◌++◌, Some}
+use Rattle.ps_syntax.specs.declared.expression.Variable as syntax
+use Rattle.ps_syntax.specs.declared.program.Program as syntax_program
+use Rattle.ps_check_names.specs.Spelling.{spelled}
+use Rattle.ps_check_names.specs.Regions.{Region, RecordRegion, Point, Context, find}
+use Rattle.ps_tree.specs.Types.{DataType, FieldList}
+use Rattle.ps_check_expressions.specs.Values.{Variable}
+use Rattle.ps_check_expressions.specs.Expressions.{variable_operand}
+use Rattle.ps_check_statements.specs.Structured.{record_region}
+use Rattle.ps_check_laws.specs.Uses.{opened_regions, IsDenoted}
+use Rattle.ps_check_laws.specs.Occurrences.{Use}
+
+module _ (c : Context) (Γ : List Region) where
+  -- the record variable is one of this record type, where some records are open already
+  pub record IsOpened (outer : List (DataType × FieldList)) (x : syntax.Variable) (type : DataType) (fields : FieldList) : Type 0 where
+    pub variable : Variable
+    pub reading : (variable_operand c (opened_regions outer ++ Γ) x).variable ≡ Some variable
+    pub is_of : variable.type ≡ type
+    pub is_record : record_region type ≡ Some (RecordRegion type fields)
+
+  -- the records of some record variables, from the inside out, each opened within those further out
+  pub data AreOpened : List syntax.Variable → List (DataType × FieldList) → Type 0 where
+    none_opened : AreOpened [] []
+    one_opened : (x : syntax.Variable) (xs : List syntax.Variable) (type : DataType) (fields : FieldList) (outer : List (DataType × FieldList)) → IsOpened outer x type fields → AreOpened xs outer → AreOpened (x ∷ xs) ((type, fields) ∷ outer)
+
+-- A use in the statements of the block at a path: what it denotes there, within the records that are opened round it, is what the search finds.
+pub record IsDenotedThere (text : List ℕ) (p : syntax_program.Program) (v : List ℕ) (n : ℕ) (c : Context) (Γ : List Region) (u : Use) : Type 0 where
+  pub opened : List (DataType × FieldList)
+  pub are : AreOpened c Γ u.opened opened
+  pub point : Point
+  pub found : find (opened_regions opened ++ Γ) (spelled text u.name) ≡ Some point
+  pub denotes : IsDenoted text p (spelled text u.name) v n Γ opened point

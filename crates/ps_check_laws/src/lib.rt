@@ -1,0 +1,52 @@
+//! Laws: what each name of a checked program denotes, told over paths in the whole tree (ISO 7185, 6.2.2).
+//!
+//! The functions do nothing when they run; each stands for its contract.
+#![tactic(auto)]
+
+ghost use Rattle.ps_check_laws.specs.Read.{NamesMeanTheirPoints};
+ghost use Rattle.ps_check_laws.specs.Rule.{CheckedProgramsAreRead, ReadProgramsAreChecked, OneProgramIsRead};
+ghost use Rattle.ps_check_laws.specs.Forward.{ForwardHeadingsHaveBlocks};
+ghost use Rattle.ps_check_laws.specs.Uses.{UsesFindWhatTheyDenote, WhatIsDenotedIsFound, OnePointIsDenoted};
+
+/// In a program that has a checked tree each block is read in the regions that enclose it, where the names known are
+/// the defining points before it, and each means what its own definition says; the checked routines are so read.
+pub fn names_mean_their_points()
+    ensures { NamesMeanTheirPoints }
+{}
+
+/// A use finds the defining point of its name in the innermost region that defines it, before the use.
+pub fn uses_find_what_they_denote()
+    ensures { UsesFindWhatTheyDenote }
+{}
+
+/// In an accepted program each forward heading has its block further on in its routine part, and of two routines of one
+/// name the second is the block of the first (6.6.1, 6.6.2).
+pub fn forward_headings_have_blocks()
+    ensures { ForwardHeadingsHaveBlocks }
+{}
+
+/// What a name denotes at a place is found by the search through the regions there.
+pub fn what_is_denoted_is_found()
+    ensures { WhatIsDenotedIsFound }
+{}
+
+/// A name denotes at most one defining point of the blocks.
+pub fn one_point_is_denoted()
+    ensures { OnePointIsDenoted }
+{}
+
+/// A tree that has a checked program is read as that program: block by block each defining point has one meaning, which
+/// is what its definition says, and each block keeps the rules where the names mean that.
+pub fn checked_programs_are_read()
+    ensures { CheckedProgramsAreRead }
+{}
+
+/// No other program is so read: where the checker has none, the tree is read as no program.
+pub fn read_programs_are_checked()
+    ensures { ReadProgramsAreChecked }
+{}
+
+/// A tree is read as one program at most.
+pub fn one_program_is_read()
+    ensures { OneProgramIsRead }
+{}

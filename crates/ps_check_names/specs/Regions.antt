@@ -1,0 +1,125 @@
+-- The regions that enclose a place in a program (ISO 7185, 6.2.2), and what a name is found to denote there.
+use Rattle.std.specs.Prelude.{ℕ, zero, suc, ◌+◌, ℤ, Bool, List, [], ◌∷◌, Option, Some, None, option_map, slice_get, nat_lt}
+use Rattle.ps_tree.specs.declared.types.Ordinal.{Ordinal}
+use Rattle.ps_tree.specs.Types.{DataType, FieldList, field_in}
+use Rattle.ps_tree.specs.Tree.{Formals, no_formal, formal_before, ValueFormal, VariableFormal, RoutineFormal}
+use Rattle.ps_check_names.specs.declared.meaning.File.{File}
+use Rattle.ps_check_names.specs.declared.meaning.Required.{Required}
+use Rattle.ps_check_names.specs.Option.{◌>>=◌, provided}
+use Rattle.ps_check_names.specs.Spelling.{place}
+
+-- 6.6.3.1: the sections of a formal parameter list, each with how many names it has
+mutual
+  pub data Section : Type 0 where
+    ValueSection : (count : ℕ) → DataType → Section
+    VariableSection : (count : ℕ) → DataType → Section
+    -- a procedural parameter, or a functional one, which has a result
+    RoutineSection : Sections → (result : Option DataType) → Section
+
+  pub data Sections : Type 0 where
+    no_section : Sections
+    section_before : Section → Sections → Sections
+
+-- the formal parameters, one for each name
+abbrev pub values_before : ℕ → DataType → Formals → Formals
+values_before zero type rest = rest
+values_before (suc n) type rest = formal_before (ValueFormal type) (values_before n type rest)
+
+abbrev pub variables_before : ℕ → DataType → Formals → Formals
+variables_before zero type rest = rest
+variables_before (suc n) type rest = formal_before (VariableFormal type) (variables_before n type rest)
+
+unfoldable mutual
+  pub formals_before : Section → Formals → Formals
+  formals_before (ValueSection count type) rest = values_before count type rest
+  formals_before (VariableSection count type) rest = variables_before count type rest
+  formals_before (RoutineSection sections result) rest = formal_before (RoutineFormal (formals_of sections) result) rest
+
+  pub formals_of : Sections → Formals
+  formals_of no_section = no_formal
+  formals_of (section_before s rest) = formals_before s (formals_of rest)
+
+-- 6.6.1, 6.6.2: the heading of a routine
+pub record Heading : Type 0 where
+  pub number : ℕ
+  pub sections : Sections
+  pub result : Option DataType
+  -- the formal parameters' names, in order
+  pub names : List (List ℕ)
+  -- its block comes later
+  pub is_forward : Bool
+
+-- what a defining point gives its name
+pub data Meaning : Type 0 where
+  -- a constant of an ordinal type; a string of one character is a constant of type char
+  ConstantMeaning : Ordinal → ℤ → Meaning
+  -- a constant that is a string of several characters
+  TextMeaning : List ℕ → Meaning
+  TypeMeaning : DataType → Meaning
+  -- of a variable part. Entries count from 0: a function's result, formal parameters, variables.
+  VariableMeaning : (entry : ℕ) → DataType → Meaning
+  -- a value or variable parameter
+  ParameterMeaning : (entry : ℕ) → DataType → Meaning
+  RoutineParameterMeaning : (entry : ℕ) → Sections → (result : Option DataType) → Meaning
+  RoutineMeaning : Heading → Meaning
+  -- input and output, defined by the program heading for the program's block
+  FileMeaning : File → Meaning
+  -- a required routine
+  RequiredMeaning : Required → Meaning
+  -- a required name that the profile leaves out
+  LeftOutMeaning : Meaning
+
+-- a region that encloses a place
+pub data Region : Type 0 where
+  -- A block: its routine's number, the spellings of all its defining points, those after the place too, in the order in which their
+  -- definitions end, and the meanings of those before the place. The region of the required names around the program is one too.
+  BlockRegion : (routine : ℕ) (names : List (List ℕ)) (known : List Meaning) → Region
+  -- a record that a `with` opens
+  RecordRegion : (record_type : DataType) (fields : FieldList) → Region
+  -- a record within its own denoter, or a formal parameter list: a name of it hides others of its spelling there, and stands for nothing
+  FieldNames : (names : List (List ℕ)) → Region
+
+-- a defining point that is denoted
+pub data Point : Type 0 where
+  -- up: the blocks between the use and the point's region
+  BlockPoint : (up : ℕ) → Meaning → Point
+  -- which: the opened records between them; the field's number in its record, and its type
+  FieldPoint : (which : ℕ) (record_type : DataType) (number : ℕ) → DataType → Point
+
+-- One more. Such counts go up to 4294967295 (this project's limit; no text of 1,048,576 bytes comes near).
+abbrev pub one_more : ℕ → Option ℕ
+one_more n = provided (nat_lt n 4294967295) (n + 1)
+
+-- the point at an index of the block, where it stands before the place, or else what is found outside the block
+abbrev pub in_block : ℕ → List Meaning → Option ℕ → Option Point → Option Point
+in_block up known None outside = outside
+in_block up known (Some i) outside = option_map (BlockPoint up) (slice_get known i)
+
+-- the point of a field, or else what is found outside the record
+abbrev pub in_record : ℕ → DataType → Option (ℕ × DataType) → Option Point → Option Point
+in_record which type None outside = outside
+in_record which type (Some f) outside = Some (FieldPoint which type f.0 f.1)
+
+-- a field within its own record stands for nothing
+abbrev pub in_fields : Option ℕ → Option Point → Option Point
+in_fields None outside = outside
+in_fields (Some i) outside = None
+
+-- the point of a name, where the regions stand from the inside out, behind some blocks and opened records
+unfoldable pub find_past : (up which : ℕ) → List Region → List ℕ → Option Point
+find_past up which [] s = None
+find_past up which (BlockRegion routine names known ∷ Γ) s = in_block up known (place names s) (one_more up >>= (λ n. find_past n which Γ s))
+find_past up which (RecordRegion type fields ∷ Γ) s = in_record which type (field_in fields s) (one_more which >>= (λ n. find_past up n Γ s))
+find_past up which (FieldNames names ∷ Γ) s = in_fields (place names s) (find_past up which Γ s)
+
+abbrev pub find : List Region → List ℕ → Option Point
+find Γ s = find_past 0 0 Γ s
+
+-- what does not change while the statements of a block are read
+pub record Context : Type 0 where
+  pub text : List ℕ
+  -- the domain types of the pointer types so far, by their numbers
+  pub domains : List DataType
+  -- the program heading lists input, and output
+  pub has_input : Bool
+  pub has_output : Bool

@@ -1,0 +1,90 @@
+-- What the values of the program stand for in the definitions.
+use Rattle.std.specs.Prelude.{List, [], ◌∷◌, Option, Some, None, option_map, map}
+use Rattle.ps_tree.specs.declared.types.Ty.{Ty}
+use Rattle.ps_tree.specs.Types.{DataType, RecordType, FieldList, field_list, no_type}
+use Rattle.ps_tree.specs.View.{type_of}
+use Rattle.ps_check_names.specs.declared.meaning.Section as Rust
+use Rattle.ps_check_names.specs.declared.meaning.Section.{Value, Variable, Routine', Row_of-Section, end_of-Section, more_of-Section}
+use Rattle.ps_check_names.specs.declared.meaning.Heading as RustHeading
+use Rattle.ps_check_names.specs.declared.meaning.Meaning as RustMeaning
+use Rattle.ps_check_names.specs.declared.meaning.Meaning.TheVariants as m
+use Rattle.ps_check_names.specs.declared.scope.Scope.{Scope, Outside, Block', Opened', Fields'}
+use Rattle.ps_check_names.specs.declared.scope.Lookup.{Lookup}
+use Rattle.ps_check_names.specs.declared.scope.Lookup.TheVariants as l
+use Rattle.ps_check_names.specs.declared.scope.Found.{Found}
+use Rattle.ps_check_names.specs.declared.scope.Found.TheVariants as f
+use Rattle.ps_check_names.specs.declared.reading.Reading.{Reading}
+use Rattle.ps_check_names.specs.declared.constants.ConstantValue as RustConstant
+use Rattle.ps_check_names.specs.declared.constants.ConstantValue.TheVariants as c
+use Rattle.ps_check_names.specs.Constants.{ConstantValue, OrdinalConstant, TextConstant}
+use Rattle.ps_check_names.specs.Regions.{Section, ValueSection, VariableSection, RoutineSection, Sections, no_section, section_before, Heading, Meaning, ConstantMeaning, TextMeaning, TypeMeaning, VariableMeaning, ParameterMeaning, RoutineParameterMeaning, RoutineMeaning, FileMeaning, RequiredMeaning, LeftOutMeaning, Region, BlockRegion, RecordRegion, FieldNames, Point, BlockPoint, FieldPoint, Context}
+
+unfoldable mutual
+  pub section_of : Rust.Section → Section
+  section_of (Value count ty) = ValueSection count (type_of ty)
+  section_of (Variable count ty) = VariableSection count (type_of ty)
+  section_of (Routine' p shape row result) = RoutineSection (sections_of_row row) (option_map type_of result)
+
+  pub sections_of_row : {m : _} → Row_of-Section m → Sections
+  sections_of_row end_of-Section = no_section
+  sections_of_row (more_of-Section s rest) = section_before (section_of s) (sections_of_row rest)
+
+-- lists of sections
+unfoldable pub sections_of : List Rust.Section → Sections
+sections_of [] = no_section
+sections_of (s ∷ rest) = section_before (section_of s) (sections_of rest)
+
+abbrev pub heading_of : RustHeading.Heading → Heading
+heading_of h = record {
+  number = h.number;
+  sections = sections_of h.sections.value.items;
+  result = option_map type_of h.result;
+  names = map (λ name. name.items) h.names.items;
+  is_forward = h.is_forward;
+}
+
+unfoldable pub meaning_of : RustMeaning.Meaning → Meaning
+meaning_of (m.Constant ordinal value) = ConstantMeaning ordinal value
+meaning_of (m.Text characters) = TextMeaning characters
+meaning_of (m.«Type» ty) = TypeMeaning (type_of ty)
+meaning_of (m.Variable entry ty) = VariableMeaning entry (type_of ty)
+meaning_of (m.Parameter entry ty) = ParameterMeaning entry (type_of ty)
+meaning_of (m.RoutineParameter entry sections result) = RoutineParameterMeaning entry (sections_of sections.value.items) (option_map type_of result)
+meaning_of (m.Routine heading) = RoutineMeaning (heading_of heading)
+meaning_of (m.File file) = FileMeaning file
+meaning_of (m.Required routine) = RequiredMeaning routine
+meaning_of m.LeftOut = LeftOutMeaning
+
+-- the fields of a record type; no other type has any
+unfoldable pub fields_of : DataType → FieldList
+fields_of (RecordType at packed fields) = fields
+fields_of _ = field_list [] no_type
+
+-- the regions where records of these types were opened one after the other
+unfoldable pub opened_in : List Region → List Ty → List Region
+opened_in Γ [] = Γ
+opened_in Γ (ty ∷ types) = opened_in (RecordRegion (type_of ty) (fields_of (type_of ty)) ∷ Γ) types
+
+unfoldable pub scope_of : Scope → List Region
+scope_of Outside = []
+scope_of (Block' routine names known p outer) = BlockRegion routine names.now (map meaning_of known.now) ∷ scope_of outer
+scope_of (Opened' records p outer) = opened_in (scope_of outer) records.now
+scope_of (Fields' names defined p outer) = FieldNames names.now ∷ scope_of outer
+
+abbrev pub point_of : Found → Point
+point_of (f.Name up meaning) = BlockPoint up (meaning_of meaning.now)
+point_of (f.Field which record_type number ty) = FieldPoint which (type_of record_type.now) number (type_of ty.now)
+
+-- the point that a search found
+abbrev pub found : Lookup → Option Point
+found (l.Found point) = Some (point_of point)
+found l.Later = None
+found l.OwnField = None
+found l.Missing = None
+
+abbrev pub context_of : Reading → Context
+context_of r = record { text = r.source.now; domains = map type_of r.domains.now; has_input = r.has_input; has_output = r.has_output }
+
+unfoldable pub constant_of : RustConstant.ConstantValue → ConstantValue
+constant_of (c.Ordinal ordinal value) = OrdinalConstant ordinal value
+constant_of (c.Text characters) = TextConstant characters

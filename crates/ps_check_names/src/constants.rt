@@ -1,0 +1,183 @@
+//! Constants.
+
+ghost use Rattle.std.specs.Prelude.{◌≡◌, IfOk, IfErr, None, Some, ℤ, option_map, option_and_then};
+ghost use Rattle.ps_check_names.specs.Constants.{denoted, integer, char, boolean, constant_at, text_constant, integer_with_sign, signed_constant, number_at, constant};
+ghost use Rattle.ps_check_names.specs.Refusal.{IsFault};
+ghost use Rattle.ps_check_names.specs.Views.{scope_of, point_of, constant_of};
+
+use crate::meaning::Meaning;
+use crate::reading::Reading;
+use crate::refusal::{Fault, Rule};
+use crate::scope::{Found, Scope};
+use ps_scan::{number_value, string_value};
+use ps_syntax::{Constant, Sign};
+use ps_text::Span;
+use ps_tree::characters::Characters;
+use ps_tree::types::{Host, Ordinal, same_host};
+use std::alloc::{AllocError, Global};
+
+/// The type integer.
+pub const INTEGER: Ordinal = Ordinal {
+    host: Host::Integer,
+    subrange: None,
+    low: i32::MIN,
+    high: i32::MAX,
+};
+
+/// The type char.
+pub const CHAR: Ordinal = Ordinal {
+    host: Host::Char,
+    subrange: None,
+    low: 0,
+    high: 255,
+};
+
+/// The type Boolean.
+pub const BOOLEAN: Ordinal = Ordinal {
+    host: Host::Boolean,
+    subrange: None,
+    low: 0,
+    high: 1,
+};
+
+/// The value of a constant (6.3).
+#[derive(Drop)]
+pub enum ConstantValue {
+    Ordinal(Ordinal, i32),
+    /// A string of several characters.
+    Text(Characters),
+}
+
+/// The value of a string: one of one character is of type char (6.1.7).
+#[tactic(auto, unfolding(crate::specs::Views::constant_of))]
+pub fn text_constant(alloc: Global, characters: Vec<u8>) -> Result<ConstantValue, AllocError>
+    ensures { IfOk result (λ value. constant_of value ≡ text_constant characters.items) }
+{
+    match characters.as_slice() {
+        [only] => Ok(ConstantValue::Ordinal(CHAR, i32::from(*only))),
+        _ => Ok(ConstantValue::Text(Characters::new(alloc, characters)?)),
+    }
+}
+
+/// The number that stands there.
+pub fn number_at(reading: &Reading, at: Span) -> i32
+    ensures { result ≡ number_at reading.now.source.now at }
+{
+    number_value(reading.bytes(at)) as i32
+}
+
+/// The value of a name that denotes a constant.
+#[tactic(auto, unfolding(crate::specs::Views::constant_of, crate::specs::Views::meaning_of, crate::specs::Constants::constant_at))]
+fn constant_at(found: &Found, at: u32) -> Result<ConstantValue, Fault>
+    ensures ok { IfOk result (λ value. constant_at (point_of found.now) ≡ Some (constant_of value)) }
+    ensures err { IfErr result (λ fault. IsFault fault → constant_at (point_of found.now) ≡ None) }
+{
+    let fault = Fault::Broken {
+        rule: Rule::WrongKind,
+        at,
+    };
+    match found {
+        Found::Name { meaning, .. } => match meaning {
+            Meaning::Constant { ordinal, value } => Ok(ConstantValue::Ordinal(*ordinal, *value)),
+            Meaning::Text(characters) => Ok(ConstantValue::Text(characters.clone()?)),
+            Meaning::Type(_)
+            | Meaning::Variable { .. }
+            | Meaning::Parameter { .. }
+            | Meaning::RoutineParameter { .. }
+            | Meaning::Routine(_)
+            | Meaning::Required(_) => Err(fault),
+            Meaning::File(_) | Meaning::LeftOut => Err(Fault::Broken {
+                rule: Rule::NotInProfile,
+                at,
+            }),
+        },
+        Found::Field { .. } => Err(fault),
+    }
+}
+
+fn integer_with_sign(sign: Sign, value: i32) -> Option<i32>
+    ensures { result ≡ integer_with_sign sign value }
+{
+    match sign {
+        Sign::Plus => Some(value),
+        Sign::Minus => {
+            if -i32::MAX <= value {
+                Some(-value)
+            } else {
+                None
+            }
+        }
+    }
+}
+
+/// A constant behind a sign, if there is one. `at` is where the constant itself begins.
+#[tactic(auto, unfolding(crate::specs::Views::constant_of, crate::specs::Constants::signed_constant))]
+fn signed_constant(
+    sign: Option<(Sign, Span)>,
+    value: ConstantValue,
+    at: u32,
+) -> Result<ConstantValue, Fault>
+    ensures ok { IfOk result (λ signed. signed_constant sign (constant_of value) ≡ Some (constant_of signed)) }
+    ensures err { IfErr result (λ fault. IsFault fault → signed_constant sign (constant_of value) ≡ None) }
+{
+    let fault = Fault::Broken {
+        rule: Rule::WrongType,
+        at,
+    };
+    match (sign, value) {
+        (None, value) => Ok(value),
+        (Some((sign, _)), ConstantValue::Ordinal(ordinal, number)) => {
+            if !same_host(ordinal.host, Host::Integer) {
+                return Err(fault);
+            }
+            match integer_with_sign(sign, number) {
+                None => Err(fault),
+                Some(number) => Ok(ConstantValue::Ordinal(INTEGER, number)),
+            }
+        }
+        (Some(_), ConstantValue::Text(_)) => Err(fault),
+    }
+}
+
+/// The value of the constant that a name denotes.
+fn constant_named(
+    reading: &Reading,
+    alloc: Global,
+    scope: &Scope,
+    name: Span,
+) -> Result<ConstantValue, Fault>
+    ensures ok { IfOk result (λ value. option_and_then constant_at (denoted reading.now.source.now (scope_of scope.now) name) ≡ Some (constant_of value)) }
+    ensures err { IfErr result (λ fault. IsFault fault → option_and_then constant_at (denoted reading.now.source.now (scope_of scope.now) name) ≡ None) }
+{
+    match reading.denoted(alloc, scope, name) {
+        Ok(found) => constant_at(&found, name.from),
+        Err(fault) => Err(fault),
+    }
+}
+
+/// The value of a constant.
+#[tactic(auto, unfolding(crate::specs::Views::constant_of, crate::specs::Constants::constant))]
+pub fn constant(
+    reading: &Reading,
+    alloc: Global,
+    scope: &Scope,
+    written: Constant,
+) -> Result<ConstantValue, Fault>
+    ensures ok { IfOk result (λ value. constant reading.now.source.now (scope_of scope.now) written ≡ Some (constant_of value)) }
+    ensures err { IfErr result (λ fault. IsFault fault → constant reading.now.source.now (scope_of scope.now) written ≡ None) }
+{
+    match written {
+        Constant::Number(sign, at) => {
+            let value = ConstantValue::Ordinal(INTEGER, number_at(reading, at));
+            signed_constant(sign, value, at.from)
+        }
+        Constant::Name(sign, at) => {
+            let value = constant_named(reading, alloc, scope, at)?;
+            signed_constant(sign, value, at.from)
+        }
+        Constant::Text(at) => {
+            let characters = string_value(alloc, reading.bytes(at))?;
+            Ok(text_constant(alloc, characters)?)
+        }
+    }
+}

@@ -1,0 +1,229 @@
+//! The regions that enclose a place, and the search through them.
+
+ghost use Rattle.std.specs.Prelude.{◌≡◌, ℕ, List, ◌∷◌, map, option_map, IfOk, IfErr, None, Some};
+ghost use Rattle.ps_tree.specs.Types.{field_in};
+ghost use Rattle.ps_tree.specs.View.{type_of};
+ghost use Rattle.ps_check_names.specs.Regions.{Region, BlockRegion, one_more, find_past, find};
+ghost use Rattle.ps_check_names.specs.Views.{meaning_of, fields_of, opened_in, scope_of, point_of, found};
+ghost use Rattle.ps_check_names.specs.Denotes.{FindsWhatIsDenoted};
+
+use crate::meaning::Meaning;
+use crate::refusal::{Fault, Rule};
+use ps_tree::names::Names;
+use ps_tree::types::Ty;
+
+/// The regions that enclose a place, from the inside out.
+#[derive(Clone, Copy)]
+pub enum Scope<'a> {
+    Outside,
+    /// A block: its routine's number, the names of all its defining points in the order in which their definitions end,
+    /// and what the first of them, those before the place, stand for.
+    Block {
+        routine: u32,
+        names: &'a Names,
+        known: &'a [Meaning],
+        outer: &'a Scope<'a>,
+    },
+    /// The types of the records that a `with` opens one after the other, each within those before it. A type that is no
+    /// record has no fields.
+    Opened {
+        records: &'a [Ty],
+        outer: &'a Scope<'a>,
+    },
+    /// A record within its own denoter: the names of its fields, of which the first `defined` stand before the place.
+    Fields {
+        names: &'a Names,
+        defined: usize,
+        outer: &'a Scope<'a>,
+    },
+}
+
+/// The defining point that a name denotes.
+#[derive(Clone, Copy)]
+pub enum Found<'a> {
+    /// A name of a block that is `up` blocks further out.
+    Name {
+        up: u32,
+        meaning: &'a Meaning,
+    },
+    /// The field with this number of an opened record, the innermost of which is `which` 0.
+    Field {
+        which: u32,
+        record: &'a Ty,
+        number: u32,
+        ty: &'a Ty,
+    },
+}
+
+/// What a search through regions found.
+#[derive(Clone, Copy)]
+pub enum Lookup<'a> {
+    Found(Found<'a>),
+    /// The name's defining point in the closest region that has one stands after the place.
+    Later,
+    /// It is a field's of a record within its own denoter.
+    OwnField,
+    /// No region has one.
+    Missing,
+}
+
+/// One more, where a count can tell it.
+pub fn one_more(count: u32) -> Option<u32>
+    ensures { result ≡ one_more count }
+{
+    if count < u32::MAX {
+        Some(count + 1)
+    } else {
+        None
+    }
+}
+
+/// How many blocks lie before what encloses this one, where none of its defining points has the name; or else what ends
+/// the search.
+#[tactic(auto, unfolding(crate::specs::Regions::find_past))]
+fn past_block<'a>(
+    names: &Names,
+    known: &'a [Meaning],
+    up: u32,
+    name: &[u8],
+) -> Result<u32, Lookup<'a>>
+    ensures ok { IfOk result (λ n. (which routine : ℕ) (Γ : List Region) → find_past up which (BlockRegion routine names.now (map meaning_of known.now) ∷ Γ) name.now ≡ find_past n which Γ name.now) }
+    ensures err { IfErr result (λ end. (which routine : ℕ) (Γ : List Region) → find_past up which (BlockRegion routine names.now (map meaning_of known.now) ∷ Γ) name.now ≡ found end) }
+{
+    match names.find(name) {
+        None => one_more(up).ok_or(Lookup::Missing),
+        Some(index) => match known.get(index) {
+            None => Err(Lookup::Later),
+            Some(meaning) => Err(Lookup::Found(Found::Name { up, meaning })),
+        },
+    }
+}
+
+/// The field of this name of a record type: its number and its type.
+#[tactic(auto, unfolding(crate::specs::Views::fields_of, ps_tree::specs::View::type_of))]
+fn field_of<'a>(ty: &'a Ty, name: &[u8]) -> Option<(u32, &'a Ty)>
+    ensures { option_map (λ f. (f.0, type_of f.1.now)) result ≡ field_in (fields_of (type_of ty.now)) name.now }
+{
+    match ty {
+        Ty::Record { fields, .. } => fields.find(name),
+        _ => None,
+    }
+}
+
+/// How many opened records lie before what encloses these, the last of which is the innermost, where none of them has a
+/// field of this name; or else what ends the search.
+fn past_records<'a>(records: &'a [Ty], which: u32, name: &[u8]) -> Result<u32, Lookup<'a>>
+    ensures ok { IfOk result (λ n. (up : ℕ) (Γ : List Region) → find_past up which (opened_in Γ records.now) name.now ≡ find_past up n Γ name.now) }
+    ensures err { IfErr result (λ end. (up : ℕ) (Γ : List Region) → find_past up which (opened_in Γ records.now) name.now ≡ found end) }
+{
+    let mut left = records;
+    let mut passed = which;
+    while let Some((record, rest)) = left.split_last() {
+        if let Some((number, ty)) = field_of(record, name) {
+            return Err(Lookup::Found(Found::Field {
+                which: passed,
+                record,
+                number,
+                ty,
+            }));
+        }
+        let Some(next) = one_more(passed) else {
+            return Err(Lookup::Missing);
+        };
+        passed = next;
+        left = rest;
+    }
+    Ok(passed)
+}
+
+/// The defining point that a name denotes at a place that these regions enclose.
+#[tactic(auto, unfolding(crate::specs::Regions::find_past, crate::specs::Views::scope_of))]
+pub fn find<'a>(scope: &'a Scope<'a>, name: &[u8]) -> Lookup<'a>
+    ensures { found result ≡ find (scope_of scope.now) name.now }
+{
+    let mut here = scope;
+    let mut up = 0;
+    let mut which = 0;
+    loop {
+        match here {
+            Scope::Outside => return Lookup::Missing,
+            Scope::Block {
+                names,
+                known,
+                outer,
+                ..
+            } => {
+                match past_block(names, known, up, name) {
+                    Ok(further) => up = further,
+                    Err(end) => return end,
+                }
+                here = outer;
+            }
+            Scope::Opened { records, outer } => {
+                match past_records(records, which, name) {
+                    Ok(further) => which = further,
+                    Err(end) => return end,
+                }
+                here = outer;
+            }
+            Scope::Fields {
+                names,
+                defined,
+                outer,
+            } => {
+                if let Some(index) = names.find(name) {
+                    return hidden_by(index, *defined);
+                }
+                here = outer;
+            }
+        }
+    }
+}
+
+/// What the name of a field stands for within the denoter of its own record.
+fn hidden_by<'a>(index: usize, defined: usize) -> Lookup<'a>
+    ensures { found result ≡ None }
+{
+    if index < defined {
+        Lookup::OwnField
+    } else {
+        Lookup::Later
+    }
+}
+
+/// The defining point that a name denotes whose use begins at an offset.
+pub(crate) fn denoted_at<'s>(scope: &'s Scope<'s>, name: &[u8], at: u32) -> Result<Found<'s>, Fault>
+    ensures ok { IfOk result (λ found. find (scope_of scope.now) name.now ≡ Some (point_of found)) }
+    ensures err { IfErr result (λ _. find (scope_of scope.now) name.now ≡ None) }
+{
+    match find(scope, name) {
+        Lookup::Found(point) => Ok(point),
+        Lookup::Later => Err(Fault::Broken {
+            rule: Rule::UsedBefore,
+            at,
+        }),
+        Lookup::OwnField => Err(Fault::Broken {
+            rule: Rule::WrongKind,
+            at,
+        }),
+        Lookup::Missing => Err(Fault::Broken {
+            rule: missing(name),
+            at,
+        }),
+    }
+}
+
+/// The rule that the use of a name without a defining point breaks: input and output have one where the program
+/// heading lists them.
+fn missing(name: &[u8]) -> Rule {
+    if name == b"input".as_slice() || name == b"output".as_slice() {
+        Rule::NoInputOutput
+    } else {
+        Rule::Unknown
+    }
+}
+
+/// A search finds the defining point that the name denotes, and finds none only where it denotes none.
+pub fn scope_rules()
+    ensures { FindsWhatIsDenoted }
+{}

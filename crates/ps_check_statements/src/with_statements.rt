@@ -1,0 +1,73 @@
+//! The records that a `with` statement opens (ISO 7185, 6.8.3.10).
+
+ghost use Rattle.std.specs.Prelude.{◌≡◌, ◌++◌, [], ◌∷◌, List, map, IfOk, IfErr, Some, None};
+ghost use Rattle.ps_tree.specs.View.{type_of, place_of};
+ghost use Rattle.ps_tree.specs.Tree as Tree;
+ghost use Rattle.ps_check_names.specs.Option.{steps};
+ghost use Rattle.ps_check_names.specs.Regions.{RecordRegion};
+ghost use Rattle.ps_check_names.specs.Refusal.{IsFault};
+ghost use Rattle.ps_check_names.specs.Views.{fields_of, opened_in};
+ghost use Rattle.ps_check_expressions.specs.View.{context_at, regions_at};
+ghost use Rattle.ps_check_statements.specs.Structured.{open_next};
+
+use ps_check_expressions::expression::variable_place;
+use ps_check_expressions::operators::wrong_type;
+use ps_check_expressions::site::Site;
+use ps_check_expressions::value::TypedPlace;
+use ps_check_names::refusal::Fault;
+use ps_check_names::scope::Scope;
+use ps_syntax::Variable;
+use ps_tree::tree::Place;
+use ps_tree::types::Ty;
+
+/// A record that is to be opened, and its type.
+#[tactic(auto, unfolding(crate::specs::Structured::open_next, crate::specs::Structured::record_region, ps_check_names::specs::Views::fields_of, ps_tree::specs::View::type_of))]
+fn opened_record(x: &Variable, site: Site<'_>) -> Result<(Place, Ty), Fault>
+    ensures ok { IfOk result (λ p. (places : List Tree.Place) → open_next (context_at site.entry) (places, regions_at site.entry) x.now ≡ Some (places ++ place_of p.0 ∷ [], RecordRegion (type_of p.1) (fields_of (type_of p.1)) ∷ regions_at site.entry)) }
+    ensures err { IfErr result (λ fault. IsFault fault → (places : List Tree.Place) → open_next (context_at site.entry) (places, regions_at site.entry) x.now ≡ None) }
+{
+    let TypedPlace { place, ty, .. } = variable_place(x, site)?;
+    match &ty {
+        Ty::Record { .. } => Ok((place, ty)),
+        _ => Err(wrong_type(x.name.from)),
+    }
+}
+
+/// Opens a record within those before it, whose places and types these are.
+#[tactic(auto, unfolding(ps_check_names::specs::Views::scope_of))]
+fn open_next(
+    x: &Variable,
+    site: Site<'_>,
+    places: &mut Vec<Place>,
+    types: &mut Vec<Ty>,
+) -> Result<(), Fault>
+    ensures ok { IfOk result (λ _. open_next (context_at site.entry) (map place_of places.old.items, opened_in (regions_at site.entry) types.old.items) x.now ≡ Some (map place_of places.new.items, opened_in (regions_at site.entry) types.new.items)) }
+    ensures err { IfErr result (λ fault. IsFault fault → open_next (context_at site.entry) (map place_of places.old.items, opened_in (regions_at site.entry) types.old.items) x.now ≡ None) }
+{
+    let scope = Scope::Opened {
+        records: types.as_slice(),
+        outer: site.scope,
+    };
+    let inner = Site {
+        alloc: site.alloc,
+        reading: site.reading,
+        scope: &scope,
+    };
+    let (place, ty) = opened_record(x, inner)?;
+    places.push(place)?;
+    types.push(ty)?;
+    Ok(())
+}
+
+/// Opens records one after the other, each within those before it: their places, and their types.
+pub(crate) fn open_all(records: &[Variable], site: Site<'_>) -> Result<(Vec<Place>, Vec<Ty>), Fault>
+    ensures ok { IfOk result (λ p. steps (open_next (context_at site.entry)) ([], regions_at site.entry) records.now ≡ Some (map place_of p.0.items, opened_in (regions_at site.entry) p.1.items)) }
+    ensures err { IfErr result (λ fault. IsFault fault → steps (open_next (context_at site.entry)) ([], regions_at site.entry) records.now ≡ None) }
+{
+    let mut places = Vec::with_capacity(site.alloc, records.len())?;
+    let mut types = Vec::with_capacity(site.alloc, records.len())?;
+    for x in records {
+        open_next(x, site, &mut places, &mut types)?;
+    }
+    Ok((places, types))
+}

@@ -1,8 +1,0 @@
-use Rattle.ps_tree.specs.View.{type_of}
-use Rattle.ps_regions.proofs.Lists.{Stepped}
-use Rattle.ps_declare.specs.Declarations.{declare_variable}
-use Rattle.ps_declare.specs.Views.{declared_of}
-use Rattle.ps_declare.proofs.declarations.declare_names.Given as goal
-
-abbrev pub invariant-loop-name : goal.invariant-loop-name
-invariant-loop-name l = Stepped (declare_variable l.first (type_of l.ty)) (declared_of l.fn.declared) l.names l.name-index (declared_of l.declared)

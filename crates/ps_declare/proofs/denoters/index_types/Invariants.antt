@@ -1,8 +1,0 @@
-use Rattle.std.proofs.Common.{[]}
-use Rattle.ps_regions.proofs.Lists.{Stepped}
-use Rattle.ps_declare.specs.Denoters.{index_type}
-use Rattle.ps_declare.specs.Views.{frame_of, hidden_of, declared_of}
-use Rattle.ps_declare.proofs.denoters.index_types.Given as goal
-
-abbrev pub invariant-loop-index : goal.invariant-loop-index
-invariant-loop-index l = Stepped (index_type (frame_of l.frame) (hidden_of l.hidden) l.at) ([], declared_of l.fn.declared) l.indices l.index-index (l.done.items, declared_of l.declared)

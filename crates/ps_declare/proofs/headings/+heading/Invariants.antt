@@ -1,9 +1,0 @@
-use Rattle.std.proofs.Common.{[], map}
-use Rattle.ps_regions.proofs.Lists.{Stepped}
-use Rattle.ps_regions.specs.Views.{meaning_of, section_of}
-use Rattle.ps_declare.specs.Headings.{add_section, section}
-use Rattle.ps_declare.specs.Views.{frame_of, hidden_of}
-use Rattle.ps_declare.proofs.headings.+heading.Given as goal
-
-abbrev pub invariant-all_sections-loop-written : goal.invariant-all_sections-loop-written
-invariant-all_sections-loop-written l = Stepped (add_section (frame_of l.frame) (map meaning_of l.known) (hidden_of l.hidden)) [] (map (section (frame_of l.frame) (map meaning_of l.known)) l.list) l.written-index (map section_of l.done.items)

@@ -1,9 +1,0 @@
-use Rattle.std.proofs.Common.{[], map}
-use Rattle.ps_regions.specs.Views.{meaning_of}
-use Rattle.ps_declare.specs.Headings.{section_points}
-use Rattle.ps_declare.specs.Views.{frame_of}
-use Rattle.ps_declare.proofs.Walks.{Walked}
-use Rattle.ps_declare.proofs.headings.list_names.Given as goal
-
-abbrev pub invariant-loop-written : goal.invariant-loop-written
-invariant-loop-written l = Walked (frame_of l.frame).text (section_points (frame_of l.frame) (map meaning_of l.known)) [] l.list l.written-index l.names

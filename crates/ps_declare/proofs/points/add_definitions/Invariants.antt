@@ -1,6 +1,0 @@
-use Rattle.ps_declare.specs.Points.{definition_points}
-use Rattle.ps_declare.proofs.Walks.{Walked}
-use Rattle.ps_declare.proofs.points.add_definitions.Given as goal
-
-abbrev pub invariant-loop-definition : goal.invariant-loop-definition
-invariant-loop-definition l = Walked l.reading.source.now definition_points l.fn.names l.definitions l.definition-index l.names

@@ -1,6 +1,0 @@
-use Rattle.ps_regions.proofs.Lists.{Stepped}
-use Rattle.ps_declare.specs.Points.{add_point}
-use Rattle.ps_declare.proofs.points.add_points.Given as goal
-
-abbrev pub invariant-loop-point : goal.invariant-loop-point
-invariant-loop-point l = Stepped (add_point l.reading.source.now) l.fn.names l.points l.point-index l.names

@@ -1,5 +1,0 @@
-use Rattle.ps_grammar.proofs.FirstPlaces.{parts_first}
-use Rattle.ps_grammar.proofs.place_law.Goals as goal
-
-pub returns : goal.returns
-returns c = parts_first

@@ -1,0 +1,223 @@
+-- Operators on what is told of their operands.
+use Rattle.std.proofs.Common.{◌≡◌, ℕ, Bool, true, false, ◌&&◌, ◌||◌, ◌==◌, List, Some, refl, sym, ◌∙◌, subst, eqb-true}
+use Rattle.ps_syntax.specs.declared.expression.Sign.{Sign}
+use Rattle.ps_syntax.specs.declared.expression.Sign.TheVariants as sign
+use Rattle.ps_syntax.specs.declared.expression.Adding.{Adding}
+use Rattle.ps_syntax.specs.declared.expression.Adding.TheVariants as adding
+use Rattle.ps_syntax.specs.declared.expression.Multiplying.{Multiplying}
+use Rattle.ps_syntax.specs.declared.expression.Multiplying.TheVariants as multiplying
+use Rattle.ps_syntax.specs.declared.expression.Relation.{Relation}
+use Rattle.ps_tree.specs.declared.types.Host.{Host}
+use Rattle.ps_tree.specs.declared.types.Host.TheVariants.{Integer, Boolean}
+use Rattle.ps_tree.specs.declared.tree.ArithmeticOperator.{ArithmeticOperator}
+use Rattle.ps_tree.specs.declared.tree.ArithmeticOperator.TheVariants.{Add, Subtract, Multiply, Div, Mod}
+use Rattle.ps_tree.specs.declared.tree.BooleanOperator.{BooleanOperator}
+use Rattle.ps_tree.specs.declared.tree.BooleanOperator.TheVariants.{And, Or}
+use Rattle.ps_tree.specs.declared.tree.SetOperator.{SetOperator}
+use Rattle.ps_tree.specs.declared.tree.SetOperator.TheVariants.{Union, Difference, Intersection}
+use Rattle.ps_tree.specs.Types.{DataType, OrdinalType, PointerType, NilType, SetType, EmptySetType, is_same_host, are_same, is_same_type, is_compatible, string_length}
+use Rattle.ps_tree.specs.Tree.{ArithmeticSteps, no_arithmetic_step, arithmetic_step_before, Operands, no_operand, operand_before, SetSteps, no_set_step, set_step_before, Expr, Plus, Minus, Not, Arithmetic, Logic, Compare, ComparePointers, CompareSets, CompareStrings, In, SetExpr, Combine}
+use Rattle.ps_lower_layout.specs.Shapes.{Shape}
+use Rattle.ps_lower_layout.specs.Paths.{NumberSort, PointerSort}
+use Rattle.ps_lower_code.specs.Scopes.{Scope}
+use Rattle.ps_lower_accepted.proofs.Tidy.{ExprSound, StepsSound, OperandsSound, SetSound, SetStepsSound}
+use Rattle.tac_code.specs.Sound.{IsLine}
+use Rattle.ps_check_names.specs.Option.{◌>>=◌}
+use Rattle.ps_check_names.specs.Constants.{integer, boolean}
+use Rattle.ps_tree.specs.Chains.{arithmetic_step_after, calculated, operand_after, connected, set_step_after, combined}
+use Rattle.ps_check_expressions.specs.Values.{Value, SimpleValue, SetValue, StructureValue, set_type_of_both}
+use Rattle.ps_check_expressions.specs.Operators.{number, truth, operand_of, with_sign, negated, arithmetic, arithmetic_or_set, logic, added, multiplied, ordered, of_pointers, of_sets, simple_comparison, may_be_member, is_in, compared}
+use Rattle.ps_lower_accepted.proofs.Lists.{right, never, inside, none_some, then_some, provided_some, if_some}
+use Rattle.ps_lower_accepted.proofs.Strings.{same_length, string_fits}
+use Rattle.ps_lower_accepted.proofs.Tables.{Table, OrdinalKnown}
+use Rattle.ps_lower_accepted.proofs.Told.{SimpleTold, SetTold, ValueTold}
+
+-- ---- the required types
+
+pub integer_known : (D : Table) → OrdinalKnown D integer
+integer_known D = record { low = refl; high = refl; rises = refl; host = tt; subrange = refl }
+
+pub boolean_known : (D : Table) → OrdinalKnown D boolean
+boolean_known D = record { low = refl; high = refl; rises = refl; host = tt; subrange = refl }
+
+module _ (D : Table) (k : Scope) (os : List Shape) where
+  pub number_told : (e : Expr) → ExprSound k os e NumberSort → ValueTold D k os (number e)
+  number_told e f = (integer_known D, f)
+
+  pub truth_told : (e : Expr) → ExprSound k os e NumberSort → ValueTold D k os (truth e)
+  truth_told e f = (boolean_known D, f)
+
+  -- ---- operands of a host type
+
+  pub operand_told : (host : Host) (v : Value) (e : Expr) → ValueTold D k os v → operand_of host v ≡ Some e → ExprSound k os e NumberSort
+  unfolding operand_of
+  operand_told host (SimpleValue x (OrdinalType o)) e h q = let p = provided_some (is_same_host o.host host) x e q in subst (λ y. ExprSound k os y NumberSort) p.1 h.1
+  operand_told host (SimpleValue x (PointerType n)) e h q = absurd (none_some q)
+  operand_told host (SimpleValue x NilType) e h q = absurd (none_some q)
+  operand_told host (SimpleValue x type) e h q = absurd h
+  operand_told host (SetValue x type) e h q = absurd (none_some q)
+  operand_told host (StructureValue x type) e h q = absurd (none_some q)
+
+  -- ---- signs and `not`
+
+  pub sign_told : (s : Sign) (line : ℕ) → IsLine line → (v w : Value) → ValueTold D k os v → with_sign s line v ≡ Some w → ValueTold D k os w
+  unfolding with_sign
+  sign_told sign.Plus line l v w h q =
+      let a = then_some (operand_of Integer v) (λ e. Some (number (Plus e))) w q in
+      subst (ValueTold D k os) (inside (number (Plus a.0)) w a.2) (number_told (Plus a.0) (let x = operand_told Integer v a.0 h a.1 in ((refl, x.0), x.1)))
+  sign_told sign.Minus line l v w h q =
+      let a = then_some (operand_of Integer v) (λ e. Some (number (Minus e line))) w q in
+      subst (ValueTold D k os) (inside (number (Minus a.0 line)) w a.2) (number_told (Minus a.0 line) (let x = operand_told Integer v a.0 h a.1 in ((refl, x.0), (x.1, l))))
+
+  pub negated_told : (v w : Value) → ValueTold D k os v → negated v ≡ Some w → ValueTold D k os w
+  unfolding negated
+  negated_told v w h q =
+      let a = then_some (operand_of Boolean v) (λ e. Some (truth (Not e))) w q in
+      subst (ValueTold D k os) (inside (truth (Not a.0)) w a.2) (truth_told (Not a.0) (let x = operand_told Boolean v a.0 h a.1 in ((refl, x.0), x.1)))
+
+  -- ---- chains
+
+  steps_after : (steps : ArithmeticSteps) (operator : ArithmeticOperator) (e : Expr) (line : ℕ) → IsLine line → StepsSound k os steps → ExprSound k os e NumberSort → StepsSound k os (arithmetic_step_after steps operator e line)
+  unfolding arithmetic_step_after
+  steps_after no_arithmetic_step operator e line l h f = ((f.0, tt), (f.1, l, tt))
+  steps_after (arithmetic_step_before p first n rest) operator e line l h f = let r = steps_after rest operator e line l (h.0.1, h.1.2) f in ((h.0.0, r.0), (h.1.0, h.1.1, r.1))
+
+  calculated_fits : (operator : ArithmeticOperator) (line : ℕ) → IsLine line → (a b : Expr) → ExprSound k os a NumberSort → ExprSound k os b NumberSort → ExprSound k os (calculated operator line a b) NumberSort
+  unfolding calculated
+  calculated_fits operator line l (Arithmetic first steps) b f g = let r = steps_after steps operator b line l (f.0.2, f.1.1) g in ((refl, f.0.1, r.0), (f.1.0, r.1))
+  calculated_fits operator line l a b f g = ((refl, f.0, (g.0, tt)), (f.1, (g.1, l, tt)))
+
+  operands_after : (rest : Operands) (e : Expr) → OperandsSound k os rest → ExprSound k os e NumberSort → OperandsSound k os (operand_after rest e)
+  unfolding operand_after
+  operands_after no_operand e h f = ((f.0, tt), (f.1, tt))
+  operands_after (operand_before first rest) e h f = let r = operands_after rest e (h.0.1, h.1.1) f in ((h.0.0, r.0), (h.1.0, r.1))
+
+  connected_fits : (operator : BooleanOperator) (a b : Expr) → ExprSound k os a NumberSort → ExprSound k os b NumberSort → ExprSound k os (connected operator a b) NumberSort
+  unfolding connected
+  connected_fits And (Logic And first rest) b f g = let r = operands_after rest b (f.0.2, f.1.1) g in ((refl, f.0.1, r.0), (f.1.0, r.1))
+  connected_fits Or (Logic Or first rest) b f g = let r = operands_after rest b (f.0.2, f.1.1) g in ((refl, f.0.1, r.0), (f.1.0, r.1))
+  connected_fits operator a b f g = ((refl, f.0, (g.0, tt)), (f.1, (g.1, tt)))
+
+  set_steps_after : (steps : SetSteps) (operator : SetOperator) (e : SetExpr) → SetStepsSound k os steps → SetSound k os e → SetStepsSound k os (set_step_after steps operator e)
+  unfolding set_step_after
+  set_steps_after no_set_step operator e h f = ((f.0, tt), (f.1, tt))
+  set_steps_after (set_step_before p first rest) operator e h f = let r = set_steps_after rest operator e (h.0.1, h.1.1) f in ((h.0.0, r.0), (h.1.0, r.1))
+
+  combined_fits : (operator : SetOperator) (a b : SetExpr) → SetSound k os a → SetSound k os b → SetSound k os (combined operator a b)
+  unfolding combined
+  combined_fits operator (Combine first steps) b f g = let r = set_steps_after steps operator b (f.0.1, f.1.1) g in ((f.0.0, r.0), (f.1.0, r.1))
+  combined_fits operator a b f g = ((f.0, (g.0, tt)), (f.1, (g.1, tt)))
+
+  -- ---- operators on two operands
+
+  arithmetic_told : (operator : ArithmeticOperator) (line : ℕ) → IsLine line → (v w x : Value) → ValueTold D k os v → ValueTold D k os w → arithmetic operator line v w ≡ Some x → ValueTold D k os x
+  unfolding arithmetic
+  arithmetic_told operator line l v w x h g q =
+      let a = then_some (operand_of Integer v) (λ a. operand_of Integer w >>= (λ b. Some (number (calculated operator line a b)))) x q in
+      let b = then_some (operand_of Integer w) (λ b. Some (number (calculated operator line a.0 b))) x a.2 in
+      subst (ValueTold D k os) (inside (number (calculated operator line a.0 b.0)) x b.2)
+      (number_told (calculated operator line a.0 b.0) (calculated_fits operator line l a.0 b.0 (operand_told Integer v a.0 h a.1) (operand_told Integer w b.0 g b.1)))
+
+  logic_told : (operator : BooleanOperator) (v w x : Value) → ValueTold D k os v → ValueTold D k os w → logic operator v w ≡ Some x → ValueTold D k os x
+  unfolding logic
+  logic_told operator v w x h g q =
+      let a = then_some (operand_of Boolean v) (λ a. operand_of Boolean w >>= (λ b. Some (truth (connected operator a b)))) x q in
+      let b = then_some (operand_of Boolean w) (λ b. Some (truth (connected operator a.0 b))) x a.2 in
+      subst (ValueTold D k os) (inside (truth (connected operator a.0 b.0)) x b.2)
+      (truth_told (connected operator a.0 b.0) (connected_fits operator a.0 b.0 (operand_told Boolean v a.0 h a.1) (operand_told Boolean w b.0 g b.1)))
+
+  pub set_fits : (e : SetExpr) (type : DataType) → SetTold D k os e type → SetSound k os e
+  set_fits e (SetType d p b) h = h
+  set_fits e EmptySetType h = h
+  set_fits e type h = absurd h
+
+  both_sets : (s t : DataType) (a b e : SetExpr) → SetTold D k os a s → SetTold D k os b t → SetSound k os e → SetTold D k os e (set_type_of_both s t)
+  both_sets (SetType d p o) (SetType d' p' o') a b e h g f = f
+  both_sets (SetType d p o) EmptySetType a b e h g f = f
+  both_sets EmptySetType (SetType d p o) a b e h g f = f
+  both_sets EmptySetType EmptySetType a b e h g f = f
+  both_sets (SetType d p o) t a b e h g f = absurd g
+  both_sets EmptySetType t a b e h g f = absurd g
+  both_sets s t a b e h g f = absurd h
+
+  arithmetic_or_set_told : (operator : ArithmeticOperator) (sets : SetOperator) (line : ℕ) → IsLine line → (v w x : Value) → ValueTold D k os v → ValueTold D k os w → arithmetic_or_set operator sets line v w ≡ Some x → ValueTold D k os x
+  unfolding arithmetic_or_set
+  arithmetic_or_set_told operator sets line l (SetValue a s) (SetValue b t) x h g q =
+      let p = provided_some (is_compatible s t) (SetValue (combined sets a b) (set_type_of_both s t)) x q in
+      subst (ValueTold D k os) p.1 (both_sets s t a b (combined sets a b) h g (combined_fits sets a b (set_fits a s h) (set_fits b t g)))
+  arithmetic_or_set_told operator sets line l v w x h g q = arithmetic_told operator line l v w x h g q
+
+  pub added_told : (operator : Adding) (line : ℕ) → IsLine line → (v w x : Value) → ValueTold D k os v → ValueTold D k os w → added operator line v w ≡ Some x → ValueTold D k os x
+  unfolding added
+  added_told adding.Plus line l v w x h g q = arithmetic_or_set_told Add Union line l v w x h g q
+  added_told adding.Minus line l v w x h g q = arithmetic_or_set_told Subtract Difference line l v w x h g q
+  added_told adding.Or line l v w x h g q = logic_told Or v w x h g q
+
+  pub multiplied_told : (operator : Multiplying) (line : ℕ) → IsLine line → (v w x : Value) → ValueTold D k os v → ValueTold D k os w → multiplied operator line v w ≡ Some x → ValueTold D k os x
+  unfolding multiplied
+  multiplied_told multiplying.Times line l v w x h g q = arithmetic_or_set_told Multiply Intersection line l v w x h g q
+  multiplied_told multiplying.Div line l v w x h g q = arithmetic_told Div line l v w x h g q
+  multiplied_told multiplying.Mod line l v w x h g q = arithmetic_told Mod line l v w x h g q
+  multiplied_told multiplying.And line l v w x h g q = logic_told And v w x h g q
+
+  -- ---- relations
+
+  compared_numbers : (relation : Relation) (a b : Expr) (x : Value) → ExprSound k os a NumberSort → ExprSound k os b NumberSort → (ordered relation >>= (λ s. Some (truth (Compare s a b)))) ≡ Some x → ValueTold D k os x
+  compared_numbers relation a b x f g q =
+      let r = then_some (ordered relation) (λ s. Some (truth (Compare s a b))) x q in
+      subst (ValueTold D k os) (inside (truth (Compare r.0 a b)) x r.2) (truth_told (Compare r.0 a b) ((refl, f.0, g.0), (f.1, g.1)))
+
+  compared_pointers : (relation : Relation) (a b : Expr) (n : ℕ) (x : Value) → ExprSound k os a (PointerSort n) → ExprSound k os b (PointerSort n) → (of_pointers relation >>= (λ s. Some (truth (ComparePointers s a b)))) ≡ Some x → ValueTold D k os x
+  compared_pointers relation a b n x f g q =
+      let r = then_some (of_pointers relation) (λ s. Some (truth (ComparePointers s a b))) x q in
+      subst (ValueTold D k os) (inside (truth (ComparePointers r.0 a b)) x r.2) (truth_told (ComparePointers r.0 a b) ((refl, (n, f.0, g.0)), (f.1, g.1)))
+
+  same_pointers : (m n : ℕ) → (m == n || false) ≡ true → m ≡ n
+  same_pointers m n e = go (m == n) refl e
+    where
+      go : (b : Bool) → (m == n) ≡ b → (b || false) ≡ true → m ≡ n
+      go true q h = eqb-true m n q
+      go false q h = never h
+
+  simple_told : (relation : Relation) (a b : Expr) (s t : DataType) (x : Value) → SimpleTold D k os a s → SimpleTold D k os b t → is_compatible s t ≡ true → simple_comparison relation a b s ≡ Some x → ValueTold D k os x
+  unfolding is_compatible is_same_type string_length simple_comparison
+  simple_told relation a b (OrdinalType o) (OrdinalType p) x h g e q = compared_numbers relation a b x h.1 g.1 q
+  simple_told relation a b (PointerType m) (PointerType n) x h g e q = compared_pointers relation a b n x (subst (λ i. ExprSound k os a (PointerSort i)) (same_pointers m n e) h.1) g.1 q
+  simple_told relation a b (PointerType m) NilType x h g e q = compared_pointers relation a b m x h.1 (g m) q
+  simple_told relation a b NilType (PointerType n) x h g e q = compared_pointers relation a b n x (h n) g.1 q
+  simple_told relation a b NilType NilType x h g e q = compared_pointers relation a b 0 x (h 0) (g 0) q
+  simple_told relation a b (OrdinalType o) (PointerType n) x h g e q = never e
+  simple_told relation a b (OrdinalType o) NilType x h g e q = never e
+  simple_told relation a b (PointerType m) (OrdinalType o) x h g e q = never e
+  simple_told relation a b NilType (OrdinalType o) x h g e q = never e
+  simple_told relation a b (OrdinalType o) t x h g e q = absurd g
+  simple_told relation a b (PointerType m) t x h g e q = absurd g
+  simple_told relation a b NilType t x h g e q = absurd g
+  simple_told relation a b s t x h g e q = absurd h
+
+  member_number : (a : Expr) (s t : DataType) → SimpleTold D k os a s → may_be_member s t ≡ true → ExprSound k os a NumberSort
+  member_number a (OrdinalType o) t h e = h.1
+  member_number a (PointerType n) t h e = never e
+  member_number a NilType t h e = never e
+  member_number a s t h e = absurd h
+
+  pub compared_told : (relation : Relation) (v w x : Value) → ValueTold D k os v → ValueTold D k os w → compared relation v w ≡ Some x → ValueTold D k os x
+  unfolding compared
+  compared_told relation (SimpleValue a s) (SimpleValue b t) x h g q =
+      let o = if_some (is_compatible s t) (simple_comparison relation a b s) x q in
+      simple_told relation a b s t x h g o.0 o.1
+  compared_told relation (SimpleValue a s) (SetValue b t) x h g q =
+      let p = provided_some (is_in relation && may_be_member s t) (truth (In a b)) x q in
+      subst (ValueTold D k os) p.1 (truth_told (In a b) (let m = member_number a s t h (right (is_in relation) (may_be_member s t) p.0) in let n = set_fits b t g in ((refl, m.0, n.0), (m.1, n.1))))
+  compared_told relation (SetValue a s) (SetValue b t) x h g q =
+      let o = if_some (is_compatible s t) (of_sets relation >>= (λ c. Some (truth (CompareSets c a b)))) x q in
+      let r = then_some (of_sets relation) (λ c. Some (truth (CompareSets c a b))) x o.1 in
+      subst (ValueTold D k os) (inside (truth (CompareSets r.0 a b)) x r.2) (truth_told (CompareSets r.0 a b) (let m = set_fits a s h in let n = set_fits b t g in ((refl, m.0, n.0), (m.1, n.1))))
+  compared_told relation (StructureValue a s) (StructureValue b t) x h g q =
+      let o = if_some (are_same (string_length s) (string_length t)) (ordered relation >>= (λ c. Some (truth (CompareStrings c a b)))) x q in
+      let l = same_length (string_length s) (string_length t) o.0 in
+      let r = then_some (ordered relation) (λ c. Some (truth (CompareStrings c a b))) x o.1 in
+      let f = string_fits D k os a s l.0 h l.1 in
+      let f' = string_fits D k os b t l.0 g l.2 in
+      subst (ValueTold D k os) (inside (truth (CompareStrings r.0 a b)) x r.2) (truth_told (CompareStrings r.0 a b) ((refl, f.0.0, f'.0.0, f.1 ∙ sym f'.1), (f.0.1, f'.0.1)))
+  compared_told relation v w x h g q = absurd (none_some q)

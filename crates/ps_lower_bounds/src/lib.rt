@@ -1,0 +1,37 @@
+//! Laws: how much the code of a program takes, and that it keeps the invariant of three-address code.
+//!
+//! The functions do nothing when they run; each stands for its contract.
+#![tactic(auto)]
+
+ghost use Rattle.ps_lower_bounds.specs.Fields.{OffsetsAreSmall};
+ghost use Rattle.ps_lower_bounds.specs.Laws.{CodeIsSound, WeightsAreSmall};
+ghost use Rattle.ps_lower_bounds.specs.Sizes.{RoutinesAreBounded, ObjectsAreBounded};
+
+/// A routine's code takes at most 32 bytes, 4 for each of its cells and 64 for each of its nodes.
+#[tactic(auto, using(crate::proofs::Routines::sizes_bounded))]
+pub fn routines_are_bounded()
+    ensures { RoutinesAreBounded }
+{}
+
+/// An object takes at most 4 bytes for each cell of its type.
+#[tactic(auto, using(crate::proofs::Cells::objects_bounded))]
+pub fn objects_are_bounded()
+    ensures { ObjectsAreBounded }
+{}
+
+/// The code of a program within the limits, whose tree is formed, keeps the invariant of three-address code.
+pub fn code_is_sound()
+    ensures { CodeIsSound }
+{}
+
+/// In a program within the limits, whose variables lie within their frames and objects, every offset and count of bytes in the code is below
+/// 2,147,483,648.
+pub fn offsets_are_small()
+    ensures { OffsetsAreSmall }
+{}
+
+/// While the code of a program within the limits is made, no number is larger than 1,000,000,000, where the tree is formed and the variables lie
+/// within their frames and objects: no temporary, no byte of the scratch block, no offset and no count of bytes.
+pub fn weights_are_small()
+    ensures { WeightsAreSmall }
+{}

@@ -1,0 +1,18 @@
+-- How large the bits of a word of a set are.
+use Rattle.std.proofs.Common.{ℕ, zero, suc, ◌+◌, ◌*◌, ◌^◌, ◌<◌, ℤ, pos, Bool, true, false, not, if◌then◌else◌, arith}
+use Rattle.std.proofs.Math.Nat.{pow-suc}
+use Rattle.ps_meaning.specs.Operators.{is_between}
+use Rattle.ps_lower_layout.specs.Words.{bits_from}
+use Rattle.ps_lower_code.specs.Values.{outside_bits}
+
+pub bits_below : (n k : ℕ) (s : ℕ → Bool) → bits_from n k s < 2 ^ n
+bits_below zero k s = omega arith
+bits_below (suc n) k s = go (s k) (bits_below n (suc k) s)
+  where
+    go : (b : Bool) → bits_from n (suc k) s < 2 ^ n → (if b then 1 else 0) + 2 * bits_from n (suc k) s < 2 ^ suc n
+    go true r = let e = pow-suc 2 n in omega (arith, r, e)
+    go false r = let e = pow-suc 2 n in omega (arith, r, e)
+
+pub outside_small : (low high : ℤ) (q : ℕ) → outside_bits low high q < 4294967296
+unfolding outside_bits
+outside_small low high q = let l = bits_below 32 (32 * q) (λ k. not (is_between low (pos k) high)) in omega (arith, l)

@@ -1,0 +1,176 @@
+-- What code is made from: temporaries by their classes, frames by their levels, and the pieces that all constructs share.
+use Rattle.std.specs.Prelude.{ℕ, zero, suc, ◌+◌, ◌%◌, ℤ, pos, negsuc, Bool, true, false, ◌&&◌, nat_eq, if◌then◌else◌, List, [], ◌∷◌, ◌++◌, length, Option, Some, None, get_or, slice_get, int_le}
+use Rattle.ps_tree.specs.declared.tree.Range.{Range}
+use Rattle.ps_tree.specs.declared.tree.Range.TheVariants.{Any, Within}
+use Rattle.ps_tree.specs.Tree.{Program, Routine, routine_at}
+use Rattle.ps_meaning.specs.Operators.{is_between, is_equal}
+use Rattle.tac_code.specs.declared.code.Operand.{Operand}
+use Rattle.tac_code.specs.declared.code.Operand.TheVariants as operand
+use Rattle.tac_code.specs.declared.code.Base.{Base}
+use Rattle.tac_code.specs.declared.code.Base.TheVariants as base
+use Rattle.tac_code.specs.declared.code.Instruction.{Instruction}
+use Rattle.tac_code.specs.declared.code.Instruction.TheVariants.{Literal, Copy, CheckRange, Offset, Load, Call, Trap}
+use Rattle.ps_lower_layout.specs.Frames.{Kind, entries, entry_offset, link_offset, input_offset}
+
+-- ---- temporaries
+-- Code at depth d writes no temporary below d. What stays alive across a call is in an odd one, all else in an even one.
+abbrev pub even_from : ℕ → ℕ
+even_from d = d + d % 2
+
+abbrev pub odd_from : ℕ → ℕ
+odd_from d = d + (d + 1) % 2
+
+-- for a value that is held while code runs that calls or not
+abbrev pub held : Bool → ℕ → ℕ
+held true d = odd_from d
+held false d = even_from d
+
+-- the same, where either class does if nothing calls
+abbrev pub kept : Bool → ℕ → ℕ
+kept true d = odd_from d
+kept false d = d
+
+-- the next of the same class
+abbrev pub beside : ℕ → ℕ
+beside t = suc (suc t)
+
+-- a value, moved to where it is wanted
+abbrev pub moved : (from to : ℕ) → List Instruction
+moved from to = if nat_eq from to then [] else Copy to from ∷ []
+
+-- ---- numbers
+
+abbrev pub least : ℤ
+least = negsuc 2147483647
+
+abbrev pub greatest : ℤ
+greatest = pos 2147483647
+
+-- every integer lies in the range
+abbrev pub is_any : ℤ → ℤ → Bool
+is_any low high = is_equal low least && is_equal high greatest
+
+abbrev pub range_code : (temporary : ℕ) (low high : ℤ) (number line : ℕ) → List Instruction
+range_code t low high number line = if is_any low high then [] else CheckRange t low high number line ∷ []
+
+-- a number that is known needs no test if it lies in the range
+abbrev pub check_code : Option ℤ → (temporary : ℕ) (low high : ℤ) (number line : ℕ) → List Instruction
+check_code None t low high number line = range_code t low high number line
+check_code (Some z) t low high number line = if is_between low z high then [] else CheckRange t low high number line ∷ []
+
+-- every byte lies in the range
+abbrev pub has_bytes : ℤ → ℤ → Bool
+has_bytes low high = int_le low (pos 0) && int_le (pos 255) high
+
+-- the same for the range that the tree gives: error 4. What is known to be a byte needs no test if the range has all bytes.
+abbrev pub fitting_code : (byte : Bool) → Option ℤ → (temporary : ℕ) → Range → (line : ℕ) → List Instruction
+fitting_code byte literal t Any line = []
+fitting_code byte literal t (Within low high) line = if byte && has_bytes low high then [] else check_code literal t low high 4 line
+
+-- and for an operand that may stand in no temporary
+abbrev pub operand_check : Option ℤ → (temporary : ℕ) (low high : ℤ) (number line : ℕ) → List Instruction
+operand_check None t low high number line = range_code t low high number line
+operand_check (Some z) t low high number line = if is_between low z high then [] else Trap number line ∷ []
+
+-- a right operand: a number that is known, or what a temporary holds
+abbrev pub operand_of : Option ℤ → (temporary : ℕ) → Operand
+operand_of None t = operand.Temporary t
+operand_of (Some z) t = operand.Number z
+
+-- the code of a right operand: none for a number that is known
+abbrev pub unless_known : Option ℤ → List Instruction → List Instruction
+unless_known None code = code
+unless_known (Some z) code = []
+
+-- ---- variables
+
+-- so many bytes from a base
+pub record Site : Type 0 where
+  pub base : Base
+  pub offset : ℕ
+
+-- Where an expression or a statement stands: in a routine, whose number begins the chain of those round it, and within
+-- records that `with` opened, the innermost first.
+pub record Scope : Type 0 where
+  pub program : Program
+  pub chain : List ℕ
+  pub opened : List Site
+
+abbrev pub routine_up : Scope → ℕ → Routine
+routine_up k up = routine_at k.program (get_or k.chain up 0)
+
+abbrev pub kind_at : Scope → (up index : ℕ) → Option Kind
+kind_at k up i = slice_get (entries (routine_up k up)) i
+
+-- the frame so many levels up is the program block's
+abbrev pub is_outermost : Scope → ℕ → Bool
+is_outermost k up = nat_eq (suc up) (length k.chain)
+
+-- From the frame at an address in t to the one so many levels further up. The link of each level stands where that level's
+-- routine has it.
+abbrev pub hops : Scope → (t level up : ℕ) → List Instruction
+hops k t level zero = []
+hops k t level (suc up) = Load t (base.Temporary t) (link_offset (routine_up k level)) ∷ hops k t (suc level) up
+
+-- what reaches the frame so many levels up, and the base from which its parts count then
+abbrev pub frame_code : Scope → (t up : ℕ) → List Instruction
+frame_code k t zero = []
+frame_code k t (suc up) = if is_outermost k (suc up) then [] else Load t base.Frame (link_offset (routine_up k 0)) ∷ hops k t 1 up
+
+abbrev pub frame_base : Scope → (t up : ℕ) → Base
+frame_base k t zero = base.Frame
+frame_base k t (suc up) = if is_outermost k (suc up) then base.Program else base.Temporary t
+
+-- the same, as an address in t
+abbrev pub link_code : Scope → (t up : ℕ) → List Instruction
+link_code k t zero = Offset t base.Frame 0 0 ∷ []
+link_code k t (suc up) = if is_outermost k (suc up) then Offset t base.Program 0 0 ∷ [] else Load t base.Frame (link_offset (routine_up k 0)) ∷ hops k t 1 up
+
+-- a procedural or functional parameter: its routine in t, and its frame's address beside
+abbrev pub formal_code : Scope → (t up index : ℕ) → List Instruction
+formal_code k t up i =
+    frame_code k t up
+    ++ Load (beside t) (frame_base k t up) (entry_offset (routine_up k up) i + 4)
+    ∷ Load t (frame_base k t up) (entry_offset (routine_up k up) i) ∷ []
+
+abbrev pub site_code : (t : ℕ) → Site → (extent : ℕ) → List Instruction
+site_code t s extent = Offset t s.base s.offset extent ∷ []
+
+abbrev pub scratch_site : ℕ → Site
+scratch_site x = record { base = base.Scratch; offset = x }
+
+-- the words that tell what of the input was taken ahead
+abbrev pub input_site : Scope → Site
+input_site k = record { base = base.Program; offset = input_offset (routine_at k.program 0) }
+
+-- ---- run-time routines, numbered behind the program's own
+
+pub data RunTime : Type 0 where
+  CopyWords AddRange UniteSets SubtractSet IntersectSets IsIncluded IsMember CompareBytes PackBytes UnpackBytes WriteNumber WriteCharacter WriteString LookAhead ReadCharacter ReadNumber ReadLine : RunTime
+
+abbrev pub run_time_number : RunTime → ℕ
+run_time_number CopyWords = 0
+run_time_number AddRange = 1
+run_time_number UniteSets = 2
+run_time_number SubtractSet = 3
+run_time_number IntersectSets = 4
+run_time_number IsIncluded = 5
+run_time_number IsMember = 6
+run_time_number CompareBytes = 7
+run_time_number PackBytes = 8
+run_time_number UnpackBytes = 9
+run_time_number WriteNumber = 10
+run_time_number WriteCharacter = 11
+run_time_number WriteString = 12
+run_time_number LookAhead = 13
+run_time_number ReadCharacter = 14
+run_time_number ReadNumber = 15
+run_time_number ReadLine = 16
+
+-- such calls aren't told among the open ones, so any line does
+abbrev pub helper : Scope → RunTime → (operands : List ℕ) → (to : ℕ) → Instruction
+helper k routine operands t = Call t (length k.program.routines + run_time_number routine) operands 1
+
+-- the words at the address in `from` go to the address in `to`; a temporary above is used
+abbrev pub copy_code : Scope → (to from t : ℕ) (bytes : ℕ) → List Instruction
+copy_code k to from t n = Literal t (pos n) ∷ helper k CopyWords (to ∷ from ∷ t ∷ []) t ∷ []

@@ -1,0 +1,146 @@
+-- Assignments of sets.
+use Rattle.ps_lower_constructs.proofs.Calling.{Callable}
+use Rattle.std.proofs.Common.{◌≡◌, ℕ, suc, ◌+◌, ◌*◌, ◌<◌, ◌≤◌, ℤ, pos, Bool, true, false, List, [], ◌∷◌, ◌++◌, length, refl, sym, ap, ◌∙◌, subst, arith, append-nil, lt-ltb}
+use Rattle.ps_tree.specs.Tree.{Place, Variable, SetExpr, AssignSet}
+use Rattle.tac_code.specs.declared.code.Base.TheVariants as base
+use Rattle.tac_code.specs.declared.code.Block.{Block}
+use Rattle.tac_code.specs.declared.code.Block.TheVariants.{Frame as FrameBlock, Scratch as ScratchBlock}
+use Rattle.tac_code.specs.declared.code.Value.TheVariants.{Number as Numeral, Address}
+use Rattle.tac_code.specs.declared.code.Instruction.TheVariants as i
+use Rattle.tac_code.specs.Memory.{known, load}
+use Rattle.tac_code.specs.Meaning.{text_at}
+use Rattle.ps_meaning.specs.Values.{Root, Declared, Made, Spot, SetValue}
+use Rattle.ps_meaning.specs.Worlds.{World, and_then, put as put_into, with_contents}
+use Rattle.ps_meaning.specs.Expressions.{Caller, access, set_value, fitting_set}
+use Rattle.ps_meaning.specs.Statements.{Next}
+use Rattle.tac_code_steps.specs.Runs.{Stands, Comes}
+use Rattle.tac_code_steps.proofs.Runs.{split, ◌>>◌}
+use Rattle.tac_code_steps.proofs.Temporaries.{put_same, put_other}
+use Rattle.tac_code_steps.proofs.Instructions.{offset_step}
+use Rattle.ps_lower_layout.specs.Shapes.{SetShape, Whole}
+use Rattle.ps_lower_relation.proofs.Spans.{goes_to}
+use Rattle.ps_lower_code.specs.Scopes.{Site, even_from, odd_from, kept, held, beside, copy_code}
+use Rattle.ps_lower_code.specs.Calling.{selectors_call}
+use Rattle.ps_lower_code.specs.Values.{place_temporary, place_site, place_code, set_code, set_check}
+use Rattle.ps_lower_code.proofs.Depths.{even_above, held_above}
+use Rattle.ps_lower_relation.specs.Ghosts.{RootAt, EnvAt}
+use Rattle.ps_lower_relation.specs.Here.{Setting, machine_of, code_in, Work, Activated, IsActive, chain_of, Alive, state, IsBelow, SiteAt}
+use Rattle.ps_lower_relation.specs.Outcomes.{Reached, Runs}
+use Rattle.ps_lower_relation.specs.RunTime.{WritesDo}
+use Rattle.ps_lower_relation.specs.Sets.{set_number}
+use Rattle.ps_lower_relation.proofs.Places.{place_end}
+use Rattle.ps_lower_relation.proofs.Spots.{memory_of, spot_holds}
+use Rattle.ps_lower_relation.proofs.SetWords.{set_word}
+use Rattle.ps_lower_relation.proofs.Copied.{copied_to}
+use Rattle.ps_lower_constructs.specs.Openings.{scope_in, context_in}
+use Rattle.ps_lower_constructs.specs.Tasks.{Nothing, NextRuns}
+use Rattle.ps_lower_constructs.proofs.Runs.{with_temporary, runs_bind, keeps_refl, keeps_less}
+use Rattle.ps_lower_constructs.proofs.Kept.{opened_kept, site_kept}
+use Rattle.ps_lower_constructs.proofs.Places.{base_is}
+use Rattle.ps_lower_constructs.proofs.Checks.{written_made}
+use Rattle.ps_lower_constructs.proofs.Writes.{numbered_more}
+use Rattle.ps_lower_constructs.proofs.Selectors.{PlaceIn}
+use Rattle.ps_lower_constructs.proofs.Passages.{further, word_passage, scratch_passage, memory_with, scratch_held}
+use Rattle.ps_lower_constructs.proofs.ScratchSets.{SetIn}
+use Rattle.ps_lower_constructs.proofs.SetChecks.{set_checked}
+use Rattle.ps_lower_constructs.proofs.Expressions.{place_run, set_runs}
+use Rattle.ps_lower_constructs.proofs.Copying.{copied_work, copies_so, written_state}
+use Rattle.ps_lower_constructs.proofs.Statements.{StatementRuns}
+
+-- a variable's address that is held is where it was wanted
+held_place : (q : Place) (d : ℕ) → place_temporary q (held true d) ≡ held true d
+held_place (Variable name selectors) d = go (selectors_call selectors)
+  where
+    go : (b : Bool) → kept b (odd_from d) ≡ odd_from d
+    go true = omega arith
+    go false = refl
+
+module _ (p : Setting) (c : Activated) (active : IsActive p c) (does : WritesDo p) where
+  -- variables don't stand in the scratch block
+  elsewhere : (w : World) (root : Root) (path : List ℕ) (b : Block) (o : ℕ) → RootAt p.program c.ghosts w.made root path b o (Whole SetShape) → ScratchBlock c.number ≡ b → ⊥
+  elsewhere w (Declared name) path b o at e = absurd (cc (e ∙ at.block))
+  elsewhere w (Made object) path b o at e = absurd (cc (e ∙ at.block))
+
+  -- the set from 0 on goes to the variable at a site
+  set_assigned : (d t u v : ℕ) (w : World) (k : Work) (pc pc' : ℕ) (site : Site) (s : Spot) (set : ℕ → Bool) → d ≤ t → t < u → u < v → Alive p c w k → SiteAt p c w.made k.temporaries site s (Whole SetShape) → SetIn 0 set k
+      → Stands (code_in p) c.routine pc (i.Offset t site.base site.offset 32 ∷ i.Offset u base.Scratch 0 32 ∷ i.Literal v (pos 32) ∷ i.Call v (length p.program.routines + 0) (t ∷ u ∷ v ∷ []) 1 ∷ []) pc'
+      → Reached p c d 0 w k (state p c w k pc) pc' (λ w' k'. Unit {0}) (with_contents w s (SetValue set))
+  set_assigned d t u v w k pc pc' site s set l above higher alive at in_ st =
+      let to = at.offset + site.offset in
+      let ends = place_end p.program c.ghosts active.small w k.count alive.holds s at.block to (Whole SetShape) at.place in
+      let one = Address at.block to in
+      let two = Address (ScratchBlock c.number) 0 in
+      let a = word_passage p c active d 0 w k pc t one l alive (offset_step (machine_of p) (state p c w k pc) t site.base site.offset 32 at.block at.offset st.0 (base_is c pc k.temporaries site.base ∙ at.base) (lt-ltb to 2147483648 (omega (arith, ends)))) in
+      let k1 = with_temporary k t one in
+      let b = scratch_passage p c active d 0 w k1 (suc pc) u 0 32 (omega (arith, l, above)) a.alive st.1.0 in
+      let k2 = with_temporary k1 u two in
+      let first = further p c active a b in
+      let ne : t ≡ u → ⊥ = λ e. omega (arith, above, e) in
+      let new = SetValue set in
+      let w' = with_contents w s new in
+      let scratch = record { number = c.number; words = k.scratch } ∷ c.waiting in
+      let memory = memory_of p.program w' c.ghosts scratch in
+      let m = in_.0 in
+      let e = in_.1 in
+      let copied = copied_to p w c.ghosts k.count alive.holds scratch s at.block to SetShape at.place (ScratchBlock c.number) 0 new (elsewhere w s.root s.path at.block to at.place) (goes_to w.made s.path new SetShape tt tt)
+      (λ j low. let z : 0 + 4 * j ≡ 4 * (m + j) = omega (arith, e) in
+      ap (load (text_at (code_in p)) (memory_with p c active w k.scratch) (ScratchBlock c.number)) z ∙ (scratch_held p c active w).reads k.scratch (m + j) (Numeral (set_number set j)) (in_.2 j low) ∙ sym (ap known (set_word set j low))) in
+      let k3 = copied_work p c active does k2 v 32 in
+      let copy = copies_so p c active does w k2 (suc (suc pc)) pc' t u v 8 at.block to (ScratchBlock c.number) 0 memory (omega (arith, above, higher)) higher b.alive (put_other k1.temporaries u two t ne ∙ put_same k.temporaries t one) (put_same k1.temporaries u two) copied ends (omega arith) st.1.1 in
+      let same = written_made p (suc d) c active w s.root s.path new in
+      let hold = spot_holds p.program w c.ghosts k.count alive.holds s at.block to SetShape new at.place (goes_to w.made s.path new SetShape tt tt) in
+      record {
+        work = k3;
+        alive = record {
+          holds = record { fits = hold.fits; objects = hold.objects; names = hold.names; numbered = numbered_more c.ghosts k.count (suc k.count) (omega arith) hold.numbered; input = hold.input };
+          stands = subst (λ made. EnvAt p.program c.ghosts made c.env (Address (FrameBlock c.number) 0) (chain_of c)) (sym same) alive.stands;
+          room = alive.room;
+        };
+        keeps = record {
+          temporaries = λ j low. let n1 : j ≡ v → ⊥ = λ q. omega (arith, low, l, above, higher, q) in put_other (put_number k2 v).temporaries v (Numeral (pos 0)) j n1 ∙ put_other k2.temporaries v (Numeral (pos 32)) j n1 ∙ first.keeps.temporaries j low;
+          scratch = λ j low. refl;
+          grown = ([], same ∙ sym (append-nil w.made));
+        };
+        comes = first.comes >> subst (Comes (machine_of p) (state p c w k2 (suc (suc pc)))) (written_state p c active does w k3 pc' s.root s.path new) copy;
+        result = tt;
+      }
+    where
+      put_number : Work → ℕ → Work
+      put_number k v = with_temporary k v (Numeral (pos 32))
+
+module _ (p : Setting) (n : ℕ) (call : Caller) (next : Next) (c : Activated) (active : IsActive p c) (nexts : NextRuns p n next) (does : WritesDo p) (calls : Callable p n call) where
+  pub assign_set_run : (q : Place) (low high : ℤ) (e : SetExpr) (line : ℕ) → StatementRuns p n call next c active nexts does calls (AssignSet q low high e line)
+  assign_set_run q low high e line d o w k pc pc' alive opened fits st =
+      let code = scope_in p c o in
+      let ctx = context_in c o in
+      let a = held true d in
+      let la : d ≤ a = held_above true d in
+      let t = even_from (suc a) in
+      let lt : suc a ≤ t = even_above (suc a) in
+      let u = beside t in
+      let v = beside u in
+      let site = place_site code q a in
+      let P = place_code code q a 0 in
+      let S = set_code code e (suc a) 0 in
+      let C = set_check t 0 low high line in
+      let F = i.Offset t site.base site.offset 32 ∷ [] in
+      let R = i.Offset u base.Scratch 0 32 ∷ copy_code code t u v 32 in
+      let cut4 = split (code_in p) c.routine pc (P ++ S ++ C ++ F) R pc' st in
+      let cut3 = split (code_in p) c.routine pc (P ++ S ++ C) F cut4.0 cut4.1 in
+      let cut2 = split (code_in p) c.routine pc (P ++ S) C cut3.0 cut3.1 in
+      let cut = split (code_in p) c.routine pc P S cut2.0 cut2.1 in
+      let same = held_place q d in
+      runs_bind p (suc n) c d 0 a 0 d 0 w k pc cut.0 pc' (access call q ctx w) (λ s w1. and_then (set_value call e ctx w1) (λ x w2. and_then (fitting_set low high x line ctx w2) (λ y w3. put_into s y w3))) (λ s w' k'. PlaceIn p n call c active site (place_temporary q a) s (Whole SetShape) w' k') Nothing la (omega arith) (omega arith) (omega arith)
+      (place_run p n call c active calls q a 0 o w k pc cut.0 (Whole SetShape) alive (opened_kept p c d 0 a w w k k o la (keeps_refl d 0 w k) opened) fits.0 cut.1)
+      (λ s w1 k1 alive1 kept1 r1.
+      let below = subst (λ y. IsBelow (suc y) site.base) same r1.1 in
+      runs_bind p (suc n) c d 0 (suc a) 0 d 0 w1 k1 cut.0 cut2.0 pc' (set_value call e ctx w1) (λ x w2. and_then (fitting_set low high x line ctx w2) (λ y w3. put_into s y w3)) (λ x w' k'. SetIn 0 x k') Nothing (omega (arith, la)) (omega arith) (omega arith) (omega arith)
+      (set_runs p n call c active calls e (suc a) 0 o w1 k1 cut.0 cut2.0 alive1 (opened_kept p c d 0 (suc a) w w1 k k1 o (omega (arith, la)) (keeps_less d 0 a 0 la (omega arith) kept1) opened) fits.1 cut.2)
+      (λ x w2 k2 alive2 kept2 r2.
+      let at2 = site_kept p c (suc a) 0 w1 w2 k1 k2 site s (Whole SetShape) below kept2 r1.0 in
+      runs_bind p (suc n) c d 0 (suc a) 0 d 0 w2 k2 cut2.0 cut3.0 pc' (fitting_set low high x line ctx w2) (λ y w3. put_into s y w3) (λ y w' k'. (y ≡ SetValue x) × SetIn 0 x k') Nothing (omega (arith, la)) (omega arith) (omega arith) (omega arith)
+      (set_checked p (suc n) c active (suc a) 0 t line low high o x w2 k2 cut2.0 cut3.0 lt alive2 r2 cut2.2)
+      (λ y w3 k3 alive3 kept3 r3.
+      let at3 = site_kept p c (suc a) 0 w2 w3 k2 k3 site s (Whole SetShape) below kept3 at2 in
+      subst (λ z. Runs p (suc n) c d 0 w3 k3 cut3.0 pc' (put_into s z w3) Nothing) (sym r3.0)
+      (set_assigned p c active does d t u v w3 k3 cut3.0 pc' site s x (omega (arith, la, lt)) (omega arith) (omega arith) alive3 at3 r3.1 (cut3.2.0, subst (λ z. Stands (code_in p) c.routine z R pc') (sym cut3.2.1) cut4.2)))))

@@ -1,0 +1,16 @@
+//! Laws: the code of a whole program does what the program means.
+//!
+//! The functions do nothing when they run; each stands for its contract.
+#![tactic(auto)]
+
+ghost use Rattle.ps_lower_laws.specs.Lowers.{ProgramsLower, ProgramsGoOn};
+
+/// The code of a program shows what the program shows, under any costs and budgets and on any input of bytes.
+pub fn programs_lower()
+    ensures { ProgramsLower }
+{}
+
+/// The code of a program has a next step wherever it has not come to its end.
+pub fn programs_go_on()
+    ensures { ProgramsGoOn }
+{}

@@ -1,0 +1,12 @@
+//! Laws: how the meaning's world and the memory of three-address code belong together.
+//!
+//! The functions do nothing when they run; each stands for its contract.
+#![tactic(auto)]
+
+ghost use Rattle.ps_lower_relation.specs.Laws.{PartsAreSpans};
+
+/// Each part of a variable is a stretch of its words, in what is read and in what is written.
+#[tactic(auto, using(crate::proofs::Spans::span_in))]
+pub fn parts_are_spans()
+    ensures { PartsAreSpans }
+{}

@@ -1,0 +1,8 @@
+-- What the lowering asks of the run-time routines holds of this list of them.
+use Rattle.std.specs.Prelude.{◌≡◌}
+use Rattle.tac_rt.specs.Bodies.{run_time_routines}
+use Rattle.ps_lower_relation.specs.Here.{Setting}
+use Rattle.ps_lower_relation.specs.RunTime.{WritesDo}
+
+abbrev pub WritesAreDone : Type 0
+WritesAreDone = (p : Setting) → p.run_time ≡ run_time_routines → WritesDo p

@@ -1,6 +1,0 @@
-use Rattle.ps_lowers.proofs.Whole.{lowers}
-use Rattle.ps_lowers.proofs.programs_lower.Goals as goal
-
--- src/lib.rt:8:1
-pub returns : goal.returns
-returns c = lowers

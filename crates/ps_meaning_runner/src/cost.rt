@@ -1,0 +1,68 @@
+// What a run costs, and whether it passes its budget.
+
+ghost use Rattle.std.specs.Prelude.{◌≡◌, ◌+◌, ◌<◌, ◌++◌, ◌∷◌, [], get_or, sum_by, MatchOption};
+ghost use Rattle.ps_meaning.specs.Statements as m;
+ghost use Rattle.ps_meaning_runner.specs.Worlds.{costs_in, numbers_of};
+
+use crate::world::{Job, Numbers};
+
+/// The cost with a number; 0 where none is listed.
+fn cost_of(costs: &[u32], number: u32) -> u64
+    ensures { result ≡ get_or costs.now number 0 }
+{
+    match costs.get(number as usize) {
+        Some(cost) => u64::from(*cost),
+        None => 0,
+    }
+}
+
+/// What the costs of these numbers leave of a budget; none where they pass it. Where no costs are listed nothing is
+/// summed.
+#[tactic(auto, using(crate::proofs::Costs::free_of_cost))]
+fn left_after(costs: &[u32], numbers: &[u32], budget: u64) -> Option<u64>
+    ensures { MatchOption result (budget < sum_by (λ n. get_or costs.now n 0) numbers.now) (λ left. left + sum_by (λ n. get_or costs.now n 0) numbers.now ≡ budget) }
+{
+    if costs.len() == 0 {
+        return Some(budget);
+    }
+    let mut left = budget;
+    for number in numbers {
+        let cost = cost_of(costs, *number);
+        if left < cost {
+            return None;
+        }
+        left -= cost;
+    }
+    Some(left)
+}
+
+/// The bytes of the objects that were made, and of one more of this pointer type, pass the heap.
+pub fn passes_heap(job: &Job, made: &[u32], pointer: u32) -> bool
+    ensures { result ≡ m.passes_heap (costs_in job.now) (made.now ++ pointer ∷ []) }
+{
+    match left_after(job.objects, made, job.heap) {
+        Some(left) => left < cost_of(job.objects, pointer),
+        None => true,
+    }
+}
+
+/// The frame bytes of the open routines pass the stack. Where no costs are listed nothing is summed.
+#[tactic(auto, using(crate::proofs::Worlds::numbers_of_Number, crate::proofs::Costs::free_of_cost), unfolding(crate::specs::Worlds::numbers_of))]
+pub fn passes_stack(job: &Job, active: &Numbers) -> bool
+    ensures { result ≡ m.passes_stack (costs_in job.now) (numbers_of active.now) }
+{
+    if job.frames.len() == 0 {
+        return false;
+    }
+    let mut left = job.stack;
+    let mut open = active;
+    while let Numbers::Number { first, rest } = open {
+        let cost = cost_of(job.frames, *first);
+        if left < cost {
+            return true;
+        }
+        left -= cost;
+        open = rest;
+    }
+    false
+}

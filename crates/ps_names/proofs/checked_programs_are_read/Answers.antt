@@ -1,5 +1,0 @@
-use Rattle.ps_names.proofs.Paths.{checked_programs_are_read}
-use Rattle.ps_names.proofs.checked_programs_are_read.Goals as goal
-
-pub returns : goal.returns
-returns c = checked_programs_are_read

@@ -1,5 +1,0 @@
-use Rattle.ps_names.proofs.Paths.{forward_headings_have_blocks}
-use Rattle.ps_names.proofs.forward_headings_have_blocks.Goals as goal
-
-pub returns : goal.returns
-returns c = forward_headings_have_blocks

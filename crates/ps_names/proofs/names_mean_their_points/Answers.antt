@@ -1,5 +1,0 @@
-use Rattle.ps_names.proofs.Paths.{names_mean_their_points}
-use Rattle.ps_names.proofs.names_mean_their_points.Goals as goal
-
-pub returns : goal.returns
-returns c = names_mean_their_points

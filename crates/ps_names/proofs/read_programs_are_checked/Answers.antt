@@ -1,5 +1,0 @@
-use Rattle.ps_names.proofs.Programs.{read_programs_are_checked}
-use Rattle.ps_names.proofs.read_programs_are_checked.Goals as goal
-
-pub returns : goal.returns
-returns c = read_programs_are_checked

@@ -1,5 +1,0 @@
-use Rattle.ps_names.proofs.Denoted.{what_is_denoted_is_found}
-use Rattle.ps_names.proofs.what_is_denoted_is_found.Goals as goal
-
-pub returns : goal.returns
-returns c = what_is_denoted_is_found

@@ -1,0 +1,18 @@
+-- Which tree a text's tokens have. The limit on heights is this project's choice.
+use Rattle.std.specs.Prelude.{ℕ, ◌≤◌, ◌↔◌, Bool, List}
+use Rattle.ps_text.specs.declared.Span.{Span}
+use Rattle.ps_syntax.specs.declared.program.Program.{Program}
+use Rattle.ps_syntax.specs.Height.{height_of}
+use Rattle.ps_parse_grammar.specs.Symbols.{Tokens}
+use Rattle.ps_parse_grammar.specs.Programs.{Derives, DerivesWithin}
+use Rattle.ps_parse_grammar.specs.Forward.{is_forward}
+use Rattle.ps_parse_grammar.specs.declared.TheConstants.{MAX_HEIGHT}
+
+-- the tree derives from the tokens of the text, and isn't too high
+pub record IsTreeOf (text : List ℕ) (ts : Tokens) (p : Program) : Type 0 where
+  pub derives : Derives (is_forward text) ts p
+  pub low : height_of p ≤ MAX_HEIGHT
+
+-- A tree derives within n levels just where it derives and is at most n high.
+abbrev pub LevelsAreHeights : Type 0
+LevelsAreHeights = (f : Span → Bool) (n : ℕ) (ts : Tokens) (p : Program) → DerivesWithin f n ts p ↔ (Derives f ts p × (height_of p ≤ n))

@@ -1,8 +1,0 @@
-use Rattle.std.proofs.Common.{◌≡◌}
-use Rattle.ps_regions.specs.Regions.{find_past, find}
-use Rattle.ps_regions.specs.Views.{scope_of}
-use Rattle.ps_regions.proofs.scope.find.Given as goal
-
--- what is left of the regions is searched as all of them are
-abbrev pub invariant-loop-here : goal.invariant-loop-here
-invariant-loop-here l = find_past l.up l.which (scope_of l.here) l.name ≡ find (scope_of l.scope) l.name

@@ -1,5 +1,0 @@
-use Rattle.ps_regions.proofs.DenotesLemmas.{finds_what_is_denoted}
-use Rattle.ps_regions.proofs.scope.scope_rules.Goals as goal
-
-pub returns : goal.returns
-returns c = finds_what_is_denoted

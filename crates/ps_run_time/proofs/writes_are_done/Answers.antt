@@ -1,5 +1,0 @@
-use Rattle.ps_run_time.proofs.Writes.{writes_do}
-use Rattle.ps_run_time.proofs.writes_are_done.Goals as goal
-
-pub returns : goal.returns
-returns c = writes_do

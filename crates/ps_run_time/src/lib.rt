@@ -1,9 +1,0 @@
-// The run-time routines do what the lowering asks of them.
-#![tactic(auto)]
-
-ghost use Rattle.ps_run_time.specs.Laws.{WritesAreDone};
-
-/// The routines that write and read, and the one that copies words, do what the lowering asks, behind any program (6.9).
-pub fn writes_are_done()
-    ensures { WritesAreDone }
-{}

@@ -1,4 +1,0 @@
-use Rattle.ps_runner.proofs.text.+digits.Given as goal
-
-abbrev pub decreases-digits : goal.decreases-digits
-decreases-digits l = l.count

@@ -1,9 +1,0 @@
-use Rattle.std.proofs.Common.{◌≡◌, ℕ}
-use Rattle.ps_regions.specs.Regions.{Heading}
-use Rattle.ps_regions.specs.Views.{scope_of}
-use Rattle.ps_statements.specs.Assignments.{result_in}
-use Rattle.ps_statements.proofs.assignment.routine_out.Given as goal
-
--- what is left of the regions has the block where all of them have it
-abbrev pub invariant-loop-here : goal.invariant-loop-here
-invariant-loop-here l = (h : Heading) (levels : ℕ) → result_in (scope_of l.scope) l.further h levels ≡ result_in (scope_of l.here) l.left h levels

@@ -1,5 +1,0 @@
-use Rattle.ps_typing.proofs.ParameterLemmas.{Alike}
-use Rattle.ps_typing.proofs.parameter.+congruity.Given as goal
-
-abbrev pub invariant-congruous-loop-i : goal.invariant-congruous-loop-i
-invariant-congruous-loop-i l = Alike l.a l.b l.i

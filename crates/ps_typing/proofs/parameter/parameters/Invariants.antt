@@ -1,7 +1,0 @@
-use Rattle.std.proofs.Common.{map}
-use Rattle.ps_regions.specs.Views.{section_of}
-use Rattle.ps_typing.proofs.ParameterLemmas.{Listed}
-use Rattle.ps_typing.proofs.parameter.parameters.Given as goal
-
-abbrev pub invariant-loop-section : goal.invariant-loop-section
-invariant-loop-section l = Listed l.sections l.section-index (map (λ s. section_of s.now) l.list.items)

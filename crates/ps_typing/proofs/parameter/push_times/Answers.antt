@@ -1,7 +1,0 @@
-use Rattle.ps_regions.specs.Views.{section_of}
-use Rattle.ps_typing.proofs.ParameterLemmas.{pushed_time}
-use Rattle.ps_typing.proofs.parameter.push_times.Goals as goal
-
-pub loop-time-preserved : goal.loop-time-preserved
-loop-time-preserved c =
-    pushed_time (λ s. section_of s.now) c.loop-time.list.items c.push.new.self.items c.args.section _ c.loop-time.time c.in_ok-push.ensures.items c.loop-time.invariant

@@ -1,7 +1,0 @@
-use Rattle.std.proofs.Common.{◌≡◌, [], ◌++◌, map}
-use Rattle.ps_regions.specs.Views.{section_of}
-use Rattle.ps_typing.specs.Calls.{times}
-use Rattle.ps_typing.proofs.parameter.push_times.Given as goal
-
-abbrev pub invariant-loop-time : goal.invariant-loop-time
-invariant-loop-time l = map (λ s. section_of s.now) l.list.items ≡ map (λ s. section_of s.now) l.initial.list.items ++ times l.time (section_of l.section) []

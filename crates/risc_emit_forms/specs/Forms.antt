@@ -1,0 +1,589 @@
+-- The words of each instruction of three-address code. R14 is the frame of the innermost activation and R13 that of the program block;
+-- R12 and R15 are scratch registers, and operands in other registers are used where they stand.
+use Rattle.std.specs.Prelude.{ℕ, zero, suc, ◌+◌, ◌-◌, ◌*◌, ◌/◌, ◌%◌, Bool, true, false, ◌&&◌, ◌||◌, not, nat_eq, nat_lt, int_lt, if◌then◌else◌, List, [], ◌∷◌, ◌++◌, length, slice_index, Option, Some, None, ℤ, pos, negsuc}
+use Rattle.risc_word.specs.declared.instr.Operation.{Operation}
+use Rattle.risc_word.specs.declared.instr.Operation.TheVariants as op
+use Rattle.risc_word.specs.declared.instr.Operand as machine
+use Rattle.risc_word.specs.declared.instr.Operand.TheVariants.{Content, Constant}
+use Rattle.risc_word.specs.declared.instr.Width.{Width}
+use Rattle.risc_word.specs.declared.instr.Width.TheVariants.{Word, Byte}
+use Rattle.risc_word.specs.declared.instr.Condition.{Condition}
+use Rattle.risc_word.specs.declared.instr.Condition.TheVariants as on
+use Rattle.risc_word.specs.declared.instr.Target.TheVariants.{Relative, Absolute}
+use Rattle.risc_word.specs.declared.instr.Instr.TheVariants as word
+use Rattle.tac_code.specs.declared.code.Operator.{Operator}
+use Rattle.tac_code.specs.declared.code.Operator.TheVariants.{Add, Subtract, Multiply, Divide, Modulo}
+use Rattle.tac_code.specs.declared.code.BitOperator.{BitOperator}
+use Rattle.tac_code.specs.declared.code.BitOperator.TheVariants.{And, Or, AndNot, ShiftLeft, Plus}
+use Rattle.tac_code.specs.declared.code.Relation.{Relation}
+use Rattle.tac_code.specs.declared.code.Relation.TheVariants.{Equal, NotEqual, Less, LessEqual, Greater, GreaterEqual}
+use Rattle.tac_code.specs.declared.code.Operand.{Operand}
+use Rattle.tac_code.specs.declared.code.Operand.TheVariants as operand
+use Rattle.tac_code.specs.declared.code.Base.{Base}
+use Rattle.tac_code.specs.declared.code.Base.TheVariants as base
+use Rattle.tac_code.specs.declared.code.Instruction.{Instruction}
+use Rattle.tac_code.specs.declared.code.Instruction.TheVariants.{Literal, Copy, Arithmetic, Bits, Compare, CheckRange, CheckPointer, Text, Offset, Index, RoutineValue, Load, Store, LoadByte, StoreByte, Jump, JumpBack, Branch, BranchBack, Call, CallValue, Return, Trap, Take, Put, New, End}
+use Rattle.tac_code.specs.declared.code.TacRoutine.{TacRoutine}
+use Rattle.tac_code.specs.Numbers.{is_zero, word_of, steps_above}
+use Rattle.risc_alloc.specs.Flow.{is_it}
+use Rattle.risc_alloc.specs.declared.homes.Home.{Home}
+use Rattle.risc_alloc.specs.declared.homes.Home.TheVariants.{Slot, Reg}
+use Rattle.risc_emit_relation.specs.Context.{Context, home, is_program, slot_at}
+use Rattle.risc_emit_forms.specs.Told.{told_at, bent_at}
+use Rattle.risc_emit_forms.specs.Pieces.{Label, AtPlace, AtEntry, AtText, Piece, Plain, Goes, Fails, Enters, Joins, EntersAt, High, Low}
+
+-- ---- constants
+
+-- an offset of 20 bits, an immediate of 17
+abbrev pub is_near : ℕ → Bool
+is_near n = nat_lt n 524288
+
+abbrev pub is_small : ℤ → Bool
+is_small (pos n) = nat_lt n 65536
+is_small (negsuc n) = nat_lt n 65536
+
+-- register d takes the lowest 32 bits of an offset, in two halves
+abbrev pub constant : ℕ → ℕ → List Piece
+constant d w =
+    Plain (word.MoveTop d (w / 65536 % 65536)) ∷ Plain (word.Operate op.Add d d (Constant (pos (w % 65536)))) ∷ []
+
+-- register d takes a word of 32 bits, in two halves
+abbrev pub exact : ℕ → ℕ → List Piece
+exact d w =
+    Plain (word.MoveTop d (w / 65536)) ∷ Plain (word.Operate op.Add d d (Constant (pos (w % 65536)))) ∷ []
+
+-- register d takes a number
+abbrev pub number : ℕ → ℤ → List Piece
+number d z = if is_small z then Plain (word.Move d (Constant z)) ∷ [] else constant d (word_of z)
+
+-- ---- words of a frame
+
+-- register d takes the word n bytes behind the address in register b, another one
+abbrev pub load : ℕ → ℕ → ℕ → List Piece
+load d b n =
+    if is_near n then Plain (word.Load Word d b (pos n)) ∷ []
+    else constant d n ++ (Plain (word.Operate op.Add d d (Content b)) ∷ Plain (word.Load Word d d (pos 0)) ∷ [])
+
+-- the word there takes what register a holds
+abbrev pub store : ℕ → ℕ → ℕ → List Piece
+store a b n =
+    if is_near n then Plain (word.Store Word a b (pos n)) ∷ []
+    else constant 15 n ++ (Plain (word.Operate op.Add 15 15 (Content b)) ∷ Plain (word.Store Word a 15 (pos 0)) ∷ [])
+
+-- ---- what hangs on no place
+
+abbrev pub bit_operation : BitOperator → Operation
+bit_operation And = op.And
+bit_operation Or = op.Ior
+bit_operation AndNot = op.Ann
+bit_operation ShiftLeft = op.Lsl
+bit_operation Plus = op.Add
+
+-- where a relation holds after the left operand less the right one
+abbrev pub condition : Relation → Condition
+condition Equal = on.Equal
+condition NotEqual = on.NotEqual
+condition Less = on.Less
+condition LessEqual = on.LessEqual
+condition Greater = on.Greater
+condition GreaterEqual = on.GreaterEqual
+
+abbrev pub skip : Condition → ℕ → Piece
+skip condition n = Plain (word.Branch condition false (Relative (pos n)))
+
+-- an immediate divisor above 0
+abbrev pub is_divisor : Operand → Bool
+is_divisor (operand.Temporary t) = false
+is_divisor (operand.Number (pos n)) = nat_lt 0 n && nat_lt n 65536
+is_divisor (operand.Number (negsuc n)) = false
+
+-- the floored quotient in register d rounded toward zero, in four words
+abbrev pub rounded : ℕ → List Piece
+rounded d =
+    skip on.Plus 3 ∷ Plain (word.MoveHigh 15) ∷ skip on.Equal 1 ∷ Plain (word.Operate op.Add d d (Constant (pos 1))) ∷ []
+
+-- R15 takes 0 where a product has 32 bits: H is 0, or all ones above a negative low word, whose sign N tells
+abbrev pub beyond : List Piece
+beyond =
+    skip on.Plus 3 ∷ Plain (word.MoveHigh 15) ∷ Plain (word.Operate op.Add 15 15 (Constant (pos 1))) ∷ skip on.Always 1 ∷ Plain (word.MoveHigh 15) ∷ []
+
+-- whether a right operand is the number 0
+abbrev pub is_null : Operand → Bool
+is_null (operand.Temporary t) = false
+is_null (operand.Number z) = is_zero z
+
+-- the condition for a comparison with 0 by N and Z alone
+abbrev pub brief : Relation → Option Condition
+brief Equal = Some on.Equal
+brief NotEqual = Some on.NotEqual
+brief Less = Some on.Minus
+brief LessEqual = None
+brief Greater = None
+brief GreaterEqual = Some on.Plus
+
+-- whether a home is a register
+abbrev pub is_register : Home → Bool
+is_register (Reg q) = true
+is_register (Slot k) = false
+
+-- ---- operands
+
+-- so many of the operands of a call come in registers, operand j in register j; the others stand in the caller's frame
+abbrev pub carried : ℕ → ℕ
+carried count = if nat_lt count 8 then count else 8
+
+-- The last of n operands goes to its register first. A home is taken then before the turn of operand j.
+abbrev pub is_taken : ℕ → ℕ → Home → Bool
+is_taken n j (Reg q) = nat_lt j q && nat_lt q n
+is_taken n j (Slot k) = false
+
+-- it goes by way of the frame, as what comes in no register does
+abbrev pub is_stored : ℕ → ℕ → Home → Bool
+is_stored n j h = not (nat_lt j n) || is_taken n j h
+
+-- parameter j comes in its home
+abbrev pub stands : ℕ → Home → Bool
+stands j (Reg q) = nat_eq q j && nat_lt j 8
+stands j (Slot k) = false
+
+-- its home takes parameter j at once, where none of the n that are carried comes: a slot, or a register behind theirs
+abbrev pub is_clear : ℕ → ℕ → Home → Bool
+is_clear n j (Reg q) = nat_lt j 8 && not (nat_lt q n)
+is_clear n j (Slot k) = nat_lt j 8
+
+-- it goes by way of no memory of the caller
+abbrev pub is_direct : ℕ → ℕ → Home → Bool
+is_direct n j h = stands j h || is_clear n j h
+
+-- the device page is FFFFC0H
+abbrev pub device : ℕ → Piece
+device d = Plain (word.Move d (Constant (negsuc 63)))
+
+module _ (c : Context) (r : ℕ) where
+  -- an operand stands in its register, or is loaded into register d
+  abbrev pub fetch : ℕ → Home → List Piece
+  fetch d (Reg q) = []
+  fetch d (Slot k) = load d 14 (slot_at c r k)
+
+  abbrev pub fetched : ℕ → Home → ℕ
+  fetched d (Reg q) = q
+  fetched d (Slot k) = d
+
+  -- register d takes an operand, wherever it stands
+  abbrev pub bring : ℕ → Home → List Piece
+  bring d (Reg q) = Plain (word.Move d (Content q)) ∷ []
+  bring d (Slot k) = load d 14 (slot_at c r k)
+
+  -- the register in which a result is made, and the store of it into its slot
+  abbrev pub target : Home → ℕ
+  target (Reg q) = q
+  target (Slot k) = 12
+
+  abbrev pub save : Home → List Piece
+  save (Reg q) = []
+  save (Slot k) = store 12 14 (slot_at c r k)
+
+  -- a result in R12 comes to its home
+  abbrev pub receive : Home → List Piece
+  receive (Reg q) = Plain (word.Move q (Content 12)) ∷ []
+  receive (Slot k) = store 12 14 (slot_at c r k)
+
+  -- register d takes an operand, where it isn't the operand's own
+  abbrev pub into : ℕ → Home → List Piece
+  into d (Reg q) = if nat_eq q d then [] else Plain (word.Move d (Content q)) ∷ []
+  into d (Slot k) = load d 14 (slot_at c r k)
+
+  -- the result of a routine comes from R0 to its home
+  abbrev pub accept : Home → List Piece
+  accept (Reg q) = if nat_eq q 0 then [] else Plain (word.Move q (Content 0)) ∷ []
+  accept (Slot k) = store 0 14 (slot_at c r k)
+
+  -- a right operand: a temporary's, an immediate, or a number in R15
+  abbrev pub right : Operand → List Piece
+  right (operand.Temporary t) = fetch 15 (home c r t)
+  right (operand.Number z) = if is_small z then [] else exact 15 (word_of z)
+
+  abbrev pub right_operand : Operand → machine.Operand
+  right_operand (operand.Temporary t) = Content (fetched 15 (home c r t))
+  right_operand (operand.Number z) = if is_small z then Constant z else Content 15
+
+  -- ---- bases
+
+  -- the address of a base: a register and an offset
+  abbrev pub base_code : Base → List Piece
+  base_code base.Frame = []
+  base_code base.Scratch = []
+  base_code base.Program = []
+  base_code (base.Temporary t) = fetch 12 (home c r t)
+
+  abbrev pub base_register : Base → ℕ
+  base_register base.Frame = 14
+  base_register base.Scratch = 14
+  base_register base.Program = 13
+  base_register (base.Temporary t) = fetched 12 (home c r t)
+
+  abbrev pub base_offset : Base → ℕ → ℕ
+  base_offset base.Frame n = c.frame_at r + n
+  base_offset base.Scratch n = c.scratch_at r + n
+  base_offset base.Program n = c.frame_at 0 + n
+  base_offset (base.Temporary t) n = n
+
+  -- the same with an offset that a load or a store can take
+  abbrev pub reach : Base → ℕ → List Piece
+  reach a n =
+      if is_near (base_offset a n) then base_code a
+      else base_code a ++ (constant 15 (base_offset a n) ++ Plain (word.Operate op.Add 12 (base_register a) (Content 15)) ∷ [])
+
+  abbrev pub reach_register : Base → ℕ → ℕ
+  reach_register a n = if is_near (base_offset a n) then base_register a else 12
+
+  abbrev pub reach_offset : Base → ℕ → ℕ
+  reach_offset a n = if is_near (base_offset a n) then base_offset a n else 0
+
+  abbrev pub load_form : Width → ℕ → Base → ℕ → List Piece
+  load_form width t a n =
+      reach a n ++ (Plain (word.Load width (target (home c r t)) (reach_register a n) (pos (reach_offset a n))) ∷ save (home c r t))
+
+  -- a word from behind a base, or from behind a register that is short of an offset
+  abbrev pub word_form : Option (ℕ × ℕ) → ℕ → Base → ℕ → List Piece
+  word_form None t a n = load_form Word t a n
+  word_form (Some bent) t a n = Plain (word.Load Word bent.0 bent.0 (pos (bent.1 + n))) ∷ []
+
+  abbrev pub store_form : Width → Base → ℕ → ℕ → List Piece
+  store_form width a n b =
+      reach a n ++ (fetch 15 (home c r b) ++ Plain (word.Store width (fetched 15 (home c r b)) (reach_register a n) (pos (reach_offset a n))) ∷ [])
+
+  -- register d takes the address n bytes behind a base
+  abbrev pub address : ℕ → Base → ℕ → List Piece
+  address d a n =
+      base_code a ++ (if nat_lt (base_offset a n) 65536 then Plain (word.Operate op.Add d (base_register a) (Constant (pos (base_offset a n)))) ∷ [] else constant 15 (base_offset a n) ++ Plain (word.Operate op.Add d (base_register a) (Content 15)) ∷ [])
+
+  -- ---- instructions
+
+  -- a temporary takes another one
+  abbrev pub copy : Home → Home → List Piece
+  copy (Reg q) from = bring q from
+  copy (Slot k) from = fetch 12 from ++ store (fetched 12 from) 14 (slot_at c r k)
+
+  -- an operation on two operands, its result in the register of a home
+  abbrev pub operate : Operation → Home → ℕ → Operand → Piece
+  operate o t a b = Plain (word.Operate o (target t) (fetched 12 (home c r a)) (right_operand b))
+
+  abbrev pub both : ℕ → Operand → List Piece → List Piece
+  both a b rest = fetch 12 (home c r a) ++ (right b ++ rest)
+
+  abbrev pub difference : ℕ → Operand → Piece
+  difference a b = Plain (word.Operate op.Sub 12 (fetched 12 (home c r a)) (right_operand b))
+
+  -- whether N and Z are those of a temporary's register, where they are told of one
+  abbrev pub is_told : Option ℕ → ℕ → Bool
+  is_told told a = is_it a told && is_register (home c r a)
+
+  -- whether a temporary's register holds its own difference from 0 already, with N and Z
+  abbrev pub is_own : Option ℕ → ℕ → ℕ → Operand → Bool
+  is_own told t a b = is_told told a && (nat_eq t a && is_null b)
+
+  -- a difference that is not 0 becomes 1
+  abbrev pub unlike : ℕ → List Piece
+  unlike t = skip on.Equal 1 ∷ Plain (word.Move (target (home c r t)) (Constant (pos 1))) ∷ save (home c r t)
+
+  -- whether two values differ
+  abbrev pub unlike_form : Option ℕ → ℕ → ℕ → Operand → List Piece
+  unlike_form told t a b =
+      if is_own told t a b then unlike t
+      else both a b (operate op.Sub (home c r t) a b ∷ unlike t)
+
+  -- whether a relation holds
+  abbrev pub truth_form : Relation → ℕ → ℕ → Operand → List Piece
+  truth_form relation t a b =
+      both a b (difference a b ∷ skip (condition relation) 2 ∷ Plain (word.Move (target (home c r t)) (Constant (pos 0))) ∷ skip on.Always 1 ∷ Plain (word.Move (target (home c r t)) (Constant (pos 1))) ∷ save (home c r t))
+
+  abbrev pub compare_form : Option ℕ → Relation → ℕ → ℕ → Operand → List Piece
+  compare_form told Equal t a b = truth_form Equal t a b
+  compare_form told NotEqual t a b = unlike_form told t a b
+  compare_form told Less t a b = truth_form Less t a b
+  compare_form told LessEqual t a b = truth_form LessEqual t a b
+  compare_form told Greater t a b = truth_form Greater t a b
+  compare_form told GreaterEqual t a b = truth_form GreaterEqual t a b
+
+  -- ---- numbers
+
+  abbrev pub multiply_form : ℕ → ℕ → Operand → ℕ → ℕ → List Piece
+  multiply_form t a b error line =
+      both a b (operate op.Mul (home c r t) a b ∷ (beyond ++ Fails on.NotEqual error line ∷ save (home c r t)))
+
+  -- R15 takes a right operand, with N and Z
+  abbrev pub divisor : Operand → List Piece
+  divisor (operand.Temporary t) = bring 15 (home c r t)
+  divisor (operand.Number z) = number 15 z
+
+  -- the quotient by R15
+  abbrev pub quotient : ℕ → List Piece
+  quotient a =
+      fetch 12 (home c r a) ++ (Plain (word.Operate op.Div 12 (fetched 12 (home c r a)) (Content 15)) ∷ rounded 12)
+
+  -- by the least integer: 1 or 0
+  abbrev pub quotient_by_least : ℕ → List Piece
+  quotient_by_least a =
+      fetch 12 (home c r a) ++ (Plain (word.Operate op.Sub 12 (fetched 12 (home c r a)) (Content 15)) ∷ skip on.Equal 2 ∷ Plain (word.Move 12 (Constant (pos 0))) ∷ skip on.Always 1 ∷ Plain (word.Move 12 (Constant (pos 1))) ∷ [])
+
+  -- by a divisor below 0, which is negated, and then the quotient
+  abbrev pub quotient_by_negative : ℕ → ℕ → ℕ → List Piece
+  quotient_by_negative a error line =
+      Plain (word.Move 12 (Constant (pos 0))) ∷ Plain (word.Operate op.Sub 15 12 (Content 15)) ∷ skip on.OverflowSet (length (quotient a) + 4) ∷ (quotient a ++ (Plain (word.Move 15 (Constant (pos 0))) ∷ Plain (word.Operate op.Sub 12 15 (Content 12)) ∷ Fails on.OverflowSet error line ∷ skip on.Always (length (quotient_by_least a)) ∷ quotient_by_least a))
+
+  abbrev pub divide_form : ℕ → ℕ → Operand → ℕ → ℕ → List Piece
+  divide_form t a b error line =
+      if is_divisor b then fetch 12 (home c r a) ++ (Plain (word.Operate op.Div (target (home c r t)) (fetched 12 (home c r a)) (right_operand b)) ∷ (rounded (target (home c r t)) ++ save (home c r t)))
+      else divisor b ++ (Fails on.Equal 2 line ∷ skip on.Minus (length (quotient a) + 1) ∷ (quotient a ++ (skip on.Always (length (quotient_by_negative a error line)) ∷ (quotient_by_negative a error line ++ receive (home c r t)))))
+
+  -- a modulus in a register: a temporary's where it stands, or in R15
+  abbrev pub modulus : Operand → List Piece
+  modulus (operand.Temporary t) = fetch 15 (home c r t)
+  modulus (operand.Number z) = number 15 z
+
+  abbrev pub modulus_register : Operand → ℕ
+  modulus_register (operand.Temporary t) = fetched 15 (home c r t)
+  modulus_register (operand.Number z) = 15
+
+  -- what H holds after a division is Pascal's mod
+  abbrev pub modulo_form : ℕ → ℕ → Operand → ℕ → List Piece
+  modulo_form t a b line =
+      if is_divisor b then fetch 12 (home c r a) ++ (Plain (word.Operate op.Div 12 (fetched 12 (home c r a)) (right_operand b)) ∷ Plain (word.MoveHigh (target (home c r t))) ∷ save (home c r t))
+      else modulus b ++ (Plain (word.Operate op.Sub 12 (modulus_register b) (Constant (pos 1))) ∷ Fails on.Less 3 line ∷ (fetch 12 (home c r a) ++ (Plain (word.Operate op.Div 12 (fetched 12 (home c r a)) (Content (modulus_register b))) ∷ Plain (word.MoveHigh (target (home c r t))) ∷ save (home c r t))))
+
+  abbrev pub arithmetic_form : Operator → ℕ → ℕ → Operand → ℕ → ℕ → List Piece
+  arithmetic_form Add t a b error line =
+      both a b (operate op.Add (home c r t) a b ∷ Fails on.OverflowSet error line ∷ save (home c r t))
+  arithmetic_form Subtract t a b error line =
+      both a b (operate op.Sub (home c r t) a b ∷ Fails on.OverflowSet error line ∷ save (home c r t))
+  arithmetic_form Multiply t a b error line = multiply_form t a b error line
+  arithmetic_form Divide t a b error line = divide_form t a b error line
+  arithmetic_form Modulo t a b error line = modulo_form t a b line
+
+  -- ---- ranges
+
+  -- how far what register a holds lies above the lowest number of a range, modulo 2^32: in R12, or where it stands if the lowest is 0
+  abbrev pub above : ℕ → ℤ → List Piece
+  above a low =
+      if is_zero low then []
+      else right (operand.Number low) ++ (Plain (word.Operate op.Sub 12 a (right_operand (operand.Number low))) ∷ [])
+
+  abbrev pub above_register : ℕ → ℤ → ℕ
+  above_register a low = if is_zero low then a else 12
+
+  -- whether register q holds at most n, without a sign: what lies below the lowest number of a range is large. R15 is scratch
+  abbrev pub at_most : ℕ → ℕ → ℕ → ℕ → List Piece
+  at_most q n error line =
+      if nat_lt n 65535 then Plain (word.Operate op.Sub 15 q (Constant (pos (suc n)))) ∷ Fails on.CarryClear error line ∷ []
+      else exact 15 n ++ (Plain (word.Operate op.Sub 15 15 (Content q)) ∷ Fails on.CarrySet error line ∷ [])
+
+  -- whether what register a holds lies in a range, which may be empty
+  abbrev pub range_code : ℕ → ℤ → ℤ → ℕ → ℕ → List Piece
+  range_code a low high error line =
+      if int_lt high low then Fails on.Always error line ∷ []
+      else above a low ++ at_most (above_register a low) (steps_above low high) error line
+
+  abbrev pub check_form : ℕ → ℤ → ℤ → ℕ → ℕ → List Piece
+  check_form a low high error line =
+      fetch 12 (home c r a) ++ range_code (fetched 12 (home c r a)) low high error line
+
+  -- what register q holds times a width, in R12, or where it stands if the width is 1
+  abbrev pub scaled : ℕ → ℕ → List Piece
+  scaled q width =
+      if nat_eq width 1 then []
+      else right (operand.Number (pos width)) ++ (Plain (word.Operate op.Mul 12 q (right_operand (operand.Number (pos width)))) ∷ [])
+
+  abbrev pub scaled_register : ℕ → ℕ → ℕ
+  scaled_register q width = if nat_eq width 1 then q else 12
+
+  -- the address n bytes behind what register q holds, in R15
+  abbrev pub sum : ℕ → ℕ → List Piece
+  sum q n =
+      if nat_lt n 65536 then Plain (word.Operate op.Add 15 q (Constant (pos n))) ∷ []
+      else constant 15 n ++ (Plain (word.Operate op.Add 15 q (Content 15)) ∷ [])
+
+  -- the address of a base: in R15, or in the register where it stands
+  abbrev pub base_address : Base → List Piece
+  base_address base.Frame = sum 14 (c.frame_at r)
+  base_address base.Scratch = sum 14 (c.scratch_at r)
+  base_address base.Program = sum 13 (c.frame_at 0)
+  base_address (base.Temporary t) = fetch 15 (home c r t)
+
+  abbrev pub address_register : Base → ℕ
+  address_register base.Frame = 15
+  address_register base.Scratch = 15
+  address_register base.Program = 15
+  address_register (base.Temporary t) = fetched 15 (home c r t)
+
+  -- the address that lies what register q holds behind a base, or what is short of the offset of the base's block
+  abbrev pub component : Option (ℕ × ℕ) → ℕ → Base → ℕ → List Piece
+  component None t a q =
+      base_address a ++ (Plain (word.Operate op.Add (target (home c r t)) (address_register a) (Content q)) ∷ save (home c r t))
+  component (Some bent) t a q = Plain (word.Operate op.Add bent.0 (base_register a) (Content q)) ∷ []
+
+  abbrev pub steps_form : Option (ℕ × ℕ) → ℕ → Base → ℕ → ℕ → List Piece
+  steps_form bent t a q width = scaled q width ++ component bent t a (scaled_register q width)
+
+  abbrev pub index_form : Option (ℕ × ℕ) → ℕ → Base → ℕ → ℤ → ℤ → ℕ → ℕ → ℕ → List Piece
+  index_form bent t a i low high width error line =
+      check_form i low high error line ++ steps_form bent t a (above_register (fetched 12 (home c r i)) low) width
+
+  -- ---- devices, calls, objects
+
+  -- operand j, of which n are carried, goes to bytes 8 + 4 * j of the frame if it goes by way of the frame
+  abbrev pub pass_one : ℕ → ℕ → Home → List Piece
+  pass_one n j h =
+      if is_stored n j h then fetch 12 h ++ (Plain (word.Store Word (fetched 12 h) 14 (pos (8 + 4 * j))) ∷ []) else []
+
+  -- so do those from number j on
+  abbrev pub pass : ℕ → ℕ → List ℕ → List Piece
+  pass n j [] = []
+  pass n j (u ∷ us) = pass_one n j (home c r u) ++ pass n (suc j) us
+
+  -- register j takes operand j
+  abbrev pub carry_one : ℕ → ℕ → Home → List Piece
+  carry_one n j h = if is_taken n j h then Plain (word.Load Word j 14 (pos (8 + 4 * j))) ∷ [] else into j h
+
+  -- and each lower one its own, from the highest on
+  abbrev pub carry : ℕ → ℕ → List ℕ → List Piece
+  carry n zero us = []
+  carry n (suc j) us = carry_one n j (home c r (slice_index us j)) ++ carry n j us
+
+  abbrev pub offer : List ℕ → List Piece
+  offer us = pass (carried (length us)) 0 us ++ carry (carried (length us)) (carried (length us)) us
+
+  abbrev pub call_form : ℕ → ℕ → List ℕ → ℕ → List Piece
+  call_form t q us line =
+      offer us ++ ((if is_program c q then Enters q line else Joins q) ∷ accept (home c r t))
+
+  -- R12 holds the address of the callee
+  abbrev pub offer_by : ℕ → List ℕ → List Piece
+  offer_by a us =
+      pass (carried (length us)) 0 us ++ (bring 12 (home c r a) ++ carry (carried (length us)) (carried (length us)) us)
+
+  abbrev pub call_value_form : ℕ → ℕ → List ℕ → ℕ → List Piece
+  call_value_form t a us line = offer_by a us ++ (EntersAt 12 line ∷ accept (home c r t))
+
+  abbrev pub return_form : ℕ → List Piece
+  return_form a =
+      into 0 (home c r a) ++ (if is_program c r then Plain (word.Load Word 15 14 (pos 0)) ∷ Plain (word.Load Word 14 14 (pos 4)) ∷ Plain (word.Branch on.Always false (Absolute 15)) ∷ [] else Plain (word.Load Word 15 14 (pos (c.link_at r))) ∷ Plain (word.Branch on.Always false (Absolute 15)) ∷ [])
+
+  abbrev pub label_form : ℕ → Label → List Piece
+  label_form t label = High (target (home c r t)) label ∷ Low (target (home c r t)) label ∷ save (home c r t)
+
+  abbrev pub put_form : ℕ → List Piece
+  put_form a =
+      fetch 12 (home c r a) ++ (device 15 ∷ Plain (word.Store Word (fetched 12 (home c r a)) 15 (pos 8)) ∷ [])
+
+  abbrev pub take_form : ℕ → List Piece
+  take_form t =
+      device 15 ∷ Plain (word.Load Word (target (home c r t)) 15 (pos 8)) ∷ save (home c r t)
+
+  abbrev pub end_form : List Piece
+  end_form =
+      device 12 ∷ Plain (word.Move 15 (Constant (pos 0))) ∷ Plain (word.Store Word 15 12 (pos 4)) ∷ []
+
+  -- the heap's next address, where there is room up to the stack's limit
+  abbrev pub new_form : ℕ → ℕ → ℕ → List Piece
+  new_form t bytes line =
+      Plain (word.Load Word 15 13 (pos 268)) ∷ Plain (word.Load Word 12 13 (pos 272)) ∷ Plain (word.Operate op.Sub 15 15 (Content 12)) ∷ (number 12 (pos bytes) ++ (Plain (word.Operate op.Sub 15 15 (Content 12)) ∷ Fails on.CarrySet 13 line ∷ Plain (word.Load Word 15 13 (pos 272)) ∷ Plain (word.Operate op.Add 12 12 (Content 15)) ∷ Plain (word.Store Word 12 13 (pos 272)) ∷ Plain (word.Move 12 (Content 15)) ∷ receive (home c r t)))
+
+  -- ---- comparisons
+
+  -- by the flags as they are, or by a difference
+  abbrev pub branch_by : Option Condition → Relation → ℕ → Operand → Label → List Piece
+  branch_by None relation a b label = both a b (difference a b ∷ Goes (condition relation) label ∷ [])
+  branch_by (Some condition) relation a b label = Goes condition label ∷ []
+
+  abbrev pub branch_choice : Option ℕ → Relation → ℕ → Operand → Option Condition
+  branch_choice told relation a b = if is_told told a && is_null b then brief relation else None
+
+  abbrev pub branch_form : Option ℕ → Relation → ℕ → Operand → Label → List Piece
+  branch_form told relation a b label = branch_by (branch_choice told relation a b) relation a b label
+
+  abbrev pub pointer_form : Option ℕ → ℕ → ℕ → ℕ → List Piece
+  pointer_form told a error line =
+      if is_told told a then Fails on.Equal error line ∷ [] else bring 12 (home c r a) ++ Fails on.Equal error line ∷ []
+
+  -- the words of the instruction at a place
+  abbrev pub form : ℕ → Instruction → List Piece
+  form k (Literal t z) = number (target (home c r t)) z ++ save (home c r t)
+  form k (Copy t a) = copy (home c r t) (home c r a)
+  form k (Arithmetic operator t a b error line) = arithmetic_form operator t a b error line
+  form k (Bits operator t a b) = both a b (operate (bit_operation operator) (home c r t) a b ∷ save (home c r t))
+  form k (Compare relation t a b) = compare_form (told_at c r k) relation t a b
+  form k (CheckRange a low high error line) = check_form a low high error line
+  form k (CheckPointer a error line) = pointer_form (told_at c r k) a error line
+  form k (Text t bytes) = label_form t (AtText r k)
+  form k (Offset t a n extent) = address (target (home c r t)) a n ++ save (home c r t)
+  form k (Index t a i low high width error line) = index_form (bent_at c r (suc k)) t a i low high width error line
+  form k (RoutineValue t q) = label_form t (AtEntry q)
+  form k (Load t a n) = word_form (bent_at c r k) t a n
+  form k (Store a n b) = store_form Word a n b
+  form k (LoadByte t a n) = load_form Byte t a n
+  form k (StoreByte a n b) = store_form Byte a n b
+  form k (Jump n) = Goes on.Always (AtPlace r (suc k + n)) ∷ []
+  form k (JumpBack n) = Goes on.Always (AtPlace r (k - n)) ∷ []
+  form k (Branch relation a b n) = branch_form (told_at c r k) relation a b (AtPlace r (suc k + n))
+  form k (BranchBack relation a b n) = branch_form (told_at c r k) relation a b (AtPlace r (k - n))
+  form k (Call t q us line) = call_form t q us line
+  form k (CallValue t a us line) = call_value_form t a us line
+  form k (Return a) = return_form a
+  form k (Trap error line) = Fails on.Always error line ∷ []
+  form k (Take t) = take_form t
+  form k (Put a) = put_form a
+  form k (New t type line) = new_form t (c.sizes type) line
+  form k End = end_form
+
+  -- ---- entries
+
+  -- a home takes what register j holds
+  abbrev pub take : ℕ → Home → List Piece
+  take j (Reg q) = Plain (word.Move q (Content j)) ∷ []
+  take j (Slot k) = store j 14 (slot_at c r k)
+
+  -- parameter j, of which m are carried, goes from its register to its home, or to the operands of the caller, n bytes behind the frame
+  abbrev pub spill_one : ℕ → ℕ → ℕ → Home → List Piece
+  spill_one m n j h =
+      if is_clear m j h then take j h
+      else if nat_lt j 8 && not (stands j h) then store j 14 (n + 8 + 4 * j) else []
+
+  abbrev pub spill : ℕ → ℕ → ℕ → ℕ → List Piece
+  spill m n j zero = []
+  spill m n j (suc count) = spill_one m n j (home c r j) ++ spill m n (suc j) count
+
+  -- and from there to its home
+  abbrev pub parameter : ℕ → ℕ → ℕ → Home → List Piece
+  parameter m n j h = if is_direct m j h then [] else load (target h) 14 (n + 8 + 4 * j) ++ save h
+
+  -- those from number j on
+  abbrev pub parameters : ℕ → ℕ → ℕ → ℕ → List Piece
+  parameters m n j zero = []
+  parameters m n j (suc count) = parameter m n j (home c r j) ++ parameters m n (suc j) count
+
+  -- all, with n bytes between the frame and that of the caller
+  abbrev pub arrive : ℕ → ℕ → List Piece
+  arrive n count = spill (carried count) n 0 count ++ parameters (carried count) n 0 count
+
+  -- R12 takes the new frame's address
+  abbrev pub frame_below : ℕ → List Piece
+  frame_below n =
+      if nat_lt n 65536 then Plain (word.Operate op.Sub 12 14 (Constant (pos n))) ∷ []
+      else constant 12 n ++ Plain (word.Operate op.Sub 12 14 (Content 12)) ∷ []
+
+  abbrev pub enter_form : TacRoutine → List Piece
+  enter_form routine =
+      frame_below (c.costs r) ++ (Plain (word.Load Word 11 13 (pos 268)) ∷ Plain (word.Operate op.Sub 11 12 (Content 11)) ∷ Fails on.Less 12 routine.line ∷ Plain (word.Store Word 15 12 (pos 0)) ∷ Plain (word.Store Word 14 12 (pos 4)) ∷ Plain (word.Move 14 (Content 12)) ∷ arrive (c.costs r) routine.parameters)
+
+  abbrev pub join_form : TacRoutine → List Piece
+  join_form routine =
+      Plain (word.Store Word 15 14 (pos (c.link_at r))) ∷ arrive 0 routine.parameters
+
+  -- a frame that no stack holds, and parameters that no call passes
+  abbrev pub is_entered : TacRoutine → Bool
+  is_entered routine = nat_lt (c.costs r) 16777153 && nat_lt routine.parameters 66
+
+  abbrev pub entry_form : TacRoutine → List Piece
+  entry_form routine =
+      if is_program c r then (if is_entered routine then enter_form routine else Fails on.Always 12 routine.line ∷ []) else join_form routine

@@ -1,0 +1,50 @@
+-- Lists with an element changed, functions with one value changed, tests.
+use Rattle.risc_emit_relation.specs.Changes.{update}
+use Rattle.std.proofs.Common.{◌≡◌, ◌≢◌, ℕ, zero, suc, ◌<◌, ◌⊎◌, inl, inr, Bool, true, false, nat_eq, List, [], ◌∷◌, length, Some, slice_get, slice_set, refl, sym, ap, subst, arith}
+
+pub eqb_same : (a : ℕ) → nat_eq a a ≡ true
+eqb_same a = grind arith
+
+pub eqb_other : (a b : ℕ) → a ≢ b → nat_eq a b ≡ false
+eqb_other a b ne = grind arith
+
+pub eq_of : (a b : ℕ) → nat_eq a b ≡ true → a ≡ b
+eq_of a b e = grind arith
+
+pub update_same : (f : ℕ → ℕ) (a w : ℕ) → update a w f a ≡ w
+update_same f a w = rw (eqb_same a) refl
+
+pub update_at : (f : ℕ → ℕ) (a w k : ℕ) → k ≡ a → update a w f k ≡ w
+update_at f a w k e = subst (λ j. update a w f j ≡ w) (sym e) (update_same f a w)
+
+pub update_other : (f : ℕ → ℕ) (a w k : ℕ) → k ≢ a → update a w f k ≡ f k
+update_other f a w k ne = rw (eqb_other k a ne) refl
+
+pub get_set_same : {X : Type 0} (xs : List X) (i : ℕ) (v : X) → i < length xs → slice_get (slice_set xs i v) i ≡ Some v
+get_set_same [] i v h = absurd (omega arith)
+get_set_same (x ∷ xs) zero v h = refl
+get_set_same (x ∷ xs) (suc i) v h = get_set_same xs i v (omega arith)
+
+pub get_set_other : {X : Type 0} (xs : List X) (i j : ℕ) (v : X) → j ≢ i → slice_get (slice_set xs i v) j ≡ slice_get xs j
+get_set_other [] i j v h = refl
+get_set_other (x ∷ xs) zero zero v h = absurd (h refl)
+get_set_other (x ∷ xs) zero (suc j) v h = refl
+get_set_other (x ∷ xs) (suc i) zero v h = refl
+get_set_other (x ∷ xs) (suc i) (suc j) v h = get_set_other xs i j v (λ e. h (ap suc e))
+
+pub length_set : {X : Type 0} (xs : List X) (i : ℕ) (v : X) → length (slice_set xs i v) ≡ length xs
+length_set [] i v = refl
+length_set (x ∷ xs) zero v = refl
+length_set (x ∷ xs) (suc i) v = ap suc (length_set xs i v)
+
+pub get_within : {X : Type 0} (xs : List X) (i : ℕ) (v : X) → slice_get xs i ≡ Some v → i < length xs
+get_within [] i v e = absurd (cc e)
+get_within (x ∷ xs) zero v e = omega arith
+get_within (x ∷ xs) (suc i) v e = let h = get_within xs i v e in omega arith
+
+pub some_same : {X : Type 0} (x y : X) → Some x ≡ Some y → x ≡ y
+some_same x y e = cc e
+
+pub bool_cases : (b : Bool) → (b ≡ true) ⊎ (b ≡ false)
+bool_cases true = inl refl
+bool_cases false = inr refl

@@ -1,6 +1,0 @@
-use Rattle.risc_runs.proofs.emission_keeps.Goals as goal
-use Rattle.risc_runs.proofs.Same.{emission_keeps}
-
--- src/lib.rt:8:1
-pub returns : goal.returns
-returns c = emission_keeps

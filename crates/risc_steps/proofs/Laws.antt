@@ -1,6 +1,0 @@
--- The law of steps, as its lemma proves it.
-use Rattle.risc_steps.specs.Laws.{StepsFollow}
-use Rattle.risc_steps.proofs.Steps.{step_follows}
-
-pub steps_follow : StepsFollow
-steps_follow = step_follows

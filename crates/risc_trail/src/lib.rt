@@ -1,8 +1,0 @@
-//! The calls that are open where a machine stopped: their lines, walked over the frames in its memory.
-#![tactic(auto)]
-
-mod lines;
-mod walk;
-
-pub use lines::{MOST, Trail};
-pub use walk::trail;

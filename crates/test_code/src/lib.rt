@@ -1,0 +1,59 @@
+//! Tests: answers rows about three-address code, its homes, and the processor's words, machine and images.
+#![tactic(auto)]
+
+mod devices;
+mod fields;
+mod homes;
+mod images;
+mod instructions;
+mod job;
+mod machines;
+pub mod programs;
+mod runs;
+mod steps;
+mod texts;
+mod words;
+
+pub use job::{Job, untold};
+use std::alloc::{AllocError, Global};
+use test_tables::Line;
+use test_tables::words::letters;
+
+/// What is asked of a row.
+#[derive(Clone, Copy)]
+pub enum Table {
+    Programs(programs::Asked),
+    Words,
+    Steps,
+    Runs,
+    Streamed,
+    Devices,
+    Started,
+    Images,
+    Written,
+    Loaded,
+}
+
+/// Puts what is to be shown of a row. The error is that memory was short.
+pub fn answer(
+    alloc: Global,
+    line: &mut Line,
+    table: Table,
+    text: &[u8],
+    job: &Job,
+) -> Result<(), AllocError> {
+    let row = letters(text);
+    match table {
+        Table::Programs(asked) => return programs::answer(alloc, line, row, asked, job),
+        Table::Runs => return runs::put_runs(alloc, line, row, job),
+        Table::Streamed => return runs::put_streamed(alloc, line, row, job),
+        Table::Started => return runs::put_started(alloc, line, text, job),
+        Table::Steps => return steps::put_step(alloc, line, row),
+        Table::Written => return images::put_written(alloc, line),
+        Table::Loaded => images::put_loaded(alloc, line, text, job),
+        Table::Images => images::put_read(line, text, job),
+        Table::Words => words::put_decoded(alloc, line, row),
+        Table::Devices => devices::put_called(line, row),
+    }
+    Ok(())
+}

@@ -1,0 +1,117 @@
+//! Runs of the processor.
+
+use crate::job::Job;
+use crate::machines::{NOTHING, State, machine_of, memory_of, put_held, state_of};
+use crate::texts::hexadecimals;
+use risc_machine::{Fused, Machine, Stop, Streams, run};
+use std::alloc::{AllocError, Global};
+use test_tables::Line;
+
+/// A run by single steps.
+fn step_by_step(machine: &mut Machine, console: &mut Fused, limit: u64) -> Stop {
+    for _ in 0..limit {
+        if let Some(stop) = machine.step(console) {
+            return stop;
+        }
+    }
+    Stop::Steps
+}
+
+/// Puts where a run stopped, what the machine holds then, and what was written.
+fn put_stop(line: &mut Line, stop: Stop, before: State<'_>, machine: &Machine, output: &[u8]) {
+    line.seen("", &stop);
+    line.valued(" at ", &machine.pc());
+    line.word(", ");
+    put_held(line, before, machine);
+    line.word(" ");
+    line.bracketed(output);
+    line.word(";");
+}
+
+// The machine with the words of a row.
+fn machine_told(alloc: Global, row: &str, job: &Job) -> Result<Machine, AllocError> {
+    let words = hexadecimals(alloc, row)?;
+    let machine = machine_of(alloc, &words, job.globals)?;
+    Ok(machine)
+}
+
+/// Puts how the runs of one machine end, one behind the other, and what it has written then. The row has the words of its code.
+pub(crate) fn put_runs(
+    alloc: Global,
+    line: &mut Line,
+    row: &str,
+    job: &Job,
+) -> Result<(), AllocError> {
+    let mut machine = machine_told(alloc, row, job)?;
+    let end = put_runs_of(alloc, line, &mut machine, job);
+    drop(machine);
+    end
+}
+
+fn put_runs_of(
+    alloc: Global,
+    line: &mut Line,
+    machine: &mut Machine,
+    job: &Job,
+) -> Result<(), AllocError> {
+    let memory = memory_of(alloc, machine)?;
+    let before = state_of(machine, &memory);
+    let mut console = Fused::new(alloc, &job.input, usize::from(job.room), job.take, job.put)?;
+    for limit in &job.limits {
+        let stop = if job.is_stepped {
+            step_by_step(machine, &mut console, *limit)
+        } else {
+            run(machine, &mut console, *limit)
+        };
+        put_stop(line, stop, before, machine, console.output());
+    }
+    Ok(())
+}
+
+/// Puts how the run of code ends over a reader and a writer, how much of the input is left, and what is written.
+pub(crate) fn put_streamed(
+    alloc: Global,
+    line: &mut Line,
+    row: &str,
+    job: &Job,
+) -> Result<(), AllocError> {
+    let mut machine = machine_told(alloc, row, job)?;
+    let input: &[u8] = &job.input;
+    let mut console = Streams::new(input, Vec::new(alloc));
+    let stop = run(&mut machine, &mut console, job.limit());
+    line.seen("", &stop);
+    line.valued(" at ", &machine.pc());
+    drop(machine);
+    let (rest, written) = console.into_parts();
+    line.numbered(", ", rest.len() as u64);
+    line.word(" left ");
+    line.bracketed(&written);
+    Ok(())
+}
+
+/// Puts what a machine holds when it starts. The row is its code.
+pub(crate) fn put_started(
+    alloc: Global,
+    line: &mut Line,
+    code: &[u8],
+    job: &Job,
+) -> Result<(), AllocError> {
+    let front = code.len().min(1024);
+    let (globals, heap, stack) = (
+        job.globals.min(1024),
+        job.heap.min(1024),
+        job.stack.min(1024),
+    );
+    let machine = Machine::start(alloc, &code[..front], globals, heap, stack)?;
+    put_machine(line, &machine);
+    drop(machine);
+    Ok(())
+}
+
+/// Puts what a machine holds, and where it is.
+pub(crate) fn put_machine(line: &mut Line, machine: &Machine) {
+    line.valued("", &machine.size());
+    line.valued(" bytes, at ", &machine.pc());
+    line.word(", ");
+    put_held(line, NOTHING, machine);
+}

@@ -1,0 +1,290 @@
+//! What the layers of the checker make of the block of a program, each called by itself. Of the required names only `integer`,
+//! `char` and `Boolean` are known here.
+
+use crate::types::{put_fields, put_relation, put_sizes};
+use ps_check_declarations::declarations::declarations;
+use ps_check_declarations::frame::{Declared, Frame};
+use ps_check_declarations::points::add_block;
+use ps_check_expressions::expression::{expr_value, variable_place};
+use ps_check_expressions::site::Site;
+use ps_check_expressions::value::TypedValue;
+use ps_check_names::constants::{BOOLEAN, CHAR, INTEGER};
+use ps_check_names::meaning::Meaning;
+use ps_check_names::reading::Reading;
+use ps_check_names::refusal::Fault;
+use ps_check_names::scope::Scope;
+use ps_check_statements::statement::statements;
+use ps_syntax::{Block, Expr, Statement, Variable};
+use ps_text::{LineTable, Source};
+use ps_tree::names::Names;
+use ps_tree::tree::{Expr as Typed, Statement as Checked};
+use ps_tree::types::{Ordinal, Ty};
+use std::alloc::{AllocError, Global};
+use test_tables::Line;
+
+/// What is asked of a block.
+#[derive(Clone, Copy)]
+pub enum Asked {
+    /// How many names, domain types and variables it declares.
+    Declarations,
+    /// The sizes of its variables' types.
+    Sizes,
+    /// The fields of its first variable's type.
+    Fields,
+    /// How the type of the expression and that of the variable in its first statement are related.
+    Types,
+    /// What the expression in its first statement is.
+    Expressions,
+    /// What its statements are.
+    Statements,
+}
+
+// The names of the required types that are known.
+const REQUIRED: &[(&str, Ordinal)] = &[("integer", INTEGER), ("char", CHAR), ("boolean", BOOLEAN)];
+
+/// What is known of a block: the required names and what they stand for, its own names, and what its declarations give.
+#[derive(Drop)]
+struct Known {
+    required: Names,
+    meanings: Vec<Meaning>,
+    names: Names,
+    declared: Declared,
+}
+
+fn nothing(alloc: Global) -> Known {
+    Known {
+        required: Names::new(alloc),
+        meanings: Vec::new(alloc),
+        names: Names::new(alloc),
+        declared: Declared {
+            known: Vec::new(alloc),
+            domains: Vec::new(alloc),
+            pending: Vec::new(alloc),
+            variables: Vec::new(alloc),
+        },
+    }
+}
+
+/// Adds the required types.
+fn add_required(alloc: Global, known: &mut Known) -> Result<(), AllocError> {
+    for (name, ordinal) in REQUIRED {
+        known
+            .required
+            .add(Vec::from_slice(alloc, name.as_bytes())?)?;
+        known.meanings.push(Meaning::Type(Ty::Simple(*ordinal)))?;
+    }
+    Ok(())
+}
+
+fn put_counts(line: &mut Line, declared: &Declared) {
+    line.numbered("names ", declared.known.len() as u64);
+    line.numbered(", domains ", declared.domains.len() as u64);
+    line.numbered(", variables ", declared.variables.len() as u64);
+}
+
+/// The variable and the expression of the first statement, where it is an assignment.
+fn assignment(written: &[Statement]) -> Option<(&Variable, &Expr)> {
+    match written.first() {
+        Some(Statement::Assign(variable, _, value)) => Some((variable, value.get())),
+        _ => None,
+    }
+}
+
+fn type_of(value: &TypedValue) -> &Ty {
+    match value {
+        TypedValue::Simple(_, ty) => ty,
+        TypedValue::Set(_, ty) => ty,
+        TypedValue::Structure(_, ty) => ty,
+    }
+}
+
+fn put_relation_in(
+    line: &mut Line,
+    site: Site<'_>,
+    variable: &Variable,
+    value: &Expr,
+) -> Result<(), Fault> {
+    let variable = variable_place(variable, site)?;
+    let end = put_relation_to(line, site, value, &variable.ty);
+    drop(variable);
+    end
+}
+
+fn put_relation_to(line: &mut Line, site: Site<'_>, value: &Expr, ty: &Ty) -> Result<(), Fault> {
+    let value = expr_value(value, site)?;
+    put_relation(line, type_of(&value), ty);
+    drop(value);
+    Ok(())
+}
+
+fn form_of(value: &TypedValue) -> &'static str {
+    match value {
+        TypedValue::Simple(Typed::Arithmetic { .. }, _) => "arithmetic",
+        TypedValue::Simple(_, _) => "simple",
+        TypedValue::Set(_, _) => "set",
+        TypedValue::Structure(_, _) => "structure",
+    }
+}
+
+fn put_form(line: &mut Line, site: Site<'_>, value: &Expr) -> Result<(), Fault> {
+    let value = expr_value(value, site)?;
+    line.word(form_of(&value));
+    drop(value);
+    Ok(())
+}
+
+fn put_statements(line: &mut Line, site: Site<'_>, written: &[Statement]) -> Result<(), Fault> {
+    for statement in &statements(written, site)? {
+        let is_empty = matches!(statement, Checked::Empty);
+        line.space();
+        line.word(if is_empty { "empty" } else { "other" });
+    }
+    line.none_if_empty();
+    Ok(())
+}
+
+fn put_asked(
+    line: &mut Line,
+    asked: Asked,
+    declared: &Declared,
+    site: Site<'_>,
+    written: &[Statement],
+) -> Result<(), Fault> {
+    match (asked, assignment(written)) {
+        (Asked::Declarations, _) => put_counts(line, declared),
+        (Asked::Sizes, _) => put_sizes(line, &declared.variables),
+        (Asked::Fields, _) => put_fields(line, &declared.variables),
+        (Asked::Statements, _) => return put_statements(line, site, written),
+        (_, None) => line.word("no assignment"),
+        (Asked::Types, Some((variable, value))) => {
+            return put_relation_in(line, site, variable, value);
+        }
+        (Asked::Expressions, Some((_, value))) => return put_form(line, site, value),
+    }
+    Ok(())
+}
+
+/// Adds the declarations of a block.
+fn declare(
+    around: Site<'_>,
+    block: &Block,
+    names: &Names,
+    declared: &mut Declared,
+) -> Result<(), Fault> {
+    let frame = Frame {
+        reading: around.reading,
+        routine: 0,
+        names,
+        outer: around.scope,
+    };
+    declarations(
+        &frame,
+        around.alloc,
+        0,
+        declared,
+        block.constants.as_slice(),
+        block.types.as_slice(),
+        block.variables.as_slice(),
+    )
+}
+
+/// Puts what is asked of a block whose names are known.
+fn put_below(
+    line: &mut Line,
+    around: Site<'_>,
+    block: &Block,
+    asked: Asked,
+    names: &Names,
+    declared: &mut Declared,
+) -> Result<(), Fault> {
+    declare(around, block, names, declared)?;
+    let scope = Scope::Block {
+        routine: 0,
+        names,
+        known: &declared.known,
+        outer: around.scope,
+    };
+    let reading = Reading {
+        source: around.reading.source,
+        lines: around.reading.lines,
+        domains: &declared.domains,
+        has_input: false,
+        has_output: false,
+    };
+    let site = Site {
+        alloc: around.alloc,
+        reading: &reading,
+        scope: &scope,
+    };
+    put_asked(line, asked, declared, site, block.statements.as_slice())
+}
+
+/// Puts what is asked of a block.
+fn put_within(
+    line: &mut Line,
+    reading: &Reading,
+    alloc: Global,
+    block: &Block,
+    asked: Asked,
+    known: &mut Known,
+) -> Result<(), Fault> {
+    add_required(alloc, known)?;
+    add_block(
+        reading,
+        alloc,
+        &mut known.names,
+        block.constants.as_slice(),
+        block.types.as_slice(),
+        block.variables.as_slice(),
+    )?;
+    let scope = Scope::Block {
+        routine: 0,
+        names: &known.required,
+        known: &known.meanings,
+        outer: &Scope::Outside,
+    };
+    let around = Site {
+        alloc,
+        reading,
+        scope: &scope,
+    };
+    put_below(
+        line,
+        around,
+        block,
+        asked,
+        &known.names,
+        &mut known.declared,
+    )
+}
+
+fn put_fault(line: &mut Line, fault: Fault) {
+    match fault {
+        Fault::OutOfMemory => line.fall_short(),
+        Fault::Broken { rule, at } => {
+            line.numbered("", rule.number() as u64);
+            line.valued(" ", &rule);
+            line.numbered(" at byte ", u64::from(at));
+        }
+    }
+}
+
+/// Puts what is asked of the block of a text, or the rule that it breaks.
+pub(crate) fn answer(alloc: Global, line: &mut Line, source: &Source, block: &Block, asked: Asked) {
+    let Ok(lines) = LineTable::new(alloc, source) else {
+        return line.fall_short();
+    };
+    let reading = Reading {
+        source,
+        lines: &lines,
+        domains: &[],
+        has_input: false,
+        has_output: false,
+    };
+    let mut known = nothing(alloc);
+    let end = put_within(line, &reading, alloc, block, asked, &mut known);
+    drop(known);
+    if let Err(fault) = end {
+        put_fault(line, fault);
+    }
+}

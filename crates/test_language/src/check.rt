@@ -1,0 +1,58 @@
+//! What the checker says of program texts, and what is asked of the programs that it accepts.
+
+use crate::changes::put_changes;
+use crate::front::put_refusal;
+use crate::program::checked;
+use crate::runs::{Job, put_output, put_run, put_trail};
+use ps_tree::program::Checked;
+use std::alloc::Global;
+use test_tables::Line;
+
+/// What is asked of a checked program.
+#[derive(Clone, Copy)]
+pub enum Asked {
+    /// Whether there is one.
+    Verdict,
+    /// The nodes and the cells of each of its routines, and how many domain types it has.
+    Counts,
+    /// What its statements change.
+    Changes,
+    /// How its run ends, and what that shows.
+    Run,
+    /// The lines that `trail` tells of its run.
+    Trail,
+    /// The bytes that `output` makes of its run's transcript.
+    Output,
+}
+
+fn put_counts(line: &mut Line, program: &Checked) {
+    let count = u32::try_from(program.routines().len()).unwrap_or(0);
+    for routine in 0..count {
+        line.space();
+        line.valued("", &program.nodes(routine));
+        line.valued("/", &program.cells(routine));
+    }
+    line.valued(", domains ", &program.domains().len());
+}
+
+fn put_asked(alloc: Global, line: &mut Line, program: &Checked, asked: Asked, job: &Job) {
+    match asked {
+        Asked::Verdict => line.word("accepted"),
+        Asked::Counts => put_counts(line, program),
+        Asked::Changes => put_changes(alloc, line, program),
+        Asked::Run => put_run(alloc, line, program, job),
+        Asked::Output => put_output(alloc, line, program, job),
+        Asked::Trail => put_trail(alloc, line, program, job),
+    }
+}
+
+/// Puts what is asked of the program of a text, or the text's refusal.
+pub(crate) fn answer(alloc: Global, line: &mut Line, text: &[u8], asked: Asked, job: &Job) {
+    match checked(alloc, text) {
+        Ok(program) => {
+            put_asked(alloc, line, &program, asked, job);
+            drop(program);
+        }
+        Err(refusal) => put_refusal(line, refusal),
+    }
+}

@@ -1,0 +1,58 @@
+//! What the parser makes of program texts.
+
+use crate::blocks;
+use crate::program::parsed;
+use crate::shown::Shown;
+use ps_build::Refusal;
+use ps_parse::release;
+use ps_syntax::{Program, height};
+use ps_text::Source;
+use std::alloc::Global;
+use test_tables::Line;
+
+/// Puts why a text is refused.
+pub(crate) fn put_refusal(line: &mut Line, refusal: Refusal) {
+    line.numbered("", u64::from(refusal.number()));
+    line.valued(" ", &refusal);
+    line.numbered(" at line ", u64::from(refusal.line().unwrap_or(0)));
+    if let Refusal::NotAProgram { token, .. } = refusal {
+        line.numbered(", token ", u64::from(token));
+    }
+}
+
+/// What is asked of a text's tree.
+#[derive(Clone, Copy)]
+pub enum Asked {
+    /// Its height.
+    Height,
+    /// Its statements.
+    Statements,
+    /// What the layers of the checker make of its block.
+    Block(blocks::Asked),
+}
+
+fn put_asked(alloc: Global, line: &mut Line, source: &Source, program: &Program, asked: Asked) {
+    let block = &program.block;
+    match asked {
+        Asked::Height => line.numbered("accepted, height ", u64::from(height(program))),
+        Asked::Statements => {
+            let text = source.bytes();
+            Shown { text, line }.statements(block.statements.as_slice());
+        }
+        Asked::Block(asked) => blocks::answer(alloc, line, source, block, asked),
+    }
+}
+
+/// Puts what is asked of a text's tree, or the refusal.
+pub(crate) fn answer(alloc: Global, line: &mut Line, text: &[u8], asked: Asked) {
+    let Ok(source) = Source::new(text) else {
+        return line.word("no source");
+    };
+    match parsed(alloc, &source) {
+        Ok(program) => {
+            put_asked(alloc, line, &source, &program, asked);
+            release(program);
+        }
+        Err(refusal) => put_refusal(line, refusal),
+    }
+}

@@ -1,0 +1,111 @@
+//! Tests: tables of cases, whose rows a program reads as questions and repeats with its answers.
+//!
+//! The questions stand on standard input, and the answers go to standard output.
+//!
+//! A line `== NAME` begins a table. A line `? | TEXT` is a row, and comes out as `ANSWER | TEXT`; a line that begins with a
+//! space goes on with the text before it. A line `- WORD REST` tells something of the next row. Lines that begin with `#` are
+//! remarks. All lines but the rows' come out as they are, so that the wanted output tells each case whole, and the input is
+//! the wanted output with a question mark in place of each answer.
+//!
+//! In a text `~` stands for the end of a line, and `\` with two hexadecimal digits for a byte; so they do in an answer.
+#![tactic(auto)]
+
+mod line;
+mod text;
+pub mod words;
+
+pub use line::Line;
+use std::alloc::{AllocError, Global};
+use std::io::{self, BufRead, BufReader};
+use text::{escaped, text_of};
+
+/// What answers the rows of tables.
+pub trait Answers {
+    /// A table begins.
+    fn begin(&mut self, table: &str);
+
+    /// A line tells something of the next row, by a word and by what stands behind it, as it is written and as a text.
+    fn tell(&mut self, word: &str, rest: &str, text: Vec<u8>) -> Result<(), AllocError>;
+
+    /// What is to be shown of a row. What was told of it is told of no other.
+    fn answer(&mut self, alloc: Global, text: &[u8]) -> Result<String, AllocError>;
+}
+
+/// A row: whether there is one, and what is written behind its bar.
+#[derive(Drop)]
+struct Row {
+    is_begun: bool,
+    written: String,
+}
+
+/// Shows the row, if there is one; then there is none.
+fn show<R: Print + AllocGlobal, T: Answers>(
+    rt: &R,
+    answers: &mut T,
+    row: &mut Row,
+) -> io::Result<()> {
+    if !row.is_begun {
+        return Ok(());
+    }
+    let alloc = rt.alloc();
+    let written = row.written.as_str();
+    // the space belongs to the bar
+    let text = text_of(alloc, written.strip_prefix(" ").unwrap_or(written))?;
+    let answer = answers.answer(alloc, &text)?;
+    let shown = escaped(alloc, answer.as_str())?;
+    let line = format!(in alloc; "{shown} |{}", row.written)?;
+    row.is_begun = false;
+    row.written = String::new(alloc);
+    rt.println(line)
+}
+
+/// Takes a line that is part of no row.
+fn take_other<R: Print + AllocGlobal, T: Answers>(
+    rt: &R,
+    answers: &mut T,
+    line: &str,
+) -> io::Result<()> {
+    if let Some(table) = line.strip_prefix("== ") {
+        answers.begin(table);
+    } else if let Some(told) = line.strip_prefix("- ") {
+        let (word, rest) = told.split_once(' ').unwrap_or((told, ""));
+        answers.tell(word, rest, text_of(rt.alloc(), rest)?)?;
+    }
+    rt.println(line)
+}
+
+fn take<R: Print + AllocGlobal, T: Answers>(
+    rt: &R,
+    answers: &mut T,
+    row: &mut Row,
+    line: &str,
+) -> io::Result<()> {
+    if row.is_begun && line.starts_with(" ") {
+        row.written.push('\n')?;
+        row.written.push_str(line)?;
+        return Ok(());
+    }
+    show(rt, answers, row)?;
+    if let Some(written) = line.strip_prefix("? |") {
+        row.is_begun = true;
+        row.written.push_str(written)?;
+        return Ok(());
+    }
+    take_other(rt, answers, line)
+}
+
+/// Answers the rows of the tables on standard input.
+pub fn answer_rows<R: Input + Print + AllocGlobal, T: Answers>(
+    rt: &R,
+    answers: &mut T,
+) -> io::Result<()> {
+    let alloc = rt.alloc();
+    let mut row = Row {
+        is_begun: false,
+        written: String::new(alloc),
+    };
+    for line in BufReader::new(alloc, rt.reader())?.lines(alloc) {
+        take(rt, answers, &mut row, line?.as_str())?;
+    }
+    show(rt, answers, &mut row)
+}
