@@ -4,6 +4,7 @@ complete -c pascal -n __fish_use_subcommand -f -a compile -d 'Compiles a text an
 complete -c pascal -n __fish_use_subcommand -f -a list -d 'Compiles a text and writes the listing of its image to standard output'
 complete -c pascal -n __fish_use_subcommand -f -a run -d 'Runs an image on standard input and output'
 complete -c pascal -n __fish_use_subcommand -f -a go -d 'Compiles a text and runs it on standard input and output'
+complete -c pascal -n __fish_use_subcommand -f -a explain -d 'Explains a message, by its number, its name or its words'
 complete -c pascal -n __fish_use_subcommand -f -a help -d 'Print this message or the help of the given subcommand(s)'
 complete -c pascal -n '__fish_use_subcommand' -s h -l help -f -d 'Print help'
 complete -c pascal -n '__fish_use_subcommand' -s V -l version -f -d 'Print the version, the kit, the sum of the sources and the target'
@@ -17,4 +18,6 @@ complete -c pascal -n '__fish_seen_subcommand_from go' -l stack -x -d 'Bytes of 
 complete -c pascal -n '__fish_seen_subcommand_from go' -l heap -x -d 'Bytes of the heap [default: 1048576]'
 complete -c pascal -n '__fish_seen_subcommand_from go' -l steps -x -d 'Instructions that the run may make [default: 1000000000]'
 complete -c pascal -n '__fish_seen_subcommand_from go' -s h -l help -f -d 'Print help'
-complete -c pascal -n '__fish_seen_subcommand_from help' -f -a 'compile list run go help'
+complete -c pascal -n '__fish_seen_subcommand_from explain' -f
+complete -c pascal -n '__fish_seen_subcommand_from explain' -s h -l help -f -d 'Print help'
+complete -c pascal -n '__fish_seen_subcommand_from help' -f -a 'compile list run go explain help'

@@ -1,7 +1,8 @@
-"""Draws texts with one fault each, at a token that is known.
+"""Draws texts with one fault each, at a token that is known, or with two.
 
-A part of a text is written as a string in which `@` stands before the token that breaks the rule. Each way to break a rule takes the drawing and a
-block, and adds its parts to that block; all else in the text keeps the rules. Names that a fault adds are new ones.
+A part of a text is written as a string in which `@` stands before the token that breaks the rule. Where that is told later than it stands, `!` is before the
+token at which it is told. Each way to break a rule takes the drawing and a block, and adds its parts to that block; all else in the text keeps the rules.
+Names that a fault adds are new ones.
 """
 
 import re
@@ -13,7 +14,8 @@ NAMES = {
     44: "NoInputOutput", 45: "Limit",
 }  # fmt: skip
 
-TOKEN = re.compile(r"@?(?:[A-Za-z][A-Za-z0-9]*|\d+|'(?:[^'\n]|'')*'|:=|\.\.|<>|<=|>=|[-+*=<>()\[\],;:.^])")
+MARKS = "@!#?"  # those of the second fault, and those of the first
+TOKEN = re.compile(r"[@!#?]*(?:[A-Za-z][A-Za-z0-9]*|\d+|'(?:[^'\n]|'')*'|:=|\.\.|<>|<=|>=|[-+*=<>()\[\],;:.^])")
 DEEPEST = 3
 
 # what each program defines for all of its blocks
@@ -39,18 +41,33 @@ class Text(NamedTuple):
 
 
 class Block:
-    """The parts of a block. `head` is what stands before it, without the semicolon."""
+    """The parts of a block. `head` is what stands before it, without the semicolon. The marks are those of faults that are told when its type part ends, when
+    its routine part ends, and when the first `for` on its control variable is met."""
 
     def __init__(self, head, depth, control):
         self.head, self.depth, self.control = head, depth, control
         self.constants, self.types, self.variables, self.routines, self.statements = [], [], [f"{control}: integer"], [], []
+        self.types_end, self.routines_end, self.loop = "", "", ""
+
+    def lists(self):
+        return self.constants, self.types, self.variables, self.routines, self.statements
 
     def written(self):
-        parts = [
-            f"{word} {'; '.join(items)};" for word, items in (("const", self.constants), ("type", self.types), ("var", self.variables)) if items
-        ]
+        written = (("const", self.constants, ""), ("type", self.types, self.types_end), ("var", self.variables, ""))
+        parts = [f"{word} {'; '.join(items)} {marks};" for word, items, marks in written if items]
         routines = [f"{routine.head}; {routine.written()};" if isinstance(routine, Block) else f"{routine};" for routine in self.routines]
-        return " ".join([*parts, *routines, f"begin {'; '.join(self.statements)} end"])
+        statements = re.sub(rf"(?<=for )(?=[{MARKS}]*{self.control} )", self.loop, "; ".join(self.statements), count=1)
+        return " ".join([*parts, *routines, f"{self.routines_end}begin {statements} end"])
+
+    def rename_marks(self):
+        """The marks of a second fault become those of a first one."""
+        for items in self.lists():
+            items[:] = [renamed(item) if isinstance(item, str) else item for item in items]
+        self.types_end, self.routines_end, self.loop = (renamed(marks) for marks in (self.types_end, self.routines_end, self.loop))
+
+
+def renamed(text):
+    return text.translate(str.maketrans("@!", "#?"))
 
 
 class Drawing:
@@ -187,13 +204,13 @@ def a_field(d, b):
 
 @way(30)
 def a_type(d, b):
-    d.declare(b.variables, f"{d.fresh()}: {d.choice('', 'array [1..3] of ', 'record f: ')}@{d.fresh('u')}")
-    b.variables[:] = [f"{item} end" if "record f: @" in item else item for item in b.variables]
+    d.declare(b.variables, f"{d.fresh()}: {d.choice('@{}', 'array [1..3] of @{}', 'record f: @{} end').format(d.fresh('u'))}")
 
 
 @way(30)
 def a_domain(d, b):
     d.declare(b.types, f"{d.fresh()} = ^ @{d.fresh('u')}")
+    b.types_end += "!"
 
 
 @way(30)
@@ -394,6 +411,45 @@ def a_later_formal_parameter(d, b):
     d.declare_behind(b.routines, f"procedure {d.fresh()}(a: @small; small: char); begin end")
 
 
+@way(32)
+def a_later_constant_as_a_domain(d, b):
+    name = d.fresh()
+    d.declare(b.types, f"{d.fresh()} = ^ @{name}", f"{d.fresh()} = ({d.fresh()}, {name})")
+    b.types_end += "!"
+
+
+@way(32)
+def its_own_heading(d, b):
+    name = d.fresh()
+    heading = d.choice(f"function {name}(a: @{name}): integer", f"function {name}: @{name}", f"procedure {name}(procedure q(a: @{name}))")
+    d.declare(b.routines, f"{heading}; begin {'' if heading.startswith('procedure') else f'{name} := 1'} end")
+
+
+@way(32)
+def a_block_before_its_heading(d, b):
+    name = d.fresh()
+    d.declare(b.routines, f"function @{name}; begin {name} := 1 end", f"function {name}: integer; begin {name} := 1 end")
+
+
+@way(33)
+def an_earlier_constant_as_a_domain(d, b):
+    name = d.fresh()
+    d.declare(b.types, f"{d.fresh()} = ({d.fresh()}, {name})", f"{d.fresh()} = ^ @{name}")
+    b.types_end += "!"
+
+
+@way(33)
+def its_own_variable(d, b):
+    name = d.fresh()
+    d.declare(b.variables, f"{d.fresh()}, {name}: {d.choice('', '^ ', 'array [1..2] of ')}@{name}")
+
+
+@way(33)
+def its_own_field(d, b):
+    name = d.fresh()
+    d.declare(b.types, f"{d.fresh()} = record {name}: integer; {d.fresh()}: {d.choice('', '^ ')}@{name} end")
+
+
 @way(33)
 def a_procedure_for_a_value(d, b):
     d.use(b, "@pv")
@@ -559,6 +615,7 @@ def a_routine_of_the_block(d, b):
     declared = " var gi2: integer;" if "gi2" in body else ""
     d.declare_behind(b.routines, f"procedure {d.fresh()};{declared} begin {body} end")
     loop(d, b, "gi := 1")
+    b.loop += "!"
 
 
 @way(39)
@@ -566,6 +623,7 @@ def a_routine_beside_another(d, b):
     b.routines.insert(0, f"procedure {d.fresh()}; var {b.control}: integer; begin {b.control} := 1 end")
     b.routines.append(f"procedure {d.fresh()}; begin gi := {b.control}; @{b.control} := 1 end")
     loop(d, b, "gi := 1")
+    b.loop += "!"
 
 
 @way(39)
@@ -603,34 +661,37 @@ def lists(d, b):
 @way(42)
 def a_procedure_heading(d, b):
     d.declare(b.routines, f"procedure @{d.fresh()}{d.choice('', '(n: integer)')}; forward")
+    b.routines_end += "!"
 
 
 @way(42)
 def a_function_heading(d, b):
     d.declare(b.routines, f"function @{d.fresh()}{d.choice('', '(var n: char)')}: integer; forward")
+    b.routines_end += "!"
 
 
 @way(42)
 def a_heading_between_others(d, b):
     name, other = d.fresh(), d.fresh()
     d.declare(b.routines, f"procedure {other}; forward", f"procedure @{name}; forward", f"procedure {other}; begin {name} end")
+    b.routines_end += "!"
 
 
 @way(43)
 def a_function_of_nothing(d, b):
-    d.declare(b.routines, f"function @{d.fresh()}{d.choice('', '(n: integer)')}: integer; begin {d.choice('', 'gj := 1')} end")
+    d.declare(b.routines, f"function @{d.fresh()}{d.choice('', '(n: integer)')}: integer; begin {d.choice('', 'gj := 1')} !end")
 
 
 @way(43)
 def a_forward_function(d, b):
     name = d.fresh()
-    d.declare_behind(b.routines, f"function {name}(n: integer): char; forward", f"function @{name}; begin gi := n end")
+    d.declare_behind(b.routines, f"function {name}(n: integer): char; forward", f"function @{name}; begin gi := n !end")
 
 
 @way(43)
 def a_function_that_another_hides(d, b):
     name = d.fresh()
-    d.declare_behind(b.routines, f"function @{name}: integer; var a: char; procedure q; var {name}: integer; begin {name} := 1 end; begin q end")
+    d.declare_behind(b.routines, f"function @{name}: integer; var a: char; procedure q; var {name}: integer; begin {name} := 1 end; begin q !end")
 
 
 @way(44)
@@ -654,13 +715,12 @@ def a_long_type(d, b):
 
 @way(45)
 def a_long_part(d, b):
-    d.declare(b.variables, f"{d.fresh()}: {d.choice('@array [1..100001] of char', 'record f: @array [1..200000] of integer end', 'packed @array [char, 1..1000] of char')}")
-    b.variables[:] = [item.replace("packed @array", "@packed array") for item in b.variables]
+    d.declare(b.variables, f"{d.fresh()}: {d.choice('@array [1..100001] of char', 'record f: @array [1..200000] of integer end', '@packed array [char, 1..1000] of char')}")
 
 
 @way(45)
 def many_variables(d, b):
-    d.declare(b.routines, f"procedure @{d.fresh()}; var a, b: array [1..60000] of char; begin end")
+    d.declare(b.routines, f"procedure @{d.fresh()}; var a, b: array [1..60000] of char; begin !end")
 
 
 @way(45)
@@ -677,30 +737,67 @@ def nested(d, b):
 
 # ---- the text
 
+# ways that change the program's parameters, of which a text has one; and those that read, which isn't done without input
+HEADINGS = {"files", "no_output", "no_input"}
+READING = {"a_read_in_the_loop", "a_routine_of_the_block", "a_constant_for_a_variable"}
+
+
+def go_together(one, other):
+    names = {one.__name__, other.__name__}
+    return one is not other and len(names & HEADINGS) < 2 and not ("no_input" in names and names & READING)
+
+
+class Told(NamedTuple):
+    """Where a fault is told: the number of the token at which that is met, that of the marked one, and its line."""
+
+    met: int
+    token: int
+    line: int
+
+
 def laid(draw, tokens):
-    """The tokens on lines, and the line of the marked one."""
-    often, line, told, text = draw.choice((0.03, 0.2, 0.7)), 1, 0, []
-    for token in tokens:
-        if token.startswith("@"):
-            token, told = token[1:], line
+    """The tokens on lines, and of the marks of each fault where they stand."""
+    often, line, text, found = draw.choice((0.03, 0.2, 0.7)), 1, [], {}
+    for number, token in enumerate(tokens):
+        for mark in token[: len(token) - len(token.lstrip(MARKS))]:
+            found.setdefault(mark, (number, line))
+        token = token.lstrip(MARKS)
         if token[0].isalpha() and draw.random() < 0.1:
             token = draw.choice((token.upper(), token.capitalize()))
         text.append(token)
         gap = draw.choice(("\n", "\n\n", " \n  ", "\n{ on lines\n}")) if draw.random() < often else draw.choice((" ", " ", "  ", "{ }"))
         line += gap.count("\n")
         text.append(gap)
-    return "".join(text), told
+    return "".join(text), found
 
 
-def drawn(draw, faulty):
-    """A text with a fault, or without one."""
+def told_of(found, told, met):
+    """Where the fault with these marks is told, if there is one."""
+    return Told(found.get(met, found[told])[0], *found[told]) if told in found else None
+
+
+def chosen_ways(draw, faults):
+    """A way for each fault, each with its number; two that go together."""
+    numbers = [draw.choice(sorted(WAYS)) for _ in range(faults)]
+    ways = [(number, draw.choice(WAYS[number])) for number in numbers]
+    if faults == 2 and not go_together(ways[0][1], ways[1][1]):
+        return chosen_ways(draw, faults)
+    # what is drawn beside the other fault keeps to the parameters
+    return sorted(ways, key=lambda way: way[1].__name__ not in HEADINGS)
+
+
+def drawn(draw, faults):
+    """A text with so many faults, none, one or two; of two the one that is told first."""
     drawing = Drawing(draw)
-    number, name = 0, ""
-    if faulty:
-        number = draw.choice(sorted(WAYS))
-        way = draw.choice(WAYS[number])
-        name = way.__name__
-        way(drawing, draw.choice(drawing.blocks))
-    tokens = TOKEN.findall(drawing.finish())
-    text, line = laid(draw, tokens)
-    return Text(text, number, line, name)
+    ways, blocks = chosen_ways(draw, faults), list(drawing.blocks)
+    for _, way in ways:
+        for block in drawing.blocks:
+            block.rename_marks()
+        drawing.parameters = renamed(drawing.parameters)
+        way(drawing, draw.choice(blocks))
+    text, found = laid(draw, TOKEN.findall(drawing.finish()))
+    places = [told_of(found, "#", "?"), told_of(found, "@", "!")][2 - faults :]
+    told = min(zip(places, ways), key=lambda pair: pair[0], default=None)
+    if not told:
+        return Text(text, 0, 0, "")
+    return Text(text, told[1][0], told[0].line, " and ".join(way.__name__ for _, way in ways))

@@ -22,6 +22,8 @@ from typing import Callable, List, NoReturn, Optional
 
 sys.dont_write_bytecode = True
 
+import explained  # noqa: E402
+import others  # noqa: E402
 import runs  # noqa: E402
 import scripts  # noqa: E402
 from cases import TESTS, TOP, Case, cases_of, files_of  # noqa: E402
@@ -37,8 +39,12 @@ FOLDERS = {
     "exact": ("pascal",),
     "shapes": ("pascal",),
     "phases": ("pascal_reference",),
+    "explain": ("pascal",),
+    "others": ("pascal",),
     "scripts": ("pascal",),
 }
+# what is tried of a page of docs/ that is data
+TRIALS = {"explain": explained.trials, "others": others.trials}
 INTERRUPTED = 130
 PROCESSORS = int(os.environ.get("RT_JOBS") or 0) or len(os.sched_getaffinity(0))
 
@@ -94,6 +100,8 @@ def jobs_of(folder: str, program: str, has_terminals: bool) -> List[Job]:
         return [Job(folder, "tests/driver/scripts.py", it.__name__.replace("_", " "), it) for it in scripts.CONDITIONS]
     if folder == "shapes":
         return shapes_jobs(program)
+    if folder in TRIALS:
+        return [Job(folder, it.place, it.name, it.run) for it in TRIALS[folder](program)]
     return [job_of(folder, case, program, has_terminals) for path in files_of(folder) for case in cases_of(path)]
 
 

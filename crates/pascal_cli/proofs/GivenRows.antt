@@ -90,6 +90,10 @@ abbrev pub Fails : Kinds → Type 0
 Fails [] = ⊥
 Fails (k ∷ ks) = Unit {0}
 
+pub or_else-assoc : (a b c : Kinds) → or_else a (or_else b c) ≡ or_else (or_else a b) c
+or_else-assoc [] b c = refl
+or_else-assoc (k ∷ ks) b c = refl
+
 pub fails_left : (a b : Kinds) → Fails a → Fails (or_else a b)
 fails_left [] b f = absurd f
 fails_left (k ∷ ks) b f = tt

@@ -20,8 +20,9 @@ use Rattle.clap.specs.declared.builder.value_parser.ValueParser.TheVariants as v
 use Rattle.clap.specs.declared.parser.matches.ValueSource.TheVariants.{DefaultValue}
 use Rattle.pascal_cli.specs.App.{IsWithin, whole}
 use Rattle.pascal_cli.specs.Command.{Given, image_name, limit_names, number_of, read, source_name, value_of}
-use Rattle.pascal_cli.proofs.GivenRows.{AllFit, Fails, Known, One, appended, fails_left, given_rows, row, rule, same_text}
-use Rattle.pascal_cli.proofs.LineWalk.{Ends, IsNoOption, Leaf, found_at, help, leaf, rules, total, walk_ends}
+use Rattle.pascal_cli.proofs.GivenRows.{AllFit, Fails, Known, One, appended, fails_left, given_rows, or_else-assoc, row, rule, same_text}
+use Rattle.pascal_cli.proofs.Flags.{IsNoOption, help, help_or_none}
+use Rattle.pascal_cli.proofs.LineWalk.{Ends, Leaf, found_at, leaf, rules, total, walk_ends}
 
 -- ---- numbers
 
@@ -189,10 +190,6 @@ defaults_clean (a ∷ rest) rows e =
 
 -- ---- a subcommand's parse
 
-or_else-assoc : (a b c : Kinds) → or_else a (or_else b c) ≡ or_else (or_else a b) c
-or_else-assoc [] b c = refl
-or_else-assoc (k ∷ ks) b c = refl
-
 abbrev pub end_rows : List One → Given → List Row
 end_rows ones given = fold with_default (given_rows given) (rules ones)
 
@@ -264,10 +261,6 @@ list_ones = path_one source_name 1 ∷ []
 
 abbrev pub limited_ones : Text → List One
 limited_ones name = path_one name 1 ∷ stack_one ∷ heap_one ∷ steps_one ∷ []
-
-pub help_or_none : (b : Bool) → IsNoOption (cond (b || false) (Some help) None)
-help_or_none true = refl
-help_or_none false = tt
 
 pub compile_leaf : Leaf compile_ones [] (source_name ∷ image_name ∷ [])
 compile_leaf = record {

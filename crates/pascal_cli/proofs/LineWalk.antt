@@ -1,22 +1,18 @@
 -- What `clap`'s walk over the words of a subcommand finds, against what the words give.
-use Rattle.std.proofs.Common.{◌≡◌, ◌∙◌, ap, refl, sym, subst, ◌+◌, ◌++◌, ◌||◌, ◌&&◌, ℕ, Bool, true, false, List, [], ◌∷◌, length, Option, Some, None, min}
-use Rattle.std.proofs.lemmas.Bool.{true≢false}
-use Rattle.std.specs.Prelude.{if◌then◌else◌, find, fold, is_some, nat_lt, slice_get}
+use Rattle.std.proofs.Common.{◌≡◌, ◌∙◌, ap, refl, sym, subst, ◌+◌, ◌++◌, ◌||◌, ◌&&◌, ℕ, Bool, true, false, List, [], ◌∷◌, Option, Some, None, min}
+use Rattle.std.specs.Prelude.{if◌then◌else◌, find, fold, is_some, nat_lt}
 use Rattle.std.specs.Option.{option_map_or}
-use Rattle.std.specs.Str.{bytes_eq, chars}
+use Rattle.std.specs.Str.{bytes_eq}
 use Rattle.clap.specs.Lexer.{long_of, short_of, usize_max}
 use Rattle.clap.specs.Kinds.{Kinds, or_else}
-use Rattle.clap.specs.Faults.{bundle_fault, bundle_step_fault, flag_word_fault, flags_fault, long_fault, option_fault, positional_fault, react_fault, settle_fault, short_fault, step_fault, stray_fault, turn_fault, use_fault, walk_fault}
-use Rattle.clap.specs.Simple.{Shape, filled, help_rule, new_shape}
-use Rattle.clap.specs.Walk.{Held, Row, Rule, Step, Text, Waiting, Walk, after_step, arg_by_id, arg_by_index, arg_by_long, arg_by_short, attached_value, bundle_met, bundle_step, after_flag, reacted, idle, is_pending, long_met, long_or_other, nothing_held, option, option_word, plain, plain_word, settled, settled_rows, short_or_plain, takes_several, pushed, takes_values, to_positional, trailing, used, used_by_id, walk_from, walked}
+use Rattle.clap.specs.Faults.{flag_word_fault, long_fault, option_fault, positional_fault, react_fault, settle_fault, short_fault, step_fault, stray_fault, turn_fault, use_fault, walk_fault}
+use Rattle.clap.specs.Simple.{Shape, new_shape}
+use Rattle.clap.specs.Walk.{Held, Row, Rule, Step, Text, Waiting, Walk, after_step, arg_by_id, arg_by_index, arg_by_long, arg_by_short, attached_value, after_flag, reacted, idle, is_pending, long_met, long_or_other, nothing_held, option, option_word, settled, settled_rows, takes_several, pushed, takes_values, to_positional, trailing, used, used_by_id, walk_from, walked}
 use Rattle.clap.specs.declared.error.kind.ErrorKind.TheVariants as kind
 use Rattle.clap.specs.Walk.{next as going}
 use Rattle.pascal_cli.specs.Command.{Given, has_letters, is_among, paths_after, read, with_option, with_path, with_value, with_word}
+use Rattle.pascal_cli.proofs.Flags.{IsNoOption, help, hold, letters_fail, letters_none, letters_now, long_help, short_help}
 use Rattle.pascal_cli.proofs.GivenRows.{AllFit, Fails, Known, One, fails_left, fails_right, given_rows, is_refused, itself, not_given, one_more_fits, rule, use_bad, use_good, used_good}
-
--- the rule that building adds
-abbrev pub help : Rule
-help = filled help_rule
 
 abbrev pub rules : List One → List Rule
 rules [] = help ∷ []
@@ -29,10 +25,6 @@ leaf name ones = record (new_shape name) {
   disable_help_subcommand = true;
   is_built = true;
 }
-
-abbrev pub IsNoOption : Option Rule → Type 0
-IsNoOption None = Unit {0}
-IsNoOption (Some a) = a ≡ help
 
 abbrev pub Places : List Rule → ℕ → List Text → Type 0
 Places all i [] = arg_by_index all i ≡ None
@@ -51,9 +43,6 @@ pub record Leaf (ones : List One) (options paths : List Text) : Type 0 where
 abbrev pub Ends : List Rule → Option Given → Kinds → List Row → Type 0
 Ends all None faults found = Fails faults
 Ends all (Some given) faults found = (faults ≡ []) × (found ≡ given_rows given) × AllFit all given
-
-abbrev hold : List Row → Option (Text × List Text) → Held
-hold rs p = record { rows = rs; pending = p; skip = 0 }
 
 abbrev state : List Row → Option (Text × List Text) → Waiting → ℕ → Bool → Walk
 state rs p waiting i tr = record { held = hold rs p; waiting = waiting; position = i; is_trailing = tr; stopped = None }
@@ -170,41 +159,6 @@ module _ (label : Text) (ones : List One) where
 
   -- ---- words of a hyphen and letters
 
-  abbrev letters_now : Option Text → Held → Kinds
-  letters_now sh h = option_map_or (λ flags. bundle_fault all false flags h) sh []
-
-  abbrev has_some : Option Text → Bool
-  has_some sh = is_some (slice_get (option_map_or chars sh []) 0)
-
-  pub letters_fail : (sh : Option Text) (rs : List Row) (p : Option (Text × List Text))
-      → ((x : ℕ) (rest : Text) (next : Held → Kinds) → Fails (short_fault all false (arg_by_short all x) rest (hold rs p) next))
-      → has_some sh ≡ true → Fails (letters_now sh (hold rs p))
-  unfolding chars flags_fault
-  letters_fail None rs p fails some = cc
-  letters_fail (Some []) rs p fails some = cc
-  letters_fail (Some (f ∷ fs)) rs p fails some = go (chars (f ∷ fs)) some
-    where
-      go : (cs : List ℕ) → is_some (slice_get cs 0) ≡ true
-          → Fails (bundle_step_fault all false (slice_get cs 0) (f ∷ fs) 0 (hold rs p) (flags_fault all false (length fs)))
-      go [] e = cc
-      go (c ∷ cs) e = fails c _ _
-
-  pub letters_none : (sh : Option Text) (waiting : Waiting) (word : Text) (rs : List Row) (p : Option (Text × List Text)) → has_some sh ≡ false
-      → (letters_now sh (hold rs p) ≡ []) × (short_or_plain all waiting word sh (hold rs p) ≡ plain_word all waiting word (hold rs p))
-  unfolding chars flags_fault bundle_met
-  letters_none None waiting word rs p none = (refl, refl)
-  letters_none (Some []) waiting word rs p none = (refl, refl)
-  letters_none (Some (f ∷ fs)) waiting word rs p none = go (chars (f ∷ fs)) none
-    where
-      go : (cs : List ℕ) → is_some (slice_get cs 0) ≡ false
-          → (bundle_step_fault all false (slice_get cs 0) (f ∷ fs) 0 (hold rs p) (flags_fault all false (length fs)) ≡ [])
-          × (after_flag all waiting word
-          (bundle_step all (slice_get cs 0) (f ∷ fs) 0 plain (hold rs p) (bundle_met all (length fs))).0
-          (bundle_step all (slice_get cs 0) (f ∷ fs) 0 plain (hold rs p) (bundle_met all (length fs))).1
-          ≡ plain_word all waiting word (hold rs p))
-      go [] e = (refl, refl)
-      go (c ∷ cs) e = absurd (true≢false e)
-
   short_bad : (a : Option Rule) (rest : Text) (rs : List Row) (p : Option (Text × List Text)) (next : Held → Kinds) → Fails (settles rs p)
       → Fails (short_fault all false a rest (hold rs p) next)
   short_bad None rest rs p next f = tt
@@ -215,19 +169,6 @@ module _ (label : Text) (ones : List One) where
       go true (Some t) = fails_left _ _ f
       go true None = f
       go false v = fails_left _ _ (fails_left _ _ f)
-
-  pub short_help : (a : Option Rule) (rest : Text) (rs : List Row) (p : Option (Text × List Text)) (next : Held → Kinds) → IsNoOption a
-      → Fails (short_fault all false a rest (hold rs p) next)
-  short_help None rest rs p next is = tt
-  short_help (Some a) rest rs p next is = subst (λ r. Fails (short_fault all false (Some r) rest (hold rs p) next)) (sym is)
-      (fails_left _ _ (fails_right (settles rs p) _ tt))
-
-  pub long_help : (a : Option Rule) (v : Option Text) (rs : List Row) (p : Option (Text × List Text)) → IsNoOption a
-      → Fails (long_fault all false a v (hold rs p))
-  long_help None v rs p is = tt
-  long_help (Some a) (Some t) rs p is = subst (λ r. Fails (long_fault all false (Some r) (Some t) (hold rs p))) (sym is) tt
-  long_help (Some a) None rs p is = subst (λ r. Fails (long_fault all false (Some r) None (hold rs p))) (sym is)
-      (fails_right (settles rs p) _ tt)
 
   -- ---- a turn at a word that no `--` stands before, by what the word looks like
 
@@ -262,9 +203,9 @@ module _ (label : Text) (ones : List One) where
   bad_idle (word ∷ ws) rs p i f = idle_turn None rs p i word ws (go (bytes_eq word (45 ∷ 45 ∷ [])) (long_of word))
     where
       plain_case : (c : Bool) → has_letters word ≡ c → Fails (now_at false None idle i word (hold rs p))
-      plain_case true e = fails_left _ _ (letters_fail (short_of word) rs p (λ x rest next. short_bad (arg_by_short all x) rest rs p next f) e)
-      plain_case false e = fails_right (letters_now (short_of word) (hold rs p)) _
-          (subst (λ m. Fails (step_fault shape i m.0 m.1)) (sym (letters_none (short_of word) idle word rs p e).1) (place_bad i rs p f))
+      plain_case true e = fails_left _ _ (letters_fail all (short_of word) rs p (λ x rest next. short_bad (arg_by_short all x) rest rs p next f) e)
+      plain_case false e = fails_right (letters_now all (short_of word) (hold rs p)) _
+          (subst (λ m. Fails (step_fault shape i m.0 m.1)) (sym (letters_none all (short_of word) idle word rs p e).1) (place_bad i rs p f))
 
       go : (b : Bool) (l : Option (Text × Option Text)) → Turn None (now_at b l idle i word (hold rs p)) (after_at b l idle i word rs p) ws
       go true l = bad_trailing ws rs p idle i f
@@ -371,12 +312,12 @@ module _ (label : Text) (ones : List One) where
       plain_case : (c : Bool) → has_letters word ≡ c
           → Turn (if c then None else later) (now_at false None (option o.name) i word (hold rs held)) (after_at false None (option o.name) i word rs held) ws
       plain_case true e = bad_turn (now_at false None (option o.name) i word (hold rs held)) (after_at false None (option o.name) i word rs held) ws
-          (fails_left _ _ (letters_fail (short_of word) rs held (λ x rest next. short_bad (arg_by_short all x) rest rs held next (no_value o rs known)) e))
+          (fails_left _ _ (letters_fail all (short_of word) rs held (λ x rest next. short_bad (arg_by_short all x) rest rs held next (no_value o rs known)) e))
       plain_case false e =
-          let letters = letters_none (short_of word) (option o.name) word rs held e in
-          subst (λ m. Turn later (or_else (letters_now (short_of word) (hold rs held)) (step_fault shape i m.0 m.1)) (after_step all word (state rs held (option o.name) i false) m.0 m.1) ws)
+          let letters = letters_none all (short_of word) (option o.name) word rs held e in
+          subst (λ m. Turn later (or_else (letters_now all (short_of word) (hold rs held)) (step_fault shape i m.0 m.1)) (after_step all word (state rs held (option o.name) i false) m.0 m.1) ws)
           (sym letters.1)
-          (subst (λ (m : Held × Waiting). Turn later (or_else (letters_now (short_of word) (hold rs held)) []) (after_step all word (state rs held (option o.name) i false) m.0 (going m.1)) ws)
+          (subst (λ (m : Held × Waiting). Turn later (or_else (letters_now all (short_of word) (hold rs held)) []) (after_step all word (state rs held (option o.name) i false) m.0 (going m.1)) ws)
           (sym (value_now o rs word known))
           (subst (λ kinds. Turn later (or_else kinds []) (state rs (Some (o.name, word ∷ [])) idle i false) ws) (sym letters.0) valued))
 
@@ -433,7 +374,7 @@ module _ (label : Text) (ones : List One) where
           (subst (λ n. Turn (with_option n v given (onward paths)) (named_now (Some (rule found.0)) v) (named_after (Some (rule found.0)) v) ws) found.1
           (named_turn found.0 v found.3))
       long_turn name v false e = bad_turn (named_now (arg_by_long all name) v) (named_after (arg_by_long all name) v) ws
-          (fails_left _ _ (long_help (arg_by_long all name) v rs p (facts.other name e)))
+          (fails_left _ _ (long_help all (arg_by_long all name) v rs p (facts.other name e)))
 
       path_next : List Text → Given → Option Given
       path_next left more = onward left None more
@@ -441,10 +382,10 @@ module _ (label : Text) (ones : List One) where
       plain_case : (c : Bool) → has_letters word ≡ c
           → Turn (if c then None else with_path paths word given path_next) (now_at false None idle i word (hold rs p)) (after_at false None idle i word rs p) ws
       plain_case true e = bad_turn (now_at false None idle i word (hold rs p)) (after_at false None idle i word rs p) ws
-          (fails_left _ _ (letters_fail (short_of word) rs p (λ x rest nx. short_help (arg_by_short all x) rest rs p nx (facts.short x)) e))
+          (fails_left _ _ (letters_fail all (short_of word) rs p (λ x rest nx. short_help all (arg_by_short all x) rest rs p nx (facts.short x)) e))
       plain_case false e =
-          let letters = letters_none (short_of word) idle word rs p e in
-          subst (λ m. Turn (with_path paths word given path_next) (or_else (letters_now (short_of word) (hold rs p)) (step_fault shape i m.0 m.1)) (after_step all word (state rs p idle i false) m.0 m.1) ws)
+          let letters = letters_none all (short_of word) idle word rs p e in
+          subst (λ m. Turn (with_path paths word given path_next) (or_else (letters_now all (short_of word) (hold rs p)) (step_fault shape i m.0 m.1)) (after_step all word (state rs p idle i false) m.0 m.1) ws)
           (sym letters.1)
           (subst (λ kinds. Turn (with_path paths word given path_next) (or_else kinds (place_now (arg_by_index all i) (hold rs p))) (to_positional all (arg_by_index all i) word (state rs p idle i false) (hold rs p)) ws)
           (sym letters.0)

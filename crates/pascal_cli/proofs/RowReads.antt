@@ -1,10 +1,15 @@
 -- What the getters of a parse give, by the rows of the parse.
-use Rattle.std.proofs.Common.{◌≡◌, ◌<◌, ◌≤◌, ◌^◌, ap, refl, ℕ, List, Option, Some, None, arith}
-use Rattle.std.specs.Prelude.{Result, Ok, Err, unwrap_or, option_map}
+use Rattle.std.proofs.Common.{◌≡◌, ◌∙◌, ◌<◌, ◌≤◌, ◌++◌, ◌^◌, ap, refl, sym, ℕ, List, [], ◌∷◌, Option, Some, None, map, arith}
+use Rattle.std.specs.Prelude.{Result, Ok, Err, codes, flat_map, unwrap_or, option_map}
+use Rattle.std.specs.List.{join_by}
 use Rattle.std.specs.Borrow.{Bor}
 use Rattle.std.specs.Str.Parse.{IsNumeral, ParsesUnsigned, without_leading_plus}
-use Rattle.clap.specs.Matches.{ReadsOne}
-use Rattle.pascal_cli.specs.App.{whole}
+use Rattle.clap.specs.Matches.{ReadsOne, matched_of, raw_values}
+use Rattle.clap.specs.Walk.{rows_of}
+use Rattle.clap.specs.declared.parser.matches.Found.{Found}
+use Rattle.clap.proofs.WalkLemmas.{raw_values-rows}
+use Rattle.pascal_cli.specs.App.{row_words, whole}
+use Rattle.pascal_cli.specs.Command.{Text, topic_of}
 
 pub text_or : (o : Option (Bor (List ℕ))) (d : Bor (List ℕ)) → (unwrap_or o d).now ≡ unwrap_or (option_map (λ s. s.now) o) d.now
 text_or None d = refl
@@ -18,3 +23,20 @@ reads_whole E G k most text (Some v) read only fits numeral within = ap Some (on
 reads_whole E G k most text None read only fits numeral within =
     let small : whole text < 2 ^ k = omega arith in
     absurd (only text (Err read.0) read.1 (numeral, small))
+
+-- ---- the words of a topic
+
+abbrev pub texts_in : Option (Bor (List (Bor Text))) → List Text
+texts_in given = unwrap_or (option_map (λ s. map (λ word. word.now) s.now) given) []
+
+pub words_are : (f : Found) (given : Option (Bor (List (Bor Text))))
+    → option_map (λ s. map (λ word. word.now) s.now) given ≡ option_map raw_values (matched_of f (codes "WORD")) → row_words (rows_of f) ≡ texts_in given
+words_are f given e = ap (λ o. unwrap_or o []) (sym (e ∙ raw_values-rows f (codes "WORD")))
+
+rest_joined : (words : List (Bor Text)) → flat_map (λ word. codes " " ++ word) (map (λ word. word.now) words) ≡ flat_map (λ word. codes " " ++ word.now) words
+rest_joined [] = refl
+rest_joined (word ∷ words) = ap (λ rest. (codes " " ++ word.now) ++ rest) (rest_joined words)
+
+pub topic_joined : (words : List (Bor Text)) → topic_of (map (λ word. word.now) words) ≡ join_by (λ word. word.now) (codes " ") words
+topic_joined [] = refl
+topic_joined (word ∷ words) = ap (λ rest. word.now ++ rest) (rest_joined words)

@@ -3,10 +3,11 @@ use Rattle.std.specs.Prelude.{◌≡◌, ⊤, ◌≤◌, ◌&&◌, ℕ, Bool, po
 use Rattle.std.specs.Option.{option_map_or}
 use Rattle.std.specs.Str.{bytes_eq}
 use Rattle.std.specs.Str.Parse.{IsNumeral, digits_value, without_leading_plus}
-use Rattle.clap.specs.Walk.{Row, Rule, Text, first_of, one_of, rule_of}
+use Rattle.clap.specs.Walk.{Row, Rule, Text, all_of, first_of, one_of, rule_of}
 use Rattle.clap.specs.Kinds.{IsAmong, Kinds}
 use Rattle.clap.specs.Values.{kind_of}
 use Rattle.clap.specs.Simple.{App, app_of, new_app, new_rule, on_top, with_rule, with_subcommand}
+use Rattle.clap.specs.declared.builder.action.ArgAction.TheVariants.{Append}
 use Rattle.clap.specs.declared.builder.arg.Arg.{Arg}
 use Rattle.clap.specs.declared.builder.command.Command.{Command}
 use Rattle.clap.specs.declared.builder.command.Command.TheViews.{out-Command}
@@ -14,7 +15,7 @@ use Rattle.clap.specs.declared.builder.value_parser.ValueParser.TheVariants as v
 use Rattle.clap.specs.declared.error.Error.{Error}
 use Rattle.clap.specs.declared.error.kind.ErrorKind.{ErrorKind}
 use Rattle.clap.specs.declared.error.kind.ErrorKind.TheVariants as kind
-use Rattle.pascal_cli.specs.Command.{Limits, Request, Work, are_digits, compile, default_limits, go, go_standard_input, image_name, list, run, source_name}
+use Rattle.pascal_cli.specs.Command.{Limits, Request, Work, are_digits, compile, default_limits, explain, go, go_standard_input, image_name, list, run, source_name, topic_of}
 use Rattle.pascal_cli.specs.declared.job.CommandFault.{CommandFault}
 use Rattle.pascal_cli.specs.declared.job.CommandFault.TheVariants as fault
 
@@ -37,6 +38,10 @@ IsArgument rule arg = (rule_of arg ≡ rule) × (arg.global ≡ false)
 -- a path, which must be given
 abbrev pub path_rule : Text → Rule
 path_rule name = record (new_rule name) { required = true }
+
+-- words, of which there may be none
+abbrev pub words_rule : Rule
+words_rule = record (new_rule (codes "WORD")) { action = Some Append }
 
 -- an option that takes a number
 abbrev pub limit_rule : Text → Text → Rule
@@ -71,16 +76,23 @@ run_app = limited (with_rule (new_app (codes "run")) (path_rule (codes "IMG")))
 abbrev pub go_app : App
 go_app = limited (with_rule (new_app (codes "go")) (path_rule (codes "SRC")))
 
+abbrev pub explain_app : App
+explain_app = with_rule (new_app (codes "explain")) words_rule
+
 -- the program, whose words begin after its name
 abbrev pub pascal_app : App
-pascal_app = with_subcommand (with_subcommand (with_subcommand (with_subcommand
+pascal_app = with_subcommand (with_subcommand (with_subcommand (with_subcommand (with_subcommand
     (on_top (λ shape. record shape { no_binary_name = true }) (new_app (codes "pascal")))
-    compile_app.top) list_app.top) run_app.top) go_app.top
+    compile_app.top) list_app.top) run_app.top) go_app.top) explain_app.top
 
 -- ---- what the rows of a parse ask for
 
 abbrev pub row_path : Text → List Row → Text
 row_path name rows = unwrap_or (first_of name rows) []
+
+-- the words of a topic
+abbrev pub row_words : List Row → List Text
+row_words rows = unwrap_or (all_of (codes "WORD") rows) []
 
 -- the work of a command's name and rows
 abbrev pub row_work : Text → List Row → Work
@@ -88,6 +100,7 @@ row_work name rows =
     if bytes_eq name (codes "compile") then compile (row_path source_name rows) (row_path image_name rows)
     else if bytes_eq name (codes "list") then list (row_path source_name rows)
     else if bytes_eq name (codes "run") then run (row_path image_name rows)
+    else if bytes_eq name (codes "explain") then explain (topic_of (row_words rows))
     else go (row_path source_name rows)
 
 abbrev pub whole : Text → ℕ

@@ -1,9 +1,9 @@
 -- What the words of the command line ask for, and which words ask for nothing.
 use Rattle.std.specs.Prelude.{◌++◌, ◌&&◌, ◌||◌, ℕ, Bool, true, false, not, pos, List, [], ◌∷◌, Option, Some, None, is_some, if◌then◌else◌}
-use Rattle.std.specs.Prelude.{codes, find, slice_get, option_map, option_and_then}
+use Rattle.std.specs.Prelude.{codes, find, slice_get, option_map, option_and_then, string_bytes}
 use Rattle.std.specs.Option.{option_map_or}
 use Rattle.std.specs.Char.{is_ascii_digit}
-use Rattle.std.specs.List.{list_all, list_any}
+use Rattle.std.specs.List.{join_by, list_all, list_any}
 use Rattle.std.specs.Str.{bytes_eq, chars}
 use Rattle.std.specs.Str.Parse.{digits_value, without_leading_sign}
 use Rattle.clap.specs.Lexer.{long_of, short_of}
@@ -17,13 +17,15 @@ use Rattle.pascal_cli.specs.declared.job.Task.TheVariants as task
 abbrev pub Text : Type 0
 Text = List ℕ
 
--- to compile a source to an image, to compile a source and list its image, to run an image, to compile a source and run it, or to do so with standard input
+-- to compile a source to an image, to compile a source and list its image, to run an image, to compile a source and run it, to do so with standard input,
+-- or to show the pages that a text asks for
 pub data Work : Type 0 where
   compile : Text → Text → Work
   list : Text → Work
   run : Text → Work
   go : Text → Work
   go_standard_input : Work
+  explain : Text → Work
 
 -- the bytes of the stack and of the heap, and the steps that a run may make
 pub record Limits : Type 0 where
@@ -187,6 +189,25 @@ run_request words = option_and_then run_given (read limit_names (image_name ∷ 
 abbrev pub go_request : List Text → Option Request
 go_request words = option_and_then go_given (read limit_names (source_name ∷ []) None [] words)
 
+-- The words after `explain`. A word with a hyphen before it is one only behind `--`, which is none.
+abbrev pub topic_words : List Text → Option (List Text)
+topic_words [] = Some []
+topic_words (word ∷ rest) =
+    if bytes_eq word (codes "--") then Some rest
+    else if is_flag word then None
+    else option_map (λ words. word ∷ words) (topic_words rest)
+
+-- the words with a space between them
+abbrev pub topic_of : List Text → Text
+topic_of words = join_by (λ word. word) (codes " ") words
+
+-- `explain WORD..`
+abbrev pub explain_request : List Text → Option Request
+explain_request words = option_map (λ topic. record {
+  work = explain (topic_of topic);
+  limits = default_limits;
+}) (topic_words words)
+
 -- the run of standard input
 abbrev pub standard_request : List Text → Option Request
 standard_request [] = Some (record { work = go_standard_input; limits = default_limits })
@@ -201,6 +222,7 @@ request_of (word ∷ rest) =
     else if bytes_eq (codes "list") word then list_request rest
     else if bytes_eq (codes "run") word then run_request rest
     else if bytes_eq (codes "go") word then go_request rest
+    else if bytes_eq (codes "explain") word then explain_request rest
     else if bytes_eq word (codes "--") then standard_request rest
     else None
 
@@ -212,6 +234,7 @@ work_of (task.List source) = list source.now
 work_of (task.Run image) = run image.now
 work_of (task.Go source) = go source.now
 work_of task.GoStandardInput = go_standard_input
+work_of (task.Explain topic) = explain (string_bytes topic)
 
 -- the request that a job answers
 abbrev pub request_in : Job → Request

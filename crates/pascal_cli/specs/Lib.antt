@@ -2,7 +2,9 @@ pub mod Ahead
 pub mod App
 pub mod Command
 pub mod Console
+pub mod Explain
 pub mod Files
+pub mod Jobs
 pub mod Report
 pub mod Runs
 pub mod Session

@@ -1,7 +1,8 @@
-//! Images as files: each is written whole, or what stood in its place stays as it was.
+//! Images as files: each is written whole, or what stood in its place stays as it was. Nothing is written but an image of a text.
 
 ghost use Rattle.std.specs.Prelude.{◌≡◌, Some};
 ghost use Rattle.pascal_cli.specs.Files.{way_of};
+ghost use Rattle.pascal_cli.specs.Jobs.{IsBuilt};
 
 use crate::counted::Counted;
 use crate::transfer::{put_all, put_at_once};
@@ -87,7 +88,9 @@ pub fn write_image<R: Files + AllocGlobal>(
     source: &str,
     image: &str,
     bytes: &[u8],
-) -> Result<(), WriteFault> {
+) -> Result<(), WriteFault>
+    requires { IsBuilt bytes.now }
+{
     let there = match fs::metadata(rt, image) {
         Ok(there) => there,
         Err(error) => return write_first(rt, image, bytes, error.kind()),
@@ -105,7 +108,9 @@ fn write_first<R: Files + AllocGlobal>(
     image: &str,
     bytes: &[u8],
     kind: ErrorKind,
-) -> Result<(), WriteFault> {
+) -> Result<(), WriteFault>
+    requires { IsBuilt bytes.now }
+{
     if kind != ErrorKind::NotFound {
         return Err(WriteFault::Device);
     }
@@ -120,7 +125,9 @@ fn write_behind_link<R: Files + AllocGlobal>(
     rt: &R,
     link: &str,
     bytes: &[u8],
-) -> Result<(), WriteFault> {
+) -> Result<(), WriteFault>
+    requires { IsBuilt bytes.now }
+{
     if fs::create(rt, link).is_err() {
         return Err(WriteFault::Device);
     }
@@ -154,7 +161,9 @@ fn exchange_there<R: Files + AllocGlobal>(
     image: &str,
     there: &Metadata,
     bytes: &[u8],
-) -> Result<(), WriteFault> {
+) -> Result<(), WriteFault>
+    requires { IsBuilt bytes.now }
+{
     if !may_be_written(rt, image) {
         return Err(WriteFault::Device);
     }
@@ -168,7 +177,9 @@ fn exchange<R: Files + AllocGlobal>(
     place: Path<'_>,
     there: Option<&Metadata>,
     bytes: &[u8],
-) -> Result<(), WriteFault> {
+) -> Result<(), WriteFault>
+    requires { IsBuilt bytes.now }
+{
     let Some((file, beside)) = created_beside(rt, place)? else {
         return write_over(rt, place.as_str(), bytes);
     };
@@ -217,7 +228,9 @@ fn created_beside<R: Files + AllocGlobal>(
 }
 
 // Writes over what is there, as it is.
-fn write_over<R: Files>(rt: &R, path: &str, bytes: &[u8]) -> Result<(), WriteFault> {
+fn write_over<R: Files>(rt: &R, path: &str, bytes: &[u8]) -> Result<(), WriteFault>
+    requires { IsBuilt bytes.now }
+{
     let Ok(file) = fs::create(rt, path) else {
         return Err(WriteFault::Device);
     };

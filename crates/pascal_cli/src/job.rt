@@ -1,15 +1,16 @@
 // The words of the command line.
 
-ghost use Rattle.std.specs.Prelude.{◌≡◌, ◌≤◌, IfOk, IfErr, IfSome, MatchResult, List, None, Some, codes, is_some, not, option_map, ℕ, true, false, map};
+ghost use Rattle.std.specs.Prelude.{◌≡◌, ◌≤◌, IfOk, IfErr, IfSome, List, None, Some, codes, is_some, not, option_map, string_bytes, ℕ, true, false, map};
+ghost use Rattle.clap.specs.Kinds.{Kinds};
 ghost use Rattle.clap.specs.Simple.{App, new_app, with_rule, with_subcommand};
 ghost use Rattle.clap.specs.Walk.{Rule, first_of};
 ghost use Rattle.clap.specs.Words.{app_of, fault_of, found_of, one_of, rows_of, rule_of, subcommand_rows_of};
-ghost use Rattle.pascal_cli.specs.App.{HasLimits, IsArgument, IsCommand, IsLineOf, IsWithin, Makes, compile_app, fault_in, found_digits, go_app, limit_rule, limited, list_app, pascal_app, path_rule, row_digits, row_path, row_request, row_work, budget_rule, run_app, steps_rule, whole};
-ghost use Rattle.pascal_cli.specs.Command.{are_digits, is_digits, is_line_fault, request_in, request_of, work_of};
+ghost use Rattle.pascal_cli.specs.App.{HasLimits, IsArgument, IsCommand, IsLineOf, IsWithin, Makes, compile_app, explain_app, fault_in, found_digits, go_app, limit_rule, limited, list_app, pascal_app, path_rule, row_digits, row_path, row_request, row_words, row_work, budget_rule, run_app, steps_rule, whole, words_rule};
+ghost use Rattle.pascal_cli.specs.Command.{are_digits, is_digits, is_line_fault, request_in, request_of, topic_of, work_of};
 ghost use Rattle.pascal_cli.specs.declared.job.CommandFault.TheVariants.{OutOfMemory};
 
 use clap::error::ErrorKind;
-use clap::{Arg, ArgMatches, Command, value_parser};
+use clap::{Arg, ArgAction, ArgMatches, Command, value_parser};
 use std::alloc::{AllocError, Global};
 use thiserror::Error;
 
@@ -25,7 +26,7 @@ const DEFAULT_HEAP: u32 = 1_048_576;
 const DEFAULT_STEPS: u64 = 1_000_000_000;
 
 /// What is asked for, with its paths.
-#[derive(Clone, Copy)]
+#[derive(Drop)]
 pub enum Task<'a> {
     /// Compiles a source and writes its image.
     Compile { source: &'a str, image: &'a str },
@@ -37,10 +38,12 @@ pub enum Task<'a> {
     Go { source: &'a str },
     /// Without words: compiles standard input and runs it on empty input.
     GoStandardInput,
+    /// Shows the pages that a text asks for, or their titles where it is empty.
+    Explain { topic: String },
 }
 
 /// What the words of the command line ask for.
-#[derive(Clone, Copy)]
+#[derive(Drop)]
 pub struct Job<'a> {
     pub task: Task<'a>,
     /// The bytes of the stack, given or default.
@@ -137,6 +140,15 @@ fn step_limit<'a>(alloc: Global) -> Arg<'a>
     ))
 }
 
+// The words that `explain` takes.
+fn topic<'a>(alloc: Global) -> Arg<'a>
+    ensures rule { rule_of result ≡ words_rule }
+    ensures local { result.global ≡ false }
+{
+    let help = "What the message says, or its number; all titles without it";
+    Arg::new(alloc, "WORD").action(ArgAction::Append).help(help)
+}
+
 // A command with its first argument.
 fn command_with<'a>(
     alloc: Global,
@@ -222,6 +234,14 @@ fn go_command<'a>(alloc: Global) -> Result<Command<'a>, AllocError>
     with_limits(alloc, go)
 }
 
+fn explain_command<'a>(alloc: Global) -> Result<Command<'a>, AllocError>
+    ensures { Makes explain_app result }
+{
+    let about = "Explains a message, by its number, its name or its words";
+    let example = "Example: pascal explain index out of range";
+    command_with(alloc, "explain", about, example, topic(alloc))
+}
+
 // Adds a subcommand, if there is one, to a command.
 fn add_subcommand<'a>(
     command: Command<'a>,
@@ -266,7 +286,8 @@ fn pascal<'a>(alloc: Global) -> Result<Command<'a>, AllocError>
     let pascal = with_subcommand(pascal, compile_command(alloc));
     let pascal = with_subcommand(pascal, list_command(alloc));
     let pascal = with_subcommand(pascal, run_command(alloc));
-    with_subcommand(pascal, go_command(alloc))
+    let pascal = with_subcommand(pascal, go_command(alloc));
+    with_subcommand(pascal, explain_command(alloc))
 }
 
 // A budget as it was given. `clap` has refused what lies outside the range.
@@ -303,10 +324,20 @@ fn path_of<'a>(matches: &ArgMatches<'a>, name: &str) -> &'a str
     matches.get_str(name).unwrap_or("")
 }
 
-fn task_of<'a>(name: &str, matches: &ArgMatches<'a>) -> Task<'a>
-    ensures { work_of result ≡ row_work name.now (rows_of (found_of matches.now)) }
+// The words of a topic, with a space between them.
+fn topic_of(alloc: Global, matches: &ArgMatches<'_>) -> Result<String, AllocError>
+    ensures { IfOk result (λ topic. string_bytes topic ≡ topic_of (row_words (rows_of (found_of matches.now)))) }
 {
-    match name {
+    match matches.get_strs("WORD") {
+        Some(words) => words.join(alloc, " "),
+        None => Ok(String::new(alloc)),
+    }
+}
+
+fn task_of<'a>(alloc: Global, name: &str, matches: &ArgMatches<'a>) -> Result<Task<'a>, AllocError>
+    ensures { IfOk result (λ task. work_of task ≡ row_work name.now (rows_of (found_of matches.now))) }
+{
+    let task = match name {
         "compile" => Task::Compile {
             source: path_of(matches, "SRC"),
             image: path_of(matches, "IMG"),
@@ -317,10 +348,14 @@ fn task_of<'a>(name: &str, matches: &ArgMatches<'a>) -> Task<'a>
         "run" => Task::Run {
             image: path_of(matches, "IMG"),
         },
+        "explain" => Task::Explain {
+            topic: topic_of(alloc, matches)?,
+        },
         _ => Task::Go {
             source: path_of(matches, "SRC"),
         },
-    }
+    };
+    Ok(task)
 }
 
 // The job of no words.
@@ -337,22 +372,22 @@ fn default_job() -> Job<'static>
 }
 
 // The job in what a parse found.
-fn job_in<'a>(matches: &ArgMatches<'a>) -> Job<'a>
-    ensures request { IfSome (subcommand_rows_of matches.now) (λ entered. HasLimits entered.1)
-        → request_in result ≡ row_request (subcommand_rows_of matches.now) }
-    ensures stack { result.stack ≤ MAX_BUDGET }
-    ensures heap { result.heap ≤ MAX_BUDGET }
-    ensures least { 1 ≤ result.steps }
-    ensures most { result.steps ≤ MAX_STEPS }
+fn job_in<'a>(alloc: Global, matches: &ArgMatches<'a>) -> Result<Job<'a>, AllocError>
+    ensures request { IfOk result (λ job. IfSome (subcommand_rows_of matches.now) (λ entered. HasLimits entered.1)
+        → request_in job ≡ row_request (subcommand_rows_of matches.now)) }
+    ensures stack { IfOk result (λ job. job.stack ≤ MAX_BUDGET) }
+    ensures heap { IfOk result (λ job. job.heap ≤ MAX_BUDGET) }
+    ensures least { IfOk result (λ job. 1 ≤ job.steps) }
+    ensures most { IfOk result (λ job. job.steps ≤ MAX_STEPS) }
 {
     match matches.subcommand() {
-        None => default_job(),
-        Some((name, inner)) => Job {
-            task: task_of(name, inner),
+        None => Ok(default_job()),
+        Some((name, inner)) => Ok(Job {
+            task: task_of(alloc, name, inner)?,
             stack: budget_of(inner, "stack", DEFAULT_STACK),
             heap: budget_of(inner, "heap", DEFAULT_HEAP),
             steps: steps_of(inner),
-        },
+        }),
     }
 }
 
@@ -404,23 +439,42 @@ fn number_fault<'a>(matches: &ArgMatches<'a>) -> Option<NumberFault<'a>>
     }
 }
 
-// The job of what a parse found, which is let go.
-fn job_of<'a>(matches: ArgMatches<'a>) -> Result<Job<'a>, NumberFault<'a>>
-    ensures request { IfOk result (λ job. IfSome (subcommand_rows_of matches.entry) (λ entered. HasLimits entered.1)
-        → request_in job ≡ row_request (subcommand_rows_of matches.entry)) }
-    ensures digits { MatchResult result (λ _. found_digits (subcommand_rows_of matches.entry) ≡ true) (λ _. found_digits (subcommand_rows_of matches.entry) ≡ false) }
+// The job in what a parse found, where its numbers are digits.
+fn checked_job<'a>(alloc: Global, matches: &ArgMatches<'a>) -> Result<Job<'a>, CommandFault<'a>>
+    ensures request { IfOk result (λ job. IfSome (subcommand_rows_of matches.now) (λ entered. HasLimits entered.1)
+        → request_in job ≡ row_request (subcommand_rows_of matches.now)) }
+    ensures digits { IfOk result (λ _. found_digits (subcommand_rows_of matches.now) ≡ true) }
+    ensures odd { IfErr result (λ fault. is_line_fault fault ≡ true → found_digits (subcommand_rows_of matches.now) ≡ false) }
+    ensures kind { IfErr result (λ fault. (kinds : Kinds) → IsLineOf kinds fault) }
     ensures stack { IfOk result (λ job. job.stack ≤ MAX_BUDGET) }
     ensures heap { IfOk result (λ job. job.heap ≤ MAX_BUDGET) }
     ensures least { IfOk result (λ job. 1 ≤ job.steps) }
     ensures most { IfOk result (λ job. job.steps ≤ MAX_STEPS) }
 {
-    let fault = number_fault(&matches);
-    let job = job_in(&matches);
-    drop(matches);
-    match fault {
-        Some(fault) => Err(fault),
-        None => Ok(job),
+    match number_fault(matches) {
+        Some(fault) => Err(CommandFault::Number(fault)),
+        None => match job_in(alloc, matches) {
+            Ok(job) => Ok(job),
+            Err(_) => Err(CommandFault::OutOfMemory),
+        },
     }
+}
+
+// The job of what a parse found, which is let go.
+fn job_of<'a>(alloc: Global, matches: ArgMatches<'a>) -> Result<Job<'a>, CommandFault<'a>>
+    ensures request { IfOk result (λ job. IfSome (subcommand_rows_of matches.entry) (λ entered. HasLimits entered.1)
+        → request_in job ≡ row_request (subcommand_rows_of matches.entry)) }
+    ensures digits { IfOk result (λ _. found_digits (subcommand_rows_of matches.entry) ≡ true) }
+    ensures odd { IfErr result (λ fault. is_line_fault fault ≡ true → found_digits (subcommand_rows_of matches.entry) ≡ false) }
+    ensures kind { IfErr result (λ fault. (kinds : Kinds) → IsLineOf kinds fault) }
+    ensures stack { IfOk result (λ job. job.stack ≤ MAX_BUDGET) }
+    ensures heap { IfOk result (λ job. job.heap ≤ MAX_BUDGET) }
+    ensures least { IfOk result (λ job. 1 ≤ job.steps) }
+    ensures most { IfOk result (λ job. job.steps ≤ MAX_STEPS) }
+{
+    let job = checked_job(alloc, &matches);
+    drop(matches);
+    job
 }
 
 /// Reads the words after the program's name: an `Ok` is the job that they ask for, and `Line` and `Number` come only where they ask for
@@ -438,8 +492,5 @@ pub fn command<'a>(alloc: Global, words: &'a [&'a str]) -> Result<Job<'a>, Comma
 {
     let command = pascal(alloc)?;
     let matches = command.try_get_matches_from(words)?;
-    match job_of(matches) {
-        Ok(job) => Ok(job),
-        Err(fault) => Err(CommandFault::Number(fault)),
-    }
+    job_of(alloc, matches)
 }

@@ -4,8 +4,10 @@
 mod ahead;
 mod console;
 mod counted;
+mod explain;
 mod image_file;
 mod job;
+mod jobs;
 mod report;
 mod runs;
 mod session;
@@ -14,6 +16,7 @@ mod version;
 
 pub use ahead::Ahead;
 pub use console::BlockConsole;
+pub use explain::{pages_on, titles};
 pub use image_file::{FileNumber, Way, WriteFault, way_of, write_image};
 pub use job::{CommandFault, Job, MAX_BUDGET, MAX_STEPS, NumberFault, Task, command};
 pub use report::{Lines, OutOfMemory, lines_of, message, status};

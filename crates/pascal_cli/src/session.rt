@@ -8,18 +8,17 @@ ghost use Rattle.std.specs.Str.{bytes_eq};
 ghost use Rattle.clap.specs.Faults.{fault_of};
 ghost use Rattle.clap.specs.Values.{kind_of};
 ghost use Rattle.pascal_cli.specs.App.{pascal_app};
-ghost use Rattle.pascal_cli.specs.Command.{request_in, request_of};
+ghost use Rattle.pascal_cli.specs.Command.{Request, request_in, request_of};
+ghost use Rattle.pascal_cli.specs.Jobs.{IsStatus};
 ghost use Rattle.pascal_cli.specs.Report.{status_of};
 ghost use Rattle.pascal_cli.specs.Session.{IsFrontOf, IsHelp, asks_version, is_help};
 
-use crate::console::BlockConsole;
-use crate::image_file::{WriteFault, write_image};
-use crate::job::{CommandFault, Job, MAX_BUDGET, MAX_STEPS, NumberFault, Task, command};
+use crate::job::{CommandFault, Job, MAX_BUDGET, MAX_STEPS, NumberFault, command};
+use crate::jobs::do_job;
 use crate::report::{lines_of, status};
-use crate::runs::{go_through, run_through};
-use crate::transfer::{Counted, ReadFault, put_all, read_up_to};
+use crate::transfer::{Counted, ReadFault, read_up_to};
 use crate::version::print_version;
-use ps_build::{Budget, Built, Outcome, Refusal, build, list};
+use ps_build::{Outcome, Refusal};
 use std::alloc::{AllocError, Global};
 use std::io::{self, Read};
 use std::rt::{Env, Files};
@@ -28,25 +27,14 @@ use std::{env, fs};
 /// One byte more than the longest text: what is longer still is seen to be.
 pub const TEXT_LIMIT: usize = 1_048_577;
 
-// The most words that an image has, and rows that each of its tables has.
-const MOST_WORDS: usize = 1_048_576;
-
-// The bytes of the longest image: those of its head, and of words and of rows of frames, objects, traps and calls.
-const LONGEST_IMAGE: usize = 28 + (4 + 8 + 8 + 12 + 8) * MOST_WORDS;
-
-// One byte more than the longest image.
-const IMAGE_LIMIT: usize = LONGEST_IMAGE + 1;
-
 // The program's words as messages name them.
 const COMMAND_LINE: &str = "the command line";
-
-// The path at which the system shows the file that standard input is.
-const STANDARD_INPUT_FILE: &str = "/dev/stdin";
 
 // Standard input as messages name it.
 const STANDARD_INPUT: &str = "standard input";
 
-const STANDARD_OUTPUT: &str = "standard output";
+/// Standard output as messages name it.
+pub(crate) const STANDARD_OUTPUT: &str = "standard output";
 
 /// Every fault that is told by a line of its own ends with this status.
 pub const FAILED: u8 = 1;
@@ -86,10 +74,10 @@ fn words_of<R: Env + AllocGlobal>(rt: &R) -> io::Result<Vec<String>> {
     Ok(words)
 }
 
-fn run_words<R: Files + Print + Eprint + Input + Env + AllocGlobal>(
-    rt: &R,
-    words: &[String],
-) -> u8 {
+// Does what words ask for.
+fn run_words<R: Files + Print + Eprint + Input + Env + AllocGlobal>(rt: &R, words: &[String]) -> u8
+    ensures { (request : Request) → request_of (map string_bytes words.now) ≡ Some request → IsStatus request result }
+{
     match texts(rt, words) {
         Ok(texts) => run_texts(rt, &texts),
         Err(status) => status,
@@ -113,7 +101,10 @@ fn texts_of<'a>(alloc: Global, words: &'a [String]) -> Result<Vec<&'a str>, Allo
     words.iter().map(|word| word.as_str()).collect(alloc)
 }
 
-fn run_texts<R: Files + Print + Eprint + Input + Env + AllocGlobal>(rt: &R, texts: &[&str]) -> u8 {
+// Does what texts ask for.
+fn run_texts<R: Files + Print + Eprint + Input + Env + AllocGlobal>(rt: &R, texts: &[&str]) -> u8
+    ensures { (request : Request) → request_of (map (λ text. text.now) texts.now) ≡ Some request → IsStatus request result }
+{
     if asks_version(texts) {
         return tell_version(rt);
     }
@@ -187,16 +178,6 @@ fn tell_number<R: Eprint>(rt: &R, fault: NumberFault<'_>) -> u8
     FAILED
 }
 
-fn do_job<R: Files + Print + Eprint + Input + AllocGlobal>(rt: &R, job: &Job<'_>) -> u8 {
-    match job.task {
-        Task::Compile { source, image } => compile(rt, source, image),
-        Task::List { source } => list_text(rt, source),
-        Task::Run { image } => run_file(rt, job, image),
-        Task::Go { source } => go_file(rt, job, source),
-        Task::GoStandardInput => go_standard_input(rt, job),
-    }
-}
-
 /// Tells how a run ended, or why there was none, and gives the status of that.
 pub fn tell<R: Eprint + AllocGlobal>(rt: &R, end: &Result<Outcome, Refusal>) -> u8
     ensures { result ≡ status_of end.now }
@@ -206,15 +187,15 @@ pub fn tell<R: Eprint + AllocGlobal>(rt: &R, end: &Result<Outcome, Refusal>) -> 
     status(end)
 }
 
-// Tells that memory was refused.
-fn out_of_memory<R: Eprint + AllocGlobal>(rt: &R) -> u8
+/// Tells that memory was refused.
+pub(crate) fn out_of_memory<R: Eprint + AllocGlobal>(rt: &R) -> u8
     ensures { result ≡ FAILED }
 {
     tell(rt, &Err(Refusal::OutOfMemory))
 }
 
-// Tells of a file that can't be read or written.
-fn cannot<R: Eprint>(rt: &R, verb: &str, path: &str) -> u8
+/// Tells of a file that can't be read or written.
+pub(crate) fn cannot<R: Eprint>(rt: &R, verb: &str, path: &str) -> u8
     ensures { result ≡ FAILED }
 {
     let _ = eprintln!(rt; "cannot {verb} {path}");
@@ -278,13 +259,6 @@ pub fn read_standard_input<R: Eprint + Input + AllocGlobal>(
     read_all(rt, rt.reader(), STANDARD_INPUT, limit)
 }
 
-fn budget_of(job: &Job<'_>) -> Budget {
-    Budget {
-        stack: job.stack,
-        heap: job.heap,
-    }
-}
-
 /// Whether a path stands for standard input, or for standard output.
 pub fn is_standard(path: &str) -> bool
     ensures { result ≡ bytes_eq path.now (codes "-") }
@@ -292,8 +266,11 @@ pub fn is_standard(path: &str) -> bool
     path == "-"
 }
 
-// The bytes of the text at a path, which may stand for standard input, as `read_file` gives those of a file.
-fn read_text<R: Files + Eprint + Input + AllocGlobal>(rt: &R, path: &str) -> Result<Vec<u8>, u8>
+/// The bytes of the text at a path, which may stand for standard input, as `read_file` gives those of a file.
+pub(crate) fn read_text<R: Files + Eprint + Input + AllocGlobal>(
+    rt: &R,
+    path: &str,
+) -> Result<Vec<u8>, u8>
     ensures bound { IfOk result (λ bytes. vec_len bytes ≤ TEXT_LIMIT) }
     ensures err { IfErr result (λ status. status ≡ FAILED) }
 {
@@ -302,106 +279,4 @@ fn read_text<R: Files + Eprint + Input + AllocGlobal>(rt: &R, path: &str) -> Res
     } else {
         read_file(rt, path, TEXT_LIMIT)
     }
-}
-
-// Builds the text at a path. Where there is none, or it is refused, that is told, and the status is given.
-fn build_text<R: Files + Eprint + Input + AllocGlobal>(rt: &R, path: &str) -> Result<Built, u8> {
-    let text = read_text(rt, path)?;
-    match build(rt.alloc(), &text) {
-        Ok(built) => Ok(built),
-        Err(refusal) => Err(tell(rt, &Err(refusal))),
-    }
-}
-
-fn compile<R: Files + Print + Eprint + Input + AllocGlobal>(
-    rt: &R,
-    source: &str,
-    image: &str,
-) -> u8 {
-    let built = match build_text(rt, source) {
-        Ok(built) => built,
-        Err(status) => return status,
-    };
-    if is_standard(image) {
-        return print_all(rt, built.bytes());
-    }
-    match write_image(rt, file_of(source), image, built.bytes()) {
-        Ok(()) => 0,
-        Err(WriteFault::OutOfMemory) => out_of_memory(rt),
-        Err(WriteFault::Device) => cannot(rt, "write", image),
-    }
-}
-
-// The path of the file that a text comes from, which may be standard input.
-fn file_of(source: &str) -> &str {
-    if is_standard(source) {
-        STANDARD_INPUT_FILE
-    } else {
-        source
-    }
-}
-
-// Writes to standard output, and gives the status of that.
-fn print_all<R: Print + Eprint>(rt: &R, bytes: &[u8]) -> u8
-    ensures { result ≤ FAILED }
-{
-    match put_all(&mut Counted::new(io::writer(rt)), bytes) {
-        Ok(()) => 0,
-        Err(_) => cannot(rt, "write", STANDARD_OUTPUT),
-    }
-}
-
-fn list_text<R: Files + Print + Eprint + Input + AllocGlobal>(rt: &R, source: &str) -> u8 {
-    let built = match build_text(rt, source) {
-        Ok(built) => built,
-        Err(status) => return status,
-    };
-    match list(rt.alloc(), &built) {
-        Ok(listing) => print_all(rt, listing.as_bytes()),
-        Err(_) => out_of_memory(rt),
-    }
-}
-
-// The console of a run: standard input, which is read ahead, and standard output.
-fn console<R: Print + Input + AllocGlobal>(rt: &R) -> BlockConsole<R::Reader, io::Printer<'_, R>> {
-    BlockConsole::new(rt.alloc(), rt.reader(), io::writer(rt))
-}
-
-fn run_file<R: Files + Print + Eprint + Input + AllocGlobal>(
-    rt: &R,
-    job: &Job<'_>,
-    path: &str,
-) -> u8 {
-    let image = match read_file(rt, path, IMAGE_LIMIT) {
-        Ok(image) => image,
-        Err(status) => return status,
-    };
-    let mut console = console(rt);
-    let end = run_through(rt.alloc(), &image, budget_of(job), &mut console, job.steps);
-    tell(rt, &end)
-}
-
-fn go_file<R: Files + Print + Eprint + Input + AllocGlobal>(
-    rt: &R,
-    job: &Job<'_>,
-    path: &str,
-) -> u8 {
-    let text = match read_file(rt, path, TEXT_LIMIT) {
-        Ok(text) => text,
-        Err(status) => return status,
-    };
-    let mut console = console(rt);
-    let end = go_through(rt.alloc(), &text, budget_of(job), &mut console, job.steps);
-    tell(rt, &end)
-}
-
-// The text comes from standard input, so the run's own input is empty.
-fn go_standard_input<R: Print + Eprint + Input + AllocGlobal>(rt: &R, job: &Job<'_>) -> u8 {
-    let text = match read_standard_input(rt, TEXT_LIMIT) {
-        Ok(text) => text,
-        Err(status) => return status,
-    };
-    let mut console = BlockConsole::new(rt.alloc(), io::empty(), io::writer(rt));
-    let end = go_through(rt.alloc(), &text, budget_of(job), &mut console, job.steps);
-    tell(rt, &end)
 }

@@ -67,10 +67,6 @@ const TABLES: &[(&str, Table)] = &[
         "programs",
         Table::Language(Language::Program(OfProgram::Counts)),
     ),
-    (
-        "changes",
-        Table::Language(Language::Program(OfProgram::Changes)),
-    ),
     ("runs", Table::Language(Language::Program(OfProgram::Run))),
     (
         "trails",

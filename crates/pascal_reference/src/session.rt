@@ -58,7 +58,7 @@ fn run_job<R: Files + Print + Eprint + Input + AllocGlobal>(
         heap: job.heap,
         steps: job.steps,
     };
-    match read_task(rt, job.task) {
+    match read_task(rt, &job.task) {
         Ok(given) => go(rt, runner, &given, limits),
         Err(status) => status,
     }
@@ -72,7 +72,10 @@ struct Given {
 }
 
 // What a job gives a run. Where there is none, that is told, and the status is given.
-fn read_task<R: Files + Eprint + Input + AllocGlobal>(rt: &R, task: Task<'_>) -> Result<Given, u8> {
+fn read_task<R: Files + Eprint + Input + AllocGlobal>(
+    rt: &R,
+    task: &Task<'_>,
+) -> Result<Given, u8> {
     match task {
         Task::Go { source } => Ok(Given {
             text: read_file(rt, source, TEXT_LIMIT)?,
@@ -82,7 +85,7 @@ fn read_task<R: Files + Eprint + Input + AllocGlobal>(rt: &R, task: Task<'_>) ->
             text: read_standard_input(rt, TEXT_LIMIT)?,
             input: Vec::new(rt.alloc()),
         }),
-        Task::Compile { .. } | Task::List { .. } | Task::Run { .. } => {
+        Task::Compile { .. } | Task::List { .. } | Task::Run { .. } | Task::Explain { .. } => {
             let _ = eprintln!(rt; "pascal_reference has no images: it runs a text by `go`");
             Err(FAILED)
         }

@@ -4,6 +4,7 @@ pub mod Examples
 pub mod Told
 pub mod Short
 pub mod Compiled
+pub mod OneRefusal
 pub mod Results
 pub mod InSlices
 pub mod Kept

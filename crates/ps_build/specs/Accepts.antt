@@ -1,17 +1,24 @@
 -- Which texts are accepted, each as which checked program, and why the others are refused.
-use Rattle.std.specs.Prelude.{◌≡◌, ℕ, ◌<◌, ◌≤◌, List, length, Some, None}
+use Rattle.std.specs.Prelude.{◌≡◌, ℕ, ◌<◌, ◌≤◌, List, length, drop}
 use Rattle.ps_text.specs.declared.TheConstants.{MAX_LENGTH, MAX_LINES}
-use Rattle.ps_text.specs.Lines.{IsSource, line_count}
+use Rattle.ps_text.specs.declared.Span.{Span}
+use Rattle.ps_text.specs.Lines.{IsSource, line_count, line_at}
+use Rattle.ps_scan.specs.declared.refusal.ScanFault.{ScanFault}
 use Rattle.ps_scan.specs.declared.token.Token.{Token}
+use Rattle.ps_scan.specs.Faults.{RefusedFrom}
 use Rattle.ps_scan.specs.Lexis.{IsTokens}
 use Rattle.ps_syntax.specs.declared.program.Program.{Program}
 use Rattle.ps_parse_grammar.specs.Trees.{IsTreeOf}
-use Rattle.ps_parse.specs.Untaken.{IsFirstUntakenOn}
-use Rattle.ps_check_names.specs.declared.refusal.Rule.{Rule}
-use Rattle.ps_check_names.specs.declared.refusal.CheckRefusal.TheVariants as refusal
-use Rattle.ps_check_points.specs.Broken.{IsToldOf}
+use Rattle.ps_parse.specs.declared.error.ParseFault.{ParseFault}
+use Rattle.ps_parse.specs.Refusals.{token_line, first_span}
+use Rattle.ps_parse.specs.Untaken.{IsRefusedAt}
+use Rattle.ps_check_judgement.specs.declared.refusal.Rule.{Rule}
+use Rattle.ps_check_judgement.specs.Judged.{Yes, No}
+use Rattle.ps_check_names.specs.Spelling.{line_in}
+use Rattle.ps_build.specs.declared.refusal.Place.{Place}
+use Rattle.ps_build.specs.Refusals.{end_of_token}
 use Rattle.ps_build.specs.declared.refusal.Refusal.{Refusal}
-use Rattle.ps_build.specs.declared.refusal.Refusal.TheVariants.{TooLong, TooManyLines, OutOfMemory, BadByte, OpenComment, OpenString, EmptyString, SeparatorMissing, NumberTooLarge, RealNumber, NotAProgram, TooDeep, NotInProfile, Broken, CodeTooLarge}
+use Rattle.ps_build.specs.declared.refusal.Refusal.TheVariants.{TooLong, TooManyLines, OutOfMemory, Scan, Parse, Check, CodeTooLarge}
 use Rattle.ps_tree.specs.Tree as Tree
 use Rattle.ps_check.specs.Programs.{program}
 use Rattle.ps_lower_code.specs.Programs.{code_of}
@@ -32,7 +39,7 @@ pub record Accepts (text : List ℕ) (checked : Tree.Program) : Type 0 where
   pub tokens : List Token
   pub tree : Program
   pub parsed : IsParsed text tokens tree
-  pub checks : program text tree ≡ Some checked
+  pub checks : program text tree ≡ Yes checked
 
 -- the text is accepted as this checked program, and as no other
 pub record IsProgramOf (text : List ℕ) (checked : Tree.Program) : Type 0 where
@@ -45,26 +52,35 @@ pub record IsCodeOfText (text : List ℕ) (code : Code) : Type 0 where
   pub is_program : IsProgramOf text checked
   pub is_code : code ≡ code_of run_time_routines checked
 
--- no list of tokens is the text's
-pub record HasNoTokens (text : List ℕ) : Type 0 where
-  pub limits : IsSource text
-  pub none : (tokens : List Token) → IsTokens text tokens → ⊥
+abbrev pub span_of : Place → Span
+span_of place = record { from = place.from; to = place.to }
 
--- The text has tokens, of which no tree derives that is not too high. What is told is the first token that no derivation takes, by its number from 0, and its line.
-pub record HasNoTree (text : List ℕ) (line at : ℕ) : Type 0 where
+-- the text's first fault among tokens and separators is this one, there
+pub record HasFault (text : List ℕ) (why : ScanFault) (place : Place) : Type 0 where
+  pub limits : IsSource text
+  pub first : RefusedFrom 0 text why (span_of place)
+  pub on_line : place.line ≡ line_at text place.from
+
+-- The text has tokens, of which no tree derives that is not too high. What is told is the first token that no derivation takes, by its number, from 0, and its place, and why none does.
+pub record HasNoTree (text : List ℕ) (why : ParseFault) (at : ℕ) (place : Place) : Type 0 where
   pub limits : IsSource text
   pub tokens : List Token
   pub scanned : IsTokens text tokens
   pub none : (others : List Token) (tree : Program) → IsTokens text others → IsTreeOf text others tree → ⊥
-  pub told : IsFirstUntakenOn text tokens line at
+  pub told : IsRefusedAt text tokens at why
+  pub placed : span_of place ≡ first_span text (drop at tokens)
+  pub on_line : place.line ≡ token_line text tokens at
 
--- The text has a tree, which breaks a rule or a limit. The line is that of a token at which it breaks the rule, as far as ps_check_points tells of each rule.
-pub record HasNoProgram (text : List ℕ) (rule : Rule) (line : ℕ) : Type 0 where
+-- The text has a tree, and its judgement is that it breaks a rule or a limit, which is told at a token.
+pub record HasNoProgram (text : List ℕ) (rule : Rule) (place : Place) : Type 0 where
   pub tokens : List Token
   pub tree : Program
   pub parsed : IsParsed text tokens tree
-  pub none : (others : List Token) (other : Program) → IsParsed text others other → program text other ≡ None
-  pub told : IsToldOf text tree (refusal.Broken rule line)
+  pub judged : program text tree ≡ No rule place.from
+  -- it has no other tree
+  pub only : (others : List Token) (other : Program) → IsParsed text others other → other ≡ tree
+  pub ends : place.to ≡ end_of_token tokens place.from
+  pub on_line : place.line ≡ line_in text place.from
 
 -- the most words of code
 abbrev pub most_words : ℕ
@@ -87,17 +103,9 @@ abbrev pub IsRefused : List ℕ → Refusal → Type 0
 IsRefused text TooLong = MAX_LENGTH < length text
 IsRefused text TooManyLines = (length text ≤ MAX_LENGTH) × (MAX_LINES < line_count text)
 IsRefused text OutOfMemory = IsSource text
-IsRefused text (BadByte line) = HasNoTokens text
-IsRefused text (OpenComment line) = HasNoTokens text
-IsRefused text (OpenString line) = HasNoTokens text
-IsRefused text (EmptyString line) = HasNoTokens text
-IsRefused text (SeparatorMissing line) = HasNoTokens text
-IsRefused text (NumberTooLarge line) = HasNoTokens text
-IsRefused text (RealNumber line) = HasNoTokens text
-IsRefused text (NotAProgram line token) = HasNoTree text line token
-IsRefused text (TooDeep line) = (at : ℕ) × HasNoTree text line at
-IsRefused text (NotInProfile line) = (at : ℕ) × HasNoTree text line at
-IsRefused text (Broken rule line) = HasNoProgram text rule line
+IsRefused text (Scan fault place) = HasFault text fault place
+IsRefused text (Parse fault token place) = HasNoTree text fault token place
+IsRefused text (Check rule place) = HasNoProgram text rule place
 IsRefused text CodeTooLarge = IsCodeTooLarge text
 IsRefused text _ = ⊥
 
@@ -105,17 +113,9 @@ IsRefused text _ = ⊥
 abbrev pub IsFaulty : Refusal → Type 0
 IsFaulty TooLong = Unit {0}
 IsFaulty TooManyLines = Unit {0}
-IsFaulty (BadByte line) = Unit {0}
-IsFaulty (OpenComment line) = Unit {0}
-IsFaulty (OpenString line) = Unit {0}
-IsFaulty (EmptyString line) = Unit {0}
-IsFaulty (SeparatorMissing line) = Unit {0}
-IsFaulty (NumberTooLarge line) = Unit {0}
-IsFaulty (RealNumber line) = Unit {0}
-IsFaulty (NotAProgram line token) = Unit {0}
-IsFaulty (TooDeep line) = Unit {0}
-IsFaulty (NotInProfile line) = Unit {0}
-IsFaulty (Broken rule line) = Unit {0}
+IsFaulty (Scan fault place) = Unit {0}
+IsFaulty (Parse fault token place) = Unit {0}
+IsFaulty (Check rule place) = Unit {0}
 IsFaulty _ = ⊥
 
 -- the text is accepted as no program

@@ -1,5 +1,6 @@
 pub mod Refusals
 pub mod Accepts
+pub mod OneRefusal
 pub mod Faults
 pub mod Headline
 pub mod Listed

@@ -3,11 +3,12 @@ use Rattle.std.specs.Prelude.{ℕ, List}
 use Rattle.ps_scan.specs.declared.token.Token.{Token}
 use Rattle.ps_syntax.specs.declared.program.Program.{Program}
 use Rattle.ps_tree.specs.Tree as Tree
-use Rattle.ps_check_names.specs.declared.refusal.Rule.{Rule}
+use Rattle.ps_check_judgement.specs.declared.refusal.Rule.{Rule}
 use Rattle.ps_check_laws.specs.Read.{BlocksAreReadThere}
 use Rattle.ps_check_laws.specs.Rule.{ProgramIsRead}
 use Rattle.ps_check_laws.specs.Forward.{BlocksAreCompleted}
-use Rattle.ps_build.specs.declared.refusal.Refusal.TheVariants.{Broken}
+use Rattle.ps_build.specs.declared.refusal.Place.{Place}
+use Rattle.ps_build.specs.declared.refusal.Refusal.TheVariants.{Check}
 use Rattle.ps_build.specs.Accepts.{IsParsed, IsRefused}
 use Rattle.ps_build.specs.Headline.{Compiles}
 
@@ -34,4 +35,4 @@ NamesOfBuiltTexts = (text bytes : List ℕ) (compiles : Compiles text bytes) →
 
 -- of a text that breaks a rule or a limit of the check (refusals 22 and 30 to 45)
 abbrev pub NamesOfRefusedTexts : Type 0
-NamesOfRefusedTexts = (text : List ℕ) (rule : Rule) (line : ℕ) → IsRefused text (Broken rule line) → NamesAreNotMeant text
+NamesOfRefusedTexts = (text : List ℕ) (rule : Rule) (place : Place) → IsRefused text (Check rule place) → NamesAreNotMeant text

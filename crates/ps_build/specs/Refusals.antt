@@ -1,16 +1,23 @@
--- The table of refusals: their numbers, their names, and the line of the text that some of them have (this project's format).
-use Rattle.std.specs.Prelude.{ℕ, List, Option, Some, None, codes}
+-- The table of refusals: their numbers, their names, and the place in the text that some of them have (this project's format).
+use Rattle.std.specs.Prelude.{ℕ, nat_eq, if◌then◌else◌, List, [], ◌∷◌, Option, Some, None, option_map, codes}
 use Rattle.ps_text.specs.declared.TextRefusal.{TextRefusal}
 use Rattle.ps_text.specs.declared.TextRefusal.TheVariants as t
+use Rattle.ps_scan.specs.declared.refusal.ScanFault.{ScanFault}
+use Rattle.ps_scan.specs.declared.refusal.ScanFault.TheVariants as scan_fault
+use Rattle.ps_scan.specs.declared.token.Token.{Token}
 use Rattle.ps_scan.specs.declared.refusal.ScanRefusal.{ScanRefusal}
 use Rattle.ps_scan.specs.declared.refusal.ScanRefusal.TheVariants as s
 use Rattle.ps_parse.specs.declared.error.ParseRefusal.{ParseRefusal}
 use Rattle.ps_parse.specs.declared.error.ParseRefusal.TheVariants as p
-use Rattle.ps_check_names.specs.declared.refusal.Rule.{Rule}
-use Rattle.ps_check_names.specs.declared.refusal.Rule.TheVariants as r
-use Rattle.ps_check_names.specs.Refusal.{number_of_rule}
-use Rattle.ps_check_names.specs.declared.refusal.CheckRefusal.{CheckRefusal}
-use Rattle.ps_check_names.specs.declared.refusal.CheckRefusal.TheVariants as c
+use Rattle.ps_parse.specs.declared.error.ParseFault.{ParseFault}
+use Rattle.ps_parse.specs.declared.error.ParseFault.TheVariants as parse_fault
+use Rattle.ps_scan.specs.Refusals as Scanning
+use Rattle.ps_parse.specs.Refusals as Parsing
+use Rattle.ps_check_judgement.specs.declared.refusal.Rule.{Rule}
+use Rattle.ps_check_judgement.specs.declared.refusal.Rule.TheVariants as r
+use Rattle.ps_check_judgement.specs.Refusal.{number_of_rule}
+use Rattle.ps_check_judgement.specs.declared.refusal.CheckRefusal.{CheckRefusal}
+use Rattle.ps_check_judgement.specs.declared.refusal.CheckRefusal.TheVariants as c
 use Rattle.ps_lower.specs.declared.refusal.LowerRefusal.{LowerRefusal}
 use Rattle.ps_lower.specs.declared.refusal.LowerRefusal.TheVariants as w
 use Rattle.risc_emit.specs.declared.emit.EmitRefusal.{EmitRefusal}
@@ -19,24 +26,17 @@ use Rattle.risc_image.specs.declared.refusal.ImageRefusal.{ImageRefusal}
 use Rattle.risc_image.specs.declared.refusal.ImageRefusal.TheVariants as i
 use Rattle.risc_load.specs.declared.budget.LoadRefusal.{LoadRefusal}
 use Rattle.risc_load.specs.declared.budget.LoadRefusal.TheVariants as l
+use Rattle.ps_build.specs.declared.refusal.Place.{Place}
 use Rattle.ps_build.specs.declared.refusal.Refusal.{Refusal}
-use Rattle.ps_build.specs.declared.refusal.Refusal.TheVariants.{TooLong, TooManyLines, OutOfMemory, BadByte, OpenComment, OpenString, EmptyString, SeparatorMissing, NumberTooLarge, RealNumber, NotAProgram, TooDeep, NotInProfile, Broken, CodeTooLarge, BadPlacement, Magic, Truncated, Trailing, TooLarge, BadTable, BudgetTooLarge, BudgetUneven}
+use Rattle.ps_build.specs.declared.refusal.Refusal.TheVariants.{TooLong, TooManyLines, OutOfMemory, Scan, Parse, Check, CodeTooLarge, BadPlacement, Magic, Truncated, Trailing, TooLarge, BadTable, BudgetTooLarge, BudgetUneven}
 
 abbrev pub number_of : Refusal → ℕ
 number_of TooLong = 1
 number_of TooManyLines = 2
 number_of OutOfMemory = 9
-number_of (BadByte line) = 10
-number_of (OpenComment line) = 11
-number_of (OpenString line) = 12
-number_of (EmptyString line) = 13
-number_of (SeparatorMissing line) = 14
-number_of (NumberTooLarge line) = 15
-number_of (RealNumber line) = 16
-number_of (NotAProgram line token) = 20
-number_of (TooDeep line) = 21
-number_of (NotInProfile line) = 22
-number_of (Broken rule line) = number_of_rule rule
+number_of (Scan fault place) = Scanning.number_of_fault fault
+number_of (Parse fault token place) = Parsing.number_of_fault fault
+number_of (Check rule place) = number_of_rule rule
 number_of CodeTooLarge = 50
 number_of BadPlacement = 51
 number_of Magic = 60
@@ -46,6 +46,20 @@ number_of TooLarge = 63
 number_of BadTable = 64
 number_of BudgetTooLarge = 70
 number_of BudgetUneven = 71
+
+abbrev pub name_of_scan : ScanFault → List ℕ
+name_of_scan scan_fault.BadByte = codes "BadByte"
+name_of_scan scan_fault.OpenComment = codes "OpenComment"
+name_of_scan scan_fault.OpenString = codes "OpenString"
+name_of_scan scan_fault.EmptyString = codes "EmptyString"
+name_of_scan scan_fault.SeparatorMissing = codes "SeparatorMissing"
+name_of_scan scan_fault.NumberTooLarge = codes "NumberTooLarge"
+name_of_scan scan_fault.RealNumber = codes "RealNumber"
+
+abbrev pub name_of_parse : ParseFault → List ℕ
+name_of_parse parse_fault.NotAProgram = codes "NotAProgram"
+name_of_parse parse_fault.TooDeep = codes "TooDeep"
+name_of_parse parse_fault.NotInProfile = codes "NotInProfile"
 
 abbrev pub name_of_rule : Rule → List ℕ
 name_of_rule r.NotInProfile = codes "NotInProfile"
@@ -70,17 +84,9 @@ abbrev pub name_of : Refusal → List ℕ
 name_of TooLong = codes "TooLong"
 name_of TooManyLines = codes "TooManyLines"
 name_of OutOfMemory = codes "OutOfMemory"
-name_of (BadByte line) = codes "BadByte"
-name_of (OpenComment line) = codes "OpenComment"
-name_of (OpenString line) = codes "OpenString"
-name_of (EmptyString line) = codes "EmptyString"
-name_of (SeparatorMissing line) = codes "SeparatorMissing"
-name_of (NumberTooLarge line) = codes "NumberTooLarge"
-name_of (RealNumber line) = codes "RealNumber"
-name_of (NotAProgram line token) = codes "NotAProgram"
-name_of (TooDeep line) = codes "TooDeep"
-name_of (NotInProfile line) = codes "NotInProfile"
-name_of (Broken rule line) = name_of_rule rule
+name_of (Scan fault place) = name_of_scan fault
+name_of (Parse fault token place) = name_of_parse fault
+name_of (Check rule place) = name_of_rule rule
 name_of CodeTooLarge = codes "CodeTooLarge"
 name_of BadPlacement = codes "BadPlacement"
 name_of Magic = codes "Magic"
@@ -91,19 +97,15 @@ name_of BadTable = codes "BadTable"
 name_of BudgetTooLarge = codes "BudgetTooLarge"
 name_of BudgetUneven = codes "BudgetUneven"
 
+-- the place of those that tell a fault of the text: 10 to 45
+abbrev pub place_of : Refusal → Option Place
+place_of (Scan fault place) = Some place
+place_of (Parse fault token place) = Some place
+place_of (Check rule place) = Some place
+place_of _ = None
+
 abbrev pub line_of : Refusal → Option ℕ
-line_of (BadByte line) = Some line
-line_of (OpenComment line) = Some line
-line_of (OpenString line) = Some line
-line_of (EmptyString line) = Some line
-line_of (SeparatorMissing line) = Some line
-line_of (NumberTooLarge line) = Some line
-line_of (RealNumber line) = Some line
-line_of (NotAProgram line token) = Some line
-line_of (TooDeep line) = Some line
-line_of (NotInProfile line) = Some line
-line_of (Broken rule line) = Some line
-line_of _ = None
+line_of refusal = option_map (λ (place : Place). place.line) (place_of refusal)
 
 -- CodeTooLarge is told only where a fact holds; no other refusal is told but the want of memory
 abbrev pub OnlyTooLarge : Refusal → Type 0 → Type 0
@@ -119,23 +121,21 @@ of_text t.TooManyLines = TooManyLines
 
 abbrev pub of_scan : ScanRefusal → Refusal
 of_scan s.OutOfMemory = OutOfMemory
-of_scan (s.BadByte line) = BadByte line
-of_scan (s.OpenComment line) = OpenComment line
-of_scan (s.OpenString line) = OpenString line
-of_scan (s.EmptyString line) = EmptyString line
-of_scan (s.SeparatorMissing line) = SeparatorMissing line
-of_scan (s.NumberTooLarge line) = NumberTooLarge line
-of_scan (s.RealNumber line) = RealNumber line
+of_scan (s.Faulty fault line from to) = Scan fault (record { line = line; from = from; to = to })
 
 abbrev pub of_parse : ParseRefusal → Refusal
-of_parse (p.NotAProgram line token) = NotAProgram line token
-of_parse (p.TooDeep line) = TooDeep line
-of_parse (p.NotInProfile line) = NotInProfile line
 of_parse p.OutOfMemory = OutOfMemory
+of_parse (p.Faulty fault line token from to) = Parse fault token (record { line = line; from = from; to = to })
 
-abbrev pub of_check : CheckRefusal → Refusal
-of_check c.OutOfMemory = OutOfMemory
-of_check (c.Broken rule line) = Broken rule line
+-- where the token ends that begins at an offset
+abbrev pub end_of_token : List Token → (at : ℕ) → ℕ
+end_of_token [] at = at
+end_of_token (t ∷ ts) at = if nat_eq t.span.from at then t.span.to else end_of_token ts at
+
+-- the checker tells a token by the offset at which it begins
+abbrev pub of_check : List Token → CheckRefusal → Refusal
+of_check tokens c.OutOfMemory = OutOfMemory
+of_check tokens (c.Broken rule at line) = Check rule (record { line = line; from = at; to = end_of_token tokens at })
 
 abbrev pub of_lower : LowerRefusal → Refusal
 of_lower w.OutOfMemory = OutOfMemory

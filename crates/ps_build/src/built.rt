@@ -74,7 +74,7 @@ fn program_of(alloc: Global, text: &[u8]) -> Result<Checked, Refusal>
     release(tree);
     match checked {
         Ok(checked) => Ok(checked),
-        Err(refusal) => Err(Refusal::from(refusal)),
+        Err(refusal) => Err(Refusal::of_check(refusal, &tokens)),
     }
 }
 

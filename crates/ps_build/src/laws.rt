@@ -1,6 +1,7 @@
-//! Laws of images, as the contracts of functions that do nothing when they run.
+//! Laws of images and refusals, as the contracts of functions that do nothing when they run.
 
 ghost use Rattle.ps_build.specs.Laws.{ComesToTheMeaning, CodeDoes, MadeCompiles};
+ghost use Rattle.ps_build.specs.OneRefusal.{RefusalsAreOne};
 
 use ps_lower_laws::{programs_go_on, programs_lower};
 use ps_lower_run_time::writes_are_done;
@@ -24,4 +25,10 @@ pub fn code_does()
 /// An image that was made of code that does what a program means, with homes of its temporaries, does what the program means.
 pub fn made_compiles()
     ensures { MadeCompiles }
+{}
+
+/// Of a text that isn't accepted one refusal can be told, unless memory ran out: its number and its place are given by the text.
+#[tactic(auto, using(crate::proofs::OneRefusal::refusals_are_one))]
+pub fn refusals_are_one()
+    ensures { RefusalsAreOne }
 {}

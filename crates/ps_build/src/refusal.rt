@@ -1,13 +1,13 @@
 //! Why a text, an image or a budget is refused.
 
 ghost use Rattle.std.specs.Prelude.{◌≡◌};
-ghost use Rattle.ps_build.specs.Refusals.{number_of, name_of, name_of_rule, line_of, of_text, of_scan, of_parse, of_check, of_lower, of_emit, of_image, of_load};
+ghost use Rattle.ps_build.specs.Refusals.{number_of, name_of, name_of_scan, name_of_parse, name_of_rule, place_of, line_of, end_of_token, of_text, of_scan, of_parse, of_check, of_lower, of_emit, of_image, of_load};
 ghost use Rattle.ps_build.specs.declared.refusal.Refusal.TheVariants.{OutOfMemory};
 
-use ps_check_names::refusal::{CheckRefusal, Rule};
+use ps_check_judgement::refusal::{CheckRefusal, Rule};
 use ps_lower::refusal::LowerRefusal;
-use ps_parse::ParseRefusal;
-use ps_scan::ScanRefusal;
+use ps_parse::{ParseFault, ParseRefusal};
+use ps_scan::{ScanFault, ScanRefusal, Token};
 use ps_text::TextRefusal;
 use risc_emit::emit::EmitRefusal;
 use risc_image::ImageRefusal;
@@ -16,8 +16,16 @@ use std::alloc::{AllocError, AllocFailed};
 use std::fmt;
 use thiserror::Error;
 
-/// Why a text, an image or a budget is refused. Faults of the tokens, the syntax and the rules of a text have its line, counted from 1.
-/// It is shown by its name.
+/// Where a fault of a text is told: at the bytes from an offset on up to another, and the line of the first of them,
+/// counted from 1.
+#[derive(Clone, Copy, Debug, PartialEq, Eq)]
+pub struct Place {
+    pub line: u32,
+    pub from: u32,
+    pub to: u32,
+}
+
+/// Why a text, an image or a budget is refused. It is shown by its name.
 #[derive(Clone, Copy, Debug, Error)]
 pub enum Refusal {
     /// A text of more than 1,048,576 bytes.
@@ -26,28 +34,23 @@ pub enum Refusal {
     TooManyLines,
     /// A growth of memory was refused.
     OutOfMemory,
-    /// A byte that begins no token and no separator.
-    BadByte { line: u32 },
-    /// A comment without its end.
-    OpenComment { line: u32 },
-    /// A string that meets the end of its line or of the text.
-    OpenString { line: u32 },
-    /// A string without a character.
-    EmptyString { line: u32 },
-    /// Names, word-symbols or numbers that touch.
-    SeparatorMissing { line: u32 },
-    /// A number above 2147483647.
-    NumberTooLarge { line: u32 },
-    /// A real number.
-    RealNumber { line: u32 },
-    /// No program derives from the tokens: the first token, counted from 0, that no derivation can take.
-    NotAProgram { line: u32, token: u32 },
-    /// A program that is more than 500 constructions deep.
-    TooDeep { line: u32 },
-    /// A construction that the profile leaves out.
-    NotInProfile { line: u32 },
-    /// A rule of the language that is broken.
-    Broken { rule: Rule, line: u32 },
+    /// The text's first fault among tokens and separators (10 to 16).
+    Scan {
+        fault: ScanFault,
+        place: Place,
+    },
+    /// The first token that no derivation takes, by its number, counted from 0, and why (20 to 22). The end counts as a
+    /// token.
+    Parse {
+        fault: ParseFault,
+        token: u32,
+        place: Place,
+    },
+    /// A rule of the language or a limit that the program breaks, at the token that tells it (22 and 30 to 45).
+    Check {
+        rule: Rule,
+        place: Place,
+    },
     /// Code of more than 1,048,576 words.
     CodeTooLarge,
     /// A placement of temporaries that isn't valid.
@@ -71,6 +74,32 @@ pub enum Refusal {
 impl fmt::Display for Refusal {
     fn fmt<W: fmt::Write>(&self, f: &mut fmt::Formatter<W>) -> fmt::Result {
         f.write_str(self.name())
+    }
+}
+
+// The name of the refusal that tells a fault of the tokens.
+fn name_of_scan(fault: ScanFault) -> &'static str
+    ensures { result.now ≡ name_of_scan fault }
+{
+    match fault {
+        ScanFault::BadByte => "BadByte",
+        ScanFault::OpenComment => "OpenComment",
+        ScanFault::OpenString => "OpenString",
+        ScanFault::EmptyString => "EmptyString",
+        ScanFault::SeparatorMissing => "SeparatorMissing",
+        ScanFault::NumberTooLarge => "NumberTooLarge",
+        ScanFault::RealNumber => "RealNumber",
+    }
+}
+
+// The name of the refusal that tells why no derivation takes a token.
+fn name_of_parse(fault: ParseFault) -> &'static str
+    ensures { result.now ≡ name_of_parse fault }
+{
+    match fault {
+        ParseFault::NotAProgram => "NotAProgram",
+        ParseFault::TooDeep => "TooDeep",
+        ParseFault::NotInProfile => "NotInProfile",
     }
 }
 
@@ -108,17 +137,9 @@ impl Refusal {
             Refusal::TooLong => 1,
             Refusal::TooManyLines => 2,
             Refusal::OutOfMemory => 9,
-            Refusal::BadByte { .. } => 10,
-            Refusal::OpenComment { .. } => 11,
-            Refusal::OpenString { .. } => 12,
-            Refusal::EmptyString { .. } => 13,
-            Refusal::SeparatorMissing { .. } => 14,
-            Refusal::NumberTooLarge { .. } => 15,
-            Refusal::RealNumber { .. } => 16,
-            Refusal::NotAProgram { .. } => 20,
-            Refusal::TooDeep { .. } => 21,
-            Refusal::NotInProfile { .. } => 22,
-            Refusal::Broken { rule, .. } => rule.number() as u8,
+            Refusal::Scan { fault, .. } => fault.number() as u8,
+            Refusal::Parse { fault, .. } => fault.number() as u8,
+            Refusal::Check { rule, .. } => rule.number() as u8,
             Refusal::CodeTooLarge => 50,
             Refusal::BadPlacement => 51,
             Refusal::Magic => 60,
@@ -139,17 +160,9 @@ impl Refusal {
             Refusal::TooLong => "TooLong",
             Refusal::TooManyLines => "TooManyLines",
             Refusal::OutOfMemory => "OutOfMemory",
-            Refusal::BadByte { .. } => "BadByte",
-            Refusal::OpenComment { .. } => "OpenComment",
-            Refusal::OpenString { .. } => "OpenString",
-            Refusal::EmptyString { .. } => "EmptyString",
-            Refusal::SeparatorMissing { .. } => "SeparatorMissing",
-            Refusal::NumberTooLarge { .. } => "NumberTooLarge",
-            Refusal::RealNumber { .. } => "RealNumber",
-            Refusal::NotAProgram { .. } => "NotAProgram",
-            Refusal::TooDeep { .. } => "TooDeep",
-            Refusal::NotInProfile { .. } => "NotInProfile",
-            Refusal::Broken { rule, .. } => name_of_rule(rule),
+            Refusal::Scan { fault, .. } => name_of_scan(fault),
+            Refusal::Parse { fault, .. } => name_of_parse(fault),
+            Refusal::Check { rule, .. } => name_of_rule(rule),
             Refusal::CodeTooLarge => "CodeTooLarge",
             Refusal::BadPlacement => "BadPlacement",
             Refusal::Magic => "Magic",
@@ -162,23 +175,25 @@ impl Refusal {
         }
     }
 
-    /// The line of the text, for those refusals that have one: 10 to 45.
+    /// The place in the text, for those refusals that have one: 10 to 45.
+    pub fn place(self) -> Option<Place>
+        ensures { result ≡ place_of self }
+    {
+        match self {
+            Refusal::Scan { place, .. } => Some(place),
+            Refusal::Parse { place, .. } => Some(place),
+            Refusal::Check { place, .. } => Some(place),
+            _ => None,
+        }
+    }
+
+    /// The line of the text, for the same refusals.
     pub fn line(self) -> Option<u32>
         ensures { result ≡ line_of self }
     {
-        match self {
-            Refusal::BadByte { line } => Some(line),
-            Refusal::OpenComment { line } => Some(line),
-            Refusal::OpenString { line } => Some(line),
-            Refusal::EmptyString { line } => Some(line),
-            Refusal::SeparatorMissing { line } => Some(line),
-            Refusal::NumberTooLarge { line } => Some(line),
-            Refusal::RealNumber { line } => Some(line),
-            Refusal::NotAProgram { line, .. } => Some(line),
-            Refusal::TooDeep { line } => Some(line),
-            Refusal::NotInProfile { line } => Some(line),
-            Refusal::Broken { line, .. } => Some(line),
-            _ => None,
+        match self.place() {
+            Some(place) => Some(place.line),
+            None => None,
         }
     }
 }
@@ -216,13 +231,15 @@ impl From<ScanRefusal> for Refusal {
     fn from(refusal: ScanRefusal) -> Refusal {
         match refusal {
             ScanRefusal::OutOfMemory => Refusal::OutOfMemory,
-            ScanRefusal::BadByte { line } => Refusal::BadByte { line },
-            ScanRefusal::OpenComment { line } => Refusal::OpenComment { line },
-            ScanRefusal::OpenString { line } => Refusal::OpenString { line },
-            ScanRefusal::EmptyString { line } => Refusal::EmptyString { line },
-            ScanRefusal::SeparatorMissing { line } => Refusal::SeparatorMissing { line },
-            ScanRefusal::NumberTooLarge { line } => Refusal::NumberTooLarge { line },
-            ScanRefusal::RealNumber { line } => Refusal::RealNumber { line },
+            ScanRefusal::Faulty {
+                fault,
+                line,
+                from,
+                to,
+            } => Refusal::Scan {
+                fault,
+                place: Place { line, from, to },
+            },
         }
     }
 }
@@ -232,21 +249,50 @@ impl From<ParseRefusal> for Refusal {
 
     fn from(refusal: ParseRefusal) -> Refusal {
         match refusal {
-            ParseRefusal::NotAProgram { line, token } => Refusal::NotAProgram { line, token },
-            ParseRefusal::TooDeep { line } => Refusal::TooDeep { line },
-            ParseRefusal::NotInProfile { line } => Refusal::NotInProfile { line },
             ParseRefusal::OutOfMemory => Refusal::OutOfMemory,
+            ParseRefusal::Faulty {
+                fault,
+                line,
+                token,
+                from,
+                to,
+            } => Refusal::Parse {
+                fault,
+                token,
+                place: Place { line, from, to },
+            },
         }
     }
 }
 
-impl From<CheckRefusal> for Refusal {
-    ghost from_gives = { λ e r. r ≡ of_check e };
+// Where the token ends that begins at an offset.
+fn end_of_token(mut tokens: &[Token], at: u32) -> u32
+    ensures { result ≡ end_of_token tokens.entry.now at }
+{
+    while let [token, rest @ ..] = tokens {
+        if token.span.from == at {
+            return token.span.to;
+        }
+        tokens = rest;
+    }
+    at
+}
 
-    fn from(refusal: CheckRefusal) -> Refusal {
+impl Refusal {
+    /// What the checker refuses, told at the whole token that it tells by its offset.
+    pub fn of_check(refusal: CheckRefusal, tokens: &[Token]) -> Refusal
+        ensures { result ≡ of_check tokens.now refusal }
+    {
         match refusal {
             CheckRefusal::OutOfMemory => Refusal::OutOfMemory,
-            CheckRefusal::Broken { rule, line } => Refusal::Broken { rule, line },
+            CheckRefusal::Broken { rule, at, line } => Refusal::Check {
+                rule,
+                place: Place {
+                    line,
+                    from: at,
+                    to: end_of_token(tokens, at),
+                },
+            },
         }
     }
 }

@@ -1,5 +1,5 @@
 -- Loops over the formal parameters of a heading.
-use Rattle.std.proofs.Common.{◌≡◌, ℕ, zero, suc, ◌+◌, ◌-◌, ◌<◌, ◌≤◌, List, [], ◌∷◌, ◌++◌, length, drop, get_or, map, Option, Some, None, refl, sym, ap, ◌∙◌, arith, append_assoc, option_map, Vec, Global}
+use Rattle.std.proofs.Common.{◌≡◌, ℕ, zero, suc, ◌+◌, ◌-◌, ◌<◌, ◌≤◌, List, [], ◌∷◌, ◌++◌, length, drop, get_or, map, Option, refl, sym, ap, ◌∙◌, arith, append_assoc, option_map, Vec, Global}
 use Rattle.std.specs.Prelude.{replicate}
 use Rattle.std.proofs.Math.Seq.{drop-cons}
 use Rattle.std.proofs.lemmas.List.{drop_all, append-nil, map_push}
@@ -15,7 +15,10 @@ use Rattle.ps_check_names.specs.declared.meaning.Section as Rust
 use Rattle.ps_check_names.specs.declared.meaning.Meaning as RustMeaning
 use Rattle.ps_check_names.specs.declared.meaning.Meaning.TheVariants as m
 use Rattle.ps_check_names.proofs.ViewLemmas.{section_of_Routine}
-use Rattle.ps_check_names.specs.Option.{◌>>=◌}
+use Rattle.ps_check_judgement.specs.declared.refusal.Fault.{Fault}
+use Rattle.ps_check_judgement.specs.declared.refusal.Fault.TheVariants.{OutOfMemory, Broken}
+use Rattle.ps_check_judgement.specs.declared.refusal.Rule.TheVariants.{Limit}
+use Rattle.ps_check_judgement.specs.Judged.{Judged, Yes, No, Told, some_or, ◌>>=◌}
 use Rattle.ps_check_names.specs.Regions.{Section, ValueSection, VariableSection, RoutineSection, Sections, no_section, section_before, formals_before, formals_of, values_before, variables_before, Meaning, ParameterMeaning, RoutineParameterMeaning, one_more}
 use Rattle.ps_check_names.specs.Views.{section_of, sections_of, meaning_of}
 use Rattle.ps_check.specs.Formals.{section_formals, formal_list}
@@ -91,69 +94,71 @@ listed_end xs i fs le l =
 -- ---- entries
 
 -- parameters of one type that are still to come
-pub record Repeated (type : DataType) (count : ℕ) (start : Entries) (i : ℕ) (now : Entries) : Type 0 where
-  pub rest : add_parameters type count start ≡ add_parameters type (count - i) now
+pub record Repeated (whence : ℕ) (type : DataType) (count : ℕ) (start : Entries) (i : ℕ) (now : Entries) : Type 0 where
+  pub rest : add_parameters whence type count start ≡ add_parameters whence type (count - i) now
 
-pub repeated_start : (type : DataType) (count : ℕ) (start : Entries) → Repeated type count start 0 start
-repeated_start type count start = record { rest = let e : count ≡ count - 0 = omega arith in ap (λ n. add_parameters type n start) e }
+pub repeated_start : (whence : ℕ) (type : DataType) (count : ℕ) (start : Entries) → Repeated whence type count start 0 start
+repeated_start whence type count start = record { rest = let e : count ≡ count - 0 = omega arith in ap (λ n. add_parameters whence type n start) e }
 
-parameters_more : (type : DataType) (n : ℕ) (e : Entries) → add_parameters type (suc n) e ≡ (add_entry (λ i. ParameterMeaning i type) e >>= add_parameters type n)
+parameters_more : (whence : ℕ) (type : DataType) (n : ℕ) (e : Entries) → add_parameters whence type (suc n) e ≡ (add_entry whence (λ i. ParameterMeaning i type) e >>= add_parameters whence type n)
 unfolding add_parameters
-parameters_more type n e = refl
+parameters_more whence type n e = refl
 
-parameters_none : (type : DataType) (e : Entries) → add_parameters type 0 e ≡ Some e
+parameters_none : (whence : ℕ) (type : DataType) (e : Entries) → add_parameters whence type 0 e ≡ Yes e
 unfolding add_parameters
-parameters_none type e = refl
+parameters_none whence type e = refl
 
-module _ (type : DataType) (count : ℕ) (start : Entries) (i : ℕ) (now : Entries) where
-  repeated_here : (o : Option Entries) → i < count → Repeated type count start i now → add_entry (λ i. ParameterMeaning i type) now ≡ o → add_parameters type count start ≡ (o >>= add_parameters type (count - (i + 1)))
+module _ (whence : ℕ) (type : DataType) (count : ℕ) (start : Entries) (i : ℕ) (now : Entries) where
+  repeated_here : (o : Judged Entries) → i < count → Repeated whence type count start i now → add_entry whence (λ i. ParameterMeaning i type) now ≡ o → add_parameters whence type count start ≡ (o >>= add_parameters whence type (count - (i + 1)))
   repeated_here o lt r e =
       let s : count - i ≡ suc (count - (i + 1)) = omega arith in
-      r.rest ∙ ap (λ n. add_parameters type n now) s ∙ parameters_more type (count - (i + 1)) now ∙ ap (λ o. o >>= add_parameters type (count - (i + 1))) e
+      r.rest ∙ ap (λ n. add_parameters whence type n now) s ∙ parameters_more whence type (count - (i + 1)) now ∙ ap (λ o. o >>= add_parameters whence type (count - (i + 1))) e
 
-  pub repeated_next : (new : Entries) → i < count → Repeated type count start i now → add_entry (λ i. ParameterMeaning i type) now ≡ Some new → Repeated type count start (i + 1) new
-  repeated_next new lt r e = record { rest = repeated_here (Some new) lt r e }
+  pub repeated_next : (new : Entries) → i < count → Repeated whence type count start i now → add_entry whence (λ i. ParameterMeaning i type) now ≡ Yes new → Repeated whence type count start (i + 1) new
+  repeated_next new lt r e = record { rest = repeated_here (Yes new) lt r e }
 
-  pub repeated_fault : i < count → Repeated type count start i now → add_entry (λ i. ParameterMeaning i type) now ≡ None → add_parameters type count start ≡ None
-  repeated_fault lt r e = repeated_here None lt r e
+  pub repeated_fault : (fault : Fault) → i < count → Repeated whence type count start i now → Told fault (add_entry whence (λ i. ParameterMeaning i type) now) → Told fault (add_parameters whence type count start)
+  repeated_fault OutOfMemory lt r told = told
+  repeated_fault (Broken rule where_) lt r told = repeated_here (No rule where_) lt r told
 
-  pub repeated_end : count ≤ i → Repeated type count start i now → add_parameters type count start ≡ Some now
-  repeated_end le r = let z : count - i ≡ 0 = omega arith in r.rest ∙ ap (λ n. add_parameters type n now) z ∙ parameters_none type now
+  pub repeated_end : count ≤ i → Repeated whence type count start i now → add_parameters whence type count start ≡ Yes now
+  repeated_end le r = let z : count - i ≡ 0 = omega arith in r.rest ∙ ap (λ n. add_parameters whence type n now) z ∙ parameters_none whence type now
 
 -- sections that are still to come
-pub record Entered (start : Entries) (xs : List Rust.Section) (i : ℕ) (now : Entries) : Type 0 where
-  pub rest : add_sections start (sections_of xs) ≡ add_sections now (sections_of (drop i xs))
+pub record Entered (whence : ℕ) (start : Entries) (xs : List Rust.Section) (i : ℕ) (now : Entries) : Type 0 where
+  pub rest : add_sections whence start (sections_of xs) ≡ add_sections whence now (sections_of (drop i xs))
 
-pub entered_start : (start : Entries) (xs : List Rust.Section) → Entered start xs 0 start
-entered_start start xs = record { rest = refl }
+pub entered_start : (whence : ℕ) (start : Entries) (xs : List Rust.Section) → Entered whence start xs 0 start
+entered_start whence start xs = record { rest = refl }
 
-entries_more : (e : Entries) (x : Rust.Section) (xs : List Rust.Section) → add_sections e (sections_of (x ∷ xs)) ≡ (add_section e (section_of x) >>= (λ d. add_sections d (sections_of xs)))
+entries_more : (whence : ℕ) (e : Entries) (x : Rust.Section) (xs : List Rust.Section) → add_sections whence e (sections_of (x ∷ xs)) ≡ (add_section whence e (section_of x) >>= (λ d. add_sections whence d (sections_of xs)))
 unfolding add_sections sections_of
-entries_more e x xs = refl
+entries_more whence e x xs = refl
 
-entries_none : (e : Entries) → add_sections e (sections_of []) ≡ Some e
+entries_none : (whence : ℕ) (e : Entries) → add_sections whence e (sections_of []) ≡ Yes e
 unfolding add_sections sections_of
-entries_none e = refl
+entries_none whence e = refl
 
-module _ (start : Entries) (xs : List Rust.Section) (i : ℕ) (now : Entries) where
-  entered_here : (x : Rust.Section) (o : Option Entries) → i < length xs → x ≡ get_or xs i x → Entered start xs i now → add_section now (section_of x) ≡ o → add_sections start (sections_of xs) ≡ (o >>= (λ d. add_sections d (sections_of (drop (suc i) xs))))
+module _ (whence : ℕ) (start : Entries) (xs : List Rust.Section) (i : ℕ) (now : Entries) where
+  entered_here : (x : Rust.Section) (o : Judged Entries) → i < length xs → x ≡ get_or xs i x → Entered whence start xs i now → add_section whence now (section_of x) ≡ o → add_sections whence start (sections_of xs) ≡ (o >>= (λ d. add_sections whence d (sections_of (drop (suc i) xs))))
   entered_here x o lt at r e =
       r.rest
-      ∙ ap (λ l. add_sections now (sections_of l)) (drop-cons xs i x lt)
-      ∙ ap (λ y. add_sections now (sections_of (y ∷ drop (suc i) xs))) (sym at)
-      ∙ entries_more now x (drop (suc i) xs)
-      ∙ ap (λ o. o >>= (λ d. add_sections d (sections_of (drop (suc i) xs)))) e
+      ∙ ap (λ l. add_sections whence now (sections_of l)) (drop-cons xs i x lt)
+      ∙ ap (λ y. add_sections whence now (sections_of (y ∷ drop (suc i) xs))) (sym at)
+      ∙ entries_more whence now x (drop (suc i) xs)
+      ∙ ap (λ o. o >>= (λ d. add_sections whence d (sections_of (drop (suc i) xs)))) e
 
-  pub entered_next : (x : Rust.Section) (new : Entries) → i < length xs → x ≡ get_or xs i x → Entered start xs i now → add_section now (section_of x) ≡ Some new → Entered start xs (i + 1) new
+  pub entered_next : (x : Rust.Section) (new : Entries) → i < length xs → x ≡ get_or xs i x → Entered whence start xs i now → add_section whence now (section_of x) ≡ Yes new → Entered whence start xs (i + 1) new
   entered_next x new lt at r e = record {
-    rest = entered_here x (Some new) lt at r e ∙ (let s : suc i ≡ i + 1 = omega arith in ap (λ k. add_sections new (sections_of (drop k xs))) s);
+    rest = entered_here x (Yes new) lt at r e ∙ (let s : suc i ≡ i + 1 = omega arith in ap (λ k. add_sections whence new (sections_of (drop k xs))) s);
   }
 
-  pub entered_fault : (x : Rust.Section) → i < length xs → x ≡ get_or xs i x → Entered start xs i now → add_section now (section_of x) ≡ None → add_sections start (sections_of xs) ≡ None
-  entered_fault x lt at r e = entered_here x None lt at r e
+  pub entered_fault : (x : Rust.Section) (fault : Fault) → i < length xs → x ≡ get_or xs i x → Entered whence start xs i now → Told fault (add_section whence now (section_of x)) → Told fault (add_sections whence start (sections_of xs))
+  entered_fault x OutOfMemory lt at r told = told
+  entered_fault x (Broken rule where_) lt at r told = entered_here x (No rule where_) lt at r told
 
-  pub entered_end : length xs ≤ i → Entered start xs i now → add_sections start (sections_of xs) ≡ Some now
-  entered_end le r = r.rest ∙ ap (λ l. add_sections now (sections_of l)) (drop_all i xs le) ∙ entries_none now
+  pub entered_end : length xs ≤ i → Entered whence start xs i now → add_sections whence start (sections_of xs) ≡ Yes now
+  entered_end le r = r.rest ∙ ap (λ l. add_sections whence now (sections_of l)) (drop_all i xs le) ∙ entries_none whence now
 
 -- ---- formal parameters that are pushed
 
@@ -195,22 +200,15 @@ abbrev as_entries : ℕ → List Meaning → Entries
 as_entries next known = record { next = next; known = known }
 
 -- the entry of a procedural or functional parameter
-pub routine_entered : (entry next : ℕ) (known new : List RustMeaning.Meaning) (made sections : Rc (Vec Rust.Section Global) Global) (result type : Option Ty) (s : Rust.Section) → s ≡ Rust.Routine sections type → one_more entry ≡ Some next → new ≡ known ++ m.RoutineParameter entry made result ∷ [] → made.value ≡ sections.value → option_map tree.type_of result ≡ option_map tree.type_of type → add_section (entries_of entry known) (section_of s) ≡ Some (entries_of next new)
+pub routine_entered : (whence entry next : ℕ) (known new : List RustMeaning.Meaning) (made sections : Rc (Vec Rust.Section Global) Global) (result type : Option Ty) (s : Rust.Section) → s ≡ Rust.Routine sections type → some_or Limit whence (one_more entry) ≡ Yes next → new ≡ known ++ m.RoutineParameter entry made result ∷ [] → made.value ≡ sections.value → option_map tree.type_of result ≡ option_map tree.type_of type → add_section whence (entries_of entry known) (section_of s) ≡ Yes (entries_of next new)
 unfolding add_section meaning_of
-routine_entered entry next known new made sections result type s is n e copy same =
-    ap (λ x. add_section (entries_of entry known) (section_of x)) is
-    ∙ ap (add_section (entries_of entry known)) (section_of_Routine sections type)
-    ∙ ap (λ o. o >>= (λ k. Some (as_entries k (map meaning_of known ++ RoutineParameterMeaning entry (sections_of sections.value.items) (option_map tree.type_of type) ∷ [])))) n
-    ∙ ap (λ (v : Vec Rust.Section Global). Some (as_entries next (map meaning_of known ++ RoutineParameterMeaning entry (sections_of v.items) (option_map tree.type_of type) ∷ []))) (sym copy)
-    ∙ ap (λ r. Some (as_entries next (map meaning_of known ++ RoutineParameterMeaning entry (sections_of made.value.items) r ∷ []))) (sym same)
-    ∙ ap (λ l. Some (as_entries next l)) (sym (map_push meaning_of known (m.RoutineParameter entry made result)) ∙ ap (map meaning_of) (sym e))
-
-pub routine_not_entered : (entry : ℕ) (known : List RustMeaning.Meaning) (sections : Rc (Vec Rust.Section Global) Global) (type : Option Ty) (s : Rust.Section) → s ≡ Rust.Routine sections type → one_more entry ≡ None → add_section (entries_of entry known) (section_of s) ≡ None
-unfolding add_section
-routine_not_entered entry known sections type s is n =
-    ap (λ x. add_section (entries_of entry known) (section_of x)) is
-    ∙ ap (add_section (entries_of entry known)) (section_of_Routine sections type)
-    ∙ ap (λ o. o >>= (λ k. Some (as_entries k (map meaning_of known ++ RoutineParameterMeaning entry (sections_of sections.value.items) (option_map tree.type_of type) ∷ [])))) n
+routine_entered whence entry next known new made sections result type s is n e copy same =
+    ap (λ x. add_section whence (entries_of entry known) (section_of x)) is
+    ∙ ap (add_section whence (entries_of entry known)) (section_of_Routine sections type)
+    ∙ ap (λ o. o >>= (λ k. Yes (as_entries k (map meaning_of known ++ RoutineParameterMeaning entry (sections_of sections.value.items) (option_map tree.type_of type) ∷ [])))) n
+    ∙ ap (λ (v : Vec Rust.Section Global). Yes (as_entries next (map meaning_of known ++ RoutineParameterMeaning entry (sections_of v.items) (option_map tree.type_of type) ∷ []))) (sym copy)
+    ∙ ap (λ r. Yes (as_entries next (map meaning_of known ++ RoutineParameterMeaning entry (sections_of made.value.items) r ∷ []))) (sym same)
+    ∙ ap (λ l. Yes (as_entries next l)) (sym (map_push meaning_of known (m.RoutineParameter entry made result)) ∙ ap (map meaning_of) (sym e))
 
 pub no_formals : (fs : List Formal) → fs ≡ [] → tree.formals_of fs ≡ Tree.no_formal
 unfolding tree.formals_of

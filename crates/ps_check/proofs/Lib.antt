@@ -2,7 +2,11 @@ pub mod Lists
 pub mod Required
 pub mod Collected
 pub mod Equations
-pub mod BlockLemmas
 pub mod FormalLemmas
+pub mod RoutineLemmas
+pub mod Fresh
+pub mod NewPoints
+pub mod NewParts
 pub mod NameLemmas
+pub mod HeadingNames
 pub mod PathLemmas

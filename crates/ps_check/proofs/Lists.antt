@@ -1,66 +1,16 @@
--- Loops that look for an item that passes a test.
-use Rattle.std.proofs.Common.{◌≡◌, ℕ, suc, ◌+◌, ◌<◌, ◌≤◌, Bool, true, false, ◌&&◌, ◌||◌, List, [], ◌∷◌, ◌++◌, append_assoc, length, drop, get_or, map, Option, Bor, refl, sym, ap, ◌∙◌, arith}
+-- Loops that gather what the items of a list have.
+use Rattle.std.proofs.Common.{◌≡◌, ℕ, suc, ◌+◌, ◌-◌, ◌==◌, Bool, true, false, ◌<◌, ◌≤◌, List, [], ◌∷◌, ◌++◌, append_assoc, length, drop, get_or, map, refl, sym, ap, ◌∙◌, arith}
+use Rattle.std.specs.Prelude.{if◌then◌else◌}
 use Rattle.std.proofs.Math.Seq.{drop-cons}
-use Rattle.std.proofs.lemmas.List.{drop_all, append-nil, map-append, drop-map}
-use Rattle.std.specs.List.{list_any, list_all}
+use Rattle.std.proofs.lemmas.Bool.{ne_eqb}
+use Rattle.std.proofs.lemmas.List.{drop_all, append-nil, map-append}
 use Rattle.ps_text.specs.declared.Span.{Span}
-use Rattle.ps_check_declarations.specs.Points.{Points, all}
-use Rattle.std.proofs.Math.Path.{fun_ext}
-use Rattle.ps_tree.specs.Tree.{Routine}
-use Rattle.ps_check_changes.specs.Changes.{among, watched_of}
-use Rattle.ps_check_changes.specs.declared.place.Entries.TheVariants.{Marked}
-use Rattle.ps_check.specs.Threats.{routine_threatens}
-
-module _ {A B : Type 0} (p : B → Bool) (f : A → B) (xs : List A) where
-  -- no item before index i passes
-  pub record NoneBefore (i : ℕ) : Type 0 where
-    pub rest : list_any p (map f xs) ≡ list_any p (map f (drop i xs))
-
-  pub none_start : NoneBefore 0
-  none_start = record { rest = refl }
-
-  none_here : (i : ℕ) (x : A) (b : Bool) → i < length xs → x ≡ get_or xs i x → NoneBefore i → p (f x) ≡ b → list_any p (map f xs) ≡ (b || list_any p (map f (drop (suc i) xs)))
-  none_here i x b lt at n e =
-      n.rest
-      ∙ ap (λ l. list_any p (map f l)) (drop-cons xs i x lt)
-      ∙ ap (λ y. p (f y) || list_any p (map f (drop (suc i) xs))) (sym at)
-      ∙ ap (λ b. b || list_any p (map f (drop (suc i) xs))) e
-
-  pub none_next : (i : ℕ) (x : A) → i < length xs → x ≡ get_or xs i x → NoneBefore i → p (f x) ≡ false → NoneBefore (i + 1)
-  none_next i x lt at n e = record {
-    rest = none_here i x false lt at n e ∙ (let s : suc i ≡ i + 1 = omega arith in ap (λ k. list_any p (map f (drop k xs))) s);
-  }
-
-  pub one_found : (i : ℕ) (x : A) → i < length xs → x ≡ get_or xs i x → NoneBefore i → p (f x) ≡ true → list_any p (map f xs) ≡ true
-  one_found i x lt at n e = none_here i x true lt at n e
-
-  pub none_end : (i : ℕ) → length xs ≤ i → NoneBefore i → list_any p (map f xs) ≡ false
-  none_end i le n = n.rest ∙ ap (λ l. list_any p (map f l)) (drop_all i xs le)
-
-  -- all items before index i pass
-  pub record AllBefore (i : ℕ) : Type 0 where
-    pub rest : list_all p (map f xs) ≡ list_all p (map f (drop i xs))
-
-  pub all_start : AllBefore 0
-  all_start = record { rest = refl }
-
-  all_here : (i : ℕ) (x : A) (b : Bool) → i < length xs → x ≡ get_or xs i x → AllBefore i → p (f x) ≡ b → list_all p (map f xs) ≡ (b && list_all p (map f (drop (suc i) xs)))
-  all_here i x b lt at n e =
-      n.rest
-      ∙ ap (λ l. list_all p (map f l)) (drop-cons xs i x lt)
-      ∙ ap (λ y. p (f y) && list_all p (map f (drop (suc i) xs))) (sym at)
-      ∙ ap (λ b. b && list_all p (map f (drop (suc i) xs))) e
-
-  pub all_next : (i : ℕ) (x : A) → i < length xs → x ≡ get_or xs i x → AllBefore i → p (f x) ≡ true → AllBefore (i + 1)
-  all_next i x lt at n e = record {
-    rest = all_here i x true lt at n e ∙ (let s : suc i ≡ i + 1 = omega arith in ap (λ k. list_all p (map f (drop k xs))) s);
-  }
-
-  pub one_fails : (i : ℕ) (x : A) → i < length xs → x ≡ get_or xs i x → AllBefore i → p (f x) ≡ false → list_all p (map f xs) ≡ false
-  one_fails i x lt at n e = all_here i x false lt at n e
-
-  pub all_end : (i : ℕ) → length xs ≤ i → AllBefore i → list_all p (map f xs) ≡ true
-  all_end i le n = n.rest ∙ ap (λ l. list_all p (map f l)) (drop_all i xs le)
+use Rattle.ps_check_judgement.specs.declared.change.Change.{Change}
+use Rattle.ps_check_declarations.specs.Points.{Points, all, add_name}
+use Rattle.ps_check.specs.Readings.{RoutineReading}
+use Rattle.ps_check.specs.Forwards.{add_routine, add_routines}
+use Rattle.ps_check.specs.Entries.{add_names}
+use Rattle.ps_check.specs.Changes.{outward}
 
 -- the images of the parts of the items from index i on are still to come
 module _ {A C : Type 0} (f : Span → C) (parts : A → Points) (xs : List A) where
@@ -85,9 +35,90 @@ module _ {A C : Type 0} (f : Span → C) (parts : A → Points) (xs : List A) wh
   pub gained_end : (i : ℕ) (done : List C) → length xs ≤ i → Gained i done → done ≡ map f (all (map parts xs))
   gained_end i done le g = sym (append-nil done) ∙ ap (λ d. done ++ map f (all (map parts d))) (sym (drop_all i xs le)) ∙ g.rest
 
-pub dropped : {A B : Type 0} (f : A → B) (n : ℕ) (xs ys : List A) → ys ≡ drop n xs → map f ys ≡ drop n (map f xs)
-dropped f n xs ys e = ap (map f) e ∙ sym (drop-map f n xs)
+-- the headings of a list of routines from index i on have their names still to come
+pub record Headed {A : Type 0} (text : List ℕ) (f : A → RoutineReading) (s : List (List ℕ)) (xs : List A) (i : ℕ) (t : List (List ℕ)) : Type 0 where
+  pub rest : add_routines text s (map f xs) ≡ add_routines text t (map f (drop i xs))
 
--- the routines threaten one of the entries where they threaten one of those that are marked
-pub marked_alike : (depth : ℕ) (within : List (Option Routine)) (entries : List ℕ) (marks : Bor (List Bool)) (b : Bool) → ((k : ℕ) → get_or marks.now k false ≡ among entries k) → b ≡ list_any (routine_threatens depth (watched_of (Marked marks))) within → b ≡ list_any (routine_threatens depth (among entries)) within
-marked_alike depth within entries marks b same e = e ∙ ap (λ watched. list_any (routine_threatens depth watched) within) (fun_ext same)
+pub headed_start : {A : Type 0} (text : List ℕ) (f : A → RoutineReading) (s : List (List ℕ)) (xs : List A) → Headed text f s xs 0 s
+headed_start text f s xs = record { rest = refl }
+
+module _ {A : Type 0} (text : List ℕ) (f : A → RoutineReading) (s : List (List ℕ)) (xs : List A) (i : ℕ) (t : List (List ℕ)) where
+  pub headed_next : (x : A) (u : List (List ℕ)) → i < length xs → x ≡ get_or xs i x → Headed text f s xs i t → u ≡ add_routine text t (f x) → Headed text f s xs (i + 1) u
+  headed_next x u lt at w e = record {
+    rest =
+        w.rest
+        ∙ ap (λ l. add_routines text t (map f l)) (drop-cons xs i x lt)
+        ∙ ap (λ y. add_routines text (add_routine text t (f y)) (map f (drop (suc i) xs))) (sym at)
+        ∙ ap (λ u. add_routines text u (map f (drop (suc i) xs))) (sym e)
+        ∙ (let n : suc i ≡ i + 1 = omega arith in ap (λ k. add_routines text u (map f (drop k xs))) n);
+  }
+
+  pub headed_end : length xs ≤ i → Headed text f s xs i t → t ≡ add_routines text s (map f xs)
+  headed_end le w = sym (w.rest ∙ ap (λ l. add_routines text t (map f l)) (drop_all i xs le))
+
+-- the names of a list from index i on are still to come
+pub record Named {A : Type 0} (f : A → List ℕ) (s : List (List ℕ)) (xs : List A) (i : ℕ) (t : List (List ℕ)) : Type 0 where
+  pub rest : add_names s (map f xs) ≡ add_names t (map f (drop i xs))
+
+pub named_start : {A : Type 0} (f : A → List ℕ) (s : List (List ℕ)) (xs : List A) → Named f s xs 0 s
+named_start f s xs = record { rest = refl }
+
+module _ {A : Type 0} (f : A → List ℕ) (s : List (List ℕ)) (xs : List A) (i : ℕ) (t : List (List ℕ)) where
+  pub named_next : (x : A) (u : List (List ℕ)) → i < length xs → x ≡ get_or xs i x → Named f s xs i t → u ≡ add_name t (f x) → Named f s xs (i + 1) u
+  named_next x u lt at w e = record {
+    rest =
+        w.rest
+        ∙ ap (λ l. add_names t (map f l)) (drop-cons xs i x lt)
+        ∙ ap (λ y. add_names (add_name t (f y)) (map f (drop (suc i) xs))) (sym at)
+        ∙ ap (λ u. add_names u (map f (drop (suc i) xs))) (sym e)
+        ∙ (let n : suc i ≡ i + 1 = omega arith in ap (λ k. add_names u (map f (drop k xs))) n);
+  }
+
+  pub named_end : length xs ≤ i → Named f s xs i t → t ≡ add_names s (map f xs)
+  named_end le w = sym (w.rest ∙ ap (λ l. add_names t (map f l)) (drop_all i xs le))
+
+-- ---- changes that reach further out
+
+-- the change as the block outside sees it
+abbrev one_out : Change → Change
+one_out x = record { up = x.up - 1; entry = x.entry; at = x.at }
+
+pub outward_own : (x : Change) → x.up ≡ 0 → (l : List Change) → l ≡ l ++ outward (x ∷ [])
+unfolding outward
+outward_own x e l = sym (append-nil l) ∙ ap (λ n. l ++ (if n == 0 then [] else record { up = x.up - 1; entry = x.entry; at = x.at } ∷ [])) (sym e)
+
+pub outward_far : (x : Change) → (x.up ≡ 0 → ⊥) → outward (x ∷ []) ≡ one_out x ∷ []
+unfolding outward
+outward_far x far = ap (λ b. if b then [] else (one_out x ∷ [])) (ne_eqb x.up 0 far)
+
+outward_more : (x : Change) (xs : List Change) → outward (x ∷ xs) ≡ outward (x ∷ []) ++ outward xs
+unfolding outward
+outward_more x xs = at (x.up == 0)
+  where
+    at : (b : Bool) → (if b then outward xs else one_out x ∷ outward xs) ≡ (if b then [] else one_out x ∷ []) ++ outward xs
+    at true = refl
+    at false = refl
+
+-- the changes from index i on are still to come
+pub record Reached (s : List Change) (xs : List Change) (i : ℕ) (t : List Change) : Type 0 where
+  pub rest : s ++ outward xs ≡ t ++ outward (drop i xs)
+
+pub reached_start : (s xs : List Change) → Reached s xs 0 s
+reached_start s xs = record { rest = refl }
+
+module _ (s xs : List Change) (i : ℕ) (t : List Change) where
+  pub reached_next : (x : Change) (u : List Change) → i < length xs → x ≡ get_or xs i x → Reached s xs i t → u ≡ t ++ outward (x ∷ []) → Reached s xs (i + 1) u
+  reached_next x u lt at w e = record {
+    rest =
+        w.rest
+        ∙ ap (λ l. t ++ outward l) (drop-cons xs i x lt)
+        ∙ ap (λ y. t ++ outward (y ∷ drop (suc i) xs)) (sym at)
+        ∙ ap (λ l. t ++ l) (outward_more x (drop (suc i) xs))
+        ∙ sym (append_assoc t (outward (x ∷ [])) (outward (drop (suc i) xs)))
+        ∙ ap (λ u. u ++ outward (drop (suc i) xs)) (sym e)
+        ∙ (let n : suc i ≡ i + 1 = omega arith in ap (λ k. u ++ outward (drop k xs)) n);
+  }
+
+  pub reached_end : length xs ≤ i → Reached s xs i t → t ≡ s ++ outward xs
+  unfolding outward
+  reached_end le w = sym (w.rest ∙ ap (λ l. t ++ outward l) (drop_all i xs le) ∙ append-nil t)

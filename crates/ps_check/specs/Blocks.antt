@@ -1,5 +1,5 @@
 -- Routines and blocks (6.2.1, 6.6.1, 6.6.2).
-use Rattle.std.specs.Prelude.{ℕ, Bool, ◌&&◌, List, [], ◌∷◌, ◌++◌, length, map, drop, slice_get, slice_set, nat_le, nat_lt, Option, Some, None, is_none}
+use Rattle.std.specs.Prelude.{ℕ, Bool, ◌&&◌, List, [], ◌∷◌, ◌++◌, length, map, slice_get, slice_set, nat_le, nat_lt, Option, Some, None, is_none, option_and_then, if◌then◌else◌}
 use Rattle.ps_syntax.specs.declared.program.Heading as syntax
 use Rattle.ps_syntax.specs.declared.program.Routine as syntax_routine
 use Rattle.ps_syntax.specs.declared.program.Block as syntax_block
@@ -9,15 +9,17 @@ use Rattle.ps_syntax.specs.declared.program.Routine.TheFolds.{fold-Block, fold-R
 use Rattle.ps_tree.specs.Types.{DataType}
 use Rattle.ps_tree.specs.Tree as Tree
 use Rattle.ps_tree.specs.Counts.{routine_cells, routine_nodes}
-use Rattle.ps_check_names.specs.Option.{◌>>=◌, provided, steps}
-use Rattle.ps_check_names.specs.Spelling.{spelled, place, line_in}
+use Rattle.ps_check_judgement.specs.declared.change.Change.{Change}
+use Rattle.ps_check_judgement.specs.declared.refusal.Rule.TheVariants.{Unknown, Twice, UsedBefore, WrongKind, NoResultAssigned, Limit}
+use Rattle.ps_check_judgement.specs.Judged.{Judged, Yes, No, ◌>>=◌, provided, steps}
+use Rattle.ps_check_names.specs.Spelling.{spelled, has, place, line_in}
 use Rattle.ps_check_names.specs.Regions.{BlockRegion, Meaning, RoutineMeaning, Heading, Context, formals_of}
 use Rattle.ps_check_declarations.specs.Points.{all}
 use Rattle.ps_check_declarations.specs.Denoters.{Frame}
 use Rattle.ps_check_declarations.specs.Declarations.{declarations}
 use Rattle.ps_check_declarations.specs.Headings.{heading, section_list, section_points}
 use Rattle.ps_check_statements.specs.Statements.{statements}
-use Rattle.ps_check.specs.Threats.{is_safe, assigns}
+use Rattle.ps_check.specs.Changes.{assigns, outward}
 use Rattle.ps_check.specs.Readings.{Gathered, Done, Routines, BlockReading, RoutineReading, RoutineLayer, BlockLayer, heading_name, heading_list}
 use Rattle.ps_check.specs.Forwards.{block_names, is_waiting, all_complete}
 use Rattle.ps_check.specs.Entries.{start}
@@ -31,55 +33,69 @@ routine_tree chain h b = record { chain = chain; formals = formals_of h.sections
 unfoldable pub is_small_routine : Tree.Routine → Bool
 is_small_routine r = nat_le (routine_cells r) 100000 && nat_le (routine_nodes r) 4194304
 
--- a routine is whole, where a function's result is assigned in its block or in a routine within it; those come behind the first ones
-unfoldable pub finished : Heading → List ℕ → ℕ → Done → Option Gathered
-finished h chain before b = do
-  tree ← provided (assigns (length chain) h.result b.body (drop before b.gathered.routines)) (routine_tree chain h b)
-  small ← provided (is_small_routine tree) tree
-  Some (record { domains = b.gathered.domains; routines = slice_set b.gathered.routines h.number (Some small) })
+-- A routine is whole, where a function's result is assigned in its block. Its name is at `at`.
+unfoldable pub finished : (at : ℕ) → Heading → List ℕ → Done → Judged Gathered
+finished at h chain b = do
+  tree ← provided (assigns h.result b.changes) NoResultAssigned at (routine_tree chain h b)
+  small ← provided (is_small_routine tree) Limit at tree
+  Yes (record { domains = b.gathered.domains; routines = slice_set b.gathered.routines h.number (Some small) })
 
-unfoldable pub heading_at : Option Meaning → Option Heading
-heading_at (Some (RoutineMeaning h)) = Some h
-heading_at _ = None
+unfoldable pub heading_at : (at : ℕ) → Option Meaning → Judged Heading
+heading_at at (Some (RoutineMeaning h)) = Yes h
+heading_at at _ = No WrongKind at
 
 unfoldable pub own_number : List ℕ → ℕ
 own_number [] = 0
 own_number (n ∷ ns) = n
 
--- the context of statements, in which more domain types are known
-abbrev pub with_domains : Context → List DataType → Context
-with_domains c domains = record { text = c.text; domains = domains; has_input = c.has_input; has_output = c.has_output }
+-- the context of a block's statements, in which more domain types are known, and what the routines of the block change
+abbrev pub of_statements : Context → List DataType → List Change → Context
+of_statements c domains inner = record { text = c.text; domains = domains; has_input = c.has_input; has_output = c.has_output; controls = []; inner = inner }
 
 -- ---- routines and blocks
 
+-- what a name of the block stands for, if that is known
+abbrev pub known_as : Frame → List Meaning → List ℕ → Option Meaning
+known_as f known s = option_and_then (slice_get known) (place f.names s)
+
 -- A new heading, with the next number, of at most 1,048,576 (this project's limit).
-unfoldable pub new_heading : Frame → Bool → Routines → syntax.Heading → Option Routines
+unfoldable pub new_heading : Frame → Bool → Routines → syntax.Heading → Judged Routines
 new_heading f is_forward r h = do
-  n ← provided (nat_lt (length r.gathered.routines) 1048576) (length r.gathered.routines)
+  n ← provided (nat_lt (length r.gathered.routines) 1048576) Limit (heading_name h).from (length r.gathered.routines)
   s ← (heading f r.known h).1 []
-  let new : Heading = record { number = n; sections = section_list s.0; result = s.1; names = map (spelled f.text) (all (map (section_points f r.known) (heading_list h))); is_forward = is_forward }
-  Some (record { known = r.known ++ RoutineMeaning new ∷ []; gathered = record { domains = r.gathered.domains; routines = r.gathered.routines ++ None ∷ [] } })
+  let new : Heading = record { number = n; at = (heading_name h).from; sections = section_list s.0; result = s.1; names = map (spelled f.text) (all (map (section_points f r.known) (heading_list h))); is_forward = is_forward }
+  Yes (record { known = r.known ++ RoutineMeaning new ∷ []; changes = r.changes; gathered = record { domains = r.gathered.domains; routines = r.gathered.routines ++ None ∷ [] } })
+
+-- `function` with a name that is none of a forward heading
+abbrev pub unheaded : Frame → RoutineReading → Judged Routines
+unheaded f x = No (if has f.names (spelled f.text x.name) then UsedBefore else Unknown) x.name.from
+
+abbrev pub headed : Frame → RoutineReading → Routines → Option syntax.Heading → Judged Routines
+headed f x r None = unheaded f x
+headed f x r (Some h) = new_heading f (is_none x.block) r h
 
 -- the heading of a routine is new, unless its name is that of a forward heading, which it completes
-unfoldable pub introduce : Frame → RoutineReading → Routines → Option Meaning → Option Routines
-introduce f x r (Some m) = provided (is_waiting r.gathered x m) r
-introduce f x r None = x.heading >>= new_heading f (is_none x.block) r
+unfoldable pub introduce : Frame → RoutineReading → Routines → Option Meaning → Judged Routines
+introduce f x r (Some m) = provided (is_waiting r.gathered x m) Twice x.name.from r
+introduce f x r None = headed f x r x.heading
 
--- the block of the heading at an index of the names
-unfoldable pub read_block : Frame → List ℕ → ℕ → Routines → Option BlockReading → Option Routines
-read_block f chain i r None = Some r
-read_block f chain i r (Some block) = do
-  h ← heading_at (slice_get r.known i)
-  s ← start chain h
+abbrev pub introduced : Frame → RoutineReading → Routines → Judged Routines
+introduced f x r = introduce f x r (known_as f r.known (spelled f.text x.name))
+
+-- the block of a routine, whose heading is known
+unfoldable pub read_block : Frame → List ℕ → RoutineReading → Routines → Option BlockReading → Judged Routines
+read_block f chain x r None = Yes r
+read_block f chain x r (Some block) = do
+  h ← heading_at x.name.from (known_as f r.known (spelled f.text x.name))
+  s ← start x.name.from chain h
   b ← block (BlockRegion f.routine f.names r.known ∷ f.outer) s r.gathered
-  g ← finished h s.chain (length r.gathered.routines) b
-  Some (record { known = r.known; gathered = g })
+  g ← finished x.name.from h s.chain b
+  Yes (record { known = r.known; changes = r.changes ++ outward b.changes; gathered = g })
 
-unfoldable pub one_routine : Frame → List ℕ → Routines → RoutineReading → Option Routines
+unfoldable pub one_routine : Frame → List ℕ → Routines → RoutineReading → Judged Routines
 one_routine f chain r x = do
-  i ← place f.names (spelled f.text x.name)
-  s ← introduce f x r (slice_get r.known i)
-  read_block f chain i s x.block
+  s ← introduced f x r
+  read_block f chain x s x.block
 
 unfoldable pub routine_step : RoutineLayer → RoutineReading
 routine_step (Routine-F.Whole h b) = record { name = heading_name h; heading = Some h; block = Some b }
@@ -87,28 +103,26 @@ routine_step (Routine-F.Forward h) = record { name = heading_name h; heading = S
 routine_step (Routine-F.Completion name b) = record { name = name; heading = None; block = Some b }
 
 -- the declarations of a block, and the types of its variables
-unfoldable pub declared : Frame → BlockLayer → (first : ℕ) → List Meaning → Gathered → Option (Routines × List DataType)
+unfoldable pub declared : Frame → BlockLayer → (first : ℕ) → List Meaning → Gathered → Judged (Routines × List DataType)
 declared f b first known g = do
   d ← declarations f first (record { known = known; domains = g.domains; pending = []; variables = [] }) b.constants b.types b.variables
-  Some (record { known = d.known; gathered = record { domains = d.domains; routines = g.routines } }, d.variables)
+  Yes (record { known = d.known; changes = []; gathered = record { domains = d.domains; routines = g.routines } }, d.variables)
 
--- The statements of a block. Its routines have their blocks, and those within it, which come behind the first ones, threaten no control variable.
-unfoldable pub block_body : Context → Frame → BlockLayer → (depth before : ℕ) → Routines → Option Tree.Statements
-block_body c f b depth before r = do
-  complete ← provided (all_complete r.gathered r.known) r.gathered
-  body ← statements (with_domains c complete.domains) (BlockRegion f.routine f.names r.known ∷ f.outer) b.statements
-  provided (is_safe depth (drop before complete.routines) body) body
+-- The statements of a block, whose routines have their blocks, with what they change.
+unfoldable pub block_body : Context → Frame → BlockLayer → Routines → Judged (Tree.Statements × List Change)
+block_body c f b r = do
+  _ ← all_complete r.gathered r.known
+  statements (of_statements c r.gathered.domains r.changes) (BlockRegion f.routine f.names r.known ∷ f.outer) b.statements []
 
 module _ (c : Context) where
-  -- All names of the region are known before any of them is used. Then come the declarations, the routines and the statements.
+  -- All names of the region are known before any of them is used, and nothing is told by that. Then come the declarations, the routines and the statements.
   unfoldable pub block_step : BlockLayer → BlockReading
   block_step b outer start g = do
-    names ← block_names c.text b start.names
-    let f : Frame = record { text = c.text; routine = own_number start.chain; names = names; outer = outer }
+    let f : Frame = record { text = c.text; routine = own_number start.chain; names = block_names c.text b start.names; begun = []; outer = outer }
     d ← declared f b start.first start.known g
     r ← steps (one_routine f start.chain) d.0 b.routines
-    body ← block_body c f b (length start.chain) (length g.routines) r
-    Some (record { variables = d.1; body = body; line = line_in c.text b.begin.from; gathered = r.gathered })
+    body ← block_body c f b r
+    Yes (record { variables = d.1; body = body.0; line = line_in c.text b.begin.from; changes = r.changes ++ body.1; gathered = r.gathered })
 
   abbrev pub block : syntax_block.Block → BlockReading
   block = fold-Block RoutineReading BlockReading routine_step block_step

@@ -1,8 +1,8 @@
 -- The names of a block's routines, and the forward headings among them (6.6.1, 6.6.2).
-use Rattle.std.specs.Prelude.{ℕ, Bool, true, false, ◌&&◌, not, List, [], ◌∷◌, ◌++◌, slice_get, Option, Some, None, is_some, is_none, if◌then◌else◌}
-use Rattle.std.specs.List.{list_all}
+use Rattle.std.specs.Prelude.{ℕ, Bool, true, false, ◌&&◌, ◌||◌, not, List, [], ◌∷◌, ◌++◌, slice_get, Option, Some, None, is_some, is_none, if◌then◌else◌}
 use Rattle.ps_tree.specs.Tree as Tree
-use Rattle.ps_check_names.specs.Option.{◌>>=◌, provided, steps}
+use Rattle.ps_check_judgement.specs.declared.refusal.Rule.TheVariants.{ForwardOpen}
+use Rattle.ps_check_judgement.specs.Judged.{Judged, Yes, holds, steps}
 use Rattle.ps_check_names.specs.Spelling.{spelled, has}
 use Rattle.ps_check_names.specs.Regions.{Meaning, RoutineMeaning, Heading}
 use Rattle.ps_check_declarations.specs.Points.{add_points, block_points}
@@ -10,18 +10,17 @@ use Rattle.ps_check.specs.Readings.{Gathered, RoutineReading, BlockLayer, is_nam
 
 -- ---- the names of a block's routines, which come behind those of its declarations
 
--- 6.6.1, 6.6.2: a name that is there already may be that of a forward heading, which a heading with the name alone and a block completes
-abbrev pub may_complete : RoutineReading → Bool
-may_complete r = is_some r.block && is_name_alone r.heading
+-- a heading defines its name, unless the name is there already
+unfoldable pub add_routine : List ℕ → List (List ℕ) → RoutineReading → List (List ℕ)
+add_routine text names r = if is_none r.heading || has names (spelled text r.name) then names else names ++ spelled text r.name ∷ []
 
-unfoldable pub add_routine : List ℕ → List (List ℕ) → RoutineReading → Option (List (List ℕ))
-add_routine text names r =
-    if has names (spelled text r.name) then provided (may_complete r) names else (
-    if is_some r.heading then Some (names ++ spelled text r.name ∷ []) else None)
+abbrev pub add_routines : List ℕ → List (List ℕ) → List RoutineReading → List (List ℕ)
+add_routines text names [] = names
+add_routines text names (r ∷ rs) = add_routines text (add_routine text names r) rs
 
--- all names of a block's region: those of its constants, types and variables, and those of its routines
-unfoldable pub block_names : List ℕ → BlockLayer → List (List ℕ) → Option (List (List ℕ))
-block_names text b names = add_points text names (block_points b.constants b.types b.variables) >>= (λ declared. steps (add_routine text) declared b.routines)
+-- all names of a block's region, each once: those of its constants, types and variables, and those of its routines
+unfoldable pub block_names : List ℕ → BlockLayer → List (List ℕ) → List (List ℕ)
+block_names text b names = add_routines text (add_points text names (block_points b.constants b.types b.variables)) b.routines
 
 -- ---- forward headings
 
@@ -37,15 +36,20 @@ is_open g h = is_vacant (slice_get g.routines h.number)
 abbrev pub is_same_kind : RoutineReading → Heading → Bool
 is_same_kind r h = if is_some r.heading then is_none h.result else is_some h.result
 
+-- 6.6.1, 6.6.2: a heading with the name alone and a block completes a forward heading
+abbrev pub may_complete : RoutineReading → Bool
+may_complete r = is_some r.block && is_name_alone r.heading
+
 -- the meaning is a forward heading without its block, which the routine completes
 unfoldable pub is_waiting : Gathered → RoutineReading → Meaning → Bool
-is_waiting g r (RoutineMeaning h) = is_open g h && is_same_kind r h
+is_waiting g r (RoutineMeaning h) = may_complete r && (is_open g h && is_same_kind r h)
 is_waiting g r _ = false
 
--- a routine has its block
-unfoldable pub is_complete : Gathered → Meaning → Bool
-is_complete g (RoutineMeaning h) = not (is_open g h)
-is_complete g _ = true
+-- 6.6.1: a routine of the block has its block; else that is told at its heading's name
+unfoldable pub one_complete : Gathered → Unit {0} → Meaning → Judged (Unit {0})
+one_complete g _ (RoutineMeaning h) = holds (not (is_open g h)) ForwardOpen h.at
+one_complete g _ _ = Yes tt
 
-unfoldable pub all_complete : Gathered → List Meaning → Bool
-all_complete g ms = list_all (is_complete g) ms
+-- so all of them have, in the order in which their names were defined
+unfoldable pub all_complete : Gathered → List Meaning → Judged (Unit {0})
+all_complete g ms = steps (one_complete g) tt ms

@@ -1,10 +1,11 @@
-pub mod Threats
+pub mod Changes
 pub mod Formals
 pub mod Readings
 pub mod Forwards
 pub mod Entries
 pub mod Blocks
 pub mod Programs
+pub mod Checked
 pub mod Views
 pub mod RegionNames
 pub mod Paths

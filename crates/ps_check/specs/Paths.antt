@@ -1,11 +1,11 @@
 -- The blocks of a program by their paths in the whole tree, and the regions in which each is read (6.2.2).
-use Rattle.std.specs.Prelude.{◌≡◌, ℕ, List, [], ◌∷◌, Option, Some, None, slice_get}
+use Rattle.std.specs.Prelude.{◌≡◌, ℕ, List, [], ◌∷◌, Option, Some, None, slice_get, option_and_then}
 use Rattle.ps_syntax.specs.declared.program.Block.{Block, out-Block}
 use Rattle.ps_syntax.specs.declared.program.Routine.{Routine, out-Routine}
 use Rattle.ps_syntax.specs.declared.program.Routine.TheOpen.{Routine-F}
 use Rattle.ps_syntax.specs.declared.program.Program as syntax
 use Rattle.ps_tree.specs.Tree as Tree
-use Rattle.ps_check_names.specs.Option.{◌>>=◌, steps}
+use Rattle.ps_check_judgement.specs.Judged.{Yes, steps}
 use Rattle.ps_check_names.specs.Regions.{Region, BlockRegion, Meaning, Context}
 use Rattle.ps_check.specs.Readings.{Start, Gathered, Done}
 use Rattle.ps_check.specs.Blocks.{block, layer}
@@ -24,7 +24,7 @@ routine_block r = layer_block (out-Routine r)
 -- The block at a path, which tells the routines from the inside out: of k before a path v, that of routine k of the block at v.
 unfoldable pub block_at : Block → List ℕ → Option Block
 block_at b [] = Some b
-block_at b (k ∷ v) = block_at b v >>= (λ a. slice_get (out-Block a).routines k >>= routine_block)
+block_at b (k ∷ v) = option_and_then (λ a. option_and_then routine_block (slice_get (out-Block a).routines k)) (block_at b v)
 
 -- The regions that enclose the block at a path, from the inside out: those of the blocks round it, each with all its defining points in the tree,
 -- those after the place too, and the region of the required names round the program. Left open are the numbers of the blocks' routines, the meanings of
@@ -39,14 +39,14 @@ pub record IsRead (c : Context) (root : Block) (v : List ℕ) (b : Block) : Type
   pub start : Start
   pub gathered : Gathered
   pub done : Done
-  pub reading : block c b regions start gathered ≡ Some done
+  pub reading : block c b regions start gathered ≡ Yes done
   pub enclosed : IsEnclosed c root v regions
 
 -- each block of a program that has a checked tree
 pub record BlocksAreRead (text : List ℕ) (p : syntax.Program) : Type 0 where
   pub files : Files
-  pub listed : steps (list_file text) no_files p.parameters ≡ Some files
+  pub listed : steps (list_file text) no_files p.parameters ≡ Yes files
   pub each : (v : List ℕ) (b : Block) → block_at p.block v ≡ Some b → IsRead (program_context text files) p.block v b
 
 abbrev pub BlocksAreEnclosed : Type 0
-BlocksAreEnclosed = (text : List ℕ) (p : syntax.Program) (made : Tree.Program) → program text p ≡ Some made → BlocksAreRead text p
+BlocksAreEnclosed = (text : List ℕ) (p : syntax.Program) (made : Tree.Program) → program text p ≡ Yes made → BlocksAreRead text p

@@ -1,5 +1,5 @@
 -- Programs (6.10) and the required names (6.2.2.10, 6.3, 6.4.2.2, 6.6.5, 6.6.6).
-use Rattle.std.specs.Prelude.{ℕ, pos, List, [], ◌∷◌, ◌++◌, map, slice_set, Option, Some, None, if◌then◌else◌, codes}
+use Rattle.std.specs.Prelude.{ℕ, pos, List, [], ◌∷◌, ◌++◌, map, slice_set, Some, None, not, if◌then◌else◌, codes}
 use Rattle.ps_text.specs.declared.Span.{Span}
 use Rattle.ps_syntax.specs.declared.program.Program as syntax
 use Rattle.ps_tree.specs.Types.{OrdinalType}
@@ -7,11 +7,11 @@ use Rattle.ps_tree.specs.Tree as Tree
 use Rattle.ps_tree.specs.Counts.{is_within_limits}
 use Rattle.ps_check_names.specs.declared.meaning.File.TheVariants.{Input, Output}
 use Rattle.ps_check_names.specs.declared.meaning.Required.TheVariants as routine
-use Rattle.ps_check_names.specs.Option.{◌>>=◌, provided, steps, traverse}
+use Rattle.ps_check_judgement.specs.declared.refusal.Rule.TheVariants.{NotInProfile, Twice, Limit}
+use Rattle.ps_check_judgement.specs.Judged.{Judged, Yes, No, ◌>>=◌, provided, some_or, steps, traverse}
 use Rattle.ps_check_names.specs.Spelling.{spelled, same, has}
 use Rattle.ps_check_names.specs.Regions.{Region, BlockRegion, Meaning, ConstantMeaning, TypeMeaning, FileMeaning, RequiredMeaning, LeftOutMeaning, Context}
 use Rattle.ps_check_names.specs.Constants.{integer, char, boolean}
-use Rattle.ps_check_declarations.specs.Points.{add_name}
 use Rattle.ps_check.specs.Readings.{Start, Gathered, Done}
 use Rattle.ps_check.specs.Blocks.{block}
 
@@ -55,19 +55,24 @@ pub record Files : Type 0 where
 abbrev pub no_files : Files
 no_files = record { names = []; known = [] }
 
-abbrev pub file_named : List ℕ → Option Meaning
-file_named s = if same s (codes "input") then Some (FileMeaning Input) else (if same s (codes "output") then Some (FileMeaning Output) else None)
+-- the file that is spelled so, at `at`
+abbrev pub file_named : (at : ℕ) → List ℕ → Judged Meaning
+file_named at s = if same s (codes "input") then Yes (FileMeaning Input) else (if same s (codes "output") then Yes (FileMeaning Output) else No NotInProfile at)
 
 -- one more name of the region around the program, unless it is there
-unfoldable pub add_required : Files → List ℕ × Meaning → Option Files
-add_required region e = Some (if has region.names e.0 then region else record { names = region.names ++ e.0 ∷ []; known = region.known ++ e.1 ∷ [] })
+unfoldable pub add_required : Files → List ℕ × Meaning → Files
+add_required region e = if has region.names e.0 then region else record { names = region.names ++ e.0 ∷ []; known = region.known ++ e.1 ∷ [] }
+
+abbrev pub add_all_required : Files → Names → Files
+add_all_required region [] = region
+add_all_required region (e ∷ es) = add_all_required (add_required region e) es
 
 -- a program parameter is input or output, and none stands twice
-unfoldable pub list_file : List ℕ → Files → Span → Option Files
+unfoldable pub list_file : List ℕ → Files → Span → Judged Files
 list_file text files at = do
-  meaning ← file_named (spelled text at)
-  names ← add_name files.names (spelled text at)
-  Some (record { names = names; known = files.known ++ meaning ∷ [] })
+  meaning ← file_named at.from (spelled text at)
+  names ← provided (not (has files.names (spelled text at))) Twice at.from (files.names ++ spelled text at ∷ [])
+  Yes (record { names = names; known = files.known ++ meaning ∷ [] })
 
 -- ---- programs
 
@@ -84,25 +89,25 @@ nothing_gathered = record { domains = []; routines = None ∷ [] }
 abbrev pub program_routine : Done → Tree.Routine
 program_routine b = record { chain = program_chain; formals = Tree.no_formal; result = None; variables = b.variables; body = b.body; line = b.line }
 
--- the context of the program's statements
+-- the context of the program, outside its statements
 abbrev pub program_context : List ℕ → Files → Context
-program_context text files = record { text = text; domains = []; has_input = has files.names (codes "input"); has_output = has files.names (codes "output") }
+program_context text files = record { text = text; domains = []; has_input = has files.names (codes "input"); has_output = has files.names (codes "output"); controls = []; inner = [] }
 
--- The program of these parts, where each routine has its block, and it keeps the limits (this project's).
-unfoldable pub assembled : Gathered → Option Tree.Program
-assembled g = do
-  routines ← traverse (λ r. r) g.routines
+-- The program of these parts, where each routine has its block, and it keeps the limits (this project's). Its name is at `at`.
+unfoldable pub assembled : (at : ℕ) → Gathered → Judged Tree.Program
+assembled at g = do
+  routines ← traverse (some_or Limit at) g.routines
   let made : Tree.Program = record { routines = routines; domains = g.domains }
-  provided (is_within_limits made) made
+  provided (is_within_limits made) Limit at made
 
 -- with the program block as routine 0
-unfoldable pub program_of : Done → Option Tree.Program
-program_of b = assembled (record { domains = b.gathered.domains; routines = slice_set b.gathered.routines 0 (Some (program_routine b)) })
+unfoldable pub program_of : (at : ℕ) → Done → Judged Tree.Program
+program_of at b = assembled at (record { domains = b.gathered.domains; routines = slice_set b.gathered.routines 0 (Some (program_routine b)) })
 
 -- the checked program of a tree whose heading lists these files
-unfoldable pub program_with : List ℕ → syntax.Program → Files → Option Tree.Program
-program_with text p files = block (program_context text files) p.block (required ∷ []) (program_start files) nothing_gathered >>= program_of
+unfoldable pub program_with : List ℕ → syntax.Program → Files → Judged Tree.Program
+program_with text p files = block (program_context text files) p.block (required ∷ []) (program_start files) nothing_gathered >>= program_of p.name.from
 
--- the checked program of a tree, if it has one
-unfoldable pub program : List ℕ → syntax.Program → Option Tree.Program
+-- **The judgement of a program**: its checked tree, or the rule that it breaks and the offset of the token at which that is told, in the order of the text.
+unfoldable pub program : List ℕ → syntax.Program → Judged Tree.Program
 program text p = steps (list_file text) no_files p.parameters >>= program_with text p

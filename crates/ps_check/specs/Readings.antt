@@ -8,6 +8,8 @@ use Rattle.ps_syntax.specs.declared.program.Section as syntax_section
 use Rattle.ps_syntax.specs.declared.program.Routine.TheOpen.{Routine-F, Block-F}
 use Rattle.ps_tree.specs.Types.{DataType}
 use Rattle.ps_tree.specs.Tree as Tree
+use Rattle.ps_check_judgement.specs.declared.change.Change.{Change}
+use Rattle.ps_check_judgement.specs.Judged.{Judged}
 use Rattle.ps_check_names.specs.Regions.{Region, Meaning}
 
 -- ---- what is read
@@ -26,20 +28,23 @@ pub record Start : Type 0 where
   pub known : List Meaning
   pub first : ℕ
 
--- What a block gives: the types of its variables, its statements, the line of its `begin`, and the program with the routines within it.
+-- What a block gives: the types of its variables, its statements, the line of its `begin`, what its statements and the routines within it change, as the
+-- block sees it, and the program with the routines within it.
 pub record Done : Type 0 where
   pub variables : List DataType
   pub body : Tree.Statements
   pub line : ℕ
+  pub changes : List Change
   pub gathered : Gathered
 
--- What the routines of a block so far give: the meanings of the block's names, and the program.
+-- What the routines of a block so far give: the meanings of the block's names, what they change, as the block sees it, and the program.
 pub record Routines : Type 0 where
   pub known : List Meaning
+  pub changes : List Change
   pub gathered : Gathered
 
 abbrev pub BlockReading : Type 0
-BlockReading = List Region → Start → Gathered → Option Done
+BlockReading = List Region → Start → Gathered → Judged Done
 
 -- a routine: its name, its heading, unless it is `function` and the name alone, and its block, unless it is forward
 pub record RoutineReading : Type 0 where

@@ -1,9 +1,12 @@
 -- The names of a block's region are the spellings of its defining points, each once (6.2.2.1, 6.2.2.7).
-use Rattle.std.specs.Prelude.{◌≡◌, ℕ, true, false, List, [], ◌∷◌, ◌++◌, map, Some, Contains}
+use Rattle.std.specs.Prelude.{◌≡◌, ℕ, true, false, List, [], ◌∷◌, ◌++◌, length, map, Contains}
+use Rattle.ps_check_judgement.specs.Judged.{Yes}
 use Rattle.ps_check_names.specs.Spelling.{spelled, has}
+use Rattle.ps_check_names.specs.Regions.{Region, Context}
 use Rattle.ps_check_declarations.specs.Points.{block_points}
-use Rattle.ps_check.specs.Readings.{RoutineReading, BlockLayer}
+use Rattle.ps_check.specs.Readings.{RoutineReading, BlockLayer, Start, Gathered, Done}
 use Rattle.ps_check.specs.Forwards.{block_names}
+use Rattle.ps_check.specs.Blocks.{block_step}
 
 -- the fact holds of each
 abbrev pub Each : {A : Type 0} → (A → Type 0) → List A → Type 0
@@ -31,5 +34,6 @@ pub record AreNames (text : List ℕ) (b : BlockLayer) (first all : List (List �
   -- a name has one defining point in the region
   pub apart : AreApart first → AreApart all
 
+-- The names of an accepted block's region: each of its points was new where its definition stands. The names that stand there before its own have their meanings.
 abbrev pub NamesArePoints : Type 0
-NamesArePoints = (text : List ℕ) (b : BlockLayer) (first all : List (List ℕ)) → block_names text b first ≡ Some all → AreNames text b first all
+NamesArePoints = (c : Context) (b : BlockLayer) (Γ : List Region) (s : Start) (g : Gathered) (d : Done) → length s.known ≡ length s.names → block_step c b Γ s g ≡ Yes d → AreNames c.text b s.names (block_names c.text b s.names)

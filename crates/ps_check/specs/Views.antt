@@ -7,6 +7,7 @@ use Rattle.ps_check_names.specs.declared.meaning.Meaning as RustMeaning
 use Rattle.ps_check.specs.declared.state.Gathered as RustGathered
 use Rattle.ps_check.specs.declared.state.Start as RustStart
 use Rattle.ps_check.specs.declared.state.Done as RustDone
+use Rattle.ps_check.specs.declared.state.Local as RustLocal
 use Rattle.ps_check.specs.declared.chain.Finished.{Finished}
 use Rattle.ps_check.specs.declared.program.Files as RustFiles
 use Rattle.ps_check.specs.declared.program.Standard as Standard
@@ -27,10 +28,10 @@ abbrev pub start_of : List ℕ → RustStart.Start → Start
 start_of chain s = record { chain = chain; names = s.names; known = map meaning_of s.known.items; first = s.first }
 
 abbrev pub done_of : RustDone.Done → RustGathered.Gathered → Done
-done_of b g = record { variables = map type_of b.variables.items; body = statements_of b.body.items; line = b.line.number; gathered = gathered_of g }
+done_of b g = record { variables = map type_of b.variables.items; body = statements_of b.body.items; line = b.line.number; changes = b.changes.items; gathered = gathered_of g }
 
-abbrev pub routines_of : List RustMeaning.Meaning → RustGathered.Gathered → Routines
-routines_of known g = record { known = map meaning_of known; gathered = gathered_of g }
+abbrev pub routines_of : RustLocal.Local → RustGathered.Gathered → Routines
+routines_of l g = record { known = map meaning_of l.known.items; changes = l.changes.items; gathered = gathered_of g }
 
 abbrev pub entries_of : ℕ → List RustMeaning.Meaning → Entries
 entries_of next known = record { next = next; known = map meaning_of known }

@@ -1,43 +1,47 @@
 //! Blocks and the routines in them.
 
-ghost use Rattle.std.specs.Prelude.{◌≡◌, ◌∷◌, length, Some, None, IfOk, IfErr, OnOk, map};
+ghost use Rattle.std.specs.Prelude.{◌≡◌, ◌++◌, ◌∷◌, [], Some, OnOk, map};
+ghost use Rattle.ps_syntax.specs.declared.program.Block.{out-Block};
 ghost use Rattle.ps_tree.specs.View.{type_of, statements_of};
-ghost use Rattle.ps_check_names.specs.Option.{steps};
-ghost use Rattle.ps_check_names.specs.Refusal.{IsFault};
+ghost use Rattle.ps_check_judgement.specs.Judged.{Answers, steps};
 ghost use Rattle.ps_check_names.specs.Regions.{BlockRegion};
 ghost use Rattle.ps_check_names.specs.Views.{meaning_of, context_of, scope_of};
 ghost use Rattle.ps_check_declarations.specs.Views.{frame_of};
 ghost use Rattle.ps_check_statements.specs.Statements.{statements};
+ghost use Rattle.ps_check.specs.Readings.{RoutineReading};
 ghost use Rattle.ps_check.specs.Forwards.{block_names};
-ghost use Rattle.ps_check.specs.Blocks.{with_domains, one_routine, read_block, declared, block_body, block, routine, layer};
+ghost use Rattle.ps_check.specs.Blocks.{of_statements, one_routine, read_block, declared, block_body, block, routine, layer};
 ghost use Rattle.ps_check.specs.Views.{gathered_of, start_of, done_of, routines_of};
 
 use crate::chain::Chain;
+use crate::changes::add_outward;
 use crate::routines::{
-    add_routines, all_complete, broken, finish, heading_at, index_of, introduce, routine_name,
-    start,
+    add_routines, all_complete, finish, heading_of_routine, introduce, routine_name, start,
 };
-use crate::state::{Done, Gathered, Start};
-use crate::threats::{threatened, within};
+use crate::state::{Done, Gathered, Local, Start};
 use ps_check_declarations::declarations::declarations;
-use ps_check_declarations::frame::{Declared, Frame};
+use ps_check_declarations::frame::{Declared, Frame, Parts};
 use ps_check_declarations::points::add_block;
+use ps_check_expressions::changed::Controls;
+use ps_check_expressions::inner::Inner;
 use ps_check_expressions::site::Site;
+use ps_check_judgement::change::Change;
+use ps_check_judgement::refusal::Fault;
 use ps_check_names::meaning::Meaning;
 use ps_check_names::reading::Reading;
-use ps_check_names::refusal::{Fault, Rule};
 use ps_check_names::scope::Scope;
 use ps_check_statements::statement::statements;
 use ps_syntax::{Block, Routine, Statement};
+use ps_text::Span;
 use ps_tree::names::Names;
 use ps_tree::tree::Statement as StatementTree;
 use ps_tree::types::Ty;
-use std::alloc::Global;
+use std::alloc::{AllocError, Global};
 use std::mem;
 
 /// The same reading, where these domain types are known.
 fn reading_with<'a>(reading: &Reading<'a>, domains: &'a [Ty]) -> Reading<'a>
-    ensures { context_of result ≡ with_domains (context_of reading.now) (map type_of domains.now) }
+    ensures { context_of result ≡ of_statements (context_of reading.now) (map type_of domains.now) [] }
 {
     Reading {
         source: reading.source,
@@ -61,25 +65,43 @@ fn scope_within<'a>(frame: &'a Frame<'a>, known: &'a [Meaning]) -> Scope<'a>
     }
 }
 
-/// The statements of a block, whose names have these meanings.
+/// The statements of a block and what they change, where its names have these meanings and the routines in it change that.
+#[tactic(auto, unfolding(ps_check_expressions::specs::View::controls_of))]
 fn read_statements(
     list: &[Statement],
     frame: &Frame,
     alloc: Global,
-    known: &[Meaning],
+    local: &Local,
     domains: &[Ty],
-) -> Result<Vec<StatementTree>, Fault>
-    ensures ok { IfOk result (λ body. statements (with_domains (context_of frame.now.reading.now) (map type_of domains.now)) (BlockRegion frame.now.routine frame.now.names.now (map meaning_of known.now) ∷ scope_of frame.now.outer.now) list.now ≡ Some (statements_of body.items)) }
-    ensures err { IfErr result (λ fault. IsFault fault → statements (with_domains (context_of frame.now.reading.now) (map type_of domains.now)) (BlockRegion frame.now.routine frame.now.names.now (map meaning_of known.now) ∷ scope_of frame.now.outer.now) list.now ≡ None) }
+) -> Result<(Vec<StatementTree>, Vec<Change>), Fault>
+    ensures { Answers result (λ read. (statements_of read.0.items, read.1.items)) (statements (of_statements (context_of frame.now.reading.now) (map type_of domains.now) local.now.changes.items) (BlockRegion frame.now.routine frame.now.names.now (map meaning_of local.now.known.items) ∷ scope_of frame.now.outer.now) list.now []) }
 {
     let reading = reading_with(frame.reading, domains);
-    let scope = scope_within(frame, known);
+    let scope = scope_within(frame, &local.known);
+    let inner = Inner::new(alloc, &local.changes)?;
     let site = Site {
         alloc,
         reading: &reading,
         scope: &scope,
+        controls: &Controls::Outside,
+        inner: &inner,
     };
-    statements(list, site)
+    let mut changes = Vec::new(alloc);
+    let body = statements(list, site, &mut changes)?;
+    Ok((body, changes))
+}
+
+/// The declarations of a block.
+fn parts_of<'a>(written: &'a Block) -> Parts<'a>
+    ensures constants { result.constants.now ≡ (out-Block written.now).constants }
+    ensures types { result.types.now ≡ (out-Block written.now).types }
+    ensures variables { result.variables.now ≡ (out-Block written.now).variables }
+{
+    Parts {
+        constants: written.constants.as_slice(),
+        types: written.types.as_slice(),
+        variables: written.variables.as_slice(),
+    }
 }
 
 /// The names of a block's region, behind those that are there.
@@ -88,18 +110,10 @@ fn add_block_names(
     reading: &Reading,
     alloc: Global,
     names: &mut Names,
-) -> Result<(), Fault>
-    ensures ok { OnOk result (block_names reading.now.source.now (layer (context_of reading.now) written.now) names.old ≡ Some names.new) }
-    ensures err { IfErr result (λ fault. IsFault fault → block_names reading.now.source.now (layer (context_of reading.now) written.now) names.old ≡ None) }
+) -> Result<(), AllocError>
+    ensures { OnOk result (names.new ≡ block_names reading.now.source.now (layer (context_of reading.now) written.now) names.old) }
 {
-    add_block(
-        reading,
-        alloc,
-        names,
-        written.constants.as_slice(),
-        written.types.as_slice(),
-        written.variables.as_slice(),
-    )?;
+    add_block(reading, alloc, names, &parts_of(written))?;
     add_routines(reading, alloc, names, written.routines.as_slice())
 }
 
@@ -108,62 +122,44 @@ fn declare(
     written: &Block,
     frame: &Frame,
     alloc: Global,
-    known: &mut Vec<Meaning>,
-    first: u32,
+    start: (Vec<Meaning>, u32),
     gathered: &mut Gathered,
-) -> Result<Vec<Ty>, Fault>
-    ensures ok { IfOk result (λ variables. declared (frame_of frame.now) (layer (context_of frame.now.reading.now) written.now) first (map meaning_of known.old.items) (gathered_of gathered.old) ≡ Some (routines_of known.new.items gathered.new, map type_of variables.items)) }
-    ensures err { IfErr result (λ fault. IsFault fault → declared (frame_of frame.now) (layer (context_of frame.now.reading.now) written.now) first (map meaning_of known.old.items) (gathered_of gathered.old) ≡ None) }
+) -> Result<(Local, Vec<Ty>), Fault>
+    ensures { Answers result (λ made. (routines_of made.0 gathered.new, map type_of made.1.items)) (declared (frame_of frame.now) (layer (context_of frame.now.reading.now) written.now) start.1 (map meaning_of start.0.items) (gathered_of gathered.old)) }
 {
+    let (known, first) = start;
     let mut declared = Declared {
-        known: mem::replace(known, Vec::new(alloc)),
+        known,
         domains: mem::replace(&mut gathered.domains, Vec::new(alloc)),
         pending: Vec::new(alloc),
         variables: Vec::new(alloc),
     };
-    declarations(
-        frame,
-        alloc,
-        first,
-        &mut declared,
-        written.constants.as_slice(),
-        written.types.as_slice(),
-        written.variables.as_slice(),
-    )?;
-    *known = declared.known;
-    gathered.domains = declared.domains;
-    Ok(declared.variables)
+    declarations(frame, alloc, first, &mut declared, &parts_of(written))?;
+    let Declared {
+        known,
+        domains,
+        variables,
+        ..
+    } = declared;
+    gathered.domains = domains;
+    let changes = Vec::new(alloc);
+    Ok((Local { known, changes }, variables))
 }
 
-/// The statements of a block. The routines within it come behind the first ones.
+/// The statements of a block, whose routines have their blocks, and what they change.
+#[tactic(auto, unfolding(crate::specs::Blocks::block_body))]
 fn read_body(
     written: &Block,
     frame: &Frame,
     alloc: Global,
-    chain: &Chain,
-    known: &[Meaning],
+    local: &Local,
     gathered: &Gathered,
-    before: usize,
-) -> Result<Vec<StatementTree>, Fault>
-    ensures ok { IfOk result (λ body. block_body (context_of frame.now.reading.now) (frame_of frame.now) (layer (context_of frame.now.reading.now) written.now) (length chain.now) before (routines_of known.now gathered.now) ≡ Some (statements_of body.items)) }
-    ensures err { IfErr result (λ fault. IsFault fault → block_body (context_of frame.now.reading.now) (frame_of frame.now) (layer (context_of frame.now.reading.now) written.now) (length chain.now) before (routines_of known.now gathered.now) ≡ None) }
+) -> Result<(Vec<StatementTree>, Vec<Change>), Fault>
+    ensures { Answers result (λ read. (statements_of read.0.items, read.1.items)) (block_body (context_of frame.now.reading.now) (frame_of frame.now) (layer (context_of frame.now.reading.now) written.now) (routines_of local.now gathered.now)) }
 {
-    if !all_complete(gathered, known) {
-        // which heading it is, is looked for when it is told
-        return Err(broken(Rule::ForwardOpen, written.begin.from));
-    }
-    let body = read_statements(
-        written.statements.as_slice(),
-        frame,
-        alloc,
-        known,
-        &gathered.domains,
-    )?;
-    let inner = within(&gathered.routines, before);
-    match threatened(alloc, inner, chain.depth(), &body)? {
-        None => Ok(body),
-        Some(at) => Err(broken(Rule::ControlVariable, at)),
-    }
+    all_complete(gathered, &local.known)?;
+    let list = written.statements.as_slice();
+    read_statements(list, frame, alloc, local, &gathered.domains)
 }
 
 /// A block, and the routines within it. The names of its region and their meanings are added to those that it begins
@@ -179,50 +175,54 @@ pub fn block(
     start: &mut Start,
     gathered: &mut Gathered,
 ) -> Result<Done, Fault>
-    ensures ok { IfOk result (λ done. block (context_of reading.now) written.now (scope_of outer.now) (start_of chain.now start.old) (gathered_of gathered.old) ≡ Some (done_of done gathered.new)) }
-    ensures err { IfErr result (λ fault. IsFault fault → block (context_of reading.now) written.now (scope_of outer.now) (start_of chain.now start.old) (gathered_of gathered.old) ≡ None) }
+    ensures { Answers result (λ done. done_of done gathered.new) (block (context_of reading.now) written.now (scope_of outer.now) (start_of chain.now start.old) (gathered_of gathered.old)) }
 {
     add_block_names(written, reading, alloc, &mut start.names)?;
-    let known = &mut start.known;
+    let known = mem::replace(&mut start.known, Vec::new(alloc));
+    let begun = Names::new(alloc);
     let frame = Frame {
         reading: &*reading,
         routine: chain.own_number(),
         names: &start.names,
+        begun: &begun,
         outer: &*outer,
     };
-    let before = gathered.routines.len();
-    let variables = declare(written, &frame, alloc, known, start.first, gathered)?;
+    let declared = declare(written, &frame, alloc, (known, start.first), gathered)?;
+    let (mut local, variables) = declared;
     read_routines(
         written.routines.as_slice(),
         &frame,
         alloc,
         chain,
-        known,
+        &mut local,
         gathered,
     )?;
-    let body = read_body(written, &frame, alloc, chain, known, gathered, before)?;
+    let (body, own) = read_body(written, &frame, alloc, &local, gathered)?;
+    let mut changes = local.changes;
+    changes.extend_from_slice(&own)?;
     Ok(Done {
         variables,
         body,
         line: reading.line(written.begin.from),
+        changes,
     })
 }
 
 /// The routines of a block, in their order.
 #[cycle(block)]
+#[tactic(auto, using(ps_check_declarations::proofs::Steps::mapped_start, ps_check_declarations::proofs::Steps::mapped_next, ps_check_declarations::proofs::Steps::mapped_fault, ps_check_declarations::proofs::Steps::mapped_end))]
 fn read_routines(
     list: &[Routine],
     frame: &Frame,
     alloc: Global,
     chain: &Chain,
-    known: &mut Vec<Meaning>,
+    local: &mut Local,
     gathered: &mut Gathered,
 ) -> Result<(), Fault>
-    ensures ok { OnOk result (steps (one_routine (frame_of frame.now) chain.now) (routines_of known.old.items gathered.old) (map (routine (context_of frame.now.reading.now)) list.now) ≡ Some (routines_of known.new.items gathered.new)) }
-    ensures err { IfErr result (λ fault. IsFault fault → steps (one_routine (frame_of frame.now) chain.now) (routines_of known.old.items gathered.old) (map (routine (context_of frame.now.reading.now)) list.now) ≡ None) }
+    ensures { Answers result (λ _. routines_of local.new gathered.new) (steps (one_routine (frame_of frame.now) chain.now) (routines_of local.old gathered.old) (map (routine (context_of frame.now.reading.now)) list.now)) }
 {
     for written in list {
-        read_routine(written, frame, alloc, chain, known, gathered)?;
+        read_routine(written, frame, alloc, chain, local, gathered)?;
     }
     Ok(())
 }
@@ -235,24 +235,22 @@ fn read_routine(
     frame: &Frame,
     alloc: Global,
     chain: &Chain,
-    known: &mut Vec<Meaning>,
+    local: &mut Local,
     gathered: &mut Gathered,
 ) -> Result<(), Fault>
-    ensures ok { OnOk result (one_routine (frame_of frame.now) chain.now (routines_of known.old.items gathered.old) (routine (context_of frame.now.reading.now) written.now) ≡ Some (routines_of known.new.items gathered.new)) }
-    ensures err { IfErr result (λ fault. IsFault fault → one_routine (frame_of frame.now) chain.now (routines_of known.old.items gathered.old) (routine (context_of frame.now.reading.now) written.now) ≡ None) }
+    ensures { Answers result (λ _. routines_of local.new gathered.new) (one_routine (frame_of frame.now) chain.now (routines_of local.old gathered.old) (routine (context_of frame.now.reading.now) written.now)) }
 {
-    let index = index_of(written, frame, alloc)?;
-    introduce(written, index, frame, alloc, known, gathered)?;
-    let at = routine_name(written).from;
+    introduce(written, frame, alloc, local, gathered)?;
+    let name = routine_name(written);
     match written {
         Routine::Forward(_) => Ok(()),
         Routine::Whole(_, block) | Routine::Completion(_, block) => {
-            read_block(block, frame, alloc, chain, known, index, at, gathered)
+            read_block(block, frame, alloc, chain, local, name, gathered)
         }
     }
 }
 
-/// The block of the heading with this index. `at` is where a fault of the whole routine is told.
+/// The block of the routine with this name, whose heading is known.
 #[cycle(block)]
 #[tactic(auto, unfolding(crate::specs::Blocks::read_block))]
 fn read_block(
@@ -260,18 +258,15 @@ fn read_block(
     frame: &Frame,
     alloc: Global,
     chain: &Chain,
-    known: &[Meaning],
-    index: usize,
-    at: u32,
+    local: &mut Local,
+    name: Span,
     gathered: &mut Gathered,
 ) -> Result<(), Fault>
-    ensures ok { OnOk result (read_block (frame_of frame.now) chain.now index (routines_of known.now gathered.old) (Some (block (context_of frame.now.reading.now) written.now)) ≡ Some (routines_of known.now gathered.new)) }
-    ensures err { IfErr result (λ fault. IsFault fault → read_block (frame_of frame.now) chain.now index (routines_of known.now gathered.old) (Some (block (context_of frame.now.reading.now) written.now)) ≡ None) }
+    ensures { (x : RoutineReading) → x.name ≡ name → Answers result (λ _. routines_of local.new gathered.new) (read_block (frame_of frame.now) chain.now x (routines_of local.old gathered.old) (Some (block (context_of frame.now.reading.now) written.now))) }
 {
-    let heading = heading_at(known, index, at)?;
-    let (inner, mut start) = start(heading, chain, alloc, at)?;
-    let outer = scope_within(&*frame, &*known);
-    let before = gathered.routines.len();
+    let heading = heading_of_routine(frame, alloc, &local.known, name)?;
+    let (inner, mut start) = start(heading, chain, alloc, name.from)?;
+    let outer = scope_within(&*frame, &local.known);
     let done = block(
         written,
         frame.reading,
@@ -283,5 +278,7 @@ fn read_block(
     );
     // It goes before the fault is passed on: so it is dropped in one place.
     drop(start);
-    finish(heading, inner, before, done?, gathered, alloc, at)
+    let done = done?;
+    add_outward(&done.changes, &mut local.changes)?;
+    finish(heading, inner, done, gathered, alloc, name.from)
 }

@@ -2,7 +2,8 @@
 
 ghost use Rattle.std.specs.Prelude.{◌≤◌, length};
 
-use ps_check_names::refusal::{Fault, Rule};
+use ps_check_judgement::answer::broken;
+use ps_check_judgement::refusal::{Fault, Rule};
 use ps_tree::tree::Routine;
 use std::alloc::{AllocError, Global};
 use std::marker::Model;
@@ -25,8 +26,8 @@ impl Model for Chain {
 
 impl Chain {
     ghost use Rattle.std.specs.Prelude.{◌≡◌, ◌≤◌, ◌∷◌, [], IfOk, IfErr, Some, None, length, nat_lt};
-    ghost use Rattle.ps_check_names.specs.Option.{provided};
-    ghost use Rattle.ps_check_names.specs.Refusal.{IsFault, IsToldAt};
+    ghost use Rattle.ps_check_judgement.specs.Judged.{Answers, provided};
+    ghost use Rattle.ps_check_judgement.specs.declared.refusal.Rule.TheVariants.{Limit};
     ghost use Rattle.ps_check.specs.Blocks.{own_number};
     ghost use Rattle.ps_check.specs.Programs.{program_chain};
 
@@ -41,15 +42,10 @@ impl Chain {
 
     /// That of a routine of the block, which may not be too deep. `at` is where a fault is told.
     pub fn inner(&self, alloc: Global, number: u32, at: u32) -> Result<Chain, Fault>
-        ensures ok { IfOk result (λ inner. provided (nat_lt (length self.now) 16) (number ∷ self.now) ≡ Some inner) }
-        ensures err { IfErr result (λ fault. IsFault fault → provided (nat_lt (length self.now) 16) (number ∷ self.now) ≡ None) }
-        ensures told { IfErr result (IsToldAt at) }
+        ensures { Answers result (λ inner. inner) (provided (nat_lt (length self.now) 16) Limit at (number ∷ self.now)) }
     {
         if self.numbers.len() >= 16 {
-            return Err(Fault::Broken {
-                rule: Rule::Limit,
-                at,
-            });
+            return Err(broken(Rule::Limit, at));
         }
         let mut numbers = Vec::new(alloc);
         numbers.push(number)?;

@@ -1,11 +1,11 @@
 //! The check of a program.
 
-ghost use Rattle.std.specs.Prelude.{◌≡◌, [], Some, None, IfOk, IfErr, codes};
+ghost use Rattle.std.specs.Prelude.{◌≡◌, [], IfOk, codes};
 ghost use Rattle.ps_tree.specs.Checked.{program_in};
-ghost use Rattle.ps_check_names.specs.Refusal.{IsFault, IsRefusal};
+ghost use Rattle.ps_check_judgement.specs.Judged.{Answers};
 ghost use Rattle.ps_check_names.specs.Spelling.{has};
 ghost use Rattle.ps_check_names.specs.Views.{context_of, scope_of};
-ghost use Rattle.ps_check_points.specs.Broken.{IsToldOf};
+ghost use Rattle.ps_check.specs.Checked.{refusal_of, IsChecked};
 ghost use Rattle.ps_check.specs.Blocks.{block};
 ghost use Rattle.ps_check.specs.Programs.{nothing_gathered, program_chain, program_with, program};
 ghost use Rattle.ps_check.specs.Views.{files_of, gathered_of, start_of, done_of};
@@ -14,11 +14,10 @@ use crate::blocks::block;
 use crate::chain::Chain;
 use crate::program::{Files, list_files, program_of, required};
 use crate::state::{Done, Gathered, Start};
-use ps_check_names::answer::paired;
+use ps_check_judgement::answer::paired;
+use ps_check_judgement::refusal::{CheckRefusal, Fault};
 use ps_check_names::reading::Reading;
-use ps_check_names::refusal::{CheckRefusal, Fault};
 use ps_check_names::scope::Scope;
-use ps_check_points::broken::refusal;
 use ps_syntax::Program;
 use ps_text::{LineTable, Source};
 use ps_tree::program::Checked;
@@ -32,8 +31,7 @@ fn read_program(
     start: &mut Start,
     written: &Program,
 ) -> Result<(Done, Gathered), Fault>
-    ensures ok { IfOk result (λ read. block (context_of reading.now) written.now.block (scope_of outer.now) (start_of program_chain start.old) nothing_gathered ≡ Some (done_of read.0 read.1)) }
-    ensures err { IfErr result (λ fault. IsFault fault → block (context_of reading.now) written.now.block (scope_of outer.now) (start_of program_chain start.old) nothing_gathered ≡ None) }
+    ensures { Answers result (λ read. done_of read.0 read.1) (block (context_of reading.now) written.now.block (scope_of outer.now) (start_of program_chain start.old) nothing_gathered) }
 {
     let (chain, mut gathered) = paired(Chain::program(alloc), nothing_gathered(alloc))?;
     let done = block(
@@ -59,8 +57,7 @@ fn check_block(
     requires input { reading.now.has_input ≡ has files.names (codes "input") }
     requires output { reading.now.has_output ≡ has files.names (codes "output") }
     requires domains { reading.now.domains.now ≡ [] }
-    ensures ok { IfOk result (λ checked. program_with reading.now.source.now written.now (files_of files) ≡ Some (program_in checked)) }
-    ensures err { IfErr result (λ fault. IsFault fault → program_with reading.now.source.now written.now (files_of files) ≡ None) }
+    ensures { Answers result (λ checked. program_in checked) (program_with reading.now.source.now written.now (files_of files)) }
 {
     let around = required(alloc)?;
     let outer = Scope::Block {
@@ -97,8 +94,7 @@ fn nothing_gathered(alloc: Global) -> Result<Gathered, AllocError>
 /// The checked tree of a program, by a reading of the text in which its heading lists no file.
 #[tactic(auto, unfolding(crate::specs::Programs::program))]
 fn check_text(alloc: Global, heading: &Reading, written: &Program) -> Result<Checked, Fault>
-    ensures ok { IfOk result (λ checked. program heading.now.source.now written.now ≡ Some (program_in checked)) }
-    ensures err { IfErr result (λ fault. IsFault fault → program heading.now.source.now written.now ≡ None) }
+    ensures { Answers result (λ checked. program_in checked) (program heading.now.source.now written.now) }
 {
     let files = list_files(heading, alloc, written.parameters.as_slice())?;
     let reading = Reading {
@@ -111,17 +107,12 @@ fn check_text(alloc: Global, heading: &Reading, written: &Program) -> Result<Che
     check_block(alloc, &reading, files, written)
 }
 
-/// The checked tree of a program: the one that the definition gives.
+/// The checked tree of a program, or why it is refused: what the judgement of programs says.
 ///
-/// It is refused where the definition gives none: `Broken` tells a rule that the program breaks, and the line of the
-/// token that breaks it. Of `Unknown`, `Twice`, `UsedBefore`, `WrongKind`, `ControlVariable`, `ForwardOpen` and
-/// `NoInputOutput` the contract says that this is so, as ps_check_points defines it. Of the first two it is the token of the text
-/// that breaks one of both first, and of `ForwardOpen` the first that breaks it. `OutOfMemory` is answered where a growth was
-/// refused, or where that token is not found again.
+/// `Broken` tells the rule that the program breaks, and the token at which that is told: the first fault of the text, in the
+/// order that the judgement has. `OutOfMemory` is answered where a growth was refused.
 pub fn check(alloc: Global, source: &Source, written: &Program) -> Result<Checked, CheckRefusal>
-    ensures ok { IfOk result (λ checked. program source.now written.now ≡ Some (program_in checked)) }
-    ensures err { IfErr result (λ refusal. IsRefusal refusal → program source.now written.now ≡ None) }
-    ensures told { IfErr result (IsToldOf source.now written.now) }
+    ensures { IsChecked source.now (program source.now written.now) result }
 {
     let lines = match LineTable::new(alloc, source) {
         Err(_) => return Err(CheckRefusal::OutOfMemory),
@@ -136,6 +127,20 @@ pub fn check(alloc: Global, source: &Source, written: &Program) -> Result<Checke
     };
     match check_text(alloc, &heading, written) {
         Ok(checked) => Ok(checked),
-        Err(fault) => Err(refusal(alloc, &heading, written, fault)),
+        Err(fault) => Err(refusal(&heading, fault)),
+    }
+}
+
+/// The refusal of a fault, with the line of its token.
+fn refusal(reading: &Reading, fault: Fault) -> CheckRefusal
+    ensures { result ≡ refusal_of reading.now.source.now fault }
+{
+    match fault {
+        Fault::OutOfMemory => CheckRefusal::OutOfMemory,
+        Fault::Broken { rule, at } => CheckRefusal::Broken {
+            rule,
+            at,
+            line: u32::from(reading.line(at).number),
+        },
     }
 }

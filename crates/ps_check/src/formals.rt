@@ -5,15 +5,16 @@ ghost use Rattle.ps_tree.specs.Tree.{ValueFormal, VariableFormal};
 ghost use Rattle.ps_tree.specs.View.{type_of, formal_of, formals_of};
 ghost use Rattle.ps_check_names.specs.Regions as regions;
 ghost use Rattle.ps_check_names.specs.Regions.{ParameterMeaning, one_more};
-ghost use Rattle.ps_check_names.specs.Refusal.{IsFault, IsToldAt};
+ghost use Rattle.ps_check_judgement.specs.Judged.{Answers, some_or};
+ghost use Rattle.ps_check_judgement.specs.declared.refusal.Rule.TheVariants.{Limit};
 ghost use Rattle.ps_check_names.specs.Views.{section_of, sections_of};
 ghost use Rattle.ps_check.specs.Entries.{add_entry, add_parameters, add_section, add_sections, first_entry};
 ghost use Rattle.ps_check.specs.Formals.{section_formals};
 ghost use Rattle.ps_check.specs.Views.{entries_of};
 
-use ps_check_names::answer::paired;
+use ps_check_judgement::answer::{broken, paired};
+use ps_check_judgement::refusal::{Fault, Rule};
 use ps_check_names::meaning::{Meaning, Section};
-use ps_check_names::refusal::{Fault, Rule};
 use ps_check_names::scope::one_more;
 use ps_tree::tree::Formal;
 use ps_tree::types::Ty;
@@ -88,15 +89,10 @@ pub fn formals_of(sections: &[Section], alloc: Global) -> Result<Vec<Formal>, Al
 
 /// The number of the entry behind this one, where there may be one.
 fn entry_behind(entry: u32, at: u32) -> Result<u32, Fault>
-    ensures ok { IfOk result (λ next. one_more entry ≡ Some next) }
-    ensures err { IfErr result (λ fault. IsFault fault → one_more entry ≡ None) }
-    ensures told { IfErr result (IsToldAt at) }
+    ensures { Answers result (λ next. next) (some_or Limit at (one_more entry)) }
 {
     match one_more(entry) {
-        None => Err(Fault::Broken {
-            rule: Rule::Limit,
-            at,
-        }),
+        None => Err(broken(Rule::Limit, at)),
         Some(next) => Ok(next),
     }
 }
@@ -104,9 +100,7 @@ fn entry_behind(entry: u32, at: u32) -> Result<u32, Fault>
 /// One more value or variable parameter.
 #[tactic(auto, unfolding(ps_check_names::specs::Views::meaning_of))]
 fn add_parameter(ty: &Ty, entry: u32, known: &mut Vec<Meaning>, at: u32) -> Result<u32, Fault>
-    ensures ok { IfOk result (λ next. add_entry (λ i. ParameterMeaning i (type_of ty.now)) (entries_of entry known.old.items) ≡ Some (entries_of next known.new.items)) }
-    ensures err { IfErr result (λ fault. IsFault fault → add_entry (λ i. ParameterMeaning i (type_of ty.now)) (entries_of entry known.old.items) ≡ None) }
-    ensures told { IfErr result (IsToldAt at) }
+    ensures { Answers result (λ next. entries_of next known.new.items) (add_entry at (λ i. ParameterMeaning i (type_of ty.now)) (entries_of entry known.old.items)) }
 {
     let next = entry_behind(entry, at)?;
     known.push(Meaning::Parameter {
@@ -124,9 +118,7 @@ fn add_parameters(
     known: &mut Vec<Meaning>,
     at: u32,
 ) -> Result<u32, Fault>
-    ensures ok { IfOk result (λ next. add_parameters (type_of ty.now) count (entries_of entry known.old.items) ≡ Some (entries_of next known.new.items)) }
-    ensures err { IfErr result (λ fault. IsFault fault → add_parameters (type_of ty.now) count (entries_of entry known.old.items) ≡ None) }
-    ensures told { IfErr result (IsToldAt at) }
+    ensures { Answers result (λ next. entries_of next known.new.items) (add_parameters at (type_of ty.now) count (entries_of entry known.old.items)) }
 {
     let mut next = entry;
     for _ in 0..count {
@@ -143,9 +135,7 @@ fn add_section(
     known: &mut Vec<Meaning>,
     at: u32,
 ) -> Result<u32, Fault>
-    ensures ok { IfOk result (λ next. add_section (entries_of entry known.old.items) (section_of section.now) ≡ Some (entries_of next known.new.items)) }
-    ensures err { IfErr result (λ fault. IsFault fault → add_section (entries_of entry known.old.items) (section_of section.now) ≡ None) }
-    ensures told { IfErr result (IsToldAt at) }
+    ensures { Answers result (λ next. entries_of next known.new.items) (add_section at (entries_of entry known.old.items) (section_of section.now)) }
 {
     match section {
         Section::Value { count, ty } | Section::Variable { count, ty } => {
@@ -172,9 +162,7 @@ pub fn add_sections(
     known: &mut Vec<Meaning>,
     at: u32,
 ) -> Result<u32, Fault>
-    ensures ok { IfOk result (λ next. add_sections (entries_of entry known.old.items) (sections_of sections.now) ≡ Some (entries_of next known.new.items)) }
-    ensures err { IfErr result (λ fault. IsFault fault → add_sections (entries_of entry known.old.items) (sections_of sections.now) ≡ None) }
-    ensures told { IfErr result (IsToldAt at) }
+    ensures { Answers result (λ next. entries_of next known.new.items) (add_sections at (entries_of entry known.old.items) (sections_of sections.now)) }
 {
     let mut next = entry;
     for section in sections {

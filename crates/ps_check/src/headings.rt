@@ -1,8 +1,8 @@
 //! New headings.
 
-ghost use Rattle.std.specs.Prelude.{◌≡◌, ◌++◌, Some, None, IfOk, IfErr, OnOk, length, map, nat_lt};
-ghost use Rattle.ps_check_names.specs.Option.{provided};
-ghost use Rattle.ps_check_names.specs.Refusal.{IsFault};
+ghost use Rattle.std.specs.Prelude.{◌≡◌, ◌++◌, IfOk, OnOk, length, map, nat_lt};
+ghost use Rattle.ps_check_judgement.specs.Judged.{Answers, provided};
+ghost use Rattle.ps_check_judgement.specs.declared.refusal.Rule.TheVariants.{Limit};
 ghost use Rattle.ps_check_names.specs.Regions.{RoutineMeaning};
 ghost use Rattle.ps_check_names.specs.Spelling.{spelled};
 ghost use Rattle.ps_check_names.specs.Views.{meaning_of};
@@ -13,12 +13,13 @@ ghost use Rattle.ps_check.specs.Readings.{heading_name, heading_list, is_bare};
 ghost use Rattle.ps_check.specs.Blocks.{new_heading};
 ghost use Rattle.ps_check.specs.Views.{routines_of};
 
-use crate::state::Gathered;
-use ps_check_declarations::frame::{Frame, Hidden};
+use crate::state::{Gathered, Local};
+use ps_check_declarations::frame::{Frame, Hidden, Place};
 use ps_check_declarations::headings::{Signature, heading};
+use ps_check_judgement::answer::broken;
+use ps_check_judgement::refusal::{Fault, Rule};
 use ps_check_names::meaning::{Heading, Meaning};
 use ps_check_names::reading::Reading;
-use ps_check_names::refusal::{Fault, Rule};
 use ps_syntax::{Heading as HeadingDenoter, Section};
 use ps_text::Span;
 use std::alloc::{AllocError, Global};
@@ -114,16 +115,12 @@ fn parameter_names(
 
 /// The number of the next routine, of at most 1,048,576.
 fn next_number(gathered: &Gathered, at: u32) -> Result<u32, Fault>
-    ensures ok { IfOk result (λ number. provided (nat_lt (length gathered.now.routines.items) 1048576) (length gathered.now.routines.items) ≡ Some number) }
-    ensures err { IfErr result (λ fault. IsFault fault → provided (nat_lt (length gathered.now.routines.items) 1048576) (length gathered.now.routines.items) ≡ None) }
+    ensures { Answers result (λ number. number) (provided (nat_lt (length gathered.now.routines.items) 1048576) Limit at (length gathered.now.routines.items)) }
 {
     if gathered.routines.len() < 1_048_576 {
         Ok(gathered.routines.len() as u32)
     } else {
-        Err(Fault::Broken {
-            rule: Rule::Limit,
-            at,
-        })
+        Err(broken(Rule::Limit, at))
     }
 }
 
@@ -138,12 +135,13 @@ fn routine_meaning(
     alloc: Global,
     known: &[Meaning],
 ) -> Result<Meaning, AllocError>
-    ensures { IfOk result (λ meaning. meaning_of meaning ≡ RoutineMeaning (record { number = number; sections = section_list (signature_of signature).0; result = (signature_of signature).1; names = map (spelled frame.now.reading.now.source.now) (all (map (section_points (frame_of frame.now) (map meaning_of known.now)) (heading_list written.now))); is_forward = is_forward })) }
+    ensures { IfOk result (λ meaning. meaning_of meaning ≡ RoutineMeaning (record { number = number; at = (heading_name written.now).from; sections = section_list (signature_of signature).0; result = (signature_of signature).1; names = map (spelled frame.now.reading.now.source.now) (all (map (section_points (frame_of frame.now) (map meaning_of known.now)) (heading_list written.now))); is_forward = is_forward })) }
 {
     let Signature { sections, result } = signature;
     let names = parameter_names(heading_list(written), frame, alloc, known)?;
     Ok(Meaning::Routine(Heading {
         number,
+        at: heading_name(written).from,
         sections: Rc::new(alloc, sections)?,
         result,
         names,
@@ -158,14 +156,19 @@ pub fn new_heading(
     is_forward: bool,
     frame: &Frame,
     alloc: Global,
-    known: &mut Vec<Meaning>,
+    local: &mut Local,
     gathered: &mut Gathered,
 ) -> Result<(), Fault>
-    ensures ok { OnOk result (new_heading (frame_of frame.now) is_forward (routines_of known.old.items gathered.old) written.now ≡ Some (routines_of known.new.items gathered.new)) }
-    ensures err { IfErr result (λ fault. IsFault fault → new_heading (frame_of frame.now) is_forward (routines_of known.old.items gathered.old) written.now ≡ None) }
+    ensures { Answers result (λ _. routines_of local.new gathered.new) (new_heading (frame_of frame.now) is_forward (routines_of local.old gathered.old) written.now) }
 {
     let number = next_number(gathered, heading_name(written).from)?;
-    let signature = heading(written, frame, alloc, &Hidden::Nothing, known.as_slice())?;
+    let hidden = Hidden::Nothing;
+    let place = Place {
+        alloc,
+        frame: *frame,
+        hidden,
+    };
+    let signature = heading(written, &place, local.known.as_slice())?;
     let meaning = routine_meaning(
         written,
         number,
@@ -173,9 +176,9 @@ pub fn new_heading(
         is_forward,
         frame,
         alloc,
-        known.as_slice(),
+        local.known.as_slice(),
     )?;
-    known.push(meaning)?;
+    local.known.push(meaning)?;
     gathered.routines.push(None)?;
     Ok(())
 }

@@ -3,6 +3,7 @@
 
 mod blocks;
 mod chain;
+mod changes;
 mod checking;
 mod formals;
 mod headings;
@@ -10,6 +11,5 @@ pub mod laws;
 mod program;
 mod routines;
 mod state;
-mod threats;
 
 pub use checking::check;

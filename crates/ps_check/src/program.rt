@@ -1,24 +1,25 @@
 //! The region around the program, the files that its heading lists, and the program of its routines.
 
-ghost use Rattle.std.specs.Prelude.{◌≡◌, ◌++◌, ◌∷◌, [], Some, None, IfOk, IfErr, OnOk, map, option_map};
+ghost use Rattle.std.specs.Prelude.{◌≡◌, ◌++◌, ◌∷◌, [], not, IfOk, OnOk, map};
 ghost use Rattle.ps_tree.specs.View.{routine_of};
 ghost use Rattle.ps_tree.specs.Checked.{program_in};
-ghost use Rattle.ps_check_names.specs.Option.{steps, traverse};
-ghost use Rattle.ps_check_names.specs.Refusal.{IsFault, IsToldAt};
+ghost use Rattle.ps_check_judgement.specs.Judged.{Answers, provided, some_or, steps, traverse};
+ghost use Rattle.ps_check_judgement.specs.declared.refusal.Rule.TheVariants.{Limit, Twice};
+ghost use Rattle.ps_check_names.specs.Spelling.{has};
 ghost use Rattle.ps_check_names.specs.Regions.{BlockRegion, FileMeaning};
 ghost use Rattle.ps_check_names.specs.Views.{meaning_of};
-ghost use Rattle.ps_check_declarations.specs.Points.{add_name};
-ghost use Rattle.ps_check.specs.Programs.{required, add_required, file_named, list_file, no_files, assembled, program_routine, program_of};
+ghost use Rattle.ps_check.specs.Programs.{required, add_required, add_all_required, file_named, list_file, no_files, assembled, program_routine, program_of};
 ghost use Rattle.ps_check.specs.declared.state.Gathered.{Gathered};
 ghost use Rattle.ps_check.specs.Views.{standard_meaning, files_of, finished_of, gathered_of, done_of};
 
 use crate::chain::{Chain, Finished};
 use crate::routines::put;
 use crate::state::{Done, Gathered};
+use ps_check_judgement::answer::{broken, paired};
+use ps_check_judgement::refusal::{Fault, Rule};
 use ps_check_names::constants::{BOOLEAN, CHAR, INTEGER};
 use ps_check_names::meaning::{File, Meaning, Required};
 use ps_check_names::reading::Reading;
-use ps_check_names::refusal::{Fault, Rule};
 use ps_text::Span;
 use ps_tree::names::Names;
 use ps_tree::program::Checked;
@@ -105,7 +106,7 @@ fn add_required(
     name: &[u8],
     standard: Standard,
 ) -> Result<(), AllocError>
-    ensures { OnOk result (add_required (files_of region.old) (name.now, standard_meaning standard) ≡ Some (files_of region.new)) }
+    ensures { OnOk result (files_of region.new ≡ add_required (files_of region.old) (name.now, standard_meaning standard)) }
 {
     let spelling = Vec::from_slice(alloc, name)?;
     if region.names.add(spelling)? {
@@ -120,7 +121,7 @@ fn add_all_required(
     region: &mut Files,
     mut table: &[(&[u8], Standard)],
 ) -> Result<(), AllocError>
-    ensures { OnOk result (steps add_required (files_of region.old) (map (λ e. (e.0.now, standard_meaning e.1)) table.entry.now) ≡ Some (files_of region.new)) }
+    ensures { OnOk result (files_of region.new ≡ add_all_required (files_of region.old) (map (λ e. (e.0.now, standard_meaning e.1)) table.entry.now)) }
 {
     while let [entry, rest @ ..] = table {
         add_required(alloc, region, entry.0, entry.1)?;
@@ -141,45 +142,26 @@ pub fn required(alloc: Global) -> Result<Files, AllocError>
     Ok(region)
 }
 
-/// The file that a program parameter is.
-fn file_named(name: &[u8]) -> Option<File>
-    ensures { option_map FileMeaning result ≡ file_named name.now }
+/// The file that a program parameter at an offset is.
+fn file_named(name: &[u8], at: u32) -> Result<File, Fault>
+    ensures { Answers result (λ file. FileMeaning file) (file_named at name.now) }
 {
     if name == b"input".as_slice() {
-        Some(File::Input)
+        Ok(File::Input)
     } else if name == b"output".as_slice() {
-        Some(File::Output)
+        Ok(File::Output)
     } else {
-        None
+        Err(broken(Rule::NotInProfile, at))
     }
 }
 
-/// The file of this name. `at` is where a fault is told.
-fn listed_file(name: &[u8], at: u32) -> Result<File, Fault>
-    ensures ok { IfOk result (λ file. file_named name.now ≡ Some (FileMeaning file)) }
-    ensures err { IfErr result (λ fault. IsFault fault → file_named name.now ≡ None) }
-{
-    match file_named(name) {
-        None => Err(Fault::Broken {
-            rule: Rule::NotInProfile,
-            at,
-        }),
-        Some(file) => Ok(file),
-    }
-}
-
-/// One more file, whose name is new. `at` is where a fault is told.
+/// One more file, whose name at an offset is new.
 #[tactic(auto, unfolding(ps_check_names::specs::Views::meaning_of))]
 fn add_file(files: &mut Files, name: Vec<u8>, file: File, at: u32) -> Result<(), Fault>
-    ensures names { OnOk result (add_name files.old.names name.items ≡ Some files.new.names) }
-    ensures known { OnOk result (map meaning_of files.new.known.items ≡ map meaning_of files.old.known.items ++ FileMeaning file ∷ []) }
-    ensures err { IfErr result (λ fault. IsFault fault → add_name files.old.names name.items ≡ None) }
+    ensures { Answers result (λ _. files_of files.new) (provided (not (has files.old.names name.items)) Twice at (record { names = files.old.names ++ name.items ∷ []; known = map meaning_of files.old.known.items ++ FileMeaning file ∷ [] })) }
 {
     if !files.names.add(name)? {
-        return Err(Fault::Broken {
-            rule: Rule::Twice,
-            at,
-        });
+        return Err(broken(Rule::Twice, at));
     }
     files.known.push(Meaning::File(file))?;
     Ok(())
@@ -188,18 +170,17 @@ fn add_file(files: &mut Files, name: Vec<u8>, file: File, at: u32) -> Result<(),
 /// One more program parameter.
 #[tactic(auto, unfolding(crate::specs::Programs::list_file))]
 fn list_file(reading: &Reading, alloc: Global, files: &mut Files, at: Span) -> Result<(), Fault>
-    ensures ok { OnOk result (list_file reading.now.source.now (files_of files.old) at ≡ Some (files_of files.new)) }
-    ensures err { IfErr result (λ fault. IsFault fault → list_file reading.now.source.now (files_of files.old) at ≡ None) }
+    ensures { Answers result (λ _. files_of files.new) (list_file reading.now.source.now (files_of files.old) at) }
 {
     let name = reading.name(alloc, at)?;
-    let file = listed_file(&name, at.from)?;
+    let file = file_named(&name, at.from)?;
     add_file(files, name, file, at.from)
 }
 
 /// The files that a program heading lists.
+#[tactic(auto, using(ps_check_judgement::proofs::Lists::stepped_start, ps_check_judgement::proofs::Lists::stepped_next, ps_check_judgement::proofs::Lists::stepped_fault, ps_check_judgement::proofs::Lists::stepped_end))]
 pub fn list_files(reading: &Reading, alloc: Global, parameters: &[Span]) -> Result<Files, Fault>
-    ensures ok { IfOk result (λ files. steps (list_file reading.now.source.now) no_files parameters.now ≡ Some (files_of files)) }
-    ensures err { IfErr result (λ fault. IsFault fault → steps (list_file reading.now.source.now) no_files parameters.now ≡ None) }
+    ensures { Answers result (λ files. files_of files) (steps (list_file reading.now.source.now) no_files parameters.now) }
 {
     let mut files = Files {
         names: Names::new(alloc),
@@ -211,32 +192,33 @@ pub fn list_files(reading: &Reading, alloc: Global, parameters: &[Span]) -> Resu
     Ok(files)
 }
 
-/// The routines by their numbers, where each has its block.
+/// The routines by their numbers, where each has its block. The program's name is at `at`.
 fn all_routines(
     alloc: Global,
     gathered: Vec<Option<Finished>>,
-) -> Result<Option<Vec<Routine>>, AllocError>
-    ensures { IfOk result (λ all. option_map (λ routines. map routine_of routines.items) all ≡ traverse (λ r. r) (map finished_of gathered.items)) }
+    at: u32,
+) -> Result<Vec<Routine>, Fault>
+    ensures { Answers result (λ routines. map routine_of routines.items) (traverse (some_or Limit at) (map finished_of gathered.items)) }
 {
     let mut routines = Vec::new(alloc);
     for finished in gathered {
         match finished {
-            None => return Ok(None),
+            None => return Err(broken(Rule::Limit, at)),
             Some(Finished { routine }) => routines.push(routine)?,
         }
     }
-    Ok(Some(routines))
+    Ok(routines)
 }
 
-/// The program of these parts, where each routine has its block, and it keeps the limits.
-#[tactic(auto, using(crate::proofs::Collected::assembled_is, crate::proofs::Collected::not_assembled, crate::proofs::Collected::limited_is))]
-fn assembled(alloc: Global, gathered: Gathered) -> Result<Option<Checked>, AllocError>
-    ensures { IfOk result (λ all. option_map program_in all ≡ assembled (gathered_of gathered)) }
+/// The program of these parts, where each routine has its block, and it keeps the limits. The program's name is at `at`.
+#[tactic(auto, using(crate::proofs::Collected::limited_is), unfolding(crate::specs::Programs::assembled))]
+fn assembled(alloc: Global, gathered: Gathered, at: u32) -> Result<Checked, Fault>
+    ensures { Answers result (λ checked. program_in checked) (assembled at (gathered_of gathered)) }
 {
-    match all_routines(alloc, gathered.routines)? {
-        None => Ok(None),
-        Some(routines) => Ok(Checked::new(routines, gathered.domains)),
-    }
+    let Gathered { routines, domains } = gathered;
+    let routines = all_routines(alloc, routines, at);
+    let (routines, domains) = paired(routines, Ok(domains))?;
+    Checked::new(routines, domains).ok_or(broken(Rule::Limit, at))
 }
 
 /// The routine of the program block.
@@ -257,25 +239,17 @@ fn program_routine(alloc: Global, block: Done) -> Result<Finished, AllocError>
     })
 }
 
-/// The program of a program block and the routines in it. `at` is where a fault is told.
-#[tactic(auto, using(crate::proofs::Collected::program_of_is))]
+/// The program of a program block and the routines in it. The program's name is at `at`.
+#[tactic(auto, unfolding(crate::specs::Programs::program_of))]
 pub fn program_of(
     alloc: Global,
     block: Done,
     mut gathered: Gathered,
     at: u32,
 ) -> Result<Checked, Fault>
-    ensures ok { IfOk result (λ checked. program_of (done_of block gathered) ≡ Some (program_in checked)) }
-    ensures err { IfErr result (λ fault. IsFault fault → program_of (done_of block gathered) ≡ None) }
-    ensures told { IfErr result (IsToldAt at) }
+    ensures { Answers result (λ checked. program_in checked) (program_of at (done_of block gathered)) }
 {
     let finished = program_routine(alloc, block)?;
     put(&mut gathered, 0, finished);
-    match assembled(alloc, gathered)? {
-        None => Err(Fault::Broken {
-            rule: Rule::Limit,
-            at,
-        }),
-        Some(checked) => Ok(checked),
-    }
+    assembled(alloc, gathered, at)
 }

@@ -1,44 +1,35 @@
 //! The names of a block's routines, forward headings, and what a routine's block begins and ends with.
 
-ghost use Rattle.std.specs.Prelude.{◌≡◌, ◌⊎◌, [], true, false, Some, None, IfOk, IfErr, OnOk, map, option_map, slice_get, slice_set};
-ghost use Rattle.ps_tree.specs.View.{routine_of};
-ghost use Rattle.ps_check_names.specs.Option.{steps};
-ghost use Rattle.ps_check_names.specs.Refusal.{IsFault, IsToldAt};
-ghost use Rattle.ps_check_names.specs.declared.refusal.Fault.TheVariants.{Broken};
+ghost use Rattle.std.specs.Prelude.{◌≡◌, [], Some, IfOk, OnOk, map, option_map, slice_get, slice_set, if◌then◌else◌};
+ghost use Rattle.ps_tree.specs.View.{type_of, routine_of};
+ghost use Rattle.ps_check_judgement.specs.Judged.{Answers, provided};
+ghost use Rattle.ps_check_judgement.specs.declared.refusal.Rule.TheVariants.{Unknown, UsedBefore, Limit};
 ghost use Rattle.ps_check_names.specs.Regions.{Context};
-ghost use Rattle.ps_check_names.specs.Spelling.{spelled, place};
+ghost use Rattle.ps_check_names.specs.Spelling.{spelled, has};
 ghost use Rattle.ps_check_names.specs.Views.{meaning_of, heading_of, context_of};
 ghost use Rattle.ps_check_declarations.specs.Points.{add_name};
 ghost use Rattle.ps_check_declarations.specs.Views.{frame_of};
-ghost use Rattle.ps_check.specs.Forwards.{may_complete, add_routine, is_open, is_waiting, is_complete, all_complete};
-ghost use Rattle.ps_check.specs.Entries.{start, add_sections, first_entry};
-ghost use Rattle.ps_check.specs.Blocks.{introduce, heading_at, routine_tree, is_small_routine, finished, routine};
+ghost use Rattle.ps_check.specs.Forwards.{add_routine, add_routines, is_open, is_waiting, one_complete, all_complete};
+ghost use Rattle.ps_check.specs.Entries.{start, add_sections, add_names, first_entry};
+ghost use Rattle.ps_check.specs.Blocks.{known_as, unheaded, headed, introduce, introduced, heading_at, routine_tree, is_small_routine, finished, routine};
 ghost use Rattle.ps_check.specs.declared.state.Gathered.{Gathered};
 ghost use Rattle.ps_check.specs.Views.{finished_of, gathered_of, routines_of, entries_of, start_of, done_of};
 
 use crate::chain::{Chain, Finished};
+use crate::changes::assigns;
 use crate::formals::{add_sections, copy_result, first_entry, formals_of};
 use crate::headings::{heading_name, is_bare, new_heading};
-use crate::state::{Done, Gathered, Start};
-use crate::threats::assigns;
+use crate::state::{Done, Gathered, Local, Start};
 use ps_check_declarations::frame::Frame;
-use ps_check_names::answer::paired;
+use ps_check_judgement::answer::{broken, paired};
+use ps_check_judgement::refusal::{Fault, Rule};
 use ps_check_names::meaning::{Heading, Meaning};
 use ps_check_names::reading::Reading;
-use ps_check_names::refusal::{Fault, Rule};
 use ps_syntax::Routine;
 use ps_text::Span;
 use ps_tree::names::Names;
 use ps_tree::tree::Routine as RoutineTree;
 use std::alloc::{AllocError, Global};
-
-/// The fault of a rule that is broken at an offset.
-pub fn broken(rule: Rule, at: u32) -> Fault
-    ensures fault { IsFault result }
-    ensures told { result ≡ Broken rule at }
-{
-    Fault::Broken { rule, at }
-}
 
 /// The name of a routine.
 #[tactic(auto, using(crate::proofs::Equations::routine_Whole, crate::proofs::Equations::routine_Forward, crate::proofs::Equations::routine_Completion))]
@@ -51,55 +42,34 @@ pub fn routine_name(written: &Routine) -> Span
     }
 }
 
-/// Whether the routine may complete a forward heading.
-#[tactic(auto, using(crate::proofs::Equations::routine_Whole, crate::proofs::Equations::routine_Forward, crate::proofs::Equations::routine_Completion))]
-fn may_complete(written: &Routine) -> bool
-    ensures { (c : Context) → result ≡ may_complete (routine c written.now) }
-{
-    match written {
-        Routine::Whole(heading, _) => is_bare(heading),
-        Routine::Forward(_) => false,
-        Routine::Completion(..) => true,
-    }
-}
-
-/// The name of a routine, which is new, unless the routine may complete a forward heading.
+/// The name of a routine, unless it is there already; a heading defines it.
 #[tactic(auto, using(crate::proofs::Equations::routine_Whole, crate::proofs::Equations::routine_Forward, crate::proofs::Equations::routine_Completion), unfolding(crate::specs::Forwards::add_routine))]
 fn add_routine(
     reading: &Reading,
     alloc: Global,
     names: &mut Names,
     written: &Routine,
-) -> Result<(), Fault>
-    ensures ok { OnOk result (add_routine reading.now.source.now names.old (routine (context_of reading.now) written.now) ≡ Some names.new) }
-    ensures err { IfErr result (λ fault. IsFault fault → add_routine reading.now.source.now names.old (routine (context_of reading.now) written.now) ≡ None) }
+) -> Result<(), AllocError>
+    ensures { OnOk result (names.new ≡ add_routine reading.now.source.now names.old (routine (context_of reading.now) written.now)) }
 {
-    let at = routine_name(written);
-    let spelling = reading.name(alloc, at)?;
-    if names.contains(&spelling) {
-        if may_complete(written) {
-            return Ok(());
-        }
-        return Err(broken(Rule::Twice, at.from));
-    }
     match written {
-        Routine::Completion(..) => Err(broken(Rule::Unknown, at.from)),
-        Routine::Whole(..) | Routine::Forward(_) => {
-            names.add(spelling)?;
+        Routine::Completion(..) => Ok(()),
+        Routine::Whole(heading, _) | Routine::Forward(heading) => {
+            names.add(reading.name(alloc, heading_name(heading))?)?;
             Ok(())
         }
     }
 }
 
 /// The names of a block's routines, behind those that are there.
+#[tactic(auto, using(crate::proofs::Lists::headed_start, crate::proofs::Lists::headed_next, crate::proofs::Lists::headed_end))]
 pub fn add_routines(
     reading: &Reading,
     alloc: Global,
     names: &mut Names,
     list: &[Routine],
-) -> Result<(), Fault>
-    ensures ok { OnOk result (steps (add_routine reading.now.source.now) names.old (map (routine (context_of reading.now)) list.now) ≡ Some names.new) }
-    ensures err { IfErr result (λ fault. IsFault fault → steps (add_routine reading.now.source.now) names.old (map (routine (context_of reading.now)) list.now) ≡ None) }
+) -> Result<(), AllocError>
+    ensures { OnOk result (names.new ≡ add_routines reading.now.source.now names.old (map (routine (context_of reading.now)) list.now)) }
 {
     for written in list {
         add_routine(reading, alloc, names, written)?;
@@ -107,16 +77,19 @@ pub fn add_routines(
     Ok(())
 }
 
-/// The index of a routine's name among the names of its block.
-pub fn index_of(written: &Routine, frame: &Frame, alloc: Global) -> Result<usize, Fault>
-    ensures ok { IfOk result (λ index. place frame.now.names.now (spelled frame.now.reading.now.source.now (routine (context_of frame.now.reading.now) written.now).name) ≡ Some index) }
-    ensures err { IfErr result (λ fault. IsFault fault → place frame.now.names.now (spelled frame.now.reading.now.source.now (routine (context_of frame.now.reading.now) written.now).name) ≡ None) }
+/// What a name of the block stands for, if that is known.
+fn known_as<'k>(
+    frame: &Frame,
+    alloc: Global,
+    known: &'k [Meaning],
+    name: Span,
+) -> Result<Option<&'k Meaning>, AllocError>
+    ensures { IfOk result (λ found. option_map (λ m. meaning_of m.now) found ≡ known_as (frame_of frame.now) (map meaning_of known.now) (spelled frame.now.reading.now.source.now name)) }
 {
-    let at = routine_name(written);
-    let spelling = frame.reading.spelling(alloc, at)?;
+    let spelling = frame.reading.spelling(alloc, name)?;
     match frame.names.find(spelling.as_slice()) {
-        None => Err(broken(Rule::Unknown, at.from)),
-        Some(index) => Ok(index),
+        None => Ok(None),
+        Some(index) => Ok(known.get(index)),
     }
 }
 
@@ -139,7 +112,8 @@ fn is_waiting(gathered: &Gathered, written: &Routine, meaning: &Meaning) -> bool
         Meaning::Routine(heading) => {
             is_open(gathered, heading)
                 && match written {
-                    Routine::Whole(..) | Routine::Forward(_) => heading.result.is_none(),
+                    Routine::Whole(written, _) => is_bare(written) && heading.result.is_none(),
+                    Routine::Forward(_) => false,
                     Routine::Completion(..) => heading.result.is_some(),
                 }
         }
@@ -155,13 +129,18 @@ fn is_waiting(gathered: &Gathered, written: &Routine, meaning: &Meaning) -> bool
     }
 }
 
-/// Whether it isn't a forward heading that still waits for its block.
-#[tactic(auto, unfolding(crate::specs::Forwards::is_complete, ps_check_names::specs::Views::meaning_of))]
-pub fn is_complete(gathered: &Gathered, meaning: &Meaning) -> bool
-    ensures { result ≡ is_complete (gathered_of gathered.now) (meaning_of meaning.now) }
+/// A routine of the block has its block.
+#[tactic(auto, unfolding(crate::specs::Forwards::one_complete, ps_check_names::specs::Views::meaning_of))]
+fn one_complete(gathered: &Gathered, meaning: &Meaning) -> Result<(), Fault>
+    ensures { Answers result (λ _. tt) (one_complete (gathered_of gathered.now) tt (meaning_of meaning.now)) }
 {
     match meaning {
-        Meaning::Routine(heading) => !is_open(gathered, heading),
+        Meaning::Routine(heading) => {
+            if is_open(gathered, heading) {
+                return Err(broken(Rule::ForwardOpen, heading.at));
+            }
+            Ok(())
+        }
         Meaning::Constant { .. }
         | Meaning::Text(_)
         | Meaning::Type(_)
@@ -170,125 +149,133 @@ pub fn is_complete(gathered: &Gathered, meaning: &Meaning) -> bool
         | Meaning::RoutineParameter { .. }
         | Meaning::File(_)
         | Meaning::Required(_)
-        | Meaning::LeftOut => true,
+        | Meaning::LeftOut => Ok(()),
     }
 }
 
-/// Whether every routine has its block.
-#[tactic(auto, using(crate::proofs::Lists::one_fails), unfolding(crate::specs::Forwards::all_complete))]
-pub fn all_complete(gathered: &Gathered, known: &[Meaning]) -> bool
-    ensures { result ≡ all_complete (gathered_of gathered.now) (map meaning_of known.now) }
+/// All routines of the block have their blocks.
+#[tactic(auto, using(ps_check_declarations::proofs::Steps::mapped_start, ps_check_declarations::proofs::Steps::mapped_next, ps_check_declarations::proofs::Steps::mapped_fault, ps_check_declarations::proofs::Steps::mapped_end), unfolding(crate::specs::Forwards::all_complete))]
+pub fn all_complete(gathered: &Gathered, known: &[Meaning]) -> Result<(), Fault>
+    ensures { Answers result (λ _. tt) (all_complete (gathered_of gathered.now) (map meaning_of known.now)) }
 {
     for meaning in known {
-        if !is_complete(gathered, meaning) {
-            return false;
-        }
+        one_complete(gathered, meaning)?;
     }
-    true
+    Ok(())
 }
 
-/// What the name with this index stands for, if that is known.
-fn meaning_at(known: &[Meaning], index: usize) -> Option<&Meaning>
-    ensures { slice_get (map meaning_of known.now) index ≡ option_map (λ m. meaning_of m.now) result }
+/// The refusal of `function` with a name that is none of a forward heading.
+fn unheaded(frame: &Frame, alloc: Global, name: Span) -> Result<Rule, AllocError>
+    ensures { IfOk result (λ rule. rule ≡ (if has frame.now.names.now (spelled frame.now.reading.now.source.now name) then UsedBefore else Unknown)) }
 {
-    known.get(index)
+    let spelling = frame.reading.spelling(alloc, name)?;
+    Ok(if frame.names.contains(spelling.as_slice()) {
+        Rule::UsedBefore
+    } else {
+        Rule::Unknown
+    })
 }
 
 /// A new heading of a routine, which isn't that of a forward one.
+#[tactic(auto, using(crate::proofs::Equations::routine_Whole, crate::proofs::Equations::routine_Forward, crate::proofs::Equations::routine_Completion))]
 fn add_heading(
     written: &Routine,
     frame: &Frame,
     alloc: Global,
-    known: &mut Vec<Meaning>,
+    local: &mut Local,
     gathered: &mut Gathered,
 ) -> Result<(), Fault>
-    ensures ok { OnOk result (introduce (frame_of frame.now) (routine (context_of frame.now.reading.now) written.now) (routines_of known.old.items gathered.old) None ≡ Some (routines_of known.new.items gathered.new)) }
-    ensures err { IfErr result (λ fault. IsFault fault → introduce (frame_of frame.now) (routine (context_of frame.now.reading.now) written.now) (routines_of known.old.items gathered.old) None ≡ None) }
+    ensures { Answers result (λ _. routines_of local.new gathered.new) (introduce (frame_of frame.now) (routine (context_of frame.now.reading.now) written.now) (routines_of local.old gathered.old) None) }
 {
     match written {
-        Routine::Whole(heading, _) => new_heading(heading, false, frame, alloc, known, gathered),
-        Routine::Forward(heading) => new_heading(heading, true, frame, alloc, known, gathered),
-        Routine::Completion(name, _) => Err(broken(Rule::Unknown, name.from)),
+        Routine::Whole(heading, _) => new_heading(heading, false, frame, alloc, local, gathered),
+        Routine::Forward(heading) => new_heading(heading, true, frame, alloc, local, gathered),
+        Routine::Completion(name, _) => {
+            let rule = unheaded(frame, alloc, *name)?;
+            Err(broken(rule, name.from))
+        }
     }
 }
 
-/// The heading of a routine, whose name has this index among the names: a new one, unless it completes a forward one.
-pub fn introduce(
+/// Whether a routine completes a forward heading, where its name is known.
+fn completes(
     written: &Routine,
-    index: usize,
     frame: &Frame,
     alloc: Global,
-    known: &mut Vec<Meaning>,
+    known: &[Meaning],
+    gathered: &Gathered,
+) -> Result<Option<bool>, AllocError>
+    ensures { IfOk result (λ waits. (c : Context) → waits ≡ option_map (is_waiting (gathered_of gathered.now) (routine c written.now)) (known_as (frame_of frame.now) (map meaning_of known.now) (spelled frame.now.reading.now.source.now (routine c written.now).name))) }
+{
+    match known_as(frame, alloc, known, routine_name(written))? {
+        None => Ok(None),
+        Some(meaning) => Ok(Some(is_waiting(gathered, written, meaning))),
+    }
+}
+
+/// The heading of a routine: a new one, unless it completes a forward one.
+pub fn introduce(
+    written: &Routine,
+    frame: &Frame,
+    alloc: Global,
+    local: &mut Local,
     gathered: &mut Gathered,
 ) -> Result<(), Fault>
-    ensures ok { OnOk result (introduce (frame_of frame.now) (routine (context_of frame.now.reading.now) written.now) (routines_of known.old.items gathered.old) (slice_get (map meaning_of known.old.items) index) ≡ Some (routines_of known.new.items gathered.new)) }
-    ensures err { IfErr result (λ fault. IsFault fault → introduce (frame_of frame.now) (routine (context_of frame.now.reading.now) written.now) (routines_of known.old.items gathered.old) (slice_get (map meaning_of known.old.items) index) ≡ None) }
+    ensures { Answers result (λ _. routines_of local.new gathered.new) (introduced (frame_of frame.now) (routine (context_of frame.now.reading.now) written.now) (routines_of local.old gathered.old)) }
 {
-    if let Some(meaning) = meaning_at(known, index) {
-        if is_waiting(gathered, written, meaning) {
-            return Ok(());
-        }
-        return Err(broken(Rule::Twice, routine_name(written).from));
+    match completes(written, frame, alloc, &local.known, gathered)? {
+        Some(true) => Ok(()),
+        Some(false) => Err(broken(Rule::Twice, routine_name(written).from)),
+        None => add_heading(written, frame, alloc, local, gathered),
     }
-    add_heading(written, frame, alloc, known, gathered)
 }
 
-/// The heading with this index among the meanings of a block's names. `at` is where a fault is told.
+/// The heading of a routine of the block, by its name.
 #[tactic(auto, unfolding(crate::specs::Blocks::heading_at, ps_check_names::specs::Views::meaning_of))]
-pub fn heading_at(known: &[Meaning], index: usize, at: u32) -> Result<&Heading, Fault>
-    ensures ok { IfOk result (λ heading. heading_at (slice_get (map meaning_of known.now) index) ≡ Some (heading_of heading.now)) }
-    ensures err { IfErr result (λ fault. IsFault fault → heading_at (slice_get (map meaning_of known.now) index) ≡ None) }
-    ensures told { IfErr result (IsToldAt at) }
+pub fn heading_of_routine<'k>(
+    frame: &Frame,
+    alloc: Global,
+    known: &'k [Meaning],
+    name: Span,
+) -> Result<&'k Heading, Fault>
+    ensures { Answers result (λ heading. heading_of heading.now) (heading_at name.from (known_as (frame_of frame.now) (map meaning_of known.now) (spelled frame.now.reading.now.source.now name))) }
 {
-    match known.get(index) {
+    match known_as(frame, alloc, known, name)? {
         Some(Meaning::Routine(heading)) => Ok(heading),
-        _ => Err(broken(Rule::WrongKind, at)),
+        _ => Err(broken(Rule::WrongKind, name.from)),
     }
 }
 
-/// One more name, which is new. `at` is where a fault is told.
-fn add_name(names: &mut Names, name: &[u8], alloc: Global, at: u32) -> Result<(), Fault>
-    ensures ok { OnOk result (add_name names.old name.now ≡ Some names.new) }
-    ensures err { IfErr result (λ fault. IsFault fault → add_name names.old name.now ≡ None) }
-    ensures told { IfErr result (IsToldAt at) }
+/// One more name, unless it is there.
+fn add_name(names: &mut Names, name: &[u8], alloc: Global) -> Result<(), AllocError>
+    ensures { OnOk result (names.new ≡ add_name names.old name.now) }
 {
-    let copy = Vec::from_slice(alloc, name)?;
-    if names.add(copy)? {
-        Ok(())
-    } else {
-        Err(broken(Rule::Twice, at))
-    }
+    names.add(Vec::from_slice(alloc, name)?)?;
+    Ok(())
 }
 
-/// These names, each of which is new.
-fn names_of(list: &[Vec<u8>], alloc: Global, at: u32) -> Result<Names, Fault>
-    ensures ok { IfOk result (λ names. steps add_name [] (map (λ name. name.items) list.now) ≡ Some names) }
-    ensures err { IfErr result (λ fault. IsFault fault → steps add_name [] (map (λ name. name.items) list.now) ≡ None) }
-    ensures told { IfErr result (IsToldAt at) }
+/// These names, each once.
+#[tactic(auto, using(crate::proofs::Lists::named_start, crate::proofs::Lists::named_next, crate::proofs::Lists::named_end))]
+fn names_of(list: &[Vec<u8>], alloc: Global) -> Result<Names, AllocError>
+    ensures { IfOk result (λ names. names ≡ add_names [] (map (λ name. name.items) list.now)) }
 {
     let mut names = Names::new(alloc);
     for name in list {
-        add_name(&mut names, name.as_slice(), alloc, at)?;
+        add_name(&mut names, name.as_slice(), alloc)?;
     }
     Ok(names)
 }
 
-/// The names of a heading's formal parameters with what they stand for, and the entry behind theirs. `at` is where a
-/// fault is told.
+/// The names of a heading's formal parameters with what they stand for, and the entry behind theirs. The routine's name is
+/// at `at`.
 fn parameters(heading: &Heading, alloc: Global, at: u32) -> Result<Start, Fault>
-    ensures names { IfOk result (λ s. steps add_name [] (heading_of heading.now).names ≡ Some s.names) }
-    ensures entries { IfOk result (λ s. add_sections (entries_of (first_entry (heading_of heading.now).result) []) (heading_of heading.now).sections ≡ Some (entries_of s.first s.known.items)) }
-    ensures err { IfErr result (λ fault. IsFault fault → (steps add_name [] (heading_of heading.now).names ≡ None) ⊎ (add_sections (entries_of (first_entry (heading_of heading.now).result) []) (heading_of heading.now).sections ≡ None)) }
-    ensures told { IfErr result (IsToldAt at) }
+    ensures names { IfOk result (λ s. s.names ≡ add_names [] (heading_of heading.now).names) }
+    ensures entries { Answers result (λ s. entries_of s.first s.known.items) (add_sections at (entries_of (first_entry (heading_of heading.now).result) []) (heading_of heading.now).sections) }
 {
-    let names = names_of(&heading.names, alloc, at)?;
+    let names = names_of(&heading.names, alloc)?;
     let mut known = Vec::new(alloc);
-    let first = add_sections(
-        &heading.sections,
-        first_entry(&heading.result),
-        &mut known,
-        at,
-    )?;
+    let entry = first_entry(&heading.result);
+    let first = add_sections(&heading.sections, entry, &mut known, at)?;
     Ok(Start {
         names,
         known,
@@ -296,22 +283,18 @@ fn parameters(heading: &Heading, alloc: Global, at: u32) -> Result<Start, Fault>
     })
 }
 
-/// What the block of a routine begins with. `at` is where a fault is told.
-#[tactic(auto, using(crate::proofs::Equations::start_names_fault, crate::proofs::Equations::start_entries_fault), unfolding(crate::specs::Entries::start))]
+/// What the block of a routine begins with. Its name is at `at`.
+#[tactic(auto, unfolding(crate::specs::Entries::start))]
 pub fn start(
     heading: &Heading,
     chain: &Chain,
     alloc: Global,
     at: u32,
 ) -> Result<(Chain, Start), Fault>
-    ensures ok { IfOk result (λ s. start chain.now (heading_of heading.now) ≡ Some (start_of s.0 s.1)) }
-    ensures err { IfErr result (λ fault. IsFault fault → start chain.now (heading_of heading.now) ≡ None) }
-    ensures told { IfErr result (IsToldAt at) }
+    ensures { Answers result (λ s. start_of s.0 s.1) (start at chain.now (heading_of heading.now)) }
 {
-    paired(
-        chain.inner(alloc, heading.number, at),
-        parameters(heading, alloc, at),
-    )
+    let inner = chain.inner(alloc, heading.number, at);
+    paired(inner, parameters(heading, alloc, at))
 }
 
 /// Puts an item to its place, where there is one.
@@ -365,13 +348,9 @@ fn is_small(routine: &RoutineTree) -> bool
     routine.cells() <= 100_000 && routine.nodes() <= 4_194_304
 }
 
-/// Puts a routine to its number, where it keeps the limits. `at` is where a fault is told.
+/// Puts a routine to its number, where it keeps the limits. Its name is at `at`.
 fn put_small(gathered: &mut Gathered, number: u32, routine: Finished, at: u32) -> Result<(), Fault>
-    ensures small { OnOk result (is_small_routine (routine_of routine.routine) ≡ true) }
-    ensures domains { OnOk result (gathered.new.domains ≡ gathered.old.domains) }
-    ensures routines { OnOk result (map finished_of gathered.new.routines.items ≡ slice_set (map finished_of gathered.old.routines.items) number (Some (routine_of routine.routine))) }
-    ensures err { IfErr result (λ fault. IsFault fault → is_small_routine (routine_of routine.routine) ≡ false) }
-    ensures told { IfErr result (IsToldAt at) }
+    ensures { Answers result (λ _. gathered_of gathered.new) (provided (is_small_routine (routine_of routine.routine)) Limit at (record { domains = map type_of gathered.old.domains.items; routines = slice_set (map finished_of gathered.old.routines.items) number (Some (routine_of routine.routine)) })) }
 {
     if is_small(&routine.routine) {
         put(gathered, number, routine);
@@ -382,33 +361,22 @@ fn put_small(gathered: &mut Gathered, number: u32, routine: Finished, at: u32) -
     }
 }
 
-/// The routine of a heading and a block is whole. The routines within it come behind the first ones. `at` is where a
-/// fault is told.
+/// The routine of a heading and a block is whole. Its name is at `at`.
 #[tactic(auto, unfolding(crate::specs::Blocks::finished))]
 pub fn finish(
     heading: &Heading,
     chain: Chain,
-    before: usize,
     block: Done,
     gathered: &mut Gathered,
     alloc: Global,
     at: u32,
 ) -> Result<(), Fault>
-    ensures ok { OnOk result (finished (heading_of heading.now) chain before (done_of block gathered.old) ≡ Some (gathered_of gathered.new)) }
-    ensures err { IfErr result (λ fault. IsFault fault → finished (heading_of heading.now) chain before (done_of block gathered.old) ≡ None) }
-    ensures told { IfErr result (IsToldAt at) }
+    ensures { Answers result (λ _. gathered_of gathered.new) (finished at (heading_of heading.now) chain (done_of block gathered.old)) }
 {
-    let is_assigned = assigns(
-        &heading.result,
-        chain.depth(),
-        &block.body,
-        &gathered.routines,
-        before,
-    );
-    if is_assigned {
-        let finished = routine_tree(heading, chain, block, alloc)?;
-        put_small(gathered, heading.number, finished, at)
-    } else {
-        Err(broken(Rule::NoResultAssigned, at))
+    if !assigns(&heading.result, &block.changes) {
+        drop(block);
+        return Err(broken(Rule::NoResultAssigned, at));
     }
+    let finished = routine_tree(heading, chain, block, alloc)?;
+    put_small(gathered, heading.number, finished, at)
 }

@@ -1,6 +1,7 @@
 //! What is read so far.
 
 use crate::chain::Finished;
+use ps_check_judgement::change::Change;
 use ps_check_names::meaning::Meaning;
 use ps_tree::line::Line;
 use ps_tree::names::Names;
@@ -24,10 +25,20 @@ pub struct Start {
     pub first: u32,
 }
 
-/// What a block gives: the types of its variables, its statements, and the line of its `begin`.
+/// What is known of a block so far: the meanings of its names, in the order of these, and what the routines in it change,
+/// as the block sees it.
+#[derive(Drop)]
+pub struct Local {
+    pub known: Vec<Meaning>,
+    pub changes: Vec<Change>,
+}
+
+/// What a block gives: the types of its variables, its statements, the line of its `begin`, and what it and the routines
+/// within it change, as the block sees it.
 #[derive(Drop)]
 pub struct Done {
     pub variables: Vec<Ty>,
     pub body: Vec<Statement>,
     pub line: Line,
+    pub changes: Vec<Change>,
 }

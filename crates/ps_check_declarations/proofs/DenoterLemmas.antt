@@ -1,16 +1,18 @@
 -- Loops over the parts of a type denoter.
-use Rattle.std.proofs.Common.{◌≡◌, ℕ, pos, suc, ◌+◌, ◌<◌, ◌≤◌, Bool, List, [], ◌∷◌, ◌++◌, length, drop, get_or, map, Option, Some, None, refl, sym, ap, ◌∙◌, arith, append_assoc}
+use Rattle.std.proofs.Common.{◌≡◌, ℕ, pos, suc, ◌+◌, ◌<◌, ◌≤◌, Bool, List, [], ◌∷◌, ◌++◌, length, drop, map, refl, sym, ap, ◌∙◌, arith, append_assoc}
 use Rattle.std.proofs.Math.Seq.{drop-cons}
 use Rattle.std.proofs.lemmas.List.{drop_all, append-nil}
 use Rattle.ps_text.specs.declared.Span.{Span}
 use Rattle.ps_syntax.specs.declared.program.Fields.{Fields}
 use Rattle.ps_tree.specs.declared.types.Ordinal.{Ordinal}
 use Rattle.ps_tree.specs.Types.{DataType, ArrayType}
-use Rattle.ps_check_names.specs.Option.{◌>>=◌}
+use Rattle.ps_check_judgement.specs.declared.refusal.Fault.{Fault}
+use Rattle.ps_check_judgement.specs.declared.refusal.Fault.TheVariants.{OutOfMemory, Broken}
+use Rattle.ps_check_judgement.specs.Judged.{Judged, Yes, No, Told, ◌>>=◌}
 use Rattle.ps_check_names.specs.Regions.{Meaning, ConstantMeaning}
 use Rattle.ps_check_declarations.specs.Points.{Points, all, add_points}
 use Rattle.ps_check_declarations.specs.Denoters.{Frame, FieldsReading, Indices, FieldTypes, constants_from, array_of, small, fields_of_type, fields, section_names, record_names}
-use Rattle.ps_check_declarations.proofs.Walks.{Walked, walked_fault, walked_end}
+use Rattle.ps_check_declarations.proofs.Walks.{Walked, walked_end}
 
 -- the constants that are still to come
 pub record Values (o : Ordinal) (start : List Meaning) (names : Points) (i : ℕ) (done : List Meaning) : Type 0 where
@@ -58,18 +60,18 @@ module _ (type : DataType) (start : FieldTypes) (names : Points) (i : ℕ) (done
   of_type_end le v = sym (append-nil done) ∙ ap (λ l. done ++ fields_of_type type l) (sym (drop_all i names le)) ∙ v.rest
 
 -- arrays in one another, from the innermost out
-then_arrays : (packed : Bool) (i : ℕ × Ordinal) (xs : Indices) (type : DataType) → array_of packed (xs ++ i ∷ []) type ≡ (small (ArrayType i.0 packed i.1 type) >>= array_of packed xs)
+then_arrays : (packed : Bool) (i : ℕ × Ordinal) (xs : Indices) (type : DataType) → array_of packed (xs ++ i ∷ []) type ≡ (small i.0 (ArrayType i.0 packed i.1 type) >>= array_of packed xs)
 unfolding array_of
-then_arrays packed i [] type = at (small (ArrayType i.0 packed i.1 type))
+then_arrays packed i [] type = at (small i.0 (ArrayType i.0 packed i.1 type))
   where
-    at : (o : Option DataType) → o ≡ (o >>= (λ t. Some t))
-    at None = refl
-    at (Some t) = refl
-then_arrays packed i (x ∷ xs) type = ap (λ o. o >>= (λ t. small (ArrayType x.0 packed x.1 t))) (then_arrays packed i xs type) ∙ at (small (ArrayType i.0 packed i.1 type))
+    at : (o : Judged DataType) → o ≡ (o >>= (λ t. Yes t))
+    at (No rule where_) = refl
+    at (Yes t) = refl
+then_arrays packed i (x ∷ xs) type = ap (λ o. o >>= (λ t. small x.0 (ArrayType x.0 packed x.1 t))) (then_arrays packed i xs type) ∙ at (small i.0 (ArrayType i.0 packed i.1 type))
   where
-    at : (o : Option DataType) → ((o >>= array_of packed xs) >>= (λ t. small (ArrayType x.0 packed x.1 t))) ≡ (o >>= (λ s. array_of packed xs s >>= (λ t. small (ArrayType x.0 packed x.1 t))))
-    at None = refl
-    at (Some s) = refl
+    at : (o : Judged DataType) → ((o >>= array_of packed xs) >>= (λ t. small x.0 (ArrayType x.0 packed x.1 t))) ≡ (o >>= (λ s. array_of packed xs s >>= (λ t. small x.0 (ArrayType x.0 packed x.1 t))))
+    at (No rule where_) = refl
+    at (Yes s) = refl
 
 -- the arrays of the indices xs are still to come round the type
 pub record Inside (packed : Bool) (all : Indices) (component : DataType) (xs : Indices) (type : DataType) : Type 0 where
@@ -79,13 +81,14 @@ pub arrays_start : (packed : Bool) (all : Indices) (component : DataType) → In
 arrays_start packed all component = record { rest = refl }
 
 module _ (packed : Bool) (all : Indices) (component : DataType) (before xs : Indices) (at : ℕ) (o : Ordinal) (type : DataType) where
-  pub arrays_inside : (made : DataType) → before ≡ xs ++ (at, o) ∷ [] → small (ArrayType at packed o type) ≡ Some made → Inside packed all component before type → Inside packed all component xs made
+  pub arrays_inside : (made : DataType) → before ≡ xs ++ (at, o) ∷ [] → small at (ArrayType at packed o type) ≡ Yes made → Inside packed all component before type → Inside packed all component xs made
   arrays_inside made is e r = record { rest = r.rest ∙ ap (λ l. array_of packed l type) is ∙ then_arrays packed (at, o) xs type ∙ ap (λ o. o >>= array_of packed xs) e }
 
-  pub arrays_fault : before ≡ xs ++ (at, o) ∷ [] → small (ArrayType at packed o type) ≡ None → Inside packed all component before type → array_of packed all component ≡ None
-  arrays_fault is e r = r.rest ∙ ap (λ l. array_of packed l type) is ∙ then_arrays packed (at, o) xs type ∙ ap (λ o. o >>= array_of packed xs) e
+  pub arrays_fault : (fault : Fault) → before ≡ xs ++ (at, o) ∷ [] → Told fault (small at (ArrayType at packed o type)) → Inside packed all component before type → Told fault (array_of packed all component)
+  arrays_fault OutOfMemory is e r = e
+  arrays_fault (Broken rule where_) is e r = r.rest ∙ ap (λ l. array_of packed l type) is ∙ then_arrays packed (at, o) xs type ∙ ap (λ o. o >>= array_of packed xs) e
 
-pub arrays_done : (packed : Bool) (all : Indices) (component : DataType) (xs : Indices) (type : DataType) → Inside packed all component xs type → xs ≡ [] → array_of packed all component ≡ Some type
+pub arrays_done : (packed : Bool) (all : Indices) (component : DataType) (xs : Indices) (type : DataType) → Inside packed all component xs type → xs ≡ [] → array_of packed all component ≡ Yes type
 unfolding array_of
 arrays_done packed all component xs type r e = r.rest ∙ ap (λ l. array_of packed l type) e
 
@@ -95,11 +98,6 @@ unfolding section_names
 names_of_sections f [] = refl
 names_of_sections f (x ∷ xs) = ap (λ l. section_names f x ++ l) (names_of_sections f xs)
 
-module _ (f : Frame) (xs : List Fields) (i : ℕ) (t : List (List ℕ)) where
-  pub names_fault : (x : Fields) → i < length xs → x ≡ get_or xs i x → Walked f.text (section_names f) [] xs i t → add_points f.text t (section_names f x) ≡ None → record_names f (map (fields f) xs) ≡ None
-  unfolding record_names
-  names_fault x lt at w e = ap (add_points f.text []) (names_of_sections f xs) ∙ walked_fault f.text (section_names f) [] xs i t x lt at w e
-
-  pub names_end : length xs ≤ i → Walked f.text (section_names f) [] xs i t → record_names f (map (fields f) xs) ≡ Some t
-  unfolding record_names
-  names_end le w = ap (add_points f.text []) (names_of_sections f xs) ∙ walked_end f.text (section_names f) [] xs i t le w
+pub names_end : (f : Frame) (xs : List Fields) (i : ℕ) (t : List (List ℕ)) → length xs ≤ i → Walked f.text (section_names f) [] xs i t → t ≡ record_names f (map (fields f) xs)
+unfolding record_names
+names_end f xs i t le w = walked_end f.text (section_names f) [] xs i t le w ∙ ap (add_points f.text []) (sym (names_of_sections f xs))

@@ -1,5 +1,5 @@
 -- What a walk over a heading gives, construction by construction.
-use Rattle.std.proofs.Common.{◌≡◌, ℕ, ◌<◌, ◌≤◌, List, [], ◌∷◌, ◌++◌, length, get_or, map, Option, Some, None, option_map, Vec, Global, refl, sym, ap, ◌∙◌}
+use Rattle.std.proofs.Common.{◌≡◌, ℕ, ◌≤◌, List, [], ◌∷◌, ◌++◌, length, map, Option, Some, None, option_map, Vec, Global, refl, sym, ap, ◌∙◌}
 use Rattle.std.specs.declared.rc.Rc.{Rc}
 use Rattle.ps_text.specs.declared.Span.{Span}
 use Rattle.ps_syntax.specs.declared.program.Section as syntax
@@ -12,14 +12,14 @@ use Rattle.ps_tree.specs.View.{type_of}
 use Rattle.ps_tree.specs.declared.types.Ty.{Ty}
 use Rattle.ps_check_names.specs.declared.meaning.Section.{Routine}
 use Rattle.ps_check_names.proofs.ViewLemmas.{section_of_Routine}
-use Rattle.ps_check_names.specs.Option.{◌>>=◌}
+use Rattle.ps_check_judgement.specs.Judged.{Yes, ◌>>=◌}
 use Rattle.ps_check_names.specs.Regions.{Meaning, ValueSection, VariableSection, RoutineSection, section_before}
 use Rattle.ps_check_names.specs.Views as regions
 use Rattle.ps_check_names.specs.declared.meaning.Section as Rust
 use Rattle.ps_check_declarations.specs.Points.{Points, all, add_points}
 use Rattle.ps_check_declarations.specs.Denoters.{Frame, Hidden}
 use Rattle.ps_check_declarations.specs.Headings.{HeadingReading, SectionReading, few, formal_type, section_list, section_step, heading_step, sections_of, list_names, result_type, heading, section, section_points}
-use Rattle.ps_check_declarations.proofs.Walks.{Walked, walked_fault, walked_end}
+use Rattle.ps_check_declarations.proofs.Walks.{Walked, walked_end}
 
 -- the sections of the program as the definitions have them
 pub list_of_sections : (ss : List Rust.Section) → regions.sections_of ss ≡ section_list (map regions.section_of ss)
@@ -28,11 +28,11 @@ list_of_sections [] = refl
 list_of_sections (s ∷ ss) = ap (section_before (regions.section_of s)) (list_of_sections ss)
 
 module _ (f : Frame) (known : List Meaning) where
-  pub heading_Procedure : (name : Span) (xs : List syntax.Section) (hidden : Hidden) → (heading f known (h.Procedure name xs)).1 hidden ≡ (sections_of f known (map (section f known) xs) hidden >>= (λ ss. Some (ss, None)))
+  pub heading_Procedure : (name : Span) (xs : List syntax.Section) (hidden : Hidden) → (heading f known (h.Procedure name xs)).1 hidden ≡ (sections_of f known (map (section f known) xs) name.from hidden >>= (λ ss. Yes (ss, None)))
   unfolding heading_step
   heading_Procedure name xs hidden = ap (λ x. (heading f known x).1 hidden) (sym (h.rolls-Procedure name xs)) ∙ ap (λ (r : HeadingReading). r.1 hidden) (fold-roll-Heading HeadingReading SectionReading (heading_step f known) (section_step f known) (Heading-F.Procedure name xs))
 
-  pub heading_Function : (name : Span) (xs : List syntax.Section) (type : Span) (hidden : Hidden) → (heading f known (h.Function name xs type)).1 hidden ≡ (sections_of f known (map (section f known) xs) hidden >>= (λ ss. result_type f known hidden type >>= (λ t. Some (ss, Some t))))
+  pub heading_Function : (name : Span) (xs : List syntax.Section) (type : Span) (hidden : Hidden) → (heading f known (h.Function name xs type)).1 hidden ≡ (sections_of f known (map (section f known) xs) name.from hidden >>= (λ ss. result_type f known hidden type >>= (λ t. Yes (ss, Some t))))
   unfolding heading_step
   heading_Function name xs type hidden = ap (λ x. (heading f known x).1 hidden) (sym (h.rolls-Function name xs type)) ∙ ap (λ (r : HeadingReading). r.1 hidden) (fold-roll-Heading HeadingReading SectionReading (heading_step f known) (section_step f known) (Heading-F.Function name xs type))
 
@@ -54,15 +54,15 @@ module _ (f : Frame) (known : List Meaning) where
   is_Routine : (x : Heading) → section f known (v.Routine x) ≡ section_step f known (Section-F.Routine (heading f known x))
   is_Routine x = ap (section f known) (sym (v.rolls-Routine x)) ∙ fold-roll-Section HeadingReading SectionReading (heading_step f known) (section_step f known) (Section-F.Routine x)
 
-  pub section_Value : (names : Points) (type : Span) (hidden : Hidden) → (section f known (v.Value names type)).1 hidden ≡ (few (length names) >>= (λ n. formal_type f known hidden type >>= (λ t. Some (ValueSection n t))))
+  pub section_Value : (names : Points) (type : Span) (hidden : Hidden) → (section f known (v.Value names type)).1 hidden ≡ (few type.from (length names) >>= (λ n. formal_type f known hidden type >>= (λ t. Yes (ValueSection n t))))
   unfolding section_step
   section_Value names type hidden = ap (λ (r : SectionReading). r.1 hidden) (is_Value names type)
 
-  pub section_Variable : (names : Points) (type : Span) (hidden : Hidden) → (section f known (v.Variable names type)).1 hidden ≡ (few (length names) >>= (λ n. formal_type f known hidden type >>= (λ t. Some (VariableSection n t))))
+  pub section_Variable : (names : Points) (type : Span) (hidden : Hidden) → (section f known (v.Variable names type)).1 hidden ≡ (few type.from (length names) >>= (λ n. formal_type f known hidden type >>= (λ t. Yes (VariableSection n t))))
   unfolding section_step
   section_Variable names type hidden = ap (λ (r : SectionReading). r.1 hidden) (is_Variable names type)
 
-  pub section_Routine : (x : Heading) (hidden : Hidden) → (section f known (v.Routine x)).1 hidden ≡ ((heading f known x).1 hidden >>= (λ s. Some (RoutineSection (section_list s.0) s.1)))
+  pub section_Routine : (x : Heading) (hidden : Hidden) → (section f known (v.Routine x)).1 hidden ≡ ((heading f known x).1 hidden >>= (λ s. Yes (RoutineSection (section_list s.0) s.1)))
   unfolding section_step
   section_Routine x hidden = ap (λ (r : SectionReading). r.1 hidden) (is_Routine x)
 
@@ -88,14 +88,9 @@ module _ (f : Frame) (known : List Meaning) where
   names_of_sections [] = refl
   names_of_sections (x ∷ xs) = ap (λ l. (section f known x).0 ++ l) (names_of_sections xs)
 
-  module _ (xs : List syntax.Section) (i : ℕ) (t : List (List ℕ)) where
-    pub names_fault : (x : syntax.Section) → i < length xs → x ≡ get_or xs i x → Walked f.text (section_points f known) [] xs i t → add_points f.text t (section_points f known x) ≡ None → list_names f known (map (section f known) xs) ≡ None
-    unfolding list_names
-    names_fault x lt at w e = ap (add_points f.text []) (names_of_sections xs) ∙ walked_fault f.text (section_points f known) [] xs i t x lt at w e
-
-    pub names_end : length xs ≤ i → Walked f.text (section_points f known) [] xs i t → list_names f known (map (section f known) xs) ≡ Some t
-    unfolding list_names
-    names_end le w = ap (add_points f.text []) (names_of_sections xs) ∙ walked_end f.text (section_points f known) [] xs i t le w
+  pub names_end : (xs : List syntax.Section) (i : ℕ) (t : List (List ℕ)) → length xs ≤ i → Walked f.text (section_points f known) [] xs i t → t ≡ list_names f known (map (section f known) xs)
+  unfolding list_names
+  names_end xs i t le w = walked_end f.text (section_points f known) [] xs i t le w ∙ ap (add_points f.text []) (sym (names_of_sections xs))
 
 -- a procedural or functional parameter of the program as the definitions have it
 pub routine_made : (r : Rc (Vec Rust.Section Global) Global) (t : Option Ty) → regions.section_of (Routine r t) ≡ RoutineSection (section_list (map regions.section_of r.value.items)) (option_map type_of t)

@@ -1,52 +1,41 @@
--- Names behind the fields of the records within whose denoters a place stands.
-use Rattle.std.proofs.Common.{◌≡◌, ℕ, Bool, true, false, not, ◌||◌, List, [], ◌∷◌, ◌++◌, map, Option, Some, None, is_some, refl, ap, ◌∙◌}
-use Rattle.std.specs.List.{list_any}
+-- Names that nothing hides within whose definition a place stands.
+use Rattle.std.proofs.Common.{◌≡◌, ℕ, List, [], ◌∷◌, ◌++◌, map, Option, Some, None, refl, ap, ◌∙◌}
 use Rattle.ps_text.specs.declared.Span.{Span}
 use Rattle.ps_syntax.specs.declared.statement.Constant.{Constant}
 use Rattle.ps_syntax.specs.declared.statement.Constant.TheVariants as c
-use Rattle.ps_check_names.specs.Option.{◌>>=◌}
-use Rattle.ps_check_names.specs.Spelling.{spelled, has, place}
-use Rattle.ps_check_names.specs.Regions.{Region, FieldNames, Point, find_past, in_fields}
+use Rattle.ps_check_judgement.specs.Judged.{Judged, Yes, No, ◌>>=◌}
+use Rattle.ps_check_names.specs.Spelling.{spelled, place}
+use Rattle.ps_check_names.specs.Regions.{Region, OwnNames, Point, find_past, in_own}
 use Rattle.ps_check_names.specs.Constants.{ConstantValue, constant, constant_at, signed_constant}
-use Rattle.ps_tree.proofs.NameLemmas.{has_place}
-use Rattle.ps_check_declarations.specs.Denoters.{Hidden, is_free, type_named, type_at}
+use Rattle.ps_check_declarations.specs.Denoters.{Hidden, passes, passes_in, type_named, type_at}
 
-abbrev hidden_by : List ℕ → Hidden → Bool
-hidden_by s hidden = list_any (λ names. has names s) hidden
+abbrev pub owned : Hidden → List Region
+owned hidden = map (λ own. OwnNames own.0 own.1) hidden
 
-at_own_name : (b : Bool) (o : Option ℕ) (h : Hidden) (s : List ℕ) (x y : Option Point) → is_some o ≡ b → (not (hidden_by s h) ≡ true → x ≡ y) → not (b || hidden_by s h) ≡ true → in_fields o x ≡ y
-at_own_name b None h s x y e ih free = ih (ap (λ c. not (c || hidden_by s h)) e ∙ free)
-at_own_name b (Some i) h s x y e ih free = absurd (let q : false ≡ true = ap (λ c. not (c || hidden_by s h)) e ∙ free in cc)
+at_own : (at defined : ℕ) (o : Option ℕ) (j : Judged (Unit {0})) (x y : Judged Point) → x ≡ (j >>= (λ _. y)) → in_own at defined o x ≡ (in_own at defined o j >>= (λ _. y))
+at_own at defined None j x y e = e
+at_own at defined (Some i) j x y e = refl
 
-at_hidden_name : (b : Bool) (o : Option ℕ) (h : Hidden) (s : List ℕ) (x : Option Point) → is_some o ≡ b → (not (hidden_by s h) ≡ false → x ≡ None) → not (b || hidden_by s h) ≡ false → in_fields o x ≡ None
-at_hidden_name b None h s x e ih hidden = ih (ap (λ c. not (c || hidden_by s h)) e ∙ hidden)
-at_hidden_name b (Some i) h s x e ih hidden = refl
+-- a search through them goes on outside, where none hides the name
+pub past_own : (up which : ℕ) (hidden : Hidden) (Γ : List Region) (s : List ℕ) (at : ℕ) → find_past up which (owned hidden ++ Γ) s at ≡ (passes hidden s at >>= (λ _. find_past up which Γ s at))
+unfolding find_past passes
+past_own up which [] Γ s at = refl
+past_own up which (own ∷ hidden) Γ s at = at_own at own.1 (place own.0 s) (passes hidden s at) (find_past up which (owned hidden ++ Γ) s at) (find_past up which Γ s at) (past_own up which hidden Γ s at)
 
-past_from : (up which : ℕ) (hidden : Hidden) (Γ : List Region) (s : List ℕ) → not (hidden_by s hidden) ≡ true → find_past up which (map FieldNames hidden ++ Γ) s ≡ find_past up which Γ s
-unfolding find_past
-past_from up which [] Γ s free = refl
-past_from up which (names ∷ hidden) Γ s free = at_own_name (has names s) (place names s) hidden s (find_past up which (map FieldNames hidden ++ Γ) s) (find_past up which Γ s) (has_place names s) (past_from up which hidden Γ s) free
+then_named : (j : Judged (Unit {0})) (p : Judged Point) (at : ℕ) → ((j >>= (λ _. p)) >>= type_at at) ≡ (j >>= (λ _. p >>= type_at at))
+then_named (Yes u) p at = refl
+then_named (No rule where_) p at = refl
 
-none_from : (up which : ℕ) (hidden : Hidden) (Γ : List Region) (s : List ℕ) → not (hidden_by s hidden) ≡ false → find_past up which (map FieldNames hidden ++ Γ) s ≡ None
-unfolding find_past
-none_from up which [] Γ s h = absurd (let q : true ≡ false = h in cc)
-none_from up which (names ∷ hidden) Γ s h = at_hidden_name (has names s) (place names s) hidden s (find_past up which (map FieldNames hidden ++ Γ) s) (has_place names s) (none_from up which hidden Γ s) h
+then_constant : (j : Judged (Unit {0})) (p : Judged Point) (at : ℕ) (f : ConstantValue → Judged ConstantValue) → (((j >>= (λ _. p)) >>= constant_at at) >>= f) ≡ (j >>= (λ _. (p >>= constant_at at) >>= f))
+then_constant (Yes u) p at f = refl
+then_constant (No rule where_) p at f = refl
 
 module _ (text : List ℕ) (hidden : Hidden) (Γ : List Region) where
-  pub type_named_past : (name : Span) (o : Option _) → not (hidden_by (spelled text name) hidden) ≡ true → type_named text Γ name ≡ o → type_named text (map FieldNames hidden ++ Γ) name ≡ o
-  type_named_past name o free e = ap (λ p. p >>= type_at) (past_from 0 0 hidden Γ (spelled text name) free) ∙ e
+  pub type_named_past : (name : Span) → type_named text (owned hidden ++ Γ) name ≡ (passes hidden (spelled text name) name.from >>= (λ _. type_named text Γ name))
+  type_named_past name = ap (λ p. p >>= type_at name.from) (past_own 0 0 hidden Γ (spelled text name) name.from) ∙ then_named (passes hidden (spelled text name) name.from) (find_past 0 0 Γ (spelled text name) name.from) name.from
 
-  pub type_named_hidden : (name : Span) → not (hidden_by (spelled text name) hidden) ≡ false → type_named text (map FieldNames hidden ++ Γ) name ≡ None
-  type_named_hidden name h = ap (λ p. p >>= type_at) (none_from 0 0 hidden Γ (spelled text name) h)
-
-  pub constant_past : (written : Constant) (o : Option ConstantValue) → is_free text hidden written ≡ true → constant text Γ written ≡ o → constant text (map FieldNames hidden ++ Γ) written ≡ o
-  unfolding constant
-  constant_past (c.Number sign at) o free e = e
-  constant_past (c.Name sign at) o free e = ap (λ p. (p >>= constant_at) >>= signed_constant sign) (past_from 0 0 hidden Γ (spelled text at) free) ∙ e
-  constant_past (c.Text at) o free e = e
-
-  pub constant_hidden : (written : Constant) → is_free text hidden written ≡ false → constant text (map FieldNames hidden ++ Γ) written ≡ None
-  unfolding constant
-  constant_hidden (c.Number sign at) h = absurd (let q : true ≡ false = h in cc)
-  constant_hidden (c.Name sign at) h = ap (λ p. (p >>= constant_at) >>= signed_constant sign) (none_from 0 0 hidden Γ (spelled text at) h)
-  constant_hidden (c.Text at) h = absurd (let q : true ≡ false = h in cc)
+  pub constant_past : (written : Constant) → constant text (owned hidden ++ Γ) written ≡ (passes_in text hidden written >>= (λ _. constant text Γ written))
+  unfolding constant passes_in
+  constant_past (c.Number sign at) = refl
+  constant_past (c.Name sign name) = ap (λ p. (p >>= constant_at name.from) >>= signed_constant name.from sign) (past_own 0 0 hidden Γ (spelled text name) name.from) ∙ then_constant (passes hidden (spelled text name) name.from) (find_past 0 0 Γ (spelled text name) name.from) name.from (signed_constant name.from sign)
+  constant_past (c.Text at) = refl

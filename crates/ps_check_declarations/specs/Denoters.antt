@@ -1,6 +1,5 @@
 -- Type denoters (6.4): the type that each makes, and what it defines for its block.
-use Rattle.std.specs.Prelude.{ℕ, ◌+◌, ◌-◌, pos, int_le, Bool, true, false, ◌&&◌, not, List, [], ◌∷◌, ◌++◌, length, map, Option, Some, None, nat_lt, if◌then◌else◌}
-use Rattle.std.specs.List.{list_any}
+use Rattle.std.specs.Prelude.{ℕ, ◌+◌, ◌-◌, pos, int_le, Bool, true, false, ◌&&◌, List, [], ◌∷◌, ◌++◌, length, map, Option, Some, None, nat_lt, if◌then◌else◌}
 use Rattle.ps_text.specs.declared.Span.{Span}
 use Rattle.ps_syntax.specs.First.{first_of_ordinal}
 use Rattle.ps_syntax.specs.declared.program.Ordinal as syntax
@@ -18,57 +17,75 @@ use Rattle.ps_tree.specs.declared.types.Packing.{Packing}
 use Rattle.ps_tree.specs.declared.types.Packing.TheVariants.{Packed, Unpacked}
 use Rattle.ps_tree.specs.Types.{DataType, OrdinalType, PointerType, SetType, ArrayType, RecordType, field_list, listed, is_same_host}
 use Rattle.ps_tree.specs.Counts.{is_small}
-use Rattle.ps_check_names.specs.Option.{◌>>=◌, provided, steps}
-use Rattle.ps_check_names.specs.Spelling.{spelled, has}
-use Rattle.ps_check_names.specs.Regions.{Region, BlockRegion, FieldNames, Point, BlockPoint, Meaning, ConstantMeaning, TypeMeaning, find}
-use Rattle.ps_check_names.specs.Constants.{ConstantValue, OrdinalConstant, constant}
-use Rattle.ps_check_declarations.specs.Points.{Points, all, add_points}
+use Rattle.ps_check_judgement.specs.declared.refusal.Rule.TheVariants.{WrongType, BadSubrange, SetBase, Twice, Limit}
+use Rattle.ps_check_judgement.specs.Judged.{Judged, Yes, No, ◌>>=◌, provided, steps}
+use Rattle.ps_check_names.specs.Spelling.{spelled, place}
+use Rattle.ps_check_names.specs.Regions.{Region, BlockRegion, OwnNames, Point, BlockPoint, Meaning, ConstantMeaning, TypeMeaning, in_own}
+use Rattle.ps_check_names.specs.Constants.{ConstantValue, OrdinalConstant, denoted, misplaced, constant}
+use Rattle.ps_check_declarations.specs.Points.{Points, all, add_points, is_new, new_points}
 
--- where the declarations of a block stand: the text, the number of the block's routine, the names of the block's region, and the regions outside it
+-- Where the declarations of a block stand: the text, the number of the block's routine, the names of the block's region, those whose
+-- definition is under way, and the regions outside the block.
 pub record Frame : Type 0 where
   pub text : List ℕ
   pub routine : ℕ
   pub names : List (List ℕ)
+  pub begun : List (List ℕ)
   pub outer : List Region
 
 -- What the declarations so far give: the meanings of the block's names, the domain types of the pointer types, the names of the domain types
--- of those pointer types that still wait for them, and the types of the block's variables.
+-- of those pointer types that still wait for them, each with how many names of the block were known before it, and the types of the block's
+-- variables.
 pub record Declared : Type 0 where
   pub known : List Meaning
   pub domains : List DataType
-  pub pending : List Span
+  pub pending : List (Span × ℕ)
   pub variables : List DataType
 
 abbrev pub with_known : Declared → List Meaning → Declared
 with_known d known = record { known = known; domains = d.domains; pending = d.pending; variables = d.variables }
 
--- the names of the fields of the records within whose denoters a place stands
+-- one more definition under way
+abbrev pub begin : Frame → List Meaning → (begun : List (List ℕ)) → Span → Judged (List (List ℕ))
+begin f known begun name = provided (is_new f.names begun (length known) (spelled f.text name)) Twice name.from (begun ++ spelled f.text name ∷ [])
+
+-- a place within these definitions
+abbrev pub within : Frame → (begun : List (List ℕ)) → Frame
+within f begun = record { text = f.text; routine = f.routine; names = f.names; begun = begun; outer = f.outer }
+
+-- What a place stands within: the denoters of records, the lists of formal parameters and the declaration of variables, from the inside
+-- out, each by its names and how many of them stand before the place.
 abbrev pub Hidden : Type 0
-Hidden = List (List (List ℕ))
+Hidden = List (List (List ℕ) × ℕ)
 
 -- the regions that enclose a place of the block
 abbrev pub regions : Frame → Hidden → List Meaning → List Region
-regions f hidden known = map FieldNames hidden ++ BlockRegion f.routine f.names known ∷ f.outer
+regions f hidden known = map (λ own. OwnNames own.0 own.1) hidden ++ BlockRegion f.routine f.names known ∷ f.outer
 
--- no field of such a record has the name that a constant is
-abbrev pub is_free : List ℕ → Hidden → Constant → Bool
-is_free text hidden (c.Number sign at) = true
-is_free text hidden (c.Name sign at) = not (list_any (λ names. has names (spelled text at)) hidden)
-is_free text hidden (c.Text at) = true
+-- a name that none of these hides
+unfoldable pub passes : Hidden → List ℕ → (at : ℕ) → Judged (Unit {0})
+passes [] s at = Yes tt
+passes (own ∷ rest) s at = in_own at own.1 (place own.0 s) (passes rest s at)
+
+-- a constant that is none of these names
+unfoldable pub passes_in : List ℕ → Hidden → Constant → Judged (Unit {0})
+passes_in text hidden (c.Number sign at) = Yes tt
+passes_in text hidden (c.Name sign name) = passes hidden (spelled text name) name.from
+passes_in text hidden (c.Text at) = Yes tt
 
 -- ---- what names denote
 
-unfoldable pub type_at : Point → Option DataType
-type_at (BlockPoint up (TypeMeaning type)) = Some type
-type_at _ = None
+unfoldable pub type_at : (at : ℕ) → Point → Judged DataType
+type_at at (BlockPoint up (TypeMeaning type)) = Yes type
+type_at at p = misplaced at p
 
 -- the type that a name denotes
-abbrev pub type_named : List ℕ → List Region → Span → Option DataType
-type_named text Γ at = find Γ (spelled text at) >>= type_at
+abbrev pub type_named : List ℕ → List Region → Span → Judged DataType
+type_named text Γ name = denoted text Γ name >>= type_at name.from
 
-unfoldable pub ordinal_at : DataType → Option Ordinal
-ordinal_at (OrdinalType o) = Some o
-ordinal_at _ = None
+unfoldable pub ordinal_at : (at : ℕ) → DataType → Judged Ordinal
+ordinal_at at (OrdinalType o) = Yes o
+ordinal_at at _ = No WrongType at
 
 -- ---- ordinal types (6.4.2)
 
@@ -81,41 +98,51 @@ abbrev pub constants_from : Ordinal → ℕ → Points → List Meaning
 constants_from o n [] = []
 constants_from o n (at ∷ rest) = ConstantMeaning o (pos n) ∷ constants_from o (n + 1) rest
 
-abbrev pub enumeration : ℕ → Points → Declared → Option (Ordinal × Declared)
-enumeration at names d =
-    provided (nat_lt (length names) 2147483648) (enumerated at (length names), with_known d (d.known ++ constants_from (enumerated at (length names)) 0 names))
-
 -- 6.4.2.4: two constants of one ordinal type, the second not below the first
-unfoldable pub subrange : ℕ → ConstantValue → ConstantValue → Option Ordinal
-subrange at (OrdinalConstant o m) (OrdinalConstant p n) = provided (is_same_host o.host p.host && int_le m n) (record { host = o.host; subrange = Some at; low = m; high = n })
-subrange at _ _ = None
+unfoldable pub subrange : (at : ℕ) → ConstantValue → ConstantValue → Judged Ordinal
+subrange at (OrdinalConstant o m) (OrdinalConstant p n) = if is_same_host o.host p.host then provided (int_le m n) BadSubrange at (record { host = o.host; subrange = Some at; low = m; high = n }) else No WrongType at
+subrange at _ _ = No WrongType at
+
+-- the subrange of two constants, which begins at an offset
+abbrev pub subrange_of : Frame → Hidden → List Meaning → (at : ℕ) → Constant → Constant → Judged Ordinal
+subrange_of f hidden known at low high = do
+  a ← constant f.text (regions f hidden known) low
+  b ← constant f.text (regions f hidden known) high
+  subrange at a b
 
 module _ (f : Frame) where
-  unfoldable pub ordinal : Hidden → Declared → syntax.Ordinal → Option (Ordinal × Declared)
+  abbrev pub enumeration : (at : ℕ) → Points → Declared → Judged (Ordinal × Declared)
+  enumeration at names d = do
+    count ← new_points f.text f.names f.begun (length d.known) names
+    provided (nat_lt (length names) 2147483648) Limit at (enumerated at (length names), with_known d (d.known ++ constants_from (enumerated at (length names)) 0 names))
+
+  unfoldable pub ordinal : Hidden → Declared → syntax.Ordinal → Judged (Ordinal × Declared)
   ordinal hidden d (o.Name at) = do
     type ← type_named f.text (regions f hidden d.known) at
-    o ← ordinal_at type
-    Some (o, d)
+    o ← ordinal_at at.from type
+    Yes (o, d)
   ordinal hidden d (o.Enumeration at names) = enumeration at.from names d
   ordinal hidden d (o.Subrange low high) = do
-    a ← constant f.text (regions f hidden d.known) low
-    b ← constant f.text (regions f hidden d.known) high
-    o ← subrange (first_of_ordinal (o.Subrange low high)) a b
-    Some (o, d)
+    o ← subrange_of f hidden d.known (first_of_ordinal (o.Subrange low high)) low high
+    Yes (o, d)
 
 -- ---- pointer types (6.4.4)
 
--- A pointer type waits for its domain type. The name of a field round it is no type.
-abbrev pub pointer : Frame → Hidden → Declared → Span → Option (DataType × Declared)
-pointer f hidden d domain =
-    provided (nat_lt (length d.domains + length d.pending) 1048576 && not (list_any (λ names. has names (spelled f.text domain)) hidden))
-    (PointerType (length d.domains + length d.pending), record { known = d.known; domains = d.domains; pending = d.pending ++ domain ∷ []; variables = d.variables })
+-- A pointer type waits for its domain type.
+abbrev pub waiting : Declared → Span → DataType × Declared
+waiting d domain = (PointerType (length d.domains + length d.pending), record { known = d.known; domains = d.domains; pending = d.pending ++ (domain, length d.known) ∷ []; variables = d.variables })
+
+-- The names within whose definitions it stands are no types.
+abbrev pub pointer : Frame → Hidden → Declared → Span → Judged (DataType × Declared)
+pointer f hidden d domain = do
+  free ← passes hidden (spelled f.text domain) domain.from
+  provided (nat_lt (length d.domains + length d.pending) 1048576) Limit domain.from (waiting d domain)
 
 -- ---- structured types (6.4.3)
 
 -- A structured type has at most 100,000 cells.
-abbrev pub small : DataType → Option DataType
-small type = provided (is_small type) type
+abbrev pub small : (at : ℕ) → DataType → Judged DataType
+small at type = provided (is_small type) Limit at type
 
 abbrev pub packing_of : Bool → Packing
 packing_of packed = if packed then Packed else Unpacked
@@ -137,13 +164,13 @@ abbrev pub index_begins : ℕ → Indices → syntax.Ordinal → ℕ
 index_begins at [] x = at
 index_begins at (i ∷ is) x = first_of_ordinal x
 
-abbrev pub index_type : Frame → Hidden → ℕ → Indices × Declared → syntax.Ordinal → Option (Indices × Declared)
-index_type f hidden at s x = ordinal f hidden s.1 x >>= (λ r. Some (s.0 ++ (index_begins at s.0 x, r.0) ∷ [], r.1))
+abbrev pub index_type : Frame → Hidden → ℕ → Indices × Declared → syntax.Ordinal → Judged (Indices × Declared)
+index_type f hidden at s x = ordinal f hidden s.1 x >>= (λ r. Yes (s.0 ++ (index_begins at s.0 x, r.0) ∷ [], r.1))
 
 -- 6.4.3.2: arrays in one another
-unfoldable pub array_of : Bool → Indices → DataType → Option DataType
-array_of packed [] component = Some component
-array_of packed (i ∷ rest) component = array_of packed rest component >>= (λ type. small (ArrayType i.0 packed i.1 type))
+unfoldable pub array_of : Bool → Indices → DataType → Judged DataType
+array_of packed [] component = Yes component
+array_of packed (i ∷ rest) component = array_of packed rest component >>= (λ type. small i.0 (ArrayType i.0 packed i.1 type))
 
 -- 6.4.3.3: the types of the fields so far
 abbrev pub FieldTypes : Type 0
@@ -153,14 +180,14 @@ FieldTypes = List DataType
 abbrev pub fields_of_type : DataType → Points → FieldTypes
 fields_of_type type names = map (λ at. type) names
 
--- 6.4.3.4: the ordinals of a set's base lie in 0..255
-abbrev pub set_of : ℕ → Bool → Ordinal → Option DataType
-set_of at packed o = provided (int_le (pos 0) o.low && int_le o.high (pos 255)) (SetType (Some at) (packing_of packed) o)
+-- 6.4.3.4: the ordinals of a set's base lie in 0..255. The word `set` stands at an offset of its own.
+abbrev pub set_of : (word at : ℕ) → Bool → Ordinal → Judged DataType
+set_of word at packed o = provided (int_le (pos 0) o.low && int_le o.high (pos 255)) SetBase word (SetType (Some at) (packing_of packed) o)
 
 -- ---- the denoters: each part gives a reading of the declarations before it
 
 abbrev pub Reading : Type 0
-Reading = Hidden → Declared → Option (DataType × Declared)
+Reading = Hidden → Declared → Judged (DataType × Declared)
 
 -- of a structure, with the `packed` before it
 abbrev pub StructureReading : Type 0
@@ -174,43 +201,45 @@ module _ (f : Frame) where
   abbrev pub fields_step : Fields-F StructureReading Reading FieldsReading → FieldsReading
   fields_step x = (x.names, x.ty)
 
-  -- one more section of fields
-  abbrev pub add_fields : Hidden → FieldTypes × Declared → FieldsReading → Option (FieldTypes × Declared)
-  add_fields hidden s x = x.1 hidden s.1 >>= (λ r. Some (s.0 ++ fields_of_type r.0 x.0, r.1))
+  -- One more section of fields of a record that has these names. They stand before its type.
+  abbrev pub add_fields : List (List ℕ) → Hidden → FieldTypes × Declared → FieldsReading → Judged (FieldTypes × Declared)
+  add_fields names hidden s x = do
+    defined ← new_points f.text names [] (length s.0) x.0
+    r ← x.1 ((names, defined) ∷ hidden) s.1
+    Yes (s.0 ++ fields_of_type r.0 x.0, r.1)
 
-  -- a name is a field's once in a record
-  unfoldable pub record_names : List FieldsReading → Option (List (List ℕ))
+  -- the names of a record's fields
+  unfoldable pub record_names : List FieldsReading → List (List ℕ)
   record_names xs = add_points f.text [] (all (map (λ x. x.0) xs))
 
-  unfoldable pub array_type : Option ℕ → Hidden → Declared → ℕ → List syntax.Ordinal → Reading → Option (DataType × Declared)
+  unfoldable pub array_type : Option ℕ → Hidden → Declared → (at : ℕ) → List syntax.Ordinal → Reading → Judged (DataType × Declared)
   array_type packed hidden d at indices component = do
     is ← steps (index_type f hidden (begins packed at)) ([], d) indices
     c ← component hidden is.1
     type ← array_of (is_packed packed) is.0 c.0
-    Some (type, c.1)
+    Yes (type, c.1)
 
-  unfoldable pub record_type : Option ℕ → Hidden → Declared → ℕ → List FieldsReading → Option (DataType × Declared)
+  unfoldable pub record_type : Option ℕ → Hidden → Declared → (at : ℕ) → List FieldsReading → Judged (DataType × Declared)
   record_type packed hidden d at fields = do
-    names ← record_names fields
-    types ← steps (add_fields (names ∷ hidden)) ([], d) fields
-    type ← small (RecordType (begins packed at) (is_packed packed) (field_list names (listed types.0)))
-    Some (type, types.1)
+    types ← steps (add_fields (record_names fields) hidden) ([], d) fields
+    type ← small (begins packed at) (RecordType (begins packed at) (is_packed packed) (field_list (record_names fields) (listed types.0)))
+    Yes (type, types.1)
 
-  unfoldable pub set_type : Option ℕ → Hidden → Declared → ℕ → syntax.Ordinal → Option (DataType × Declared)
+  unfoldable pub set_type : Option ℕ → Hidden → Declared → (at : ℕ) → syntax.Ordinal → Judged (DataType × Declared)
   set_type packed hidden d at base = do
     o ← ordinal f hidden d base
-    type ← set_of (begins packed at) (is_packed packed) o.0
-    Some (type, o.1)
+    type ← set_of at (begins packed at) (is_packed packed) o.0
+    Yes (type, o.1)
 
   unfoldable pub structure_step : Structure-F StructureReading Reading FieldsReading → StructureReading
   structure_step (Structure-F.Array at indices component) packed hidden d = array_type packed hidden d at.from indices component
   structure_step (Structure-F.Record at fields) packed hidden d = record_type packed hidden d at.from fields
   structure_step (Structure-F.Set at base) packed hidden d = set_type packed hidden d at.from base
 
-  unfoldable pub simple_type : Hidden → Declared → syntax.Ordinal → Option (DataType × Declared)
-  simple_type hidden d (o.Name at) = type_named f.text (regions f hidden d.known) at >>= (λ type. Some (type, d))
-  simple_type hidden d (o.Enumeration at names) = ordinal f hidden d (o.Enumeration at names) >>= (λ r. Some (OrdinalType r.0, r.1))
-  simple_type hidden d (o.Subrange low high) = ordinal f hidden d (o.Subrange low high) >>= (λ r. Some (OrdinalType r.0, r.1))
+  unfoldable pub simple_type : Hidden → Declared → syntax.Ordinal → Judged (DataType × Declared)
+  simple_type hidden d (o.Name at) = type_named f.text (regions f hidden d.known) at >>= (λ type. Yes (type, d))
+  simple_type hidden d (o.Enumeration at names) = ordinal f hidden d (o.Enumeration at names) >>= (λ r. Yes (OrdinalType r.0, r.1))
+  simple_type hidden d (o.Subrange low high) = ordinal f hidden d (o.Subrange low high) >>= (λ r. Yes (OrdinalType r.0, r.1))
 
   unfoldable pub type_step : TypeDenoter-F StructureReading Reading FieldsReading → Reading
   type_step (TypeDenoter-F.Ordinal x) hidden d = simple_type hidden d x

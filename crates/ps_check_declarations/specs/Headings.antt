@@ -6,9 +6,10 @@ use Rattle.ps_syntax.specs.declared.program.Heading as syntax_heading
 use Rattle.ps_syntax.specs.declared.program.Heading.TheOpen.{Heading-F, Section-F}
 use Rattle.ps_syntax.specs.declared.program.Heading.TheFolds.{fold-Heading, fold-Section}
 use Rattle.ps_tree.specs.Types.{DataType, OrdinalType, PointerType}
-use Rattle.ps_check_names.specs.Option.{◌>>=◌, provided, steps}
+use Rattle.ps_check_judgement.specs.declared.refusal.Rule.TheVariants.{WrongType, Limit}
+use Rattle.ps_check_judgement.specs.Judged.{Judged, Yes, ◌>>=◌, provided, steps}
 use Rattle.ps_check_names.specs.Regions.{Meaning, ParameterMeaning, RoutineParameterMeaning, Section, ValueSection, VariableSection, RoutineSection, Sections, no_section, section_before}
-use Rattle.ps_check_declarations.specs.Points.{Points, all, add_points}
+use Rattle.ps_check_declarations.specs.Points.{Points, all, add_points, new_points}
 use Rattle.ps_check_declarations.specs.Denoters.{Frame, Hidden, regions, type_named}
 
 -- 6.6.2: the result of a function is of an ordinal or pointer type
@@ -28,48 +29,52 @@ Signature = List Section × Option DataType
 
 -- A section: its names, and what it is by the names that are hidden from it.
 abbrev pub SectionReading : Type 0
-SectionReading = Points × (Hidden → Option Section)
+SectionReading = Points × (Hidden → Judged Section)
 
 -- A heading: its name, and what it says.
 abbrev pub HeadingReading : Type 0
-HeadingReading = Span × (Hidden → Option Signature)
+HeadingReading = Span × (Hidden → Judged Signature)
 
 -- A heading has at most 32 formal parameters (this project's limit), and so a section has.
-abbrev pub few : ℕ → Option ℕ
-few n = provided (nat_le n 32) n
+abbrev pub few : (at : ℕ) → ℕ → Judged ℕ
+few at n = provided (nat_le n 32) Limit at n
 
 module _ (f : Frame) (known : List Meaning) where
   -- the type that a name denotes there
-  abbrev pub formal_type : Hidden → Span → Option DataType
+  abbrev pub formal_type : Hidden → Span → Judged DataType
   formal_type hidden name = type_named f.text (regions f hidden known) name
 
   unfoldable pub section_step : Section-F HeadingReading SectionReading → SectionReading
-  section_step (Section-F.Value names type) = (names, λ hidden. few (length names) >>= (λ n. formal_type hidden type >>= (λ t. Some (ValueSection n t))))
-  section_step (Section-F.Variable names type) = (names, λ hidden. few (length names) >>= (λ n. formal_type hidden type >>= (λ t. Some (VariableSection n t))))
-  section_step (Section-F.Routine h) = (h.0 ∷ [], λ hidden. h.1 hidden >>= (λ s. Some (RoutineSection (section_list s.0) s.1)))
+  section_step (Section-F.Value names type) = (names, λ hidden. few type.from (length names) >>= (λ n. formal_type hidden type >>= (λ t. Yes (ValueSection n t))))
+  section_step (Section-F.Variable names type) = (names, λ hidden. few type.from (length names) >>= (λ n. formal_type hidden type >>= (λ t. Yes (VariableSection n t))))
+  section_step (Section-F.Routine h) = (h.0 ∷ [], λ hidden. h.1 hidden >>= (λ s. Yes (RoutineSection (section_list s.0) s.1)))
 
-  -- one more section
-  abbrev pub add_section : Hidden → List Section → SectionReading → Option (List Section)
-  add_section hidden done x = x.1 hidden >>= (λ s. Some (done ++ s ∷ []))
+  -- One more section of a list that has these names. Its own stand before what follows. The sections so far are told with how many names
+  -- they have.
+  abbrev pub add_section : List (List ℕ) → Hidden → List Section × ℕ → SectionReading → Judged (List Section × ℕ)
+  add_section names hidden done x = do
+    defined ← new_points f.text names [] done.1 x.0
+    s ← x.1 ((names, defined) ∷ hidden)
+    Yes (done.0 ++ s ∷ [], defined)
 
   -- the names of a list's parameters, which are defined for the list
-  unfoldable pub list_names : List SectionReading → Option (List (List ℕ))
+  unfoldable pub list_names : List SectionReading → List (List ℕ)
   list_names xs = add_points f.text [] (all (map (λ x. x.0) xs))
 
-  -- in the list they hide others of their spelling
-  unfoldable pub sections_of : List SectionReading → Hidden → Option (List Section)
-  sections_of xs hidden = do
-    names ← list_names xs
-    count ← few (length names)
-    steps (add_section (names ∷ hidden)) [] xs
+  -- The list of a routine whose name is at an offset. In it the parameters' names hide others of their spelling.
+  unfoldable pub sections_of : List SectionReading → (at : ℕ) → Hidden → Judged (List Section)
+  sections_of xs at hidden = do
+    count ← few at (length (list_names xs))
+    done ← steps (add_section (list_names xs) hidden) ([], 0) xs
+    Yes done.0
 
   -- the type of a function's result, which stands behind the list
-  abbrev pub result_type : Hidden → Span → Option DataType
-  result_type hidden name = formal_type hidden name >>= (λ type. provided (is_result type) type)
+  abbrev pub result_type : Hidden → Span → Judged DataType
+  result_type hidden name = formal_type hidden name >>= (λ type. provided (is_result type) WrongType name.from type)
 
   unfoldable pub heading_step : Heading-F HeadingReading SectionReading → HeadingReading
-  heading_step (Heading-F.Procedure name xs) = (name, λ hidden. sections_of xs hidden >>= (λ ss. Some (ss, None)))
-  heading_step (Heading-F.Function name xs type) = (name, λ hidden. sections_of xs hidden >>= (λ ss. result_type hidden type >>= (λ t. Some (ss, Some t))))
+  heading_step (Heading-F.Procedure name xs) = (name, λ hidden. sections_of xs name.from hidden >>= (λ ss. Yes (ss, None)))
+  heading_step (Heading-F.Function name xs type) = (name, λ hidden. sections_of xs name.from hidden >>= (λ ss. result_type hidden type >>= (λ t. Yes (ss, Some t))))
 
   abbrev pub heading : syntax_heading.Heading → HeadingReading
   heading = fold-Heading HeadingReading SectionReading heading_step section_step

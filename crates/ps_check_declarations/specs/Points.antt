@@ -1,5 +1,5 @@
 -- The defining points of a block's constants, types and variables (6.2.2.1), in the order in which their definitions end: a walk over the tree.
-use Rattle.std.specs.Prelude.{ℕ, not, List, [], ◌∷◌, ◌++◌, Option, map}
+use Rattle.std.specs.Prelude.{ℕ, ◌+◌, Bool, if◌then◌else◌, not, ◌&&◌, List, [], ◌∷◌, ◌++◌, take, map}
 use Rattle.ps_text.specs.declared.Span.{Span}
 use Rattle.ps_syntax.specs.declared.program.Ordinal.{Ordinal}
 use Rattle.ps_syntax.specs.declared.program.Ordinal.TheVariants as o
@@ -11,7 +11,8 @@ use Rattle.ps_syntax.specs.declared.program.Structure.TheFolds.{fold-TypeDenoter
 use Rattle.ps_syntax.specs.declared.program.ConstantDefinition.{ConstantDefinition}
 use Rattle.ps_syntax.specs.declared.program.TypeDefinition.{TypeDefinition}
 use Rattle.ps_syntax.specs.declared.program.Variables.{Variables}
-use Rattle.ps_check_names.specs.Option.{provided, steps}
+use Rattle.ps_check_judgement.specs.declared.refusal.Rule.TheVariants.{Twice}
+use Rattle.ps_check_judgement.specs.Judged.{Judged, provided, steps}
 use Rattle.ps_check_names.specs.Spelling.{spelled, has}
 
 abbrev pub Points : Type 0
@@ -65,12 +66,31 @@ variables_points v = type_points v.ty ++ v.names
 unfoldable pub block_points : List ConstantDefinition → List TypeDefinition → List Variables → Points
 block_points cs ts vs = (all (map constant_points cs) ++ all (map definition_points ts)) ++ all (map variables_points vs)
 
--- One more name of a region: a name has one defining point there (6.2.2.7).
-abbrev pub add_name : List (List ℕ) → List ℕ → Option (List (List ℕ))
-add_name names s = provided (not (has names s)) (names ++ s ∷ [])
+-- ---- the names of a region: those of all its points are known before any of them is used, each once
 
-abbrev pub add_point : List ℕ → List (List ℕ) → Span → Option (List (List ℕ))
+abbrev pub add_name : List (List ℕ) → List ℕ → List (List ℕ)
+add_name names s = if has names s then names else names ++ s ∷ []
+
+abbrev pub add_point : List ℕ → List (List ℕ) → Span → List (List ℕ)
 add_point text names at = add_name names (spelled text at)
 
-unfoldable pub add_points : List ℕ → List (List ℕ) → Points → Option (List (List ℕ))
-add_points text names points = steps (add_point text) names points
+unfoldable pub add_points : List ℕ → List (List ℕ) → Points → List (List ℕ)
+add_points text names [] = names
+add_points text names (at ∷ rest) = add_points text (add_point text names at) rest
+
+-- ---- a name has one defining point in a region (6.2.2.7): a second one is told where it stands
+
+-- the region has this name, and not among its first `count`
+abbrev pub is_later : List (List ℕ) → (count : ℕ) → List ℕ → Bool
+is_later names count s = has names s && not (has (take count names) s)
+
+-- it has no definition before the place, where the first `count` are defined, nor is one under way
+abbrev pub is_new : List (List ℕ) → (begun : List (List ℕ)) → (count : ℕ) → List ℕ → Bool
+is_new names begun count s = is_later names count s && not (has begun s)
+
+-- one more point: how many names of the region stand before what follows
+abbrev pub new_point : List ℕ → List (List ℕ) → (begun : List (List ℕ)) → (count : ℕ) → Span → Judged ℕ
+new_point text names begun count at = provided (is_new names begun count (spelled text at)) Twice at.from (count + 1)
+
+unfoldable pub new_points : List ℕ → List (List ℕ) → (begun : List (List ℕ)) → (count : ℕ) → Points → Judged ℕ
+new_points text names begun count points = steps (new_point text names begun) count points

@@ -1,22 +1,24 @@
 //! The constants, types and variables of a block.
 
-ghost use Rattle.std.specs.Prelude.{◌≡◌, ◌+◌, ◌<◌, ◌^◌, ◌++◌, ◌∷◌, [], ℕ, None, Some, map, length, IfErr, IfOk, OnOk, IfNone, IfSome};
+ghost use Rattle.std.specs.Prelude.{◌≡◌, ◌+◌, ℕ, [], None, Some, map, length, IfNone, IfSome};
+ghost use Rattle.ps_syntax.specs.First.{first_of_type};
+ghost use Rattle.ps_tree.specs.Types.{DataType};
 ghost use Rattle.ps_tree.specs.View.{type_of};
-ghost use Rattle.ps_check_names.specs.Option.{steps};
+ghost use Rattle.ps_check_judgement.specs.Judged.{Judged, Told, Answers, steps};
 ghost use Rattle.ps_check_names.specs.Regions.{one_more};
-ghost use Rattle.ps_check_names.specs.Refusal.{IsFault};
-ghost use Rattle.ps_check_names.specs.Views.{constant_of, meaning_of, scope_of};
-ghost use Rattle.ps_check_declarations.specs.Denoters.{denoter};
-ghost use Rattle.ps_check_declarations.specs.Declarations.{meaning_of_constant, define_constant, define_type, resolve_domain, resolve_domains, declare_variable, declare_variables, declarations};
-ghost use Rattle.ps_check_declarations.specs.Views.{frame_of, declared_of};
+ghost use Rattle.ps_check_names.specs.Views.{constant_of, meaning_of, point_of};
+ghost use Rattle.ps_check_declarations.specs.Denoters.{Declared as DeclaredSpec, begin, denoter};
+ghost use Rattle.ps_check_declarations.specs.Declarations.{meaning_of_constant, is_limit, told_at_name, domain_at, define_constant, define_type, resolve_domain, resolve_domains, declare_variable, declare_variables, declarations};
+ghost use Rattle.ps_check_declarations.specs.Views.{frame_of, declared_of, hidden_of};
 
-use crate::denoters::{constant_in, denoter, type_in};
-use crate::frame::{Declared, Frame, Hidden};
-use crate::points::add_declaration;
-use ps_check_names::constants::ConstantValue;
+use crate::denoters::{constant_in, denoter};
+use crate::frame::{Declared, Frame, Hidden, Parts, Place};
+use crate::points::is_later;
+use ps_check_judgement::answer::broken;
+use ps_check_judgement::refusal::{Fault, Rule};
+use ps_check_names::constants::{ConstantValue, misplacement};
 use ps_check_names::meaning::Meaning;
-use ps_check_names::reading::Reading;
-use ps_check_names::refusal::{Fault, Rule};
+use ps_check_names::scope::{Found, Scope};
 use ps_syntax::{ConstantDefinition, TypeDefinition, Variables};
 use ps_text::Span;
 use ps_tree::names::Names;
@@ -34,6 +36,52 @@ fn meaning_of_constant(value: ConstantValue) -> Meaning
     }
 }
 
+/// One more definition under way, of a name that is new.
+fn begin(
+    frame: &Frame,
+    alloc: Global,
+    known: &[Meaning],
+    begun: &mut Names,
+    name: Span,
+) -> Result<(), Fault>
+    ensures { Answers result (λ _. begun.new) (begin (frame_of frame.now) (map meaning_of known.now) begun.old name) }
+{
+    let spelling = frame.reading.name(alloc, name)?;
+    if !is_later(frame.names, known.len(), spelling.as_slice()) {
+        return Err(broken(Rule::Twice, name.from));
+    }
+    if !begun.add(spelling)? {
+        return Err(broken(Rule::Twice, name.from));
+    }
+    Ok(())
+}
+
+/// The names of a declaration of variables, each of which is new.
+#[tactic(auto, using(ps_check_judgement::proofs::Lists::stepped_start, ps_check_judgement::proofs::Lists::stepped_next, ps_check_judgement::proofs::Lists::stepped_fault, ps_check_judgement::proofs::Lists::stepped_end))]
+fn begin_all(
+    frame: &Frame,
+    alloc: Global,
+    known: &[Meaning],
+    names: &[Span],
+) -> Result<Names, Fault>
+    ensures { Answers result (λ begun. begun) (steps (begin (frame_of frame.now) (map meaning_of known.now)) [] names.now) }
+{
+    let mut begun = Names::new(alloc);
+    for name in names {
+        begin(frame, alloc, known, &mut begun, *name)?;
+    }
+    Ok(begun)
+}
+
+/// One definition under way.
+fn begin_one(frame: &Frame, alloc: Global, known: &[Meaning], name: Span) -> Result<Names, Fault>
+    ensures { Answers result (λ begun. begun) (begin (frame_of frame.now) (map meaning_of known.now) [] name) }
+{
+    let mut begun = Names::new(alloc);
+    begin(frame, alloc, known, &mut begun, name)?;
+    Ok(begun)
+}
+
 /// A constant definition.
 #[tactic(auto, unfolding(crate::specs::Declarations::define_constant, crate::specs::Views::hidden_of))]
 fn define_constant(
@@ -42,33 +90,50 @@ fn define_constant(
     declared: &mut Declared,
     definition: &ConstantDefinition,
 ) -> Result<(), Fault>
-    ensures ok { OnOk result (define_constant (frame_of frame.now) (declared_of declared.old) definition.now ≡ Some (declared_of declared.new)) }
-    ensures err { IfErr result (λ fault. IsFault fault → define_constant (frame_of frame.now) (declared_of declared.old) definition.now ≡ None) }
+    ensures { Answers result (λ _. declared_of declared.new) (define_constant (frame_of frame.now) (declared_of declared.old) definition.now) }
 {
-    let value = constant_in(
-        frame,
+    let known = declared.known.as_slice();
+    let _begun = begin_one(frame, alloc, known, definition.name)?;
+    let place = Place {
         alloc,
-        &Hidden::Nothing,
-        declared.known.as_slice(),
-        definition.value,
-    )?;
+        frame: *frame,
+        hidden: Hidden::Nothing,
+    };
+    let value = constant_in(&place, known, definition.value)?;
     declared.known.push(meaning_of_constant(value))?;
     Ok(())
 }
 
-/// What is told of a type definition: a limit that its type passes at the name that it gives the type.
-fn told_at_name(fault: Fault, definition: &TypeDefinition) -> Fault
-    ensures { IsFault result → IsFault fault }
+/// What is told of a type definition whose denoter's first token is at `first`: a limit that is passed there is told at
+/// the name that is defined.
+#[tactic(auto, unfolding(crate::specs::Declarations::is_limit, crate::specs::Declarations::told_at_name))]
+fn told_at_name(fault: Fault, first: u32, name: u32) -> Fault
+    ensures { (j : Judged (DataType × DeclaredSpec)) → Told fault j → Told result (told_at_name first name j) }
 {
     match fault {
         Fault::Broken {
             rule: Rule::Limit,
             at,
-        } if at == definition.ty.first_token() => Fault::Broken {
-            rule: Rule::Limit,
-            at: definition.name.from,
-        },
+        } if at == first => broken(Rule::Limit, name),
         _ => fault,
+    }
+}
+
+/// The type of a definition.
+#[tactic(auto, unfolding(crate::specs::Declarations::told_at_name))]
+fn defined_type(
+    place: &Place,
+    declared: &mut Declared,
+    definition: &TypeDefinition,
+) -> Result<Ty, Fault>
+    ensures { Answers result (λ ty. (type_of ty, declared_of declared.new)) (told_at_name (first_of_type definition.now.ty) definition.now.name.from (denoter (frame_of place.now.frame) definition.now.ty (hidden_of place.now.hidden) (declared_of declared.old))) }
+{
+    match denoter(&definition.ty, place, declared) {
+        Ok(ty) => Ok(ty),
+        Err(fault) => {
+            let first = definition.ty.first_token();
+            Err(told_at_name(fault, first, definition.name.from))
+        }
     }
 }
 
@@ -80,107 +145,80 @@ fn define_type(
     declared: &mut Declared,
     definition: &TypeDefinition,
 ) -> Result<(), Fault>
-    ensures ok { OnOk result (define_type (frame_of frame.now) (declared_of declared.old) definition.now ≡ Some (declared_of declared.new)) }
-    ensures err { IfErr result (λ fault. IsFault fault → define_type (frame_of frame.now) (declared_of declared.old) definition.now ≡ None) }
+    ensures { Answers result (λ _. declared_of declared.new) (define_type (frame_of frame.now) (declared_of declared.old) definition.now) }
 {
-    let ty = match denoter(&definition.ty, frame, alloc, &Hidden::Nothing, declared) {
-        Ok(ty) => ty,
-        Err(fault) => return Err(told_at_name(fault, definition)),
+    let begun = begin_one(frame, alloc, declared.known.as_slice(), definition.name)?;
+    let hidden = Hidden::Nothing;
+    let place = Place {
+        alloc,
+        frame: Frame {
+            reading: frame.reading,
+            routine: frame.routine,
+            names: frame.names,
+            begun: &begun,
+            outer: frame.outer,
+        },
+        hidden,
     };
+    let ty = defined_type(&place, declared, definition)?;
     declared.known.push(Meaning::Type(ty))?;
     Ok(())
 }
 
-fn stands_behind(declaration: &Variables, at: u32) -> bool {
-    match declaration.names.as_slice() {
-        [] => false,
-        [first, ..] => at < first.from,
-    }
-}
-
-/// Whether one of these declarations defines a name behind a place where it is used.
-fn is_declared_behind(
-    reading: &Reading,
-    alloc: Global,
-    variables: &[Variables],
-    name: Span,
-) -> Result<bool, Fault> {
-    let mut names = Names::new(alloc);
-    for declaration in variables {
-        if stands_behind(declaration, name.from) {
-            add_declaration(reading, alloc, &mut names, declaration)?;
+/// The domain type that a denoted name stands for.
+#[tactic(auto, unfolding(crate::specs::Declarations::domain_at, crate::specs::Denoters::type_at, ps_check_names::specs::Views::meaning_of))]
+fn domain_at(found: &Found, later: bool, at: u32) -> Result<Ty, Fault>
+    ensures { Answers result (λ ty. type_of ty) (domain_at later at (point_of found.now)) }
+{
+    match found {
+        Found::Name {
+            meaning: Meaning::Type(ty),
+            ..
+        } => Ok(ty.copy()?),
+        _ => {
+            let rule = if later {
+                Rule::UsedBefore
+            } else {
+                misplacement(found)
+            };
+            Err(broken(rule, at))
         }
     }
-    let spelling = reading.spelling(alloc, name)?;
-    Ok(names.contains(spelling.as_slice()))
 }
 
-/// What is told of a domain type that is none: in a variable part the name's point may stand behind the use.
-fn told_of_domain(
-    fault: Fault,
-    reading: &Reading,
-    alloc: Global,
-    variables: &[Variables],
-    name: Span,
-) -> Fault
-    ensures { IsFault result → IsFault fault }
-{
-    match fault {
-        Fault::Broken {
-            rule: Rule::WrongKind,
-            at,
-        } => match is_declared_behind(reading, alloc, variables, name) {
-            Ok(true) => Fault::Broken {
-                rule: Rule::UsedBefore,
-                at,
-            },
-            Ok(false) => fault,
-            Err(_) => Fault::OutOfMemory,
-        },
-        _ => fault,
-    }
-}
-
-/// A domain type that was waited for, at the end of its part, which has these variables.
-#[tactic(auto, unfolding(crate::specs::Declarations::resolve_domain, crate::specs::Views::hidden_of))]
+/// A domain type that was waited for behind the first `count` names, at the end of its part.
+#[tactic(auto, unfolding(crate::specs::Declarations::resolve_domain, ps_check_names::specs::Views::scope_of))]
 fn resolve_domain(
     frame: &Frame,
     alloc: Global,
     declared: &mut Declared,
-    variables: &[Variables],
     name: Span,
+    count: usize,
 ) -> Result<(), Fault>
-    ensures ok { OnOk result (resolve_domain (frame_of frame.now) (declared_of declared.old) name ≡ Some (declared_of declared.new)) }
-    ensures err { IfErr result (λ fault. IsFault fault → resolve_domain (frame_of frame.now) (declared_of declared.old) name ≡ None) }
-    ensures pending { OnOk result (declared.new.pending.items ≡ declared.old.pending.items) }
+    ensures { Answers result (λ _. declared_of declared.new) (resolve_domain (frame_of frame.now) (declared_of declared.old) (name, count)) }
 {
-    let known = declared.known.as_slice();
-    let ty = match type_in(frame, alloc, &Hidden::Nothing, known, name) {
-        Ok(ty) => ty,
-        Err(fault) => {
-            let reading = frame.reading;
-            return Err(told_of_domain(fault, reading, alloc, variables, name));
-        }
+    let scope = Scope::Block {
+        routine: frame.routine,
+        names: frame.names,
+        known: declared.known.as_slice(),
+        outer: frame.outer,
     };
+    let found = frame.reading.denoted(alloc, &scope, name)?;
+    let spelling = frame.reading.spelling(alloc, name)?;
+    let later = is_later(frame.names, count, spelling.as_slice());
+    let ty = domain_at(&found, later, name.from)?;
     declared.domains.push(ty)?;
     Ok(())
 }
 
-/// The end of a part, which has these variables: each domain type that is waited for is the type that its name denotes
-/// there.
-#[tactic(auto, unfolding(crate::specs::Declarations::resolve_domains))]
-fn resolve_domains(
-    frame: &Frame,
-    alloc: Global,
-    declared: &mut Declared,
-    variables: &[Variables],
-) -> Result<(), Fault>
-    ensures ok { OnOk result (resolve_domains (frame_of frame.now) (declared_of declared.old) ≡ Some (declared_of declared.new)) }
-    ensures err { IfErr result (λ fault. IsFault fault → resolve_domains (frame_of frame.now) (declared_of declared.old) ≡ None) }
+/// The end of a part: each domain type that is waited for is the type that its name denotes there.
+#[tactic(auto, using(ps_check_judgement::proofs::Lists::stepped_start, ps_check_judgement::proofs::Lists::stepped_next, ps_check_judgement::proofs::Lists::stepped_fault, ps_check_judgement::proofs::Lists::stepped_end), unfolding(crate::specs::Declarations::resolve_domains))]
+fn resolve_domains(frame: &Frame, alloc: Global, declared: &mut Declared) -> Result<(), Fault>
+    ensures { Answers result (λ _. declared_of declared.new) (resolve_domains (frame_of frame.now) (declared_of declared.old)) }
 {
     for i in 0..declared.pending.len() {
-        let name = declared.pending[i];
-        resolve_domain(frame, alloc, declared, variables, name)?;
+        let (name, count) = declared.pending[i];
+        resolve_domain(frame, alloc, declared, name, count)?;
     }
     declared.pending.clear();
     Ok(())
@@ -189,16 +227,10 @@ fn resolve_domains(
 /// One more variable of a type, behind `first` entries and the variables before it.
 #[tactic(auto, unfolding(ps_check_names::specs::Views::meaning_of))]
 fn declare_variable(first: u32, ty: &Ty, declared: &mut Declared, name: Span) -> Result<(), Fault>
-    ensures ok { OnOk result (declare_variable first (type_of ty.now) (declared_of declared.old) name ≡ Some (declared_of declared.new)) }
-    ensures err { IfErr result (λ fault. IsFault fault → declare_variable first (type_of ty.now) (declared_of declared.old) name ≡ None) }
+    ensures { Answers result (λ _. declared_of declared.new) (declare_variable first (type_of ty.now) (declared_of declared.old) name) }
 {
-    let fault = Fault::Broken {
-        rule: Rule::Limit,
-        at: name.from,
-    };
-    let entry = match entry_behind(first, declared.variables.len()) {
-        None => return Err(fault),
-        Some(entry) => entry,
+    let Some(entry) = entry_behind(first, declared.variables.len()) else {
+        return Err(broken(Rule::Limit, name.from));
     };
     declared.known.push(Meaning::Variable {
         entry,
@@ -221,10 +253,9 @@ fn entry_behind(first: u32, variables: usize) -> Option<u32>
 }
 
 /// The variables of one declaration.
-#[tactic(auto, using(ps_check_names::proofs::Lists::stepped_next, ps_check_names::proofs::Lists::stepped_fault, ps_check_names::proofs::Lists::stepped_end))]
+#[tactic(auto, using(ps_check_judgement::proofs::Lists::stepped_start, ps_check_judgement::proofs::Lists::stepped_next, ps_check_judgement::proofs::Lists::stepped_fault, ps_check_judgement::proofs::Lists::stepped_end))]
 fn declare_names(first: u32, ty: &Ty, declared: &mut Declared, names: &[Span]) -> Result<(), Fault>
-    ensures ok { OnOk result (steps (declare_variable first (type_of ty.now)) (declared_of declared.old) names.now ≡ Some (declared_of declared.new)) }
-    ensures err { IfErr result (λ fault. IsFault fault → steps (declare_variable first (type_of ty.now)) (declared_of declared.old) names.now ≡ None) }
+    ensures { Answers result (λ _. declared_of declared.new) (steps (declare_variable first (type_of ty.now)) (declared_of declared.old) names.now) }
 {
     for name in names {
         declare_variable(first, ty, declared, *name)?;
@@ -241,23 +272,37 @@ fn declare_variables(
     declared: &mut Declared,
     declaration: &Variables,
 ) -> Result<(), Fault>
-    ensures ok { OnOk result (declare_variables (frame_of frame.now) first (declared_of declared.old) declaration.now ≡ Some (declared_of declared.new)) }
-    ensures err { IfErr result (λ fault. IsFault fault → declare_variables (frame_of frame.now) first (declared_of declared.old) declaration.now ≡ None) }
+    ensures { Answers result (λ _. declared_of declared.new) (declare_variables (frame_of frame.now) first (declared_of declared.old) declaration.now) }
 {
-    let hidden = Hidden::Variables(declaration.names.as_slice());
-    let ty = denoter(&declaration.ty, frame, alloc, &hidden, declared)?;
-    declare_names(first, &ty, declared, declaration.names.as_slice())
+    let names = declaration.names.as_slice();
+    let begun = begin_all(frame, alloc, declared.known.as_slice(), names)?;
+    let place = Place {
+        alloc,
+        frame: Frame {
+            reading: frame.reading,
+            routine: frame.routine,
+            names: frame.names,
+            begun: &begun,
+            outer: frame.outer,
+        },
+        hidden: Hidden::Own {
+            names: &begun,
+            defined: begun.len(),
+            outer: &Hidden::Nothing,
+        },
+    };
+    let ty = denoter(&declaration.ty, &place, declared)?;
+    declare_names(first, &ty, declared, names)
 }
 
-#[tactic(auto, using(ps_check_names::proofs::Lists::stepped_next, ps_check_names::proofs::Lists::stepped_fault, ps_check_names::proofs::Lists::stepped_end))]
+#[tactic(auto, using(ps_check_judgement::proofs::Lists::stepped_start, ps_check_judgement::proofs::Lists::stepped_next, ps_check_judgement::proofs::Lists::stepped_fault, ps_check_judgement::proofs::Lists::stepped_end))]
 fn define_constants(
     frame: &Frame,
     alloc: Global,
     declared: &mut Declared,
     definitions: &[ConstantDefinition],
 ) -> Result<(), Fault>
-    ensures ok { OnOk result (steps (define_constant (frame_of frame.now)) (declared_of declared.old) definitions.now ≡ Some (declared_of declared.new)) }
-    ensures err { IfErr result (λ fault. IsFault fault → steps (define_constant (frame_of frame.now)) (declared_of declared.old) definitions.now ≡ None) }
+    ensures { Answers result (λ _. declared_of declared.new) (steps (define_constant (frame_of frame.now)) (declared_of declared.old) definitions.now) }
 {
     for definition in definitions {
         define_constant(frame, alloc, declared, definition)?;
@@ -265,15 +310,14 @@ fn define_constants(
     Ok(())
 }
 
-#[tactic(auto, using(ps_check_names::proofs::Lists::stepped_next_of, ps_check_names::proofs::Lists::stepped_fault_of, ps_check_names::proofs::Lists::stepped_end))]
+#[tactic(auto, using(ps_check_judgement::proofs::Lists::stepped_start, ps_check_judgement::proofs::Lists::stepped_next, ps_check_judgement::proofs::Lists::stepped_fault, ps_check_judgement::proofs::Lists::stepped_end))]
 fn define_types(
     frame: &Frame,
     alloc: Global,
     declared: &mut Declared,
     definitions: &[TypeDefinition],
 ) -> Result<(), Fault>
-    ensures ok { OnOk result (steps (define_type (frame_of frame.now)) (declared_of declared.old) definitions.now ≡ Some (declared_of declared.new)) }
-    ensures err { IfErr result (λ fault. IsFault fault → steps (define_type (frame_of frame.now)) (declared_of declared.old) definitions.now ≡ None) }
+    ensures { Answers result (λ _. declared_of declared.new) (steps (define_type (frame_of frame.now)) (declared_of declared.old) definitions.now) }
 {
     for definition in definitions {
         define_type(frame, alloc, declared, definition)?;
@@ -281,7 +325,7 @@ fn define_types(
     Ok(())
 }
 
-#[tactic(auto, using(ps_check_names::proofs::Lists::stepped_next_of, ps_check_names::proofs::Lists::stepped_fault_of, ps_check_names::proofs::Lists::stepped_end))]
+#[tactic(auto, using(ps_check_judgement::proofs::Lists::stepped_start, ps_check_judgement::proofs::Lists::stepped_next, ps_check_judgement::proofs::Lists::stepped_fault, ps_check_judgement::proofs::Lists::stepped_end))]
 fn declare_all(
     frame: &Frame,
     alloc: Global,
@@ -289,8 +333,7 @@ fn declare_all(
     declared: &mut Declared,
     declarations: &[Variables],
 ) -> Result<(), Fault>
-    ensures ok { OnOk result (steps (declare_variables (frame_of frame.now) first) (declared_of declared.old) declarations.now ≡ Some (declared_of declared.new)) }
-    ensures err { IfErr result (λ fault. IsFault fault → steps (declare_variables (frame_of frame.now) first) (declared_of declared.old) declarations.now ≡ None) }
+    ensures { Answers result (λ _. declared_of declared.new) (steps (declare_variables (frame_of frame.now) first) (declared_of declared.old) declarations.now) }
 {
     for declaration in declarations {
         declare_variables(frame, alloc, first, declared, declaration)?;
@@ -305,16 +348,13 @@ pub fn declarations(
     alloc: Global,
     first: u32,
     declared: &mut Declared,
-    constants: &[ConstantDefinition],
-    types: &[TypeDefinition],
-    variables: &[Variables],
+    parts: &Parts,
 ) -> Result<(), Fault>
-    ensures ok { OnOk result (declarations (frame_of frame.now) first (declared_of declared.old) constants.now types.now variables.now ≡ Some (declared_of declared.new)) }
-    ensures err { IfErr result (λ fault. IsFault fault → declarations (frame_of frame.now) first (declared_of declared.old) constants.now types.now variables.now ≡ None) }
+    ensures { Answers result (λ _. declared_of declared.new) (declarations (frame_of frame.now) first (declared_of declared.old) parts.now.constants.now parts.now.types.now parts.now.variables.now) }
 {
-    define_constants(frame, alloc, declared, constants)?;
-    define_types(frame, alloc, declared, types)?;
-    resolve_domains(frame, alloc, declared, &[])?;
-    declare_all(frame, alloc, first, declared, variables)?;
-    resolve_domains(frame, alloc, declared, variables)
+    define_constants(frame, alloc, declared, parts.constants)?;
+    define_types(frame, alloc, declared, parts.types)?;
+    resolve_domains(frame, alloc, declared)?;
+    declare_all(frame, alloc, first, declared, parts.variables)?;
+    resolve_domains(frame, alloc, declared)
 }

@@ -1,24 +1,24 @@
 //! The headings of routines.
 
-ghost use Rattle.std.specs.Prelude.{◌≡◌, ◌++◌, ◌∷◌, [], ℕ, None, Some, map, length, IfErr, IfOk, OnOk};
+ghost use Rattle.std.specs.Prelude.{◌≡◌, ◌++◌, ◌∷◌, [], IfOk, OnOk, map};
 ghost use Rattle.ps_tree.specs.View.{type_of};
-ghost use Rattle.ps_check_names.specs.Option.{steps};
-ghost use Rattle.ps_check_names.specs.Refusal.{IsFault};
+ghost use Rattle.ps_check_judgement.specs.Judged.{Answers, steps};
 ghost use Rattle.ps_check_names.specs.Views.{meaning_of, section_of};
-ghost use Rattle.ps_check_declarations.specs.Points.{add_points};
-ghost use Rattle.ps_check_declarations.specs.Headings.{is_result, few, formal_type, add_section, list_names, sections_of, result_type, section, heading, section_points};
+ghost use Rattle.ps_check_declarations.specs.Points.{add_points, new_points};
+ghost use Rattle.ps_check_declarations.specs.Headings.{is_result, few, add_section, list_names, sections_of, result_type, section, heading, section_points};
 ghost use Rattle.ps_check_declarations.specs.Views.{frame_of, hidden_of, signature_of};
 
-use crate::denoters::type_in;
-use crate::frame::{Frame, Hidden};
+use crate::denoters::{own_points, type_in};
+use crate::frame::{Hidden, Place};
 use crate::points::add_points;
+use ps_check_judgement::answer::broken;
+use ps_check_judgement::refusal::{Fault, Rule};
 use ps_check_names::meaning::{Meaning, Section};
-use ps_check_names::refusal::{Fault, Rule};
 use ps_syntax::{Heading, Section as SectionDenoter};
 use ps_text::Span;
 use ps_tree::names::Names;
 use ps_tree::types::Ty;
-use std::alloc::Global;
+use std::alloc::AllocError;
 use std::rc::Rc;
 
 /// What a heading says: its sections, and a function's result.
@@ -28,16 +28,9 @@ pub struct Signature {
     pub result: Option<Ty>,
 }
 
-fn broken(rule: Rule, at: u32) -> Fault
-    ensures { IsFault result }
-{
-    Fault::Broken { rule, at }
-}
-
 /// A heading has at most 32 formal parameters.
 fn few(count: usize, at: u32) -> Result<u32, Fault>
-    ensures ok { IfOk result (λ same. few count ≡ Some same) }
-    ensures err { IfErr result (λ fault. IsFault fault → few count ≡ None) }
+    ensures { Answers result (λ same. same) (few at count) }
 {
     if count <= 32 {
         Ok(count as u32)
@@ -62,17 +55,10 @@ fn is_result(ty: &Ty) -> bool
 }
 
 /// The type of a function's result, which is a name of an ordinal or pointer type.
-fn result_type(
-    frame: &Frame,
-    alloc: Global,
-    hidden: &Hidden,
-    known: &[Meaning],
-    name: Span,
-) -> Result<Ty, Fault>
-    ensures ok { IfOk result (λ ty. result_type (frame_of frame.now) (map meaning_of known.now) (hidden_of hidden.now) name ≡ Some (type_of ty)) }
-    ensures err { IfErr result (λ fault. IsFault fault → result_type (frame_of frame.now) (map meaning_of known.now) (hidden_of hidden.now) name ≡ None) }
+fn result_type(place: &Place, known: &[Meaning], name: Span) -> Result<Ty, Fault>
+    ensures { Answers result (λ ty. type_of ty) (result_type (frame_of place.now.frame) (map meaning_of known.now) (hidden_of place.now.hidden) name) }
 {
-    let ty = type_in(frame, alloc, hidden, known, name)?;
+    let ty = type_in(place, known, name)?;
     if is_result(&ty) {
         Ok(ty)
     } else {
@@ -83,27 +69,20 @@ fn result_type(
 /// What a heading says.
 #[cycle(heading)]
 #[tactic(auto, using(crate::proofs::HeadingLemmas::heading_Procedure, crate::proofs::HeadingLemmas::heading_Function))]
-pub fn heading(
-    written: &Heading,
-    frame: &Frame,
-    alloc: Global,
-    hidden: &Hidden,
-    known: &[Meaning],
-) -> Result<Signature, Fault>
-    ensures ok { IfOk result (λ s. (heading (frame_of frame.now) (map meaning_of known.now) written.now).1 (hidden_of hidden.now) ≡ Some (signature_of s)) }
-    ensures err { IfErr result (λ fault. IsFault fault → (heading (frame_of frame.now) (map meaning_of known.now) written.now).1 (hidden_of hidden.now) ≡ None) }
+pub fn heading(written: &Heading, place: &Place, known: &[Meaning]) -> Result<Signature, Fault>
+    ensures { Answers result (λ s. signature_of s) ((heading (frame_of place.now.frame) (map meaning_of known.now) written.now).1 (hidden_of place.now.hidden)) }
 {
     match written {
         Heading::Procedure(name, list) => {
-            let sections = sections(list.as_slice(), frame, alloc, hidden, known, name.from)?;
+            let sections = sections(list.as_slice(), place, known, name.from)?;
             Ok(Signature {
                 sections,
                 result: None,
             })
         }
         Heading::Function(name, list, ty) => {
-            let sections = sections(list.as_slice(), frame, alloc, hidden, known, name.from)?;
-            let ty = result_type(frame, alloc, hidden, known, *ty)?;
+            let sections = sections(list.as_slice(), place, known, name.from)?;
+            let ty = result_type(place, known, *ty)?;
             Ok(Signature {
                 sections,
                 result: Some(ty),
@@ -114,123 +93,131 @@ pub fn heading(
 
 /// The sections of a list, in which the parameters' names hide others. `at` is the routine's name.
 #[cycle(heading)]
-#[tactic(auto, unfolding(crate::specs::Headings::sections_of, crate::specs::Views::hidden_of))]
+#[tactic(auto, unfolding(crate::specs::Headings::sections_of))]
 fn sections(
     list: &[SectionDenoter],
-    frame: &Frame,
-    alloc: Global,
-    hidden: &Hidden,
+    place: &Place,
     known: &[Meaning],
     at: u32,
 ) -> Result<Vec<Section>, Fault>
-    ensures ok { IfOk result (λ done. sections_of (frame_of frame.now) (map meaning_of known.now) (map (section (frame_of frame.now) (map meaning_of known.now)) list.now) (hidden_of hidden.now) ≡ Some (map section_of done.items)) }
-    ensures err { IfErr result (λ fault. IsFault fault → sections_of (frame_of frame.now) (map meaning_of known.now) (map (section (frame_of frame.now) (map meaning_of known.now)) list.now) (hidden_of hidden.now) ≡ None) }
+    ensures { Answers result (λ done. map section_of done.items) (sections_of (frame_of place.now.frame) (map meaning_of known.now) (map (section (frame_of place.now.frame) (map meaning_of known.now)) list.now) at (hidden_of place.now.hidden)) }
 {
-    let names = list_names(list, frame, alloc, known)?;
+    let names = list_names(list, place, known)?;
     let _count = few(names.len(), at)?;
-    let inner = Hidden::Record {
-        names: &names,
-        defined: 0,
-        outer: &*hidden,
-    };
-    all_sections(list, frame, alloc, &inner, known)
+    let (sections, _count) = all_sections(list, place, known, &names)?;
+    Ok(sections)
 }
 
+/// The sections of a list whose parameters have these names, and how many they are.
 #[cycle(heading)]
-#[tactic(auto, using(ps_check_names::proofs::Lists::stepped_next_map, ps_check_names::proofs::Lists::stepped_fault_map, ps_check_names::proofs::Lists::stepped_end_map))]
+#[tactic(auto, using(crate::proofs::Steps::mapped_start, crate::proofs::Steps::mapped_next, crate::proofs::Steps::mapped_fault, crate::proofs::Steps::mapped_end))]
 fn all_sections(
     list: &[SectionDenoter],
-    frame: &Frame,
-    alloc: Global,
-    hidden: &Hidden,
+    place: &Place,
     known: &[Meaning],
-) -> Result<Vec<Section>, Fault>
-    ensures ok { IfOk result (λ done. steps (add_section (frame_of frame.now) (map meaning_of known.now) (hidden_of hidden.now)) [] (map (section (frame_of frame.now) (map meaning_of known.now)) list.now) ≡ Some (map section_of done.items)) }
-    ensures err { IfErr result (λ fault. IsFault fault → steps (add_section (frame_of frame.now) (map meaning_of known.now) (hidden_of hidden.now)) [] (map (section (frame_of frame.now) (map meaning_of known.now)) list.now) ≡ None) }
+    names: &Names,
+) -> Result<(Vec<Section>, usize), Fault>
+    ensures { Answers result (λ done. (map section_of done.0.items, done.1)) (steps (add_section (frame_of place.now.frame) (map meaning_of known.now) names.now (hidden_of place.now.hidden)) ([], 0) (map (section (frame_of place.now.frame) (map meaning_of known.now)) list.now)) }
 {
-    let mut done = Vec::new(alloc);
+    let mut done = Vec::new(place.alloc);
     let mut defined = 0;
     for written in list {
-        defined = name_count(written).saturating_add(defined);
-        let inside = hidden.behind(defined);
-        add_section(written, frame, alloc, &inside, known, &mut done)?;
+        defined = add_section(written, place, known, names, defined, &mut done)?;
     }
-    Ok(done)
+    Ok((done, defined))
 }
 
-/// How many parameters' names a section has.
-fn name_count(written: &SectionDenoter) -> usize {
-    match written {
-        SectionDenoter::Value(names, _) | SectionDenoter::Variable(names, _) => names.len(),
-        SectionDenoter::Routine(_) => 1,
-    }
-}
-
-/// One more section.
+/// One more section, behind those that have the first `count` names of the list: how many stand before what follows.
 #[cycle(heading)]
+#[tactic(auto, unfolding(crate::specs::Headings::section_points, crate::specs::Views::hidden_of))]
 fn add_section(
     written: &SectionDenoter,
-    frame: &Frame,
-    alloc: Global,
-    hidden: &Hidden,
+    place: &Place,
     known: &[Meaning],
+    names: &Names,
+    count: usize,
     done: &mut Vec<Section>,
-) -> Result<(), Fault>
-    ensures ok { OnOk result (add_section (frame_of frame.now) (map meaning_of known.now) (hidden_of hidden.now) (map section_of done.old.items) (section (frame_of frame.now) (map meaning_of known.now) written.now) ≡ Some (map section_of done.new.items)) }
-    ensures err { IfErr result (λ fault. IsFault fault → add_section (frame_of frame.now) (map meaning_of known.now) (hidden_of hidden.now) (map section_of done.old.items) (section (frame_of frame.now) (map meaning_of known.now) written.now) ≡ None) }
+) -> Result<usize, Fault>
+    ensures { Answers result (λ n. (map section_of done.new.items, n)) (add_section (frame_of place.now.frame) (map meaning_of known.now) names.now (hidden_of place.now.hidden) (map section_of done.old.items, count) (section (frame_of place.now.frame) (map meaning_of known.now) written.now)) }
 {
-    let section = section(written, frame, alloc, hidden, known)?;
+    let defined = section_points(written, place, known, names, count)?;
+    let inside = Place {
+        alloc: place.alloc,
+        frame: place.frame,
+        hidden: Hidden::Own {
+            names,
+            defined,
+            outer: &place.hidden,
+        },
+    };
+    let section = section(written, &inside, known)?;
     done.push(section)?;
-    Ok(())
+    Ok(defined)
 }
 
 #[cycle(heading)]
-#[tactic(auto, using(crate::proofs::HeadingLemmas::section_Value, crate::proofs::HeadingLemmas::section_Variable, crate::proofs::HeadingLemmas::section_Routine, ps_check_names::proofs::ViewLemmas::section_of_Routine, crate::proofs::HeadingLemmas::list_of_sections), unfolding(ps_check_names::specs::Views::section_of))]
-fn section(
-    written: &SectionDenoter,
-    frame: &Frame,
-    alloc: Global,
-    hidden: &Hidden,
-    known: &[Meaning],
-) -> Result<Section, Fault>
-    ensures ok { IfOk result (λ s. (section (frame_of frame.now) (map meaning_of known.now) written.now).1 (hidden_of hidden.now) ≡ Some (section_of s)) }
-    ensures err { IfErr result (λ fault. IsFault fault → (section (frame_of frame.now) (map meaning_of known.now) written.now).1 (hidden_of hidden.now) ≡ None) }
+#[tactic(auto, using(crate::proofs::HeadingLemmas::section_Value, crate::proofs::HeadingLemmas::section_Variable, crate::proofs::HeadingLemmas::section_Routine, crate::proofs::HeadingLemmas::routine_made), unfolding(ps_check_names::specs::Views::section_of))]
+fn section(written: &SectionDenoter, place: &Place, known: &[Meaning]) -> Result<Section, Fault>
+    ensures { Answers result (λ s. section_of s) ((section (frame_of place.now.frame) (map meaning_of known.now) written.now).1 (hidden_of place.now.hidden)) }
 {
     match written {
         SectionDenoter::Value(names, name) => {
             let count = few(names.len(), name.from)?;
-            let ty = type_in(frame, alloc, hidden, known, *name)?;
+            let ty = type_in(place, known, *name)?;
             Ok(Section::Value { count, ty })
         }
         SectionDenoter::Variable(names, name) => {
             let count = few(names.len(), name.from)?;
-            let ty = type_in(frame, alloc, hidden, known, *name)?;
+            let ty = type_in(place, known, *name)?;
             Ok(Section::Variable { count, ty })
         }
         SectionDenoter::Routine(inner) => {
-            let Signature { sections, result } = heading(inner, frame, alloc, hidden, known)?;
+            let Signature { sections, result } = heading(inner, place, known)?;
             Ok(Section::Routine {
-                sections: Rc::new(alloc, sections)?,
+                sections: Rc::new(place.alloc, sections)?,
                 result,
             })
         }
     }
 }
 
-/// The names of the parameters of a list, each of which is new.
-#[tactic(auto, using(crate::proofs::Walks::walked_next, crate::proofs::HeadingLemmas::names_fault, crate::proofs::HeadingLemmas::names_end))]
-pub(crate) fn list_names(
-    list: &[SectionDenoter],
-    frame: &Frame,
-    alloc: Global,
+/// The points of a section of a list that has these names, of which `count` stand before the section: how many stand
+/// before what follows.
+#[tactic(auto, using(crate::proofs::HeadingLemmas::points_Value, crate::proofs::HeadingLemmas::points_Variable, crate::proofs::HeadingLemmas::points_Procedure, crate::proofs::HeadingLemmas::points_Function))]
+fn section_points(
+    written: &SectionDenoter,
+    place: &Place,
     known: &[Meaning],
-) -> Result<Names, Fault>
-    ensures ok { IfOk result (λ names. list_names (frame_of frame.now) (map meaning_of known.now) (map (section (frame_of frame.now) (map meaning_of known.now)) list.now) ≡ Some names) }
-    ensures err { IfErr result (λ fault. IsFault fault → list_names (frame_of frame.now) (map meaning_of known.now) (map (section (frame_of frame.now) (map meaning_of known.now)) list.now) ≡ None) }
+    names: &Names,
+    count: usize,
+) -> Result<usize, Fault>
+    ensures { Answers result (λ n. n) (new_points place.now.frame.reading.now.source.now names.now [] count (section_points (frame_of place.now.frame) (map meaning_of known.now) written.now)) }
 {
-    let mut names = Names::new(alloc);
+    let _known = known;
+    match written {
+        SectionDenoter::Value(points, _) | SectionDenoter::Variable(points, _) => {
+            own_points(place, names, count, points.as_slice())
+        }
+        SectionDenoter::Routine(heading) => match heading {
+            Heading::Procedure(name, _) | Heading::Function(name, ..) => {
+                own_points(place, names, count, &[*name])
+            }
+        },
+    }
+}
+
+/// The names of the parameters of a list.
+#[tactic(auto, using(crate::proofs::Walks::walked_start, crate::proofs::Walks::walked_next, crate::proofs::HeadingLemmas::names_end))]
+fn list_names(
+    list: &[SectionDenoter],
+    place: &Place,
+    known: &[Meaning],
+) -> Result<Names, AllocError>
+    ensures { IfOk result (λ names. names ≡ list_names (frame_of place.now.frame) (map meaning_of known.now) (map (section (frame_of place.now.frame) (map meaning_of known.now)) list.now)) }
+{
+    let mut names = Names::new(place.alloc);
     for written in list {
-        add_names(written, frame, alloc, known, &mut names)?;
+        add_names(written, place, known, &mut names)?;
     }
     Ok(names)
 }
@@ -239,22 +226,21 @@ pub(crate) fn list_names(
 #[tactic(auto, using(crate::proofs::HeadingLemmas::points_Value, crate::proofs::HeadingLemmas::points_Variable, crate::proofs::HeadingLemmas::points_Procedure, crate::proofs::HeadingLemmas::points_Function))]
 fn add_names(
     written: &SectionDenoter,
-    frame: &Frame,
-    alloc: Global,
+    place: &Place,
     known: &[Meaning],
     names: &mut Names,
-) -> Result<(), Fault>
-    ensures ok { OnOk result (add_points frame.now.reading.now.source.now names.old (section_points (frame_of frame.now) (map meaning_of known.now) written.now) ≡ Some names.new) }
-    ensures err { IfErr result (λ fault. IsFault fault → add_points frame.now.reading.now.source.now names.old (section_points (frame_of frame.now) (map meaning_of known.now) written.now) ≡ None) }
+) -> Result<(), AllocError>
+    ensures { OnOk result (names.new ≡ add_points place.now.frame.reading.now.source.now names.old (section_points (frame_of place.now.frame) (map meaning_of known.now) written.now)) }
 {
     let _known = known;
+    let reading = place.frame.reading;
     match written {
         SectionDenoter::Value(points, _) | SectionDenoter::Variable(points, _) => {
-            add_points(frame.reading, alloc, names, points.as_slice())
+            add_points(reading, place.alloc, names, points.as_slice())
         }
         SectionDenoter::Routine(heading) => match heading {
             Heading::Procedure(name, _) | Heading::Function(name, ..) => {
-                add_points(frame.reading, alloc, names, &[*name])
+                add_points(reading, place.alloc, names, &[*name])
             }
         },
     }

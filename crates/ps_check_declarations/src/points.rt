@@ -1,53 +1,101 @@
 //! The names of a block's region, collected before any of them is used.
 
-ghost use Rattle.std.specs.Prelude.{◌≡◌, None, Some, IfErr, OnOk, map, ◌++◌};
-ghost use Rattle.ps_check_names.specs.Refusal.{IsFault};
-ghost use Rattle.ps_check_declarations.specs.Points.{all, ordinal_points, type_points, structure_points, fields_points, constant_points, definition_points, variables_points, block_points, add_point, add_points};
+ghost use Rattle.std.specs.Prelude.{◌≡◌, OnOk, map, ◌++◌};
+ghost use Rattle.ps_check_judgement.specs.Judged.{Answers};
+ghost use Rattle.ps_check_declarations.specs.Points.{all, ordinal_points, type_points, structure_points, fields_points, constant_points, definition_points, variables_points, block_points, add_point, add_points, is_later, new_point, new_points};
 
+use crate::frame::Parts;
+use ps_check_judgement::answer::broken;
+use ps_check_judgement::refusal::{Fault, Rule};
 use ps_check_names::reading::Reading;
-use ps_check_names::refusal::{Fault, Rule};
 use ps_syntax::{
     ConstantDefinition, Fields, Ordinal, Structure, TypeDefinition, TypeDenoter, Variables,
 };
 use ps_text::Span;
 use ps_tree::names::Names;
-use std::alloc::Global;
+use std::alloc::{AllocError, Global};
 
-/// One more name, which is new.
-pub(crate) fn add_point(
+/// One more name, unless it is there.
+fn add_point(
     reading: &Reading,
     alloc: Global,
     names: &mut Names,
     name: Span,
-) -> Result<(), Fault>
-    ensures ok { OnOk result (add_point reading.now.source.now names.old name ≡ Some names.new) }
-    ensures err { IfErr result (λ fault. IsFault fault → add_point reading.now.source.now names.old name ≡ None) }
+) -> Result<(), AllocError>
+    ensures { OnOk result (names.new ≡ add_point reading.now.source.now names.old name) }
 {
     let spelling = reading.name(alloc, name)?;
-    if !names.add(spelling)? {
-        return Err(Fault::Broken {
-            rule: Rule::Twice,
-            at: name.from,
-        });
-    }
+    let _is_added = names.add(spelling)?;
     Ok(())
 }
 
-/// More names, which are new.
-#[tactic(auto, unfolding(crate::specs::Points::add_points))]
+/// More names, each once.
+#[tactic(auto, using(crate::proofs::Walks::added_start, crate::proofs::Walks::added_next, crate::proofs::Walks::added_end))]
 pub(crate) fn add_points(
     reading: &Reading,
     alloc: Global,
     names: &mut Names,
     points: &[Span],
-) -> Result<(), Fault>
-    ensures ok { OnOk result (add_points reading.now.source.now names.old points.now ≡ Some names.new) }
-    ensures err { IfErr result (λ fault. IsFault fault → add_points reading.now.source.now names.old points.now ≡ None) }
+) -> Result<(), AllocError>
+    ensures { OnOk result (names.new ≡ add_points reading.now.source.now names.old points.now) }
 {
     for point in points {
         add_point(reading, alloc, names, *point)?;
     }
     Ok(())
+}
+
+/// Whether a region has this name, and not among its first `count`.
+#[tactic(auto, using(crate::proofs::NewLemmas::later_place))]
+pub fn is_later(names: &Names, count: usize, name: &[u8]) -> bool
+    ensures { result ≡ is_later names.now count name.now }
+{
+    match names.find(name) {
+        None => false,
+        Some(index) => count <= index,
+    }
+}
+
+/// One more point of a region, which is told where it is a second one of its name: how many names of the region stand
+/// before what follows, where `count` stand before it.
+#[tactic(auto, using(crate::proofs::NewLemmas::none_later))]
+fn new_point(
+    reading: &Reading,
+    alloc: Global,
+    names: &Names,
+    begun: &Names,
+    count: usize,
+    at: Span,
+) -> Result<usize, Fault>
+    ensures { Answers result (λ n. n) (new_point reading.now.source.now names.now begun.now count at) }
+{
+    let spelling = reading.spelling(alloc, at)?;
+    let name = spelling.as_slice();
+    // behind the last name there is none, so one more can be counted
+    if count < names.len() && is_later(names, count, name) && !begun.contains(name) {
+        Ok(count + 1)
+    } else {
+        Err(broken(Rule::Twice, at.from))
+    }
+}
+
+/// More points.
+#[tactic(auto, using(ps_check_judgement::proofs::Lists::stepped_start, ps_check_judgement::proofs::Lists::stepped_next, ps_check_judgement::proofs::Lists::stepped_fault, ps_check_judgement::proofs::Lists::stepped_end), unfolding(crate::specs::Points::new_points))]
+pub(crate) fn new_points(
+    reading: &Reading,
+    alloc: Global,
+    names: &Names,
+    begun: &Names,
+    count: usize,
+    points: &[Span],
+) -> Result<usize, Fault>
+    ensures { Answers result (λ n. n) (new_points reading.now.source.now names.now begun.now count points.now) }
+{
+    let mut defined = count;
+    for point in points {
+        defined = new_point(reading, alloc, names, begun, defined, *point)?;
+    }
+    Ok(defined)
 }
 
 /// The enumeration constants of an ordinal type.
@@ -57,9 +105,8 @@ fn add_ordinal(
     alloc: Global,
     names: &mut Names,
     ordinal: &Ordinal,
-) -> Result<(), Fault>
-    ensures ok { OnOk result (add_points reading.now.source.now names.old (ordinal_points ordinal.now) ≡ Some names.new) }
-    ensures err { IfErr result (λ fault. IsFault fault → add_points reading.now.source.now names.old (ordinal_points ordinal.now) ≡ None) }
+) -> Result<(), AllocError>
+    ensures { OnOk result (names.new ≡ add_points reading.now.source.now names.old (ordinal_points ordinal.now)) }
 {
     match ordinal {
         Ordinal::Name(_) | Ordinal::Subrange(..) => Ok(()),
@@ -72,15 +119,14 @@ fn add_ordinal(
     }
 }
 
-#[tactic(auto, using(crate::proofs::Walks::walked_next, crate::proofs::Walks::walked_fault, crate::proofs::Walks::walked_end))]
+#[tactic(auto, using(crate::proofs::Walks::walked_start, crate::proofs::Walks::walked_next, crate::proofs::Walks::walked_end))]
 fn add_ordinals(
     reading: &Reading,
     alloc: Global,
     names: &mut Names,
     ordinals: &[Ordinal],
-) -> Result<(), Fault>
-    ensures ok { OnOk result (add_points reading.now.source.now names.old (all (map ordinal_points ordinals.now)) ≡ Some names.new) }
-    ensures err { IfErr result (λ fault. IsFault fault → add_points reading.now.source.now names.old (all (map ordinal_points ordinals.now)) ≡ None) }
+) -> Result<(), AllocError>
+    ensures { OnOk result (names.new ≡ add_points reading.now.source.now names.old (all (map ordinal_points ordinals.now))) }
 {
     for ordinal in ordinals {
         add_ordinal(reading, alloc, names, ordinal)?;
@@ -96,9 +142,8 @@ fn add_type(
     alloc: Global,
     names: &mut Names,
     ty: &TypeDenoter,
-) -> Result<(), Fault>
-    ensures ok { OnOk result (add_points reading.now.source.now names.old (type_points ty.now) ≡ Some names.new) }
-    ensures err { IfErr result (λ fault. IsFault fault → add_points reading.now.source.now names.old (type_points ty.now) ≡ None) }
+) -> Result<(), AllocError>
+    ensures { OnOk result (names.new ≡ add_points reading.now.source.now names.old (type_points ty.now)) }
 {
     match ty {
         TypeDenoter::Ordinal(ordinal) => add_ordinal(reading, alloc, names, ordinal),
@@ -115,9 +160,8 @@ fn add_structure(
     alloc: Global,
     names: &mut Names,
     structure: &Structure,
-) -> Result<(), Fault>
-    ensures ok { OnOk result (add_points reading.now.source.now names.old (structure_points structure.now) ≡ Some names.new) }
-    ensures err { IfErr result (λ fault. IsFault fault → add_points reading.now.source.now names.old (structure_points structure.now) ≡ None) }
+) -> Result<(), AllocError>
+    ensures { OnOk result (names.new ≡ add_points reading.now.source.now names.old (structure_points structure.now)) }
 {
     match structure {
         Structure::Array(_, indices, component) => add_array(
@@ -133,16 +177,15 @@ fn add_structure(
 }
 
 #[cycle(points)]
-#[tactic(auto, using(crate::proofs::Walks::added_both, crate::proofs::Walks::added_first, crate::proofs::Walks::added_second))]
+#[tactic(auto, using(crate::proofs::Walks::added_both))]
 fn add_array(
     reading: &Reading,
     alloc: Global,
     names: &mut Names,
     indices: &[Ordinal],
     component: &TypeDenoter,
-) -> Result<(), Fault>
-    ensures ok { OnOk result (add_points reading.now.source.now names.old (all (map ordinal_points indices.now) ++ type_points component.now) ≡ Some names.new) }
-    ensures err { IfErr result (λ fault. IsFault fault → add_points reading.now.source.now names.old (all (map ordinal_points indices.now) ++ type_points component.now) ≡ None) }
+) -> Result<(), AllocError>
+    ensures { OnOk result (names.new ≡ add_points reading.now.source.now names.old (all (map ordinal_points indices.now) ++ type_points component.now)) }
 {
     add_ordinals(reading, alloc, names, indices)?;
     add_type(reading, alloc, names, component)
@@ -154,23 +197,21 @@ fn add_section(
     alloc: Global,
     names: &mut Names,
     fields: &Fields,
-) -> Result<(), Fault>
-    ensures ok { OnOk result (add_points reading.now.source.now names.old (fields_points fields.now) ≡ Some names.new) }
-    ensures err { IfErr result (λ fault. IsFault fault → add_points reading.now.source.now names.old (fields_points fields.now) ≡ None) }
+) -> Result<(), AllocError>
+    ensures { OnOk result (names.new ≡ add_points reading.now.source.now names.old (fields_points fields.now)) }
 {
     add_type(reading, alloc, names, &fields.ty)
 }
 
 #[cycle(points)]
-#[tactic(auto, using(crate::proofs::Walks::walked_next, crate::proofs::Walks::walked_fault, crate::proofs::Walks::walked_end))]
+#[tactic(auto, using(crate::proofs::Walks::walked_start, crate::proofs::Walks::walked_next, crate::proofs::Walks::walked_end))]
 fn add_fields(
     reading: &Reading,
     alloc: Global,
     names: &mut Names,
     sections: &[Fields],
-) -> Result<(), Fault>
-    ensures ok { OnOk result (add_points reading.now.source.now names.old (all (map fields_points sections.now)) ≡ Some names.new) }
-    ensures err { IfErr result (λ fault. IsFault fault → add_points reading.now.source.now names.old (all (map fields_points sections.now)) ≡ None) }
+) -> Result<(), AllocError>
+    ensures { OnOk result (names.new ≡ add_points reading.now.source.now names.old (all (map fields_points sections.now))) }
 {
     for fields in sections {
         add_section(reading, alloc, names, fields)?;
@@ -185,22 +226,20 @@ fn add_constant(
     alloc: Global,
     names: &mut Names,
     definition: &ConstantDefinition,
-) -> Result<(), Fault>
-    ensures ok { OnOk result (add_points reading.now.source.now names.old (constant_points definition.now) ≡ Some names.new) }
-    ensures err { IfErr result (λ fault. IsFault fault → add_points reading.now.source.now names.old (constant_points definition.now) ≡ None) }
+) -> Result<(), AllocError>
+    ensures { OnOk result (names.new ≡ add_points reading.now.source.now names.old (constant_points definition.now)) }
 {
     add_points(reading, alloc, names, &[definition.name])
 }
 
-#[tactic(auto, using(crate::proofs::Walks::walked_next_at, crate::proofs::Walks::walked_fault_at, crate::proofs::Walks::walked_end))]
+#[tactic(auto, using(crate::proofs::Walks::walked_start, crate::proofs::Walks::walked_next, crate::proofs::Walks::walked_end))]
 fn add_constants(
     reading: &Reading,
     alloc: Global,
     names: &mut Names,
     definitions: &[ConstantDefinition],
-) -> Result<(), Fault>
-    ensures ok { OnOk result (add_points reading.now.source.now names.old (all (map constant_points definitions.now)) ≡ Some names.new) }
-    ensures err { IfErr result (λ fault. IsFault fault → add_points reading.now.source.now names.old (all (map constant_points definitions.now)) ≡ None) }
+) -> Result<(), AllocError>
+    ensures { OnOk result (names.new ≡ add_points reading.now.source.now names.old (all (map constant_points definitions.now))) }
 {
     for definition in definitions {
         add_constant(reading, alloc, names, definition)?;
@@ -209,29 +248,27 @@ fn add_constants(
 }
 
 /// The points of a type definition.
-#[tactic(auto, using(crate::proofs::Walks::added_none, crate::proofs::Walks::added_both, crate::proofs::Walks::added_first, crate::proofs::Walks::added_second), unfolding(crate::specs::Points::definition_points))]
+#[tactic(auto, using(crate::proofs::Walks::added_none, crate::proofs::Walks::added_both), unfolding(crate::specs::Points::definition_points))]
 fn add_definition(
     reading: &Reading,
     alloc: Global,
     names: &mut Names,
     definition: &TypeDefinition,
-) -> Result<(), Fault>
-    ensures ok { OnOk result (add_points reading.now.source.now names.old (definition_points definition.now) ≡ Some names.new) }
-    ensures err { IfErr result (λ fault. IsFault fault → add_points reading.now.source.now names.old (definition_points definition.now) ≡ None) }
+) -> Result<(), AllocError>
+    ensures { OnOk result (names.new ≡ add_points reading.now.source.now names.old (definition_points definition.now)) }
 {
     add_type(reading, alloc, names, &definition.ty)?;
     add_points(reading, alloc, names, &[definition.name])
 }
 
-#[tactic(auto, using(crate::proofs::Walks::walked_next, crate::proofs::Walks::walked_fault, crate::proofs::Walks::walked_end))]
+#[tactic(auto, using(crate::proofs::Walks::walked_start, crate::proofs::Walks::walked_next, crate::proofs::Walks::walked_end))]
 fn add_definitions(
     reading: &Reading,
     alloc: Global,
     names: &mut Names,
     definitions: &[TypeDefinition],
-) -> Result<(), Fault>
-    ensures ok { OnOk result (add_points reading.now.source.now names.old (all (map definition_points definitions.now)) ≡ Some names.new) }
-    ensures err { IfErr result (λ fault. IsFault fault → add_points reading.now.source.now names.old (all (map definition_points definitions.now)) ≡ None) }
+) -> Result<(), AllocError>
+    ensures { OnOk result (names.new ≡ add_points reading.now.source.now names.old (all (map definition_points definitions.now))) }
 {
     for definition in definitions {
         add_definition(reading, alloc, names, definition)?;
@@ -240,29 +277,27 @@ fn add_definitions(
 }
 
 /// The points of a declaration of variables.
-#[tactic(auto, using(crate::proofs::Walks::added_none, crate::proofs::Walks::added_both, crate::proofs::Walks::added_first, crate::proofs::Walks::added_second), unfolding(crate::specs::Points::variables_points))]
-pub(crate) fn add_declaration(
+#[tactic(auto, using(crate::proofs::Walks::added_none, crate::proofs::Walks::added_both), unfolding(crate::specs::Points::variables_points))]
+fn add_declaration(
     reading: &Reading,
     alloc: Global,
     names: &mut Names,
     declaration: &Variables,
-) -> Result<(), Fault>
-    ensures ok { OnOk result (add_points reading.now.source.now names.old (variables_points declaration.now) ≡ Some names.new) }
-    ensures err { IfErr result (λ fault. IsFault fault → add_points reading.now.source.now names.old (variables_points declaration.now) ≡ None) }
+) -> Result<(), AllocError>
+    ensures { OnOk result (names.new ≡ add_points reading.now.source.now names.old (variables_points declaration.now)) }
 {
     add_type(reading, alloc, names, &declaration.ty)?;
     add_points(reading, alloc, names, declaration.names.as_slice())
 }
 
-#[tactic(auto, using(crate::proofs::Walks::walked_next, crate::proofs::Walks::walked_fault, crate::proofs::Walks::walked_end))]
+#[tactic(auto, using(crate::proofs::Walks::walked_start, crate::proofs::Walks::walked_next, crate::proofs::Walks::walked_end))]
 fn add_variables(
     reading: &Reading,
     alloc: Global,
     names: &mut Names,
     declarations: &[Variables],
-) -> Result<(), Fault>
-    ensures ok { OnOk result (add_points reading.now.source.now names.old (all (map variables_points declarations.now)) ≡ Some names.new) }
-    ensures err { IfErr result (λ fault. IsFault fault → add_points reading.now.source.now names.old (all (map variables_points declarations.now)) ≡ None) }
+) -> Result<(), AllocError>
+    ensures { OnOk result (names.new ≡ add_points reading.now.source.now names.old (all (map variables_points declarations.now))) }
 {
     for declaration in declarations {
         add_declaration(reading, alloc, names, declaration)?;
@@ -270,36 +305,18 @@ fn add_variables(
     Ok(())
 }
 
-/// The names of constants and types.
-#[tactic(auto, using(crate::proofs::Walks::added_both, crate::proofs::Walks::added_first, crate::proofs::Walks::added_second))]
-fn add_definitions_of_both(
-    reading: &Reading,
-    alloc: Global,
-    names: &mut Names,
-    constants: &[ConstantDefinition],
-    types: &[TypeDefinition],
-) -> Result<(), Fault>
-    ensures ok { OnOk result (add_points reading.now.source.now names.old (all (map constant_points constants.now) ++ all (map definition_points types.now)) ≡ Some names.new) }
-    ensures err { IfErr result (λ fault. IsFault fault → add_points reading.now.source.now names.old (all (map constant_points constants.now) ++ all (map definition_points types.now)) ≡ None) }
-{
-    add_constants(reading, alloc, names, constants)?;
-    add_definitions(reading, alloc, names, types)
-}
-
 /// The names of a block's constants, types and variables, behind those that are there, in the order in which their
-/// definitions end. None may be there already.
-#[tactic(auto, using(crate::proofs::Walks::added_none, crate::proofs::Walks::added_both, crate::proofs::Walks::added_first, crate::proofs::Walks::added_second), unfolding(crate::specs::Points::block_points))]
+/// definitions end, each once.
+#[tactic(auto, using(crate::proofs::Walks::added_both), unfolding(crate::specs::Points::block_points))]
 pub fn add_block(
     reading: &Reading,
     alloc: Global,
     names: &mut Names,
-    constants: &[ConstantDefinition],
-    types: &[TypeDefinition],
-    variables: &[Variables],
-) -> Result<(), Fault>
-    ensures ok { OnOk result (add_points reading.now.source.now names.old (block_points constants.now types.now variables.now) ≡ Some names.new) }
-    ensures err { IfErr result (λ fault. IsFault fault → add_points reading.now.source.now names.old (block_points constants.now types.now variables.now) ≡ None) }
+    parts: &Parts,
+) -> Result<(), AllocError>
+    ensures { OnOk result (names.new ≡ add_points reading.now.source.now names.old (block_points parts.now.constants.now parts.now.types.now parts.now.variables.now)) }
 {
-    add_definitions_of_both(reading, alloc, names, constants, types)?;
-    add_variables(reading, alloc, names, variables)
+    add_constants(reading, alloc, names, parts.constants)?;
+    add_definitions(reading, alloc, names, parts.types)?;
+    add_variables(reading, alloc, names, parts.variables)
 }

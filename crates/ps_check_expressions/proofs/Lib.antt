@@ -1,5 +1,10 @@
 pub mod Equations
 pub mod Judgement
 pub mod ParameterLemmas
+pub mod Firsts
+pub mod ChangeLemmas
 pub mod CallLemmas
 pub mod Examples
+pub mod RoutineLemmas
+pub mod FirstLemmas
+pub mod RequiredLemmas

@@ -1,5 +1,5 @@
 -- The operators (6.7.2): what they give of their operands, where the types are right.
-use Rattle.std.specs.Prelude.{ℕ, Bool, true, false, ◌&&◌, if◌then◌else◌, Option, Some, None}
+use Rattle.std.specs.Prelude.{ℕ, Bool, true, false, ◌&&◌, if◌then◌else◌, Option, Some, None, is_some}
 use Rattle.ps_syntax.specs.declared.expression.Sign.{Sign}
 use Rattle.ps_syntax.specs.declared.expression.Sign.TheVariants as sign
 use Rattle.ps_syntax.specs.declared.expression.Adding.{Adding}
@@ -20,13 +20,15 @@ use Rattle.ps_tree.specs.declared.tree.PointerRelation.{PointerRelation}
 use Rattle.ps_tree.specs.declared.tree.PointerRelation.TheVariants as pointers
 use Rattle.ps_tree.specs.declared.tree.SetRelation.{SetRelation}
 use Rattle.ps_tree.specs.declared.tree.SetRelation.TheVariants as sets
-use Rattle.ps_tree.specs.Types.{DataType, OrdinalType, SetType, EmptySetType, is_same_host, are_same, string_length, is_compatible}
+use Rattle.ps_tree.specs.Types.{DataType, OrdinalType, PointerType, NilType, SetType, EmptySetType, is_same_host, are_same, string_length, is_compatible}
 use Rattle.ps_tree.specs.declared.types.Host.{Host}
 use Rattle.ps_tree.specs.declared.types.Host.TheVariants.{Integer, Boolean}
 use Rattle.ps_tree.specs.Tree as Tree
-use Rattle.ps_check_names.specs.Option.{◌>>=◌, provided}
+use Rattle.ps_check_judgement.specs.declared.refusal.Rule.TheVariants.{WrongType}
+use Rattle.ps_check_judgement.specs.Judged.{Judged, Yes, No, ◌>>=◌, provided}
 use Rattle.ps_tree.specs.Chains.{calculated, connected, combined}
-use Rattle.ps_check_expressions.specs.Values.{Value, SimpleValue, SetValue, StructureValue, has_host, set_type_of_both}
+use Rattle.ps_check_expressions.specs.declared.operators.Operands.{Operands}
+use Rattle.ps_check_expressions.specs.Values.{Value, SimpleValue, SetValue, StructureValue, has_host, set_type_of_both, type_of_value}
 use Rattle.ps_check_names.specs.Constants.{integer, boolean}
 
 -- ---- operands, and what an operator on them gives
@@ -37,46 +39,47 @@ number e = SimpleValue e (OrdinalType integer)
 abbrev pub truth : Tree.Expr → Value
 truth e = SimpleValue e (OrdinalType boolean)
 
--- an operand of a host type, or of a subrange of it
-unfoldable pub operand_of : Host → Value → Option Tree.Expr
-operand_of host (SimpleValue e type) = provided (has_host host type) e
-operand_of host _ = None
+-- an operand of a host type, or of a subrange of it, which begins at `at`
+unfoldable pub operand_of : Host → (at : ℕ) → Value → Judged Tree.Expr
+operand_of host at (SimpleValue e type) = provided (has_host host type) WrongType at e
+operand_of host at _ = No WrongType at
 
 -- ---- signs and `not` (6.7.2.2, 6.7.2.3): a sign applies to the whole first term
 
-unfoldable pub with_sign : Sign → ℕ → Value → Option Value
-with_sign sign.Plus line v = operand_of Integer v >>= (λ e. Some (number (Tree.Plus e)))
-with_sign sign.Minus line v = operand_of Integer v >>= (λ e. Some (number (Tree.Minus e line)))
+unfoldable pub with_sign : (at : ℕ) → Sign → ℕ → Value → Judged Value
+with_sign at sign.Plus line v = operand_of Integer at v >>= (λ e. Yes (number (Tree.Plus e)))
+with_sign at sign.Minus line v = operand_of Integer at v >>= (λ e. Yes (number (Tree.Minus e line)))
 
-unfoldable pub negated : Value → Option Value
-negated v = operand_of Boolean v >>= (λ e. Some (truth (Tree.Not e)))
+unfoldable pub negated : (at : ℕ) → Value → Judged Value
+negated at v = operand_of Boolean at v >>= (λ e. Yes (truth (Tree.Not e)))
 
 -- ---- operators on two operands
 
 -- on integers (6.7.2.2)
-unfoldable pub arithmetic : ArithmeticOperator → ℕ → Value → Value → Option Value
-arithmetic operator line v w = operand_of Integer v >>= (λ a. operand_of Integer w >>= (λ b. Some (number (calculated operator line a b))))
+unfoldable pub arithmetic : Operands → ArithmeticOperator → ℕ → Value → Value → Judged Value
+arithmetic at operator line v w = operand_of Integer at.first v >>= (λ a. operand_of Integer at.second w >>= (λ b. Yes (number (calculated operator line a b))))
 
 -- on integers or on sets of compatible types (6.7.2.4)
-unfoldable pub arithmetic_or_set : ArithmeticOperator → SetOperator → ℕ → Value → Value → Option Value
-arithmetic_or_set operator sets line (SetValue a s) (SetValue b t) =
-    provided (is_compatible s t) (SetValue (combined sets a b) (set_type_of_both s t))
-arithmetic_or_set operator sets line a b = arithmetic operator line a b
+unfoldable pub arithmetic_or_set : Operands → ArithmeticOperator → SetOperator → ℕ → Value → Value → Judged Value
+arithmetic_or_set at operator sets line (SetValue a s) (SetValue b t) =
+    provided (is_compatible s t) WrongType at.second (SetValue (combined sets a b) (set_type_of_both s t))
+arithmetic_or_set at operator sets line (SetValue a s) w = No WrongType at.second
+arithmetic_or_set at operator sets line v w = arithmetic at operator line v w
 
 -- on Boolean operands (6.7.2.3)
-unfoldable pub logic : BooleanOperator → Value → Value → Option Value
-logic operator v w = operand_of Boolean v >>= (λ a. operand_of Boolean w >>= (λ b. Some (truth (connected operator a b))))
+unfoldable pub logic : Operands → BooleanOperator → Value → Value → Judged Value
+logic at operator v w = operand_of Boolean at.first v >>= (λ a. operand_of Boolean at.second w >>= (λ b. Yes (truth (connected operator a b))))
 
-unfoldable pub added : Adding → ℕ → Value → Value → Option Value
-added adding.Plus line a b = arithmetic_or_set Add Union line a b
-added adding.Minus line a b = arithmetic_or_set Subtract Difference line a b
-added adding.Or line a b = logic Or a b
+unfoldable pub added : Operands → Adding → ℕ → Value → Value → Judged Value
+added at adding.Plus line a b = arithmetic_or_set at Add Union line a b
+added at adding.Minus line a b = arithmetic_or_set at Subtract Difference line a b
+added at adding.Or line a b = logic at Or a b
 
-unfoldable pub multiplied : Multiplying → ℕ → Value → Value → Option Value
-multiplied multiplying.Times line a b = arithmetic_or_set Multiply Intersection line a b
-multiplied multiplying.Div line a b = arithmetic Div line a b
-multiplied multiplying.Mod line a b = arithmetic Mod line a b
-multiplied multiplying.And line a b = logic And a b
+unfoldable pub multiplied : Operands → Multiplying → ℕ → Value → Value → Judged Value
+multiplied at multiplying.Times line a b = arithmetic_or_set at Multiply Intersection line a b
+multiplied at multiplying.Div line a b = arithmetic at Div line a b
+multiplied at multiplying.Mod line a b = arithmetic at Mod line a b
+multiplied at multiplying.And line a b = logic at And a b
 
 -- ---- relational operators (6.7.2.5)
 
@@ -104,10 +107,28 @@ of_sets relation.LessEqual = Some sets.Included
 of_sets relation.GreaterEqual = Some sets.Includes
 of_sets _ = None
 
+-- a value of the type may be the first operand of the relation by itself
+unfoldable pub may_be_first : Relation → DataType → Bool
+may_be_first relation (OrdinalType o) = true
+may_be_first relation (PointerType n) = is_some (of_pointers relation)
+may_be_first relation NilType = is_some (of_pointers relation)
+may_be_first relation (SetType a k o) = is_some (of_sets relation)
+may_be_first relation EmptySetType = is_some (of_sets relation)
+may_be_first relation type = is_some (ordered relation) && is_some (string_length type)
+
+-- Operands that don't go together: the second is told, unless the first can't stand there by itself.
+abbrev pub unlike : {A : Type 0} → Operands → Relation → DataType → Judged A
+unlike at relation first = No WrongType (if may_be_first relation first then at.second else at.first)
+
+-- what a relation makes, if it is one of these operands
+abbrev pub related : {R : Type 0} → (at : ℕ) → Option R → (R → Tree.Expr) → Judged Value
+related at None make = No WrongType at
+related at (Some s) make = Yes (truth (make s))
+
 -- two ordinals, or two pointers or nil, of types that are compatible
-unfoldable pub simple_comparison : Relation → Tree.Expr → Tree.Expr → DataType → Option Value
-simple_comparison relation a b (OrdinalType o) = ordered relation >>= (λ s. Some (truth (Tree.Compare s a b)))
-simple_comparison relation a b _ = of_pointers relation >>= (λ s. Some (truth (Tree.ComparePointers s a b)))
+unfoldable pub simple_comparison : Operands → Relation → Tree.Expr → Tree.Expr → DataType → Judged Value
+simple_comparison at relation a b (OrdinalType o) = related at.second (ordered relation) (λ s. Tree.Compare s a b)
+simple_comparison at relation a b _ = related at.first (of_pointers relation) (λ s. Tree.ComparePointers s a b)
 
 -- an ordinal is compared with the members' host type; [] is of every set type
 abbrev pub may_be_member : DataType → DataType → Bool
@@ -119,10 +140,14 @@ abbrev pub is_in : Relation → Bool
 is_in relation.In = true
 is_in _ = false
 
-unfoldable pub compared : Relation → Value → Value → Option Value
-compared relation (SimpleValue a s) (SimpleValue b t) = if is_compatible s t then simple_comparison relation a b s else None
-compared relation (SimpleValue a s) (SetValue b t) = provided (is_in relation && may_be_member s t) (truth (Tree.In a b))
-compared relation (SetValue a s) (SetValue b t) = if is_compatible s t then of_sets relation >>= (λ c. Some (truth (Tree.CompareSets c a b))) else None
-compared relation (StructureValue a s) (StructureValue b t) =
-    if are_same (string_length s) (string_length t) then ordered relation >>= (λ c. Some (truth (Tree.CompareStrings c a b))) else None
-compared relation _ _ = None
+-- of operands that go together, and a relation that is one of theirs
+abbrev pub together : {R : Type 0} → Operands → Relation → DataType → Bool → Option R → (R → Tree.Expr) → Judged Value
+together at relation first fit None make = unlike at relation first
+together at relation first fit (Some s) make = if fit then Yes (truth (make s)) else unlike at relation first
+
+unfoldable pub compared : Operands → Relation → Value → Value → Judged Value
+compared at relation (SimpleValue a s) (SimpleValue b t) = if is_compatible s t then simple_comparison at relation a b s else unlike at relation s
+compared at relation (SimpleValue a s) (SetValue b t) = if is_in relation then provided (may_be_member s t) WrongType at.first (truth (Tree.In a b)) else unlike at relation s
+compared at relation (SetValue a s) (SetValue b t) = together at relation s (is_compatible s t) (of_sets relation) (λ c. Tree.CompareSets c a b)
+compared at relation (StructureValue a s) (StructureValue b t) = together at relation s (are_same (string_length s) (string_length t)) (ordered relation) (λ c. Tree.CompareStrings c a b)
+compared at relation v w = unlike at relation (type_of_value v)

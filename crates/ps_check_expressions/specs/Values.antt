@@ -1,5 +1,5 @@
 -- What variables and expressions stand for: the checked tree, and the type.
-use Rattle.std.specs.Prelude.{ℕ, pos, Bool, false, List, [], ◌∷◌, Option, Some, None}
+use Rattle.std.specs.Prelude.{ℕ, pos, Bool, false, List, [], ◌∷◌, Option, None}
 use Rattle.ps_text.specs.declared.Span.{Span}
 use Rattle.ps_tree.specs.declared.types.Host.{Host}
 use Rattle.ps_tree.specs.declared.types.Host.TheVariants.{Integer, Char, Boolean, Enumeration}
@@ -10,6 +10,9 @@ use Rattle.ps_tree.specs.declared.tree.Range.{Range}
 use Rattle.ps_tree.specs.declared.tree.Range.TheVariants.{Any, Within}
 use Rattle.ps_tree.specs.Types.{DataType, OrdinalType, PointerType, SetType, EmptySetType, ArrayType, RecordType, is_same_host}
 use Rattle.ps_tree.specs.Tree as Tree
+use Rattle.ps_check_judgement.specs.declared.refusal.Rule.TheVariants.{WrongKind, WrongType}
+use Rattle.ps_check_judgement.specs.Judged.{Judged, Yes, No}
+use Rattle.ps_check_judgement.specs.Changing.{Changing, still}
 use Rattle.ps_check_names.specs.Constants.{integer, char, boolean}
 
 -- An expression is of one of three kinds by its values: ordinals and pointers, sets, and arrays, records and strings.
@@ -24,16 +27,16 @@ pub record Variable : Type 0 where
   pub type : DataType
   pub in_packed : Bool
 
--- What an expression is seen as: where it begins, its value, and the variable or the name that it is, where it is one alone.
+-- What an expression is seen as: where it begins, its value, the variable that it is, where it is one alone, and the name, where it is one alone.
 pub record Operand : Type 0 where
   pub first : ℕ
-  pub value : Option Value
-  pub variable : Option Variable
+  pub value : Changing Value
+  pub variable : Changing Variable
   pub name : Option Span
 
 -- an expression that is neither a variable nor a name
-abbrev pub plain : ℕ → Option Value → Operand
-plain first value = record { first = first; value = value; variable = None; name = None }
+abbrev pub plain : ℕ → Changing Value → Operand
+plain first value = record { first = first; value = value; variable = still (No WrongKind first); name = None }
 
 -- 6.7.1: an operand of a subrange type counts as of its host type
 abbrev pub host_type : Host → Ordinal
@@ -65,9 +68,9 @@ range_of (OrdinalType o) = Within o.low o.high
 range_of _ = Any
 
 -- an expression of an ordinal type
-unfoldable pub ordinal_of : Value → Option (Tree.Expr × Ordinal)
-ordinal_of (SimpleValue e (OrdinalType o)) = Some (e, o)
-ordinal_of _ = None
+unfoldable pub ordinal_of : (at : ℕ) → Value → Judged (Tree.Expr × Ordinal)
+ordinal_of at (SimpleValue e (OrdinalType o)) = Yes (e, o)
+ordinal_of at _ = No WrongType at
 
 -- ---- sets (6.7.2.4)
 
@@ -83,19 +86,25 @@ set_type_of_both (SetType a k o) _ = SetType None k o
 set_type_of_both _ (SetType b l p) = SetType None l p
 set_type_of_both _ _ = EmptySetType
 
--- ---- the contents of a variable
-unfoldable pub contents : Tree.Place → DataType → Option Value
-contents place (OrdinalType o) = Some (SimpleValue (Tree.Load place) (OrdinalType o))
-contents place (PointerType n) = Some (SimpleValue (Tree.Load place) (PointerType n))
-contents place (SetType a k o) = Some (SetValue (Tree.LoadSet place) (SetType a k o))
-contents place (ArrayType at packed index component) =
-    Some (StructureValue (Tree.Contents place (ArrayType at packed index component)) (ArrayType at packed index component))
-contents place (RecordType at packed fields) =
-    Some (StructureValue (Tree.Contents place (RecordType at packed fields)) (RecordType at packed fields))
-contents place _ = None
+-- ---- the contents of a variable, which begins at `at`
+unfoldable pub contents : (at : ℕ) → Tree.Place → DataType → Judged Value
+contents at place (OrdinalType o) = Yes (SimpleValue (Tree.Load place) (OrdinalType o))
+contents at place (PointerType n) = Yes (SimpleValue (Tree.Load place) (PointerType n))
+contents at place (SetType a k o) = Yes (SetValue (Tree.LoadSet place) (SetType a k o))
+contents at place (ArrayType a packed index component) =
+    Yes (StructureValue (Tree.Contents place (ArrayType a packed index component)) (ArrayType a packed index component))
+contents at place (RecordType a packed fields) =
+    Yes (StructureValue (Tree.Contents place (RecordType a packed fields)) (RecordType a packed fields))
+contents at place _ = No WrongType at
 
-abbrev pub loaded : Variable → Option Value
-loaded v = contents v.place v.type
+abbrev pub loaded : (at : ℕ) → Variable → Judged Value
+loaded at v = contents at v.place v.type
+
+-- the type of a value
+abbrev pub type_of_value : Value → DataType
+type_of_value (SimpleValue e type) = type
+type_of_value (SetValue e type) = type
+type_of_value (StructureValue e type) = type
 
 -- ---- lists of the checked tree
 

@@ -1,33 +1,40 @@
 //! The typing of variables and expressions (ISO 7185, 6.5 and 6.7).
 
-ghost use Rattle.std.specs.Prelude.{◌≡◌, ◌⊎◌, List, [], ◌∷◌, ◌++◌, map, option_map, Err, IfOk, IfErr, IsOkAnd, IsTrue, Some, None};
+ghost use Rattle.std.specs.Prelude.{◌≡◌, List, [], ◌∷◌, ◌++◌, map, option_map, Ok, Err, IfOk, IfErr, IsTrue, Some, None};
 ghost use Rattle.ps_tree.specs.View.{type_of, expr_of, argument_of, member_of};
 ghost use Rattle.ps_syntax.specs.declared.expression.Simple.{out-Simple};
 ghost use Rattle.ps_syntax.specs.declared.expression.Term.{out-Term};
-ghost use Rattle.ps_check_names.specs.Option.{steps, traverse_both};
+ghost use Rattle.ps_check_judgement.specs.declared.change.Change.{Change};
+ghost use Rattle.ps_check_judgement.specs.declared.refusal.Rule.TheVariants.{WrongKind, NotInProfile};
+ghost use Rattle.ps_check_judgement.specs.Judged as j;
+ghost use Rattle.ps_check_judgement.specs.Judged.{Judged, Yes, Answers, some_or};
+ghost use Rattle.ps_tree.specs.Types.{DataType, OrdinalType};
+ghost use Rattle.ps_check_names.specs.Constants.{integer, number_at};
+ghost use Rattle.ps_check_judgement.specs.Changing.{through};
 ghost use Rattle.ps_check_names.specs.Regions.{Context, Region};
-ghost use Rattle.ps_check_names.specs.Refusal.{IsFault};
 ghost use Rattle.ps_check_names.specs.Spelling.{line_in};
 ghost use Rattle.ps_check_names.specs.Views.{point_of, section_of, sections_of};
 ghost use Rattle.ps_tree.specs.Tree as Tree;
-ghost use Rattle.ps_check_expressions.specs.Values.{SimpleValue, argument_list};
-ghost use Rattle.ps_check_expressions.specs.Places.{indexed};
-ghost use Rattle.ps_check_expressions.specs.Calls.{actual, actuals, parameters, called, required_call, names_input};
-ghost use Rattle.ps_check_expressions.specs.Expressions.{negation, gathered, constructed, both, first_term, standing, set_value, operand, factor_operand, member_at, select, add_term, multiply_factor, simple_operand, term_operand, variable_operand};
+ghost use Rattle.ps_check_expressions.specs.Values.{Value, SimpleValue, argument_list};
+ghost use Rattle.ps_check_expressions.specs.Calls.{passed_variable, actual, actuals, parameters, called, required_call, standing_alone, look, names_input};
+ghost use Rattle.ps_check_expressions.specs.Expressions as spec;
+ghost use Rattle.ps_check_expressions.specs.Expressions.{negation, gathered, constructed, first_term, standing, set_value, indexed, operand, factor_operand, member_at, select, add_term, multiply_factor, simple_operand, term_operand, variable_operand};
 ghost use Rattle.ps_check_expressions.specs.View.{context_at, regions_at, value_of, variable_of};
 
+use crate::changed::changed;
 use crate::function::{
-    is_input, look, of_constant, ordinal_of, refused, refused_alone, required_value, text_at,
+    is_input, is_procedure, look, of_constant, ordinal_of, required_value, text_at,
 };
 use crate::operators::{Operands, added, compared, multiplied, negated, with_sign, wrong_type};
 use crate::parameter::{by_routine, by_value, by_variable, parameters};
-use crate::place::{component, element, misplaced, target, variable_found, wrong_kind};
+use crate::place::{component, element, target, variable_found};
 use crate::site::Site;
 use crate::value::{TypedPlace, TypedValue, loaded};
-use ps_check_names::answer::{paired, push_answer};
-use ps_check_names::constants::{ConstantValue, INTEGER, number_at};
+use ps_check_judgement::answer::{broken, paired, push_answer};
+use ps_check_judgement::change::Change;
+use ps_check_judgement::refusal::{Fault, Rule};
+use ps_check_names::constants::{ConstantValue, INTEGER, misplacement, number_at};
 use ps_check_names::meaning::{Meaning, Required, Section};
-use ps_check_names::refusal::{Fault, Rule};
 use ps_check_names::scope::Found;
 use ps_syntax::{
     AddedTerm, Expr as Syntax, Factor, Member as SyntaxMember, MultipliedFactor, Selector, Sign,
@@ -47,8 +54,7 @@ fn first_term(
     term: TypedValue,
     at: u32,
 ) -> Result<TypedValue, Fault>
-    ensures ok { IfOk result (λ v. first_term (context_at site.entry) (regions_at site.entry) sign.now (value_of term) ≡ Some (value_of v)) }
-    ensures err { IfErr result (λ fault. IsFault fault → first_term (context_at site.entry) (regions_at site.entry) sign.now (value_of term) ≡ None) }
+    ensures { Answers result (λ v. value_of v) (first_term (context_at site.entry) (regions_at site.entry) at sign.now (value_of term)) }
 {
     match sign {
         None => Ok(term),
@@ -62,8 +68,7 @@ fn first_term(
 /// The type of a set's members so far, the last of which begins at `at`.
 #[tactic(auto, unfolding(crate::specs::Expressions::gathered))]
 fn joined(base: Option<Ordinal>, ordinal: Ordinal, at: u32) -> Result<Ordinal, Fault>
-    ensures ok { IfOk result (λ o. (ms : List Tree.Member) (m : Tree.Member) → gathered (ms, base) (m, ordinal) ≡ Some (ms ++ m ∷ [], Some o)) }
-    ensures err { IfErr result (λ fault. IsFault fault → (ms : List Tree.Member) (m : Tree.Member) → gathered (ms, base) (m, ordinal) ≡ None) }
+    ensures { (ms : List Tree.Member) (m : Tree.Member) → Answers result (λ o. (ms ++ m ∷ [], Some o)) (gathered at (ms, base) (m, ordinal)) }
 {
     match base {
         None => Ok(ordinal),
@@ -100,8 +105,7 @@ fn range(
     to: (Expr, Ordinal),
     at: Operands,
 ) -> Result<(Member, Ordinal), Fault>
-    ensures ok { IfOk result (λ m. both (expr_of from.0, from.1) (expr_of to.0, to.1) (line_in (context_at site.entry).text at.first) ≡ Some (member_of m.0, m.1)) }
-    ensures err { IfErr result (λ fault. IsFault fault → both (expr_of from.0, from.1) (expr_of to.0, to.1) (line_in (context_at site.entry).text at.first) ≡ None) }
+    ensures { Answers result (λ m. (member_of m.0, m.1)) (spec.both at.second (expr_of from.0, from.1) (expr_of to.0, to.1) (line_in (context_at site.entry).text at.first)) }
 {
     if !same_host(from.1.host, to.1.host) {
         drop((from, to));
@@ -117,11 +121,10 @@ fn range(
 
 /// The type of a function's result; its name is at `at`.
 fn result_type(ty: &Option<Ty>, at: u32) -> Result<Ty, Fault>
-    ensures ok { IfOk result (λ t. option_map type_of ty.now ≡ Some (type_of t)) }
-    ensures err { IfErr result (λ fault. IsFault fault → option_map type_of ty.now ≡ None) }
+    ensures { Answers result (λ t. type_of t) (some_or WrongKind at (option_map type_of ty.now)) }
 {
     match ty {
-        None => Err(wrong_kind(at)),
+        None => Err(broken(Rule::WrongKind, at)),
         Some(ty) => Ok(ty.copy()?),
     }
 }
@@ -189,118 +192,128 @@ fn is_the_input(site: Site<'_>, x: &Syntax) -> Result<bool, AllocError>
     }
 }
 
-/// The call of a declared function, by the answers of its result type and of its actual parameters.
-fn declared_call(
-    routine: u32,
-    up: u32,
-    line: Line,
-    ty: Result<Ty, Fault>,
-    arguments: Result<Vec<Argument>, Fault>,
-) -> Result<TypedValue, Fault>
-    ensures ok { IfOk result (λ v. IsOkAnd ty (λ t. IsOkAnd arguments (λ list. value_of v ≡ SimpleValue (Tree.Call routine up (argument_list (map argument_of list.items)) line.number) (type_of t)))) }
-    ensures err { IfErr result (λ fault. IsFault fault → (ty ≡ Err fault) ⊎ (arguments ≡ Err fault)) }
+/// The call of a declared function, whose result is of this type.
+#[tactic(auto, using(crate::proofs::Judgement::arguments_listed, ps_tree::proofs::TreeLemmas::expr_of_Call), unfolding(crate::specs::View::value_of))]
+fn declared_call(routine: u32, up: u32, line: Line, ty: Ty, arguments: Vec<Argument>) -> TypedValue
+    ensures { value_of result ≡ SimpleValue (Tree.Call routine up (argument_list (map argument_of arguments.items)) line.number) (type_of ty) }
 {
-    let (ty, arguments) = paired(ty, arguments)?;
     let call = Expr::Call {
         routine,
         up,
         arguments,
         line,
     };
-    Ok(TypedValue::Simple(call, ty))
+    TypedValue::Simple(call, ty)
 }
 
-/// The call of a functional parameter, by the same answers.
-fn formal_call(
-    up: u32,
-    index: u32,
-    line: Line,
-    ty: Result<Ty, Fault>,
-    arguments: Result<Vec<Argument>, Fault>,
-) -> Result<TypedValue, Fault>
-    ensures ok { IfOk result (λ v. IsOkAnd ty (λ t. IsOkAnd arguments (λ list. value_of v ≡ SimpleValue (Tree.CallFormal up index (argument_list (map argument_of list.items)) line.number) (type_of t)))) }
-    ensures err { IfErr result (λ fault. IsFault fault → (ty ≡ Err fault) ⊎ (arguments ≡ Err fault)) }
+/// The call of a functional parameter, whose result is of this type.
+#[tactic(auto, using(crate::proofs::Judgement::arguments_listed, ps_tree::proofs::TreeLemmas::expr_of_CallFormal), unfolding(crate::specs::View::value_of))]
+fn formal_call(up: u32, index: u32, line: Line, ty: Ty, arguments: Vec<Argument>) -> TypedValue
+    ensures { value_of result ≡ SimpleValue (Tree.CallFormal up index (argument_list (map argument_of arguments.items)) line.number) (type_of ty) }
 {
-    let (ty, arguments) = paired(ty, arguments)?;
     let call = Expr::CallFormal {
         up,
         index,
         arguments,
         line,
     };
-    Ok(TypedValue::Simple(call, ty))
+    TypedValue::Simple(call, ty)
 }
 
-/// No actual parameters, where there are no formal ones.
-#[tactic(auto, using(crate::proofs::Judgement::none_of_none, crate::proofs::Judgement::none_of_listed))]
+/// No actual parameters, where there are no formal ones. The called name is at `at`.
 pub(crate) fn no_arguments(
     site: Site<'_>,
     sections: &[Section],
     at: u32,
 ) -> Result<Vec<Argument>, Fault>
-    ensures ok { IfOk result (λ list. actuals (context_at site.entry) (regions_at site.entry) (sections_of sections.now) [] ≡ Some (map argument_of list.items)) }
-    ensures err { IfErr result (λ fault. IsFault fault → actuals (context_at site.entry) (regions_at site.entry) (sections_of sections.now) [] ≡ None) }
+    ensures { (changes : List Change) → Answers result (λ list. (map argument_of list.items, changes)) (actuals (context_at site.entry) (regions_at site.entry) at (sections_of sections.now) [] changes) }
 {
     let formals = parameters(site.alloc, sections)?;
     if formals.len() != 0 {
-        return Err(Fault::Broken {
-            rule: Rule::NotCongruous,
-            at,
-        });
+        return Err(broken(Rule::NotCongruous, at));
     }
     Ok(Vec::new(site.alloc))
 }
 
-/// A required function without actual parameters: eof or eoln of the input, which the program heading has to list.
-#[tactic(auto, unfolding(crate::specs::Calls::required_call))]
-fn look_at_input(site: Site<'_>, required: Required, name: Span) -> Result<TypedValue, Fault>
-    ensures ok { IfOk result (λ v. required_call (context_at site.entry) (regions_at site.entry) required (line_in (context_at site.entry).text name.from) [] ≡ Some (value_of v)) }
-    ensures err { IfErr result (λ fault. IsFault fault → required_call (context_at site.entry) (regions_at site.entry) required (line_in (context_at site.entry).text name.from) [] ≡ None) }
+/// The value of an unsigned integer.
+#[tactic(auto, unfolding(crate::specs::View::value_of, ps_tree::specs::View::type_of, ps_tree::specs::View::expr_of))]
+fn number_value(site: Site<'_>, at: Span) -> TypedValue
+    ensures { value_of result ≡ SimpleValue (Tree.Number (number_at (context_at site.entry).text at)) (OrdinalType integer) }
 {
-    let line = site.reading.line(name.from);
-    let wrong = refused_alone(required, name.from);
-    if !site.reading.has_input {
-        return Err(wrong);
+    let value = number_at(site.reading, at);
+    TypedValue::Simple(Expr::Number(value), Ty::Simple(INTEGER))
+}
+
+/// A required function of the input, whose name is at `at`: only eof and eoln look at it.
+fn look_at_name(required: Required, line: Line, at: u32) -> Result<TypedValue, Fault>
+    ensures { Answers result (λ v. value_of v) (some_or NotInProfile at (look required line.number)) }
+{
+    match look(required, line) {
+        None => Err(broken(Rule::NotInProfile, at)),
+        Some(value) => Ok(value),
     }
-    look(required, line, wrong)
+}
+
+/// A required function without actual parameters: eof or eoln of the input, which the program heading has to list.
+fn look_at_input(site: Site<'_>, required: Required, at: u32) -> Result<TypedValue, Fault>
+    ensures { Answers result (λ v. value_of v) (standing_alone at (context_at site.entry).has_input (look required (line_in (context_at site.entry).text at))) }
+{
+    match look(required, site.reading.line(at)) {
+        None => Err(broken(Rule::NotCongruous, at)),
+        Some(value) => {
+            if !site.reading.has_input {
+                drop(value);
+                return Err(broken(Rule::NoInputOutput, at));
+            }
+            Ok(value)
+        }
+    }
+}
+
+/// A required routine whose name stands alone; a procedure has no value.
+#[tactic(auto, unfolding(crate::specs::Calls::required_call, crate::specs::Calls::function_call))]
+fn required_alone(site: Site<'_>, required: Required, at: u32) -> Result<TypedValue, Fault>
+    ensures { (changes : List Change) → Answers result (λ v. (value_of v, changes)) (required_call (context_at site.entry) (regions_at site.entry) at required [] changes) }
+{
+    if is_procedure(required) {
+        return Err(broken(Rule::WrongKind, at));
+    }
+    look_at_input(site, required, at)
 }
 
 /// The value of a function that a name denotes, without actual parameters.
 #[tactic(auto, unfolding(crate::specs::Calls::called, ps_check_names::specs::Views::meaning_of))]
 fn call_alone(site: Site<'_>, found: Found<'_>, name: Span) -> Result<TypedValue, Fault>
-    ensures ok { IfOk result (λ v. called (context_at site.entry) (regions_at site.entry) (line_in (context_at site.entry).text name.from) (point_of found.entry) [] ≡ Some (value_of v)) }
-    ensures err { IfErr result (λ fault. IsFault fault → called (context_at site.entry) (regions_at site.entry) (line_in (context_at site.entry).text name.from) (point_of found.entry) [] ≡ None) }
+    ensures { (changes : List Change) → Answers result (λ v. (value_of v, changes)) (called (context_at site.entry) (regions_at site.entry) name.from (point_of found.entry) [] changes) }
 {
     let line = site.reading.line(name.from);
     match found {
-        Found::Field { .. } => Err(wrong_kind(name.from)),
+        Found::Field { .. } => Err(broken(misplacement(&found), name.from)),
         Found::Name { up, meaning } => match meaning {
-            Meaning::Routine(heading) => declared_call(
-                heading.number,
-                up,
-                line,
-                result_type(&heading.result, name.from),
-                no_arguments(site, &heading.sections, name.from),
-            ),
+            Meaning::Routine(heading) => {
+                let ty = result_type(&heading.result, name.from);
+                let arguments = no_arguments(site, &heading.sections, name.from);
+                let (ty, arguments) = paired(ty, arguments)?;
+                Ok(declared_call(heading.number, up, line, ty, arguments))
+            }
             Meaning::RoutineParameter {
                 entry,
                 sections,
                 result: outcome,
-            } => formal_call(
-                up,
-                *entry,
-                line,
-                result_type(outcome, name.from),
-                no_arguments(site, sections, name.from),
-            ),
-            Meaning::Required(required) => look_at_input(site, *required, name),
+            } => {
+                let ty = result_type(outcome, name.from);
+                let arguments = no_arguments(site, sections, name.from);
+                let (ty, arguments) = paired(ty, arguments)?;
+                Ok(formal_call(up, *entry, line, ty, arguments))
+            }
+            Meaning::Required(required) => required_alone(site, *required, name.from),
             Meaning::Constant { .. }
             | Meaning::Text(_)
             | Meaning::Type(_)
             | Meaning::Variable { .. }
             | Meaning::Parameter { .. }
             | Meaning::File(_)
-            | Meaning::LeftOut => Err(misplaced(meaning, name.from)),
+            | Meaning::LeftOut => Err(broken(misplacement(&found), name.from)),
         },
     }
 }
@@ -308,8 +321,7 @@ fn call_alone(site: Site<'_>, found: Found<'_>, name: Span) -> Result<TypedValue
 /// What a name alone stands for: a constant, the contents of a variable, or a function's value.
 #[tactic(auto, unfolding(crate::specs::Expressions::standing, ps_check_names::specs::Views::constant_of, ps_check_names::specs::Views::meaning_of))]
 fn standing(site: Site<'_>, found: Found<'_>, name: Span) -> Result<TypedValue, Fault>
-    ensures ok { IfOk result (λ v. standing (context_at site.entry) (regions_at site.entry) (line_in (context_at site.entry).text name.from) (point_of found.entry) ≡ Some (value_of v)) }
-    ensures err { IfErr result (λ fault. IsFault fault → standing (context_at site.entry) (regions_at site.entry) (line_in (context_at site.entry).text name.from) (point_of found.entry) ≡ None) }
+    ensures { (changes : List Change) → Answers result (λ v. (value_of v, changes)) (standing (context_at site.entry) (regions_at site.entry) name.from (point_of found.entry) changes) }
 {
     match found {
         Found::Field { .. } => loaded(
@@ -353,81 +365,92 @@ fn is_one_factor(x: &Simple) -> bool
 
 /// The value of an expression. One that is a factor alone goes straight to it: parentheses lie in one another hundreds of levels deep.
 #[cycle(expression)]
-pub fn expr_value(x: &Syntax, site: Site<'_>) -> Result<TypedValue, Fault>
-    ensures ok { IfOk result (λ v. (operand (context_at site.entry) (regions_at site.entry) x.now).value ≡ Some (value_of v)) }
-    ensures err { IfErr result (λ fault. IsFault fault → (operand (context_at site.entry) (regions_at site.entry) x.now).value ≡ None) }
+#[tactic(auto, using(crate::proofs::Equations::operand_simple))]
+pub fn expr_value(
+    x: &Syntax,
+    site: Site<'_>,
+    changes: &mut Vec<Change>,
+) -> Result<TypedValue, Fault>
+    ensures { Answers result (λ v. (value_of v, changes.new.items)) ((operand (context_at site.entry) (regions_at site.entry) x.now).value changes.old.items) }
 {
     match x {
         Syntax::Simple(only) => {
             if is_one_factor(only) {
-                factor_value(&only.first.first, site)
+                factor_value(&only.first.first, site, changes)
             } else {
-                simple_value(only, site)
+                simple_value(only, site, changes)
             }
         }
-        Syntax::Compare(..) => compared_value(x, site),
+        Syntax::Compare(..) => compared_value(x, site, changes),
     }
 }
 
 /// The same, through all levels of operators: that of a relation of two simple expressions (6.7.2.5), or of one alone.
 #[cycle(expression)]
-fn compared_value(x: &Syntax, site: Site<'_>) -> Result<TypedValue, Fault>
-    ensures ok { IfOk result (λ v. (operand (context_at site.entry) (regions_at site.entry) x.now).value ≡ Some (value_of v)) }
-    ensures err { IfErr result (λ fault. IsFault fault → (operand (context_at site.entry) (regions_at site.entry) x.now).value ≡ None) }
+#[tactic(auto, using(crate::proofs::Equations::operand_simple, crate::proofs::Judgement::compare_value))]
+fn compared_value(
+    x: &Syntax,
+    site: Site<'_>,
+    changes: &mut Vec<Change>,
+) -> Result<TypedValue, Fault>
+    ensures { Answers result (λ v. (value_of v, changes.new.items)) ((operand (context_at site.entry) (regions_at site.entry) x.now).value changes.old.items) }
 {
     match x {
-        Syntax::Simple(only) => simple_value(only, site),
+        Syntax::Simple(only) => simple_value(only, site, changes),
         Syntax::Compare(left, relation, _, right) => {
             let right = right.get();
             let at = Operands {
                 first: left.first_token(),
                 second: right.first_token(),
             };
-            let (left, right) = paired(simple_value(left, site), simple_value(right, site))?;
+            let left = simple_value(left, site, changes);
+            let (left, right) = paired(left, simple_value(right, site, changes))?;
             compared(site.alloc, *relation, left, right, at)
         }
     }
 }
 
 #[cycle(expression)]
-fn simple_value(x: &Simple, site: Site<'_>) -> Result<TypedValue, Fault>
-    ensures ok { IfOk result (λ v. (simple_operand (context_at site.entry) (regions_at site.entry) x.now).value ≡ Some (value_of v)) }
-    ensures err { IfErr result (λ fault. IsFault fault → (simple_operand (context_at site.entry) (regions_at site.entry) x.now).value ≡ None) }
+#[tactic(auto, using(crate::proofs::Judgement::simple_value))]
+fn simple_value(x: &Simple, site: Site<'_>, changes: &mut Vec<Change>) -> Result<TypedValue, Fault>
+    ensures { Answers result (λ v. (value_of v, changes.new.items)) ((simple_operand (context_at site.entry) (regions_at site.entry) x.now).value changes.old.items) }
 {
-    let term = term_value(&x.first, site)?;
+    let term = term_value(&x.first, site, changes)?;
     let first = first_term(site, &x.sign, term, x.first.first_token())?;
-    add_terms(x.more.as_slice(), site, first, x.first_token())
+    add_terms(x.more.as_slice(), site, changes, first, x.first_token())
 }
 
 /// Terms that are added to a value, which begins at `at`.
 #[cycle(expression)]
+#[tactic(auto, using(ps_check_judgement::proofs::Lists::stepped_start, ps_check_judgement::proofs::Lists::stepped_next, ps_check_judgement::proofs::Lists::stepped_fault, ps_check_judgement::proofs::Lists::stepped_end))]
 fn add_terms(
     terms: &[AddedTerm],
     site: Site<'_>,
+    changes: &mut Vec<Change>,
     first: TypedValue,
     at: u32,
 ) -> Result<TypedValue, Fault>
-    ensures ok { IfOk result (λ v. steps (λ v t. add_term (context_at site.entry) (regions_at site.entry) t v) (value_of first) terms.now ≡ Some (value_of v)) }
-    ensures err { IfErr result (λ fault. IsFault fault → steps (λ v t. add_term (context_at site.entry) (regions_at site.entry) t v) (value_of first) terms.now ≡ None) }
+    ensures { Answers result (λ v. (value_of v, changes.new.items)) (through (λ v t. add_term (context_at site.entry) (regions_at site.entry) t at v) (value_of first) terms.now changes.old.items) }
 {
     let mut value = first;
     for term in terms {
-        value = add_term(term, site, value, at)?;
+        value = add_term(term, site, changes, value, at)?;
     }
     Ok(value)
 }
 
 #[cycle(expression)]
+#[tactic(auto, using(crate::proofs::Judgement::add_term_value))]
 fn add_term(
     added_term: &AddedTerm,
     site: Site<'_>,
+    changes: &mut Vec<Change>,
     value: TypedValue,
     at: u32,
 ) -> Result<TypedValue, Fault>
-    ensures ok { IfOk result (λ v. add_term (context_at site.entry) (regions_at site.entry) added_term.now (value_of value) ≡ Some (value_of v)) }
-    ensures err { IfErr result (λ fault. IsFault fault → add_term (context_at site.entry) (regions_at site.entry) added_term.now (value_of value) ≡ None) }
+    ensures { Answers result (λ v. (value_of v, changes.new.items)) (add_term (context_at site.entry) (regions_at site.entry) added_term.now at (value_of value) changes.old.items) }
 {
-    let right = term_value(&added_term.term, site)?;
+    let right = term_value(&added_term.term, site, changes)?;
     let line = site.reading.line(added_term.at.from);
     let at = Operands {
         first: at,
@@ -437,43 +460,45 @@ fn add_term(
 }
 
 #[cycle(expression)]
-fn term_value(x: &Term, site: Site<'_>) -> Result<TypedValue, Fault>
-    ensures ok { IfOk result (λ v. (term_operand (context_at site.entry) (regions_at site.entry) x.now).value ≡ Some (value_of v)) }
-    ensures err { IfErr result (λ fault. IsFault fault → (term_operand (context_at site.entry) (regions_at site.entry) x.now).value ≡ None) }
+#[tactic(auto, using(crate::proofs::Judgement::term_value))]
+fn term_value(x: &Term, site: Site<'_>, changes: &mut Vec<Change>) -> Result<TypedValue, Fault>
+    ensures { Answers result (λ v. (value_of v, changes.new.items)) ((term_operand (context_at site.entry) (regions_at site.entry) x.now).value changes.old.items) }
 {
-    let first = factor_value(&x.first, site)?;
-    multiply_factors(x.more.as_slice(), site, first, x.first_token())
+    let first = factor_value(&x.first, site, changes)?;
+    multiply_factors(x.more.as_slice(), site, changes, first, x.first_token())
 }
 
 /// Factors that a value, which begins at `at`, is multiplied by.
 #[cycle(expression)]
+#[tactic(auto, using(ps_check_judgement::proofs::Lists::stepped_start, ps_check_judgement::proofs::Lists::stepped_next, ps_check_judgement::proofs::Lists::stepped_fault, ps_check_judgement::proofs::Lists::stepped_end))]
 fn multiply_factors(
     factors: &[MultipliedFactor],
     site: Site<'_>,
+    changes: &mut Vec<Change>,
     first: TypedValue,
     at: u32,
 ) -> Result<TypedValue, Fault>
-    ensures ok { IfOk result (λ v. steps (λ v f. multiply_factor (context_at site.entry) (regions_at site.entry) f v) (value_of first) factors.now ≡ Some (value_of v)) }
-    ensures err { IfErr result (λ fault. IsFault fault → steps (λ v f. multiply_factor (context_at site.entry) (regions_at site.entry) f v) (value_of first) factors.now ≡ None) }
+    ensures { Answers result (λ v. (value_of v, changes.new.items)) (through (λ v f. multiply_factor (context_at site.entry) (regions_at site.entry) f at v) (value_of first) factors.now changes.old.items) }
 {
     let mut value = first;
     for factor in factors {
-        value = multiply_factor(factor, site, value, at)?;
+        value = multiply_factor(factor, site, changes, value, at)?;
     }
     Ok(value)
 }
 
 #[cycle(expression)]
+#[tactic(auto, using(crate::proofs::Judgement::multiply_factor_value))]
 fn multiply_factor(
     by: &MultipliedFactor,
     site: Site<'_>,
+    changes: &mut Vec<Change>,
     value: TypedValue,
     at: u32,
 ) -> Result<TypedValue, Fault>
-    ensures ok { IfOk result (λ v. multiply_factor (context_at site.entry) (regions_at site.entry) by.now (value_of value) ≡ Some (value_of v)) }
-    ensures err { IfErr result (λ fault. IsFault fault → multiply_factor (context_at site.entry) (regions_at site.entry) by.now (value_of value) ≡ None) }
+    ensures { Answers result (λ v. (value_of v, changes.new.items)) (multiply_factor (context_at site.entry) (regions_at site.entry) by.now at (value_of value) changes.old.items) }
 {
-    let right = factor_value(&by.factor, site)?;
+    let right = factor_value(&by.factor, site, changes)?;
     let line = site.reading.line(by.at.from);
     let at = Operands {
         first: at,
@@ -483,50 +508,50 @@ fn multiply_factor(
 }
 
 #[cycle(expression)]
-fn factor_value(x: &Factor, site: Site<'_>) -> Result<TypedValue, Fault>
-    ensures ok { IfOk result (λ v. (factor_operand (context_at site.entry) (regions_at site.entry) x.now).value ≡ Some (value_of v)) }
-    ensures err { IfErr result (λ fault. IsFault fault → (factor_operand (context_at site.entry) (regions_at site.entry) x.now).value ≡ None) }
+#[tactic(auto, using(crate::proofs::Equations::factor_variable, crate::proofs::Equations::factor_call, crate::proofs::Equations::factor_number, crate::proofs::Equations::factor_text, crate::proofs::Equations::factor_nil, crate::proofs::Equations::factor_set, crate::proofs::Equations::factor_group, crate::proofs::Equations::factor_not))]
+fn factor_value(x: &Factor, site: Site<'_>, changes: &mut Vec<Change>) -> Result<TypedValue, Fault>
+    ensures { Answers result (λ v. (value_of v, changes.new.items)) ((factor_operand (context_at site.entry) (regions_at site.entry) x.now).value changes.old.items) }
 {
     match x {
-        Factor::Variable(variable) => variable_value(variable, site),
+        Factor::Variable(variable) => variable_value(variable, site, changes),
         Factor::Call(name, operands) => {
             let found = site.denoted(*name)?;
-            call_value(operands.as_slice(), site, found, *name)
+            call_value(operands.as_slice(), site, changes, found, *name)
         }
-        Factor::Number(at) => {
-            let value = number_at(site.reading, *at);
-            let ordinal = INTEGER;
-            of_constant(ConstantValue::Ordinal(ordinal, value), at.from)
-        }
+        Factor::Number(at) => Ok(number_value(site, *at)),
         Factor::Text(at) => of_constant(text_at(site, *at)?, at.from),
         Factor::Nil(_) => Ok(TypedValue::Simple(Expr::Nil, Ty::Nil)),
-        Factor::Set(_, members) => set_value(members.as_slice(), site),
-        Factor::Group(_, _, inner) => expr_value(inner.get(), site),
-        Factor::Not(_, inner) => negated_value(inner.get(), site),
+        Factor::Set(_, members) => set_value(members.as_slice(), site, changes),
+        Factor::Group(_, _, inner) => expr_value(inner.get(), site, changes),
+        Factor::Not(_, inner) => negated_value(inner.get(), site, changes),
     }
 }
 
 /// The value of the negation of a factor (6.7.2.3).
 #[cycle(expression)]
-fn negated_value(x: &Factor, site: Site<'_>) -> Result<TypedValue, Fault>
-    ensures ok { IfOk result (λ v. negation (factor_operand (context_at site.entry) (regions_at site.entry) x.now) ≡ Some (value_of v)) }
-    ensures err { IfErr result (λ fault. IsFault fault → negation (factor_operand (context_at site.entry) (regions_at site.entry) x.now) ≡ None) }
+#[tactic(auto, using(crate::proofs::Judgement::negation_value))]
+fn negated_value(x: &Factor, site: Site<'_>, changes: &mut Vec<Change>) -> Result<TypedValue, Fault>
+    ensures { Answers result (λ v. (value_of v, changes.new.items)) (negation (factor_operand (context_at site.entry) (regions_at site.entry) x.now) changes.old.items) }
 {
     let at = x.first_token();
-    let operand = factor_value(x, site)?;
+    let operand = factor_value(x, site, changes)?;
     negated(site.alloc, operand, at)
 }
 
 /// The value of a set constructor (6.7.1).
 #[cycle(expression)]
-fn set_value(members: &[SyntaxMember], site: Site<'_>) -> Result<TypedValue, Fault>
-    ensures ok { IfOk result (λ v. set_value (map (member_at (context_at site.entry) (regions_at site.entry)) members.now) ≡ Some (value_of v)) }
-    ensures err { IfErr result (λ fault. IsFault fault → set_value (map (member_at (context_at site.entry) (regions_at site.entry)) members.now) ≡ None) }
+#[tactic(auto, using(ps_check_judgement::proofs::Lists::stepped_start, crate::proofs::CallLemmas::gathered_end))]
+fn set_value(
+    members: &[SyntaxMember],
+    site: Site<'_>,
+    changes: &mut Vec<Change>,
+) -> Result<TypedValue, Fault>
+    ensures { Answers result (λ v. (value_of v, changes.new.items)) (set_value (map (member_at (context_at site.entry) (regions_at site.entry)) members.now) changes.old.items) }
 {
     let mut list = Vec::new(site.alloc);
     let mut base = None;
     for x in members {
-        let (member, ordinal) = member_value(x, site)?;
+        let (member, ordinal) = member_value(x, site, changes)?;
         list.push(member)?;
         base = Some(joined(base, ordinal, x.first_token())?);
     }
@@ -534,15 +559,19 @@ fn set_value(members: &[SyntaxMember], site: Site<'_>) -> Result<TypedValue, Fau
 }
 
 #[cycle(expression)]
-fn member_value(x: &SyntaxMember, site: Site<'_>) -> Result<(Member, Ordinal), Fault>
-    ensures ok { IfOk result (λ m. member_at (context_at site.entry) (regions_at site.entry) x.now ≡ Some (member_of m.0, m.1)) }
-    ensures err { IfErr result (λ fault. IsFault fault → member_at (context_at site.entry) (regions_at site.entry) x.now ≡ None) }
+#[tactic(auto, using(crate::proofs::Judgement::member_one, crate::proofs::Judgement::member_range))]
+fn member_value(
+    x: &SyntaxMember,
+    site: Site<'_>,
+    changes: &mut Vec<Change>,
+) -> Result<(Member, Ordinal), Fault>
+    ensures { Answers result (λ m. ((member_of m.0, m.1), changes.new.items)) ((member_at (context_at site.entry) (regions_at site.entry) x.now).member changes.old.items) }
 {
     match x {
         SyntaxMember::One(only) => {
             let only = only.get();
             let at = only.first_token();
-            let (value, ordinal) = ordinal_of(expr_value(only, site)?, at)?;
+            let (value, ordinal) = ordinal_of(expr_value(only, site, changes)?, at)?;
             let line = site.reading.line(at);
             Ok((Member::One { value, line }, ordinal))
         }
@@ -552,7 +581,8 @@ fn member_value(x: &SyntaxMember, site: Site<'_>) -> Result<(Member, Ordinal), F
                 first: from.first_token(),
                 second: to.first_token(),
             };
-            let (from, to) = paired(expr_value(from, site), expr_value(to, site))?;
+            let from = expr_value(from, site, changes);
+            let (from, to) = paired(from, expr_value(to, site, changes))?;
             let (from, to) = paired(ordinal_of(from, at.first), ordinal_of(to, at.second))?;
             range(site, from, to, at)
         }
@@ -560,60 +590,70 @@ fn member_value(x: &SyntaxMember, site: Site<'_>) -> Result<(Member, Ordinal), F
 }
 
 #[cycle(expression)]
-fn variable_value(x: &Variable, site: Site<'_>) -> Result<TypedValue, Fault>
-    ensures ok { IfOk result (λ v. (variable_operand (context_at site.entry) (regions_at site.entry) x.now).value ≡ Some (value_of v)) }
-    ensures err { IfErr result (λ fault. IsFault fault → (variable_operand (context_at site.entry) (regions_at site.entry) x.now).value ≡ None) }
+#[tactic(auto, using(crate::proofs::Judgement::value_alone, crate::proofs::Judgement::value_selected))]
+fn variable_value(
+    x: &Variable,
+    site: Site<'_>,
+    changes: &mut Vec<Change>,
+) -> Result<TypedValue, Fault>
+    ensures { Answers result (λ v. (value_of v, changes.new.items)) ((variable_operand (context_at site.entry) (regions_at site.entry) x.now).value changes.old.items) }
 {
     if x.selectors.is_empty() {
         let found = site.denoted(x.name)?;
         standing(site, found, x.name)
     } else {
-        let variable = variable_place(x, site)?;
+        let variable = variable_place(x, site, changes)?;
         loaded(site.alloc, variable, x.name.from)
     }
 }
 
 /// A variable (6.5).
 #[cycle(expression)]
-pub fn variable_place(x: &Variable, site: Site<'_>) -> Result<TypedPlace, Fault>
-    ensures ok { IfOk result (λ v. (variable_operand (context_at site.entry) (regions_at site.entry) x.now).variable ≡ Some (variable_of v)) }
-    ensures err { IfErr result (λ fault. IsFault fault → (variable_operand (context_at site.entry) (regions_at site.entry) x.now).variable ≡ None) }
+#[tactic(auto, using(crate::proofs::Judgement::variable_variable))]
+pub fn variable_place(
+    x: &Variable,
+    site: Site<'_>,
+    changes: &mut Vec<Change>,
+) -> Result<TypedPlace, Fault>
+    ensures { Answers result (λ v. (variable_of v, changes.new.items)) ((variable_operand (context_at site.entry) (regions_at site.entry) x.now).variable changes.old.items) }
 {
     let found = site.denoted(x.name)?;
     let entire = variable_found(site.alloc, found, x.name.from)?;
-    select_all(x.selectors.as_slice(), site, entire, x.name.from)
+    select_all(x.selectors.as_slice(), site, changes, entire, x.name.from)
 }
 
 /// What selectors pick from a variable, which begins at `at`.
 #[cycle(expression)]
+#[tactic(auto, using(ps_check_judgement::proofs::Lists::stepped_start, ps_check_judgement::proofs::Lists::stepped_next, ps_check_judgement::proofs::Lists::stepped_fault, ps_check_judgement::proofs::Lists::stepped_end))]
 fn select_all(
     selectors: &[Selector],
     site: Site<'_>,
+    changes: &mut Vec<Change>,
     variable: TypedPlace,
     at: u32,
 ) -> Result<TypedPlace, Fault>
-    ensures ok { IfOk result (λ v. steps (λ v s. select (context_at site.entry) (regions_at site.entry) s v) (variable_of variable) selectors.now ≡ Some (variable_of v)) }
-    ensures err { IfErr result (λ fault. IsFault fault → steps (λ v s. select (context_at site.entry) (regions_at site.entry) s v) (variable_of variable) selectors.now ≡ None) }
+    ensures { Answers result (λ v. (variable_of v, changes.new.items)) (through (λ v s. select (context_at site.entry) (regions_at site.entry) s at v) (variable_of variable) selectors.now changes.old.items) }
 {
     let mut place = variable;
     for selector in selectors {
-        place = select(selector, site, place, at)?;
+        place = select(selector, site, changes, place, at)?;
     }
     Ok(place)
 }
 
 #[cycle(expression)]
+#[tactic(auto, using(crate::proofs::Equations::select_index, crate::proofs::Equations::select_field, crate::proofs::Equations::select_content))]
 fn select(
     selector: &Selector,
     site: Site<'_>,
+    changes: &mut Vec<Change>,
     variable: TypedPlace,
     at: u32,
 ) -> Result<TypedPlace, Fault>
-    ensures ok { IfOk result (λ v. select (context_at site.entry) (regions_at site.entry) selector.now (variable_of variable) ≡ Some (variable_of v)) }
-    ensures err { IfErr result (λ fault. IsFault fault → select (context_at site.entry) (regions_at site.entry) selector.now (variable_of variable) ≡ None) }
+    ensures { Answers result (λ v. (variable_of v, changes.new.items)) (select (context_at site.entry) (regions_at site.entry) selector.now at (variable_of variable) changes.old.items) }
 {
     match selector {
-        Selector::Index(indices) => index_all(indices.as_slice(), site, variable, at),
+        Selector::Index(indices) => index_all(indices.as_slice(), site, changes, variable, at),
         Selector::Field(name) => {
             let spelling = site.reading.spelling(site.alloc, *name)?;
             component(variable, spelling.as_slice(), at, name.from)
@@ -627,35 +667,37 @@ fn select(
 
 /// The element of an array, which begins at `at`, at several indices.
 #[cycle(expression)]
+#[tactic(auto, using(ps_check_judgement::proofs::Lists::stepped_start, crate::proofs::CallLemmas::next_map, crate::proofs::CallLemmas::fault_map, crate::proofs::CallLemmas::end_map))]
 fn index_all(
     indices: &[Syntax],
     site: Site<'_>,
+    changes: &mut Vec<Change>,
     variable: TypedPlace,
     at: u32,
 ) -> Result<TypedPlace, Fault>
-    ensures ok { IfOk result (λ v. steps (indexed (context_at site.entry)) (variable_of variable) (map (operand (context_at site.entry) (regions_at site.entry)) indices.now) ≡ Some (variable_of v)) }
-    ensures err { IfErr result (λ fault. IsFault fault → steps (indexed (context_at site.entry)) (variable_of variable) (map (operand (context_at site.entry) (regions_at site.entry)) indices.now) ≡ None) }
+    ensures { Answers result (λ v. (variable_of v, changes.new.items)) (through (indexed (context_at site.entry) (regions_at site.entry) at) (variable_of variable) (map (operand (context_at site.entry) (regions_at site.entry)) indices.now) changes.old.items) }
 {
     let mut place = variable;
     for index in indices {
-        place = index_one(index, site, place, at)?;
+        place = index_one(index, site, changes, place, at)?;
     }
     Ok(place)
 }
 
 #[cycle(expression)]
+#[tactic(auto, using(crate::proofs::Judgement::index_value))]
 fn index_one(
     index: &Syntax,
     site: Site<'_>,
+    changes: &mut Vec<Change>,
     variable: TypedPlace,
     at: u32,
 ) -> Result<TypedPlace, Fault>
-    ensures ok { IfOk result (λ v. indexed (context_at site.entry) (variable_of variable) (operand (context_at site.entry) (regions_at site.entry) index.now) ≡ Some (variable_of v)) }
-    ensures err { IfErr result (λ fault. IsFault fault → indexed (context_at site.entry) (variable_of variable) (operand (context_at site.entry) (regions_at site.entry) index.now) ≡ None) }
+    ensures { Answers result (λ v. (variable_of v, changes.new.items)) (indexed (context_at site.entry) (regions_at site.entry) at (variable_of variable) (operand (context_at site.entry) (regions_at site.entry) index.now) changes.old.items) }
 {
     let first = index.first_token();
     let line = site.reading.line(first);
-    let value = expr_value(index, site)?;
+    let value = expr_value(index, site, changes)?;
     let at = Operands {
         first: at,
         second: first,
@@ -669,79 +711,73 @@ fn index_one(
 fn call_value(
     operands: &[Syntax],
     site: Site<'_>,
+    changes: &mut Vec<Change>,
     found: Found<'_>,
     name: Span,
 ) -> Result<TypedValue, Fault>
-    ensures ok { IfOk result (λ v. called (context_at site.entry) (regions_at site.entry) (line_in (context_at site.entry).text name.from) (point_of found.entry) (map (operand (context_at site.entry) (regions_at site.entry)) operands.now) ≡ Some (value_of v)) }
-    ensures err { IfErr result (λ fault. IsFault fault → called (context_at site.entry) (regions_at site.entry) (line_in (context_at site.entry).text name.from) (point_of found.entry) (map (operand (context_at site.entry) (regions_at site.entry)) operands.now) ≡ None) }
+    ensures { Answers result (λ v. (value_of v, changes.new.items)) (called (context_at site.entry) (regions_at site.entry) name.from (point_of found.entry) (map (operand (context_at site.entry) (regions_at site.entry)) operands.now) changes.old.items) }
 {
     let line = site.reading.line(name.from);
     match found {
-        Found::Field { .. } => Err(wrong_kind(name.from)),
+        Found::Field { .. } => Err(broken(misplacement(&found), name.from)),
         Found::Name { up, meaning } => match meaning {
-            Meaning::Routine(heading) => declared_call(
-                heading.number,
-                up,
-                line,
-                result_type(&heading.result, name.from),
-                argument_all(operands, site, &heading.sections, name.from),
-            ),
+            Meaning::Routine(heading) => {
+                let ty = result_type(&heading.result, name.from);
+                let sections = &heading.sections;
+                let arguments = argument_all(operands, site, changes, sections, name.from);
+                let (ty, arguments) = paired(ty, arguments)?;
+                Ok(declared_call(heading.number, up, line, ty, arguments))
+            }
             Meaning::RoutineParameter {
                 entry,
                 sections,
                 result: outcome,
-            } => formal_call(
-                up,
-                *entry,
-                line,
-                result_type(outcome, name.from),
-                argument_all(operands, site, sections, name.from),
-            ),
-            Meaning::Required(required) => required_call(operands, site, *required, name),
+            } => {
+                let ty = result_type(outcome, name.from);
+                let arguments = argument_all(operands, site, changes, sections, name.from);
+                let (ty, arguments) = paired(ty, arguments)?;
+                Ok(formal_call(up, *entry, line, ty, arguments))
+            }
+            Meaning::Required(required) => required_call(operands, site, changes, *required, name),
             Meaning::Constant { .. }
             | Meaning::Text(_)
             | Meaning::Type(_)
             | Meaning::Variable { .. }
             | Meaning::Parameter { .. }
             | Meaning::File(_)
-            | Meaning::LeftOut => Err(misplaced(meaning, name.from)),
+            | Meaning::LeftOut => Err(broken(misplacement(&found), name.from)),
         },
     }
 }
 
 /// The value of a required function (6.6.6).
 #[cycle(expression)]
-#[tactic(auto, unfolding(crate::specs::Calls::required_call))]
+#[tactic(auto, unfolding(crate::specs::Calls::required_call, crate::specs::Calls::function_call))]
 fn required_call(
     operands: &[Syntax],
     site: Site<'_>,
+    changes: &mut Vec<Change>,
     required: Required,
     name: Span,
 ) -> Result<TypedValue, Fault>
-    ensures ok { IfOk result (λ v. required_call (context_at site.entry) (regions_at site.entry) required (line_in (context_at site.entry).text name.from) (map (operand (context_at site.entry) (regions_at site.entry)) operands.now) ≡ Some (value_of v)) }
-    ensures err { IfErr result (λ fault. IsFault fault → required_call (context_at site.entry) (regions_at site.entry) required (line_in (context_at site.entry).text name.from) (map (operand (context_at site.entry) (regions_at site.entry)) operands.now) ≡ None) }
+    ensures { Answers result (λ v. (value_of v, changes.new.items)) (required_call (context_at site.entry) (regions_at site.entry) name.from required (map (operand (context_at site.entry) (regions_at site.entry)) operands.now) changes.old.items) }
 {
+    let at = name.from;
+    if is_procedure(required) {
+        return Err(broken(Rule::WrongKind, at));
+    }
     match operands {
-        [] => look_at_input(site, required, name),
+        [] => look_at_input(site, required, at),
         [only] => {
-            let at = Operands {
-                first: name.from,
-                second: only.first_token(),
-            };
-            let line = site.reading.line(name.from);
+            let line = site.reading.line(at);
+            let first = only.first_token();
             if is_the_input(site, only)? {
-                return look(required, line, refused(required, Rule::NotInProfile, at));
+                return look_at_name(required, line, first);
             }
-            let operand = expr_value(only, site)?;
-            required_value(site.alloc, required, line, operand, at)
+            let operand = expr_value(only, site, changes)?;
+            required_value(site.alloc, required, line, operand, first)
         }
-        [_, _, ..] => {
-            let at = Operands {
-                first: name.from,
-                second: name.from,
-            };
-            Err(refused(required, Rule::NotCongruous, at))
-        }
+        [_, _, ..] => Err(broken(Rule::NotCongruous, at)),
     }
 }
 
@@ -750,50 +786,65 @@ fn required_call(
 pub(crate) fn argument_all(
     operands: &[Syntax],
     site: Site<'_>,
+    changes: &mut Vec<Change>,
     sections: &[Section],
     at: u32,
 ) -> Result<Vec<Argument>, Fault>
-    ensures ok { IfOk result (λ list. traverse_both (λ s x. actual (context_at site.entry) (regions_at site.entry) s (operand (context_at site.entry) (regions_at site.entry) x)) (parameters (sections_of sections.now)) operands.now ≡ Some (map argument_of list.items)) }
-    ensures err { IfErr result (λ fault. IsFault fault → traverse_both (λ s x. actual (context_at site.entry) (regions_at site.entry) s (operand (context_at site.entry) (regions_at site.entry) x)) (parameters (sections_of sections.now)) operands.now ≡ None) }
+    ensures { Answers result (λ list. (map argument_of list.items, changes.new.items)) (actuals (context_at site.entry) (regions_at site.entry) at (sections_of sections.now) (map (operand (context_at site.entry) (regions_at site.entry)) operands.now) changes.old.items) }
 {
     let formals = parameters(site.alloc, sections)?;
     if formals.len() != operands.len() {
-        return Err(Fault::Broken {
-            rule: Rule::NotCongruous,
-            at,
-        });
+        return Err(broken(Rule::NotCongruous, at));
     }
     let mut list = Vec::new(site.alloc);
     for i in 0..operands.len() {
-        push_answer(&mut list, argument(&operands[i], site, formals[i]))?;
+        push_answer(&mut list, argument(&operands[i], site, changes, formals[i]))?;
     }
     Ok(list)
 }
 
+/// A variable that begins at `at` as a variable parameter, for a formal one of type `ty`: it is changed there.
+fn passed(
+    site: Site<'_>,
+    changes: &mut Vec<Change>,
+    ty: &Ty,
+    variable: TypedPlace,
+    at: u32,
+) -> Result<Argument, Fault>
+    ensures { Answers result (λ a. (argument_of a, changes.new.items)) (passed_variable (context_at site.entry) (regions_at site.entry) at (type_of ty.now) (variable_of variable) changes.old.items) }
+{
+    changed(site, changes, &variable.place, at)?;
+    by_variable(ty, variable, at)
+}
+
 /// The actual parameter for a formal one (6.6.3).
 #[cycle(expression)]
-pub fn argument(x: &Syntax, site: Site<'_>, section: &Section) -> Result<Argument, Fault>
-    ensures ok { IfOk result (λ a. actual (context_at site.entry) (regions_at site.entry) (section_of section.now) (operand (context_at site.entry) (regions_at site.entry) x.now) ≡ Some (argument_of a)) }
-    ensures err { IfErr result (λ fault. IsFault fault → actual (context_at site.entry) (regions_at site.entry) (section_of section.now) (operand (context_at site.entry) (regions_at site.entry) x.now) ≡ None) }
+pub fn argument(
+    x: &Syntax,
+    site: Site<'_>,
+    changes: &mut Vec<Change>,
+    section: &Section,
+) -> Result<Argument, Fault>
+    ensures { Answers result (λ a. (argument_of a, changes.new.items)) (actual (context_at site.entry) (regions_at site.entry) (section_of section.now) (operand (context_at site.entry) (regions_at site.entry) x.now) changes.old.items) }
 {
     let at = x.first_token();
     match section {
         Section::Value { ty, .. } => {
-            let value = expr_value(x, site)?;
+            let value = expr_value(x, site, changes)?;
             by_value(ty, value, site.reading.line(at), at)
         }
         Section::Variable { ty, .. } => {
-            let variable = referent(x, site)?;
-            by_variable(ty, variable, at)
+            let variable = referent(x, site, changes)?;
+            passed(site, changes, ty, variable, at)
         }
         Section::Routine {
             sections,
             result: outcome,
         } => match name_alone(x) {
-            None => Err(wrong_kind(at)),
+            None => Err(broken(Rule::WrongKind, at)),
             Some(name) => {
                 let found = site.denoted(name)?;
-                by_routine(sections, outcome, found, at)
+                by_routine(sections, outcome, found, name.from)
             }
         },
     }
@@ -801,19 +852,18 @@ pub fn argument(x: &Syntax, site: Site<'_>, section: &Section) -> Result<Argumen
 
 /// An expression that is a variable alone.
 #[cycle(expression)]
-pub fn referent(x: &Syntax, site: Site<'_>) -> Result<TypedPlace, Fault>
-    ensures ok { IfOk result (λ v. (operand (context_at site.entry) (regions_at site.entry) x.now).variable ≡ Some (variable_of v)) }
-    ensures err { IfErr result (λ fault. IsFault fault → (operand (context_at site.entry) (regions_at site.entry) x.now).variable ≡ None) }
+pub fn referent(x: &Syntax, site: Site<'_>, changes: &mut Vec<Change>) -> Result<TypedPlace, Fault>
+    ensures { Answers result (λ v. (variable_of v, changes.new.items)) ((operand (context_at site.entry) (regions_at site.entry) x.now).variable changes.old.items) }
 {
     match x {
-        Syntax::Compare(..) => Err(wrong_kind(x.first_token())),
+        Syntax::Compare(..) => Err(broken(Rule::WrongKind, x.first_token())),
         Syntax::Simple(simple) => match &simple.sign {
-            Some(_) => Err(wrong_kind(x.first_token())),
+            Some(_) => Err(broken(Rule::WrongKind, x.first_token())),
             None => {
                 if simple.more.is_empty() {
-                    term_referent(&simple.first, site)
+                    term_referent(&simple.first, site, changes)
                 } else {
-                    Err(wrong_kind(x.first_token()))
+                    Err(broken(Rule::WrongKind, x.first_token()))
                 }
             }
         },
@@ -823,21 +873,20 @@ pub fn referent(x: &Syntax, site: Site<'_>) -> Result<TypedPlace, Fault>
 /// A term that is a variable alone.
 #[cycle(expression)]
 #[tactic(auto, using(crate::proofs::Judgement::term_variable, crate::proofs::Equations::factor_call, crate::proofs::Equations::factor_number, crate::proofs::Equations::factor_text, crate::proofs::Equations::factor_nil, crate::proofs::Equations::factor_set, crate::proofs::Equations::factor_group, crate::proofs::Equations::factor_not))]
-fn term_referent(x: &Term, site: Site<'_>) -> Result<TypedPlace, Fault>
-    ensures ok { IfOk result (λ v. (term_operand (context_at site.entry) (regions_at site.entry) x.now).variable ≡ Some (variable_of v)) }
-    ensures err { IfErr result (λ fault. IsFault fault → (term_operand (context_at site.entry) (regions_at site.entry) x.now).variable ≡ None) }
+fn term_referent(x: &Term, site: Site<'_>, changes: &mut Vec<Change>) -> Result<TypedPlace, Fault>
+    ensures { Answers result (λ v. (variable_of v, changes.new.items)) ((term_operand (context_at site.entry) (regions_at site.entry) x.now).variable changes.old.items) }
 {
     if !x.more.is_empty() {
-        return Err(wrong_kind(x.first_token()));
+        return Err(broken(Rule::WrongKind, x.first_token()));
     }
     match &x.first {
-        Factor::Variable(variable) => variable_place(variable, site),
+        Factor::Variable(variable) => variable_place(variable, site, changes),
         Factor::Call(..)
         | Factor::Number(_)
         | Factor::Text(_)
         | Factor::Nil(_)
         | Factor::Set(..)
         | Factor::Group(..)
-        | Factor::Not(..) => Err(wrong_kind(x.first_token())),
+        | Factor::Not(..) => Err(broken(Rule::WrongKind, x.first_token())),
     }
 }

@@ -1,13 +1,13 @@
 //! Constants as operands, and the required functions (ISO 7185, 6.6.6).
 
-ghost use Rattle.std.specs.Prelude.{◌≡◌, ◌&&◌, not, IfOk, IfErr, Some, None};
+ghost use Rattle.std.specs.Prelude.{◌≡◌, ◌&&◌, not, IfOk, option_map};
 ghost use Rattle.ps_tree.specs.Types.{is_same_host};
 ghost use Rattle.ps_tree.specs.View.{expr_of};
 ghost use Rattle.ps_tree.specs.declared.types.Host.TheVariants.{Integer};
-ghost use Rattle.ps_check_names.specs.Refusal.{IsFault, IsToldAt};
+ghost use Rattle.ps_check_judgement.specs.Judged.{Answers};
 ghost use Rattle.ps_check_names.specs.Views.{point_of};
 ghost use Rattle.ps_check_expressions.specs.Values.{ordinal_of};
-ghost use Rattle.ps_check_expressions.specs.Calls.{needs_integer, function_of, required_value, look, is_input};
+ghost use Rattle.ps_check_expressions.specs.Calls.{needs_integer, function_of, is_procedure, required_value, look, is_input};
 ghost use Rattle.ps_check_expressions.specs.Expressions.{constant_value};
 ghost use Rattle.ps_check_expressions.specs.View.{context_at, value_of};
 ghost use Rattle.ps_scan.specs.Values.{characters};
@@ -15,13 +15,12 @@ ghost use Rattle.ps_check_names.specs.Spelling.{bytes_at};
 ghost use Rattle.ps_check_names.specs.Constants.{text_constant};
 ghost use Rattle.ps_check_names.specs.Views.{constant_of};
 
-use crate::operators::{Operands, wrong_type};
-use crate::place::wrong_kind;
+use crate::operators::wrong_type;
 use crate::site::Site;
 use crate::value::{TypedValue, host_type};
+use ps_check_judgement::refusal::Fault;
 use ps_check_names::constants::{BOOLEAN, CHAR, ConstantValue, INTEGER, text_constant};
 use ps_check_names::meaning::{File, Meaning, Required};
-use ps_check_names::refusal::{Fault, Rule};
 use ps_check_names::scope::Found;
 use ps_scan::string_value;
 use ps_text::Span;
@@ -41,8 +40,7 @@ pub(crate) fn text_at(site: Site<'_>, at: Span) -> Result<ConstantValue, AllocEr
 /// The value of a constant, whose first token is at `at`.
 #[tactic(auto, unfolding(crate::specs::Expressions::constant_value, ps_check_names::specs::Views::constant_of, crate::specs::View::value_of, ps_tree::specs::View::type_of, ps_tree::specs::View::expr_of, ps_tree::specs::View::structure_of))]
 pub(crate) fn of_constant(constant: ConstantValue, at: u32) -> Result<TypedValue, Fault>
-    ensures ok { IfOk result (λ v. constant_value (constant_of constant) ≡ Some (value_of v)) }
-    ensures err { IfErr result (λ fault. IsFault fault → constant_value (constant_of constant) ≡ None) }
+    ensures { Answers result (λ v. value_of v) (constant_value at (constant_of constant)) }
 {
     match constant {
         ConstantValue::Ordinal(ordinal, value) => Ok(TypedValue::Simple(
@@ -63,20 +61,9 @@ pub(crate) fn of_constant(constant: ConstantValue, at: u32) -> Result<TypedValue
 }
 
 /// An expression of an ordinal type, which begins at `at`.
-pub fn ordinal_of(value: TypedValue, at: u32) -> Result<(Expr, Ordinal), Fault>
-    ensures ok { IfOk result (λ v. ordinal_of (value_of value) ≡ Some (expr_of v.0, v.1)) }
-    ensures err { IfErr result (λ fault. IsFault fault → ordinal_of (value_of value) ≡ None) }
-    ensures told { IfErr result (IsToldAt at) }
-{
-    ordinal_or(value, wrong_type(at))
-}
-
-/// An expression of an ordinal type, or else what is wrong.
 #[tactic(auto, unfolding(crate::specs::Values::ordinal_of, crate::specs::View::value_of, ps_tree::specs::View::type_of))]
-fn ordinal_or(value: TypedValue, wrong: Fault) -> Result<(Expr, Ordinal), Fault>
-    ensures ok { IfOk result (λ v. ordinal_of (value_of value) ≡ Some (expr_of v.0, v.1)) }
-    ensures err { IfErr result (λ fault. IsFault fault → ordinal_of (value_of value) ≡ None) }
-    ensures told { IfErr result (λ fault. fault ≡ wrong) }
+pub fn ordinal_of(value: TypedValue, at: u32) -> Result<(Expr, Ordinal), Fault>
+    ensures { Answers result (λ v. (expr_of v.0, v.1)) (ordinal_of at (value_of value)) }
 {
     match value {
         TypedValue::Simple(value, ty) => match &ty {
@@ -89,18 +76,20 @@ fn ordinal_or(value: TypedValue, wrong: Fault) -> Result<(Expr, Ordinal), Fault>
             | Ty::Array { .. }
             | Ty::Record { .. } => {
                 drop(value);
-                Err(wrong)
+                Err(wrong_type(at))
             }
         },
         other @ (TypedValue::Set(..) | TypedValue::Structure(..)) => {
             drop(other);
-            Err(wrong)
+            Err(wrong_type(at))
         }
     }
 }
 
 /// Whether a required routine is a procedure (6.6.5).
-fn is_procedure(required: Required) -> bool {
+pub(crate) fn is_procedure(required: Required) -> bool
+    ensures { result ≡ is_procedure required }
+{
     match required {
         Required::Read
         | Required::Readln
@@ -119,39 +108,6 @@ fn is_procedure(required: Required) -> bool {
         | Required::Eof
         | Required::Eoln => false,
     }
-}
-
-/// Why a required routine, whose name is at `at.first`, is no function of what begins at `at.second`: a procedure is of
-/// another kind, and else that breaks the rule.
-pub(crate) fn refused(required: Required, rule: Rule, at: Operands) -> Fault
-    ensures { IsFault result }
-{
-    if is_procedure(required) {
-        wrong_kind(at.first)
-    } else {
-        Fault::Broken {
-            rule,
-            at: at.second,
-        }
-    }
-}
-
-/// Why a required routine may not stand alone; its name is at `at`. Only eof and eoln may, where there is an input.
-pub(crate) fn refused_alone(required: Required, at: u32) -> Fault
-    ensures { IsFault result }
-{
-    let rule = match required {
-        Required::Eof | Required::Eoln => Rule::NoInputOutput,
-        _ => Rule::NotCongruous,
-    };
-    refused(
-        required,
-        rule,
-        Operands {
-            first: at,
-            second: at,
-        },
-    )
 }
 
 /// Whether a required function needs an integer, and the host type of its operand is another.
@@ -210,26 +166,24 @@ pub(crate) fn function_of(
     }
 }
 
-/// The value of a required function, whose name is at `at.first`, of one operand, which begins at `at.second`.
+/// The value of a required function of one operand, which begins at `at`.
 #[tactic(auto, unfolding(crate::specs::Calls::required_value, crate::specs::View::value_of, ps_tree::specs::View::type_of, ps_tree::specs::View::expr_of))]
 pub(crate) fn required_value(
     alloc: Global,
     required: Required,
     line: Line,
     operand: TypedValue,
-    at: Operands,
+    at: u32,
 ) -> Result<TypedValue, Fault>
-    ensures ok { IfOk result (λ v. required_value required line.number (value_of operand) ≡ Some (value_of v)) }
-    ensures err { IfErr result (λ fault. IsFault fault → required_value required line.number (value_of operand) ≡ None) }
+    ensures { Answers result (λ v. value_of v) (required_value at required line.number (value_of operand)) }
 {
-    let wrong = refused(required, Rule::WrongType, at);
-    let (operand, ordinal) = ordinal_or(operand, wrong)?;
+    let (operand, ordinal) = ordinal_of(operand, at)?;
     let operand = Box::new(alloc, operand)?;
     let Some((function, ty)) = function_of(required, ordinal) else {
-        return Err(wrong);
+        return Err(wrong_type(at));
     };
     if lacks_integer(required, ordinal.host) {
-        return Err(wrong);
+        return Err(wrong_type(at));
     }
     let value = Expr::Apply {
         function,
@@ -239,11 +193,10 @@ pub(crate) fn required_value(
     Ok(TypedValue::Simple(value, Ty::Simple(ty)))
 }
 
-/// What eof or eoln tells of the input. `wrong` is why another required routine tells nothing.
+/// What eof or eoln tells of the input; another routine tells nothing.
 #[tactic(auto, unfolding(crate::specs::Calls::look, crate::specs::View::value_of, ps_tree::specs::View::type_of, ps_tree::specs::View::expr_of))]
-pub(crate) fn look(required: Required, line: Line, wrong: Fault) -> Result<TypedValue, Fault>
-    ensures ok { IfOk result (λ v. look required line.number ≡ Some (value_of v)) }
-    ensures err { IfErr result (λ fault. IsFault fault → look required line.number ≡ None) }
+pub(crate) fn look(required: Required, line: Line) -> Option<TypedValue>
+    ensures { option_map value_of result ≡ look required line.number }
 {
     let value = match required {
         Required::Eof => Expr::Eof,
@@ -261,9 +214,9 @@ pub(crate) fn look(required: Required, line: Line, wrong: Fault) -> Result<Typed
         | Required::Writeln
         | Required::New
         | Required::Pack
-        | Required::Unpack => return Err(wrong),
+        | Required::Unpack => return None,
     };
-    Ok(TypedValue::Simple(value, Ty::Simple(BOOLEAN)))
+    Some(TypedValue::Simple(value, Ty::Simple(BOOLEAN)))
 }
 
 /// The name of the input.

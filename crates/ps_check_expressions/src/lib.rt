@@ -1,8 +1,10 @@
 //! Code: checks variables, expressions and actual parameters, and gives their types (ISO 7185, 6.5 to 6.7).
 #![tactic(auto)]
 
+pub mod changed;
 pub mod expression;
 pub mod function;
+pub mod inner;
 pub mod operators;
 pub mod parameter;
 pub mod place;

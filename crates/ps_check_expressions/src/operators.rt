@@ -1,21 +1,20 @@
 //! The operators (ISO 7185, 6.7.2).
 
-ghost use Rattle.std.specs.Prelude.{◌≡◌, false, if◌then◌else◌, IfOk, IfErr, Some, None};
+ghost use Rattle.std.specs.Prelude.{◌≡◌, if◌then◌else◌, IfOk};
 ghost use Rattle.ps_tree.specs.View.{type_of, expr_of, set_of, structure_of};
 ghost use Rattle.ps_tree.specs.Types.{are_same, is_compatible, string_length, OrdinalType};
 ghost use Rattle.ps_tree.specs.Chains.{combined};
-ghost use Rattle.ps_check_names.specs.Option.{provided};
-ghost use Rattle.ps_check_names.specs.Refusal.{IsFault};
-ghost use Rattle.ps_check_names.specs.declared.refusal.Fault.TheVariants.{Broken};
-ghost use Rattle.ps_check_names.specs.declared.refusal.Rule.TheVariants.{WrongType};
-ghost use Rattle.ps_check_expressions.specs.Values.{SimpleValue, SetValue, StructureValue, set_type_of_both};
-ghost use Rattle.ps_check_expressions.specs.Operators.{operand_of, number, with_sign, negated, arithmetic, arithmetic_or_set, logic, added, multiplied, ordered, of_pointers, of_sets, simple_comparison, may_be_member, is_in, compared, truth};
+ghost use Rattle.ps_check_judgement.specs.Judged.{Answers, provided};
+ghost use Rattle.ps_check_judgement.specs.declared.refusal.Fault.TheVariants.{Broken};
+ghost use Rattle.ps_check_judgement.specs.declared.refusal.Rule.TheVariants.{WrongType};
+ghost use Rattle.ps_check_expressions.specs.Values.{SimpleValue, SetValue, StructureValue, set_type_of_both, type_of_value};
+ghost use Rattle.ps_check_expressions.specs.Operators.{operand_of, number, with_sign, negated, arithmetic, arithmetic_or_set, logic, added, multiplied, ordered, of_pointers, of_sets, simple_comparison, may_be_first, may_be_member, is_in, compared, truth};
 ghost use Rattle.ps_check_expressions.specs.View.{value_of};
 
 use crate::value::{TypedValue, has_host, set_type_of_both};
-use ps_check_names::answer::{boxed_answer, paired};
+use ps_check_judgement::answer::{boxed_answer, broken, paired};
+use ps_check_judgement::refusal::{Fault, Rule};
 use ps_check_names::constants::{BOOLEAN, INTEGER};
-use ps_check_names::refusal::{Fault, Rule};
 use ps_syntax::{Adding, Multiplying, Relation, Sign};
 use ps_tree::line::Line;
 use ps_tree::tree::{
@@ -34,27 +33,20 @@ pub struct Operands {
 
 /// An operand of a wrong type, whose first token is at `at`.
 pub fn wrong_type(at: u32) -> Fault
-    ensures fault { IsFault result }
-    ensures told { result ≡ Broken WrongType at }
+    ensures { result ≡ Broken WrongType at }
 {
-    Fault::Broken {
-        rule: Rule::WrongType,
-        at,
-    }
+    broken(Rule::WrongType, at)
 }
 
-impl Operands {
-    /// The first operand can't be right by itself, or else the two don't go together.
-    fn wrong(self, is_first_right: bool) -> Fault
-        ensures fault { IsFault result }
-        ensures told { result ≡ Broken WrongType (if is_first_right then self.second else self.first) }
-    {
-        wrong_type(if is_first_right {
-            self.second
-        } else {
-            self.first
-        })
-    }
+/// Operands that don't go together: the second is told, unless the first, of this type, can't stand there by itself.
+fn unlike(relation: Relation, first: &Ty, at: Operands) -> Fault
+    ensures { result ≡ Broken WrongType (if may_be_first relation (type_of first.now) then at.second else at.first) }
+{
+    wrong_type(if may_be_first(relation, first) {
+        at.second
+    } else {
+        at.first
+    })
 }
 
 /// Two parts of the tree, on the heap.
@@ -72,8 +64,7 @@ fn boxed_pair<A: Drop, B: Drop>(
 /// An operand that must be of the host type or of a subrange of it; `at` is where it begins.
 #[tactic(auto, unfolding(crate::specs::Operators::operand_of, crate::specs::View::value_of))]
 fn operand_of(host: Host, operand: TypedValue, at: u32) -> Result<Expr, Fault>
-    ensures ok { IfOk result (λ e. operand_of host (value_of operand) ≡ Some (expr_of e)) }
-    ensures err { IfErr result (λ fault. IsFault fault → operand_of host (value_of operand) ≡ None) }
+    ensures { Answers result (λ e. expr_of e) (operand_of host at (value_of operand)) }
 {
     match operand {
         TypedValue::Simple(value, ty) => {
@@ -114,8 +105,7 @@ pub(crate) fn with_sign(
     operand: TypedValue,
     at: u32,
 ) -> Result<TypedValue, Fault>
-    ensures ok { IfOk result (λ v. with_sign sign line.number (value_of operand) ≡ Some (value_of v)) }
-    ensures err { IfErr result (λ fault. IsFault fault → with_sign sign line.number (value_of operand) ≡ None) }
+    ensures { Answers result (λ v. value_of v) (with_sign at sign line.number (value_of operand)) }
 {
     let operand = boxed_answer(alloc, operand_of(Host::Integer, operand, at))?;
     Ok(number(match sign {
@@ -127,14 +117,14 @@ pub(crate) fn with_sign(
 /// `not` before an operand, which begins at `at`.
 #[tactic(auto, unfolding(crate::specs::Operators::negated, ps_tree::specs::View::expr_of))]
 pub(crate) fn negated(alloc: Global, operand: TypedValue, at: u32) -> Result<TypedValue, Fault>
-    ensures ok { IfOk result (λ v. negated (value_of operand) ≡ Some (value_of v)) }
-    ensures err { IfErr result (λ fault. IsFault fault → negated (value_of operand) ≡ None) }
+    ensures { Answers result (λ v. value_of v) (negated at (value_of operand)) }
 {
     let operand = boxed_answer(alloc, operand_of(Host::Boolean, operand, at))?;
     Ok(truth(Expr::Not(operand)))
 }
 
 /// An operator on two integers.
+#[tactic(auto, unfolding(crate::specs::Operators::arithmetic))]
 fn arithmetic(
     alloc: Global,
     operator: ArithmeticOperator,
@@ -143,8 +133,7 @@ fn arithmetic(
     right: TypedValue,
     at: Operands,
 ) -> Result<TypedValue, Fault>
-    ensures ok { IfOk result (λ v. arithmetic operator line.number (value_of left) (value_of right) ≡ Some (value_of v)) }
-    ensures err { IfErr result (λ fault. IsFault fault → arithmetic operator line.number (value_of left) (value_of right) ≡ None) }
+    ensures { Answers result (λ v. value_of v) (arithmetic at operator line.number (value_of left) (value_of right)) }
 {
     let left = operand_of(Host::Integer, left, at.first);
     let right = operand_of(Host::Integer, right, at.second);
@@ -161,12 +150,11 @@ fn set_operation(
     right: (SetExpr, Ty),
     at: Operands,
 ) -> Result<TypedValue, Fault>
-    ensures ok { IfOk result (λ v. provided (is_compatible (type_of left.1) (type_of right.1)) (SetValue (combined operator (set_of left.0) (set_of right.0)) (set_type_of_both (type_of left.1) (type_of right.1))) ≡ Some (value_of v)) }
-    ensures err { IfErr result (λ fault. IsFault fault → is_compatible (type_of left.1) (type_of right.1) ≡ false) }
+    ensures { Answers result (λ v. value_of v) (provided (is_compatible (type_of left.1) (type_of right.1)) WrongType at.second (SetValue (combined operator (set_of left.0) (set_of right.0)) (set_type_of_both (type_of left.1) (type_of right.1)))) }
 {
     if !compatible(&left.1, &right.1) {
         drop((left, right));
-        return Err(at.wrong(true));
+        return Err(wrong_type(at.second));
     }
     let ty = set_type_of_both(&left.1, &right.1);
     let value = left.0.combined(alloc, operator, right.0)?;
@@ -183,8 +171,7 @@ fn arithmetic_or_set(
     right: TypedValue,
     at: Operands,
 ) -> Result<TypedValue, Fault>
-    ensures ok { IfOk result (λ v. arithmetic_or_set operators.0 operators.1 line.number (value_of left) (value_of right) ≡ Some (value_of v)) }
-    ensures err { IfErr result (λ fault. IsFault fault → arithmetic_or_set operators.0 operators.1 line.number (value_of left) (value_of right) ≡ None) }
+    ensures { Answers result (λ v. value_of v) (arithmetic_or_set at operators.0 operators.1 line.number (value_of left) (value_of right)) }
 {
     match (left, right) {
         (TypedValue::Set(a, s), TypedValue::Set(b, t)) => {
@@ -195,13 +182,14 @@ fn arithmetic_or_set(
             right @ (TypedValue::Simple(..) | TypedValue::Structure(..)),
         ) => {
             drop((left, right));
-            Err(at.wrong(true))
+            Err(wrong_type(at.second))
         }
         (left, right) => arithmetic(alloc, operators.0, line, left, right, at),
     }
 }
 
 /// An operator on two Boolean operands.
+#[tactic(auto, unfolding(crate::specs::Operators::logic))]
 fn logic(
     alloc: Global,
     operator: BooleanOperator,
@@ -209,8 +197,7 @@ fn logic(
     right: TypedValue,
     at: Operands,
 ) -> Result<TypedValue, Fault>
-    ensures ok { IfOk result (λ v. logic operator (value_of left) (value_of right) ≡ Some (value_of v)) }
-    ensures err { IfErr result (λ fault. IsFault fault → logic operator (value_of left) (value_of right) ≡ None) }
+    ensures { Answers result (λ v. value_of v) (logic at operator (value_of left) (value_of right)) }
 {
     let left = operand_of(Host::Boolean, left, at.first);
     let right = operand_of(Host::Boolean, right, at.second);
@@ -219,6 +206,7 @@ fn logic(
 }
 
 /// An adding operator.
+#[tactic(auto, unfolding(crate::specs::Operators::added))]
 pub(crate) fn added(
     alloc: Global,
     operator: Adding,
@@ -227,8 +215,7 @@ pub(crate) fn added(
     right: TypedValue,
     at: Operands,
 ) -> Result<TypedValue, Fault>
-    ensures ok { IfOk result (λ v. added operator line.number (value_of left) (value_of right) ≡ Some (value_of v)) }
-    ensures err { IfErr result (λ fault. IsFault fault → added operator line.number (value_of left) (value_of right) ≡ None) }
+    ensures { Answers result (λ v. value_of v) (added at operator line.number (value_of left) (value_of right)) }
 {
     match operator {
         Adding::Plus => {
@@ -244,6 +231,7 @@ pub(crate) fn added(
 }
 
 /// A multiplying operator.
+#[tactic(auto, unfolding(crate::specs::Operators::multiplied))]
 pub(crate) fn multiplied(
     alloc: Global,
     operator: Multiplying,
@@ -252,8 +240,7 @@ pub(crate) fn multiplied(
     right: TypedValue,
     at: Operands,
 ) -> Result<TypedValue, Fault>
-    ensures ok { IfOk result (λ v. multiplied operator line.number (value_of left) (value_of right) ≡ Some (value_of v)) }
-    ensures err { IfErr result (λ fault. IsFault fault → multiplied operator line.number (value_of left) (value_of right) ≡ None) }
+    ensures { Answers result (λ v. value_of v) (multiplied at operator line.number (value_of left) (value_of right)) }
 {
     match operator {
         Multiplying::Times => {
@@ -310,7 +297,10 @@ fn of_sets(relation: Relation) -> Option<SetRelation>
 }
 
 /// Whether a value of the type may by itself be the first operand of the relation.
-fn may_be_first(relation: Relation, ty: &Ty) -> bool {
+#[tactic(auto, unfolding(crate::specs::Operators::may_be_first, ps_tree::specs::View::type_of))]
+fn may_be_first(relation: Relation, ty: &Ty) -> bool
+    ensures { result ≡ may_be_first relation (type_of ty.now) }
+{
     match ty {
         Ty::Simple(_) => true,
         Ty::Pointer { .. } | Ty::Nil => of_pointers(relation).is_some(),
@@ -330,17 +320,16 @@ fn simple_comparison(
     right: (Expr, &Ty),
     at: Operands,
 ) -> Result<TypedValue, Fault>
-    ensures ok { IfOk result (λ v. compared relation (SimpleValue (expr_of left.entry.0) (type_of left.entry.1.now)) (SimpleValue (expr_of right.entry.0) (type_of right.entry.1.now)) ≡ Some (value_of v)) }
-    ensures err { IfErr result (λ fault. IsFault fault → compared relation (SimpleValue (expr_of left.entry.0) (type_of left.entry.1.now)) (SimpleValue (expr_of right.entry.0) (type_of right.entry.1.now)) ≡ None) }
+    ensures { Answers result (λ v. value_of v) (compared at relation (SimpleValue (expr_of left.entry.0) (type_of left.entry.1.now)) (SimpleValue (expr_of right.entry.0) (type_of right.entry.1.now))) }
 {
     let ((left, s), (right, t)) = (left, right);
     let (left, right) = boxed_pair(alloc, left, right)?;
     if !compatible(s, t) {
-        return Err(at.wrong(may_be_first(relation, s)));
+        return Err(unlike(relation, s, at));
     }
     match s {
         Ty::Simple(_) => match ordered(relation) {
-            None => Err(at.wrong(true)),
+            None => Err(wrong_type(at.second)),
             Some(relation) => Ok(truth(Expr::Compare {
                 relation,
                 left,
@@ -354,7 +343,7 @@ fn simple_comparison(
         | Ty::Text { .. }
         | Ty::Array { .. }
         | Ty::Record { .. } => match of_pointers(relation) {
-            None => Err(at.wrong(false)),
+            None => Err(wrong_type(at.first)),
             Some(relation) => Ok(truth(Expr::ComparePointers {
                 relation,
                 left,
@@ -405,8 +394,7 @@ fn set_comparison(
     right: (SetExpr, &Ty),
     at: Operands,
 ) -> Result<TypedValue, Fault>
-    ensures ok { IfOk result (λ v. compared relation (SetValue (set_of left.entry.0) (type_of left.entry.1.now)) (SetValue (set_of right.entry.0) (type_of right.entry.1.now)) ≡ Some (value_of v)) }
-    ensures err { IfErr result (λ fault. IsFault fault → compared relation (SetValue (set_of left.entry.0) (type_of left.entry.1.now)) (SetValue (set_of right.entry.0) (type_of right.entry.1.now)) ≡ None) }
+    ensures { Answers result (λ v. value_of v) (compared at relation (SetValue (set_of left.entry.0) (type_of left.entry.1.now)) (SetValue (set_of right.entry.0) (type_of right.entry.1.now))) }
 {
     let ((left, s), (right, t)) = (left, right);
     let (left, right) = boxed_pair(alloc, left, right)?;
@@ -416,7 +404,7 @@ fn set_comparison(
             left,
             right,
         })),
-        _ => Err(at.wrong(may_be_first(relation, s))),
+        _ => Err(unlike(relation, s, at)),
     }
 }
 
@@ -429,8 +417,7 @@ fn string_comparison(
     right: (Structure, &Ty),
     at: Operands,
 ) -> Result<TypedValue, Fault>
-    ensures ok { IfOk result (λ v. compared relation (StructureValue (structure_of left.entry.0) (type_of left.entry.1.now)) (StructureValue (structure_of right.entry.0) (type_of right.entry.1.now)) ≡ Some (value_of v)) }
-    ensures err { IfErr result (λ fault. IsFault fault → compared relation (StructureValue (structure_of left.entry.0) (type_of left.entry.1.now)) (StructureValue (structure_of right.entry.0) (type_of right.entry.1.now)) ≡ None) }
+    ensures { Answers result (λ v. value_of v) (compared at relation (StructureValue (structure_of left.entry.0) (type_of left.entry.1.now)) (StructureValue (structure_of right.entry.0) (type_of right.entry.1.now))) }
 {
     let ((left, s), (right, t)) = (left, right);
     let (left, right) = boxed_pair(alloc, left, right)?;
@@ -440,7 +427,7 @@ fn string_comparison(
             left,
             right,
         })),
-        _ => Err(at.wrong(may_be_first(relation, s))),
+        _ => Err(unlike(relation, s, at)),
     }
 }
 
@@ -453,8 +440,7 @@ fn membership(
     right: (SetExpr, &Ty),
     at: Operands,
 ) -> Result<TypedValue, Fault>
-    ensures ok { IfOk result (λ v. compared relation (SimpleValue (expr_of left.entry.0) (type_of left.entry.1.now)) (SetValue (set_of right.entry.0) (type_of right.entry.1.now)) ≡ Some (value_of v)) }
-    ensures err { IfErr result (λ fault. IsFault fault → compared relation (SimpleValue (expr_of left.entry.0) (type_of left.entry.1.now)) (SetValue (set_of right.entry.0) (type_of right.entry.1.now)) ≡ None) }
+    ensures { Answers result (λ v. value_of v) (compared at relation (SimpleValue (expr_of left.entry.0) (type_of left.entry.1.now)) (SetValue (set_of right.entry.0) (type_of right.entry.1.now))) }
 {
     let ((left, s), (right, t)) = (left, right);
     let (left, right) = boxed_pair(alloc, left, right)?;
@@ -463,7 +449,7 @@ fn membership(
             if may_be_member(s, t) {
                 Ok(truth(Expr::In { left, right }))
             } else {
-                Err(at.wrong(false))
+                Err(wrong_type(at.first))
             }
         }
         Relation::Equal
@@ -471,15 +457,18 @@ fn membership(
         | Relation::Less
         | Relation::Greater
         | Relation::LessEqual
-        | Relation::GreaterEqual => Err(at.wrong(may_be_first(relation, s))),
+        | Relation::GreaterEqual => Err(unlike(relation, s, at)),
     }
 }
 
 /// Why no relation compares two operands, the first of which is `left`.
-fn unlike(relation: Relation, left: &TypedValue, at: Operands) -> Fault {
+#[tactic(auto, unfolding(crate::specs::View::value_of))]
+fn unlike_values(relation: Relation, left: &TypedValue, at: Operands) -> Fault
+    ensures { result ≡ Broken WrongType (if may_be_first relation (type_of_value (value_of left.now)) then at.second else at.first) }
+{
     match left {
         TypedValue::Simple(_, ty) | TypedValue::Set(_, ty) | TypedValue::Structure(_, ty) => {
-            at.wrong(may_be_first(relation, ty))
+            unlike(relation, ty, at)
         }
     }
 }
@@ -493,8 +482,7 @@ pub(crate) fn compared(
     right: TypedValue,
     at: Operands,
 ) -> Result<TypedValue, Fault>
-    ensures ok { IfOk result (λ v. compared relation (value_of left) (value_of right) ≡ Some (value_of v)) }
-    ensures err { IfErr result (λ fault. IsFault fault → compared relation (value_of left) (value_of right) ≡ None) }
+    ensures { Answers result (λ v. value_of v) (compared at relation (value_of left) (value_of right)) }
 {
     match (left, right) {
         (TypedValue::Simple(a, s), TypedValue::Simple(b, t)) => {
@@ -515,7 +503,7 @@ pub(crate) fn compared(
             left @ TypedValue::Structure(..),
             right @ (TypedValue::Simple(..) | TypedValue::Set(..)),
         ) => {
-            let wrong = unlike(relation, &left, at);
+            let wrong = unlike_values(relation, &left, at);
             drop((left, right));
             Err(wrong)
         }

@@ -1,19 +1,20 @@
 //! Formal and actual parameters (ISO 7185, 6.6.3).
 
-ghost use Rattle.std.specs.Prelude.{◌≡◌, ◌&&◌, ◌++◌, [], List, map, option_map, IfOk, IfErr, Some, None};
+ghost use Rattle.std.specs.Prelude.{◌≡◌, ◌&&◌, ◌++◌, [], List, map, option_map, IfOk};
 ghost use Rattle.ps_tree.specs.View.{type_of, set_of, argument_of};
-ghost use Rattle.ps_check_names.specs.Refusal.{IsFault, IsToldAt};
+ghost use Rattle.ps_check_judgement.specs.Judged.{Answers};
 ghost use Rattle.ps_check_names.specs.Regions.{Section as SectionOf};
 ghost use Rattle.ps_check_names.specs.Views.{point_of, section_of, sections_of};
 ghost use Rattle.ps_check_expressions.specs.Values.{SetValue};
-ghost use Rattle.ps_check_expressions.specs.Calls.{are_one_type, congruous, are_alike, times, with_parameters, parameters, by_value, by_variable, by_routine};
+ghost use Rattle.ps_check_expressions.specs.Calls.{are_one_type, congruous, are_alike, times, with_parameters, parameters, by_value, by_variable, unlike_routine, by_routine};
 ghost use Rattle.ps_check_expressions.specs.View.{value_of, variable_of};
 
 use crate::operators::wrong_type;
-use crate::place::{misplaced, wrong_kind};
 use crate::value::{TypedPlace, TypedValue, range_of};
+use ps_check_judgement::answer::broken;
+use ps_check_judgement::refusal::{Fault, Rule};
+use ps_check_names::constants::misplacement;
 use ps_check_names::meaning::{Meaning, Section};
-use ps_check_names::refusal::{Fault, Rule};
 use ps_check_names::scope::Found;
 use ps_tree::line::Line;
 use ps_tree::tree::{Argument, SetExpr};
@@ -74,24 +75,16 @@ fn are_alike(a: &Section, b: &Section) -> bool
     }
 }
 
-/// An actual parameter by value that is a set, or else what is wrong.
+/// An actual parameter by value that is a set, which begins at `at`.
 #[tactic(auto, unfolding(crate::specs::Calls::by_value, ps_tree::specs::View::type_of, ps_tree::specs::View::argument_of))]
-fn set_by_value(
-    ty: &Ty,
-    value: SetExpr,
-    from: Ty,
-    line: Line,
-    wrong: Fault,
-) -> Result<Argument, Fault>
-    ensures ok { IfOk result (λ a. by_value (type_of ty.now) (SetValue (set_of value) (type_of from)) line.number ≡ Some (argument_of a)) }
-    ensures err { IfErr result (λ fault. IsFault fault → by_value (type_of ty.now) (SetValue (set_of value) (type_of from)) line.number ≡ None) }
-    ensures told { IfErr result (λ fault. fault ≡ wrong) }
+fn set_by_value(ty: &Ty, value: SetExpr, from: Ty, line: Line, at: u32) -> Result<Argument, Fault>
+    ensures { Answers result (λ a. argument_of a) (by_value at (type_of ty.now) (SetValue (set_of value) (type_of from)) line.number) }
 {
     match ty {
         Ty::Set { base, .. } => {
             if !assignable(&from, ty) {
                 drop(value);
-                return Err(wrong);
+                return Err(broken(Rule::NotAssignable, at));
             }
             Ok(Argument::Set {
                 value,
@@ -108,7 +101,7 @@ fn set_by_value(
         | Ty::Array { .. }
         | Ty::Record { .. } => {
             drop(value);
-            Err(wrong)
+            Err(broken(Rule::NotAssignable, at))
         }
     }
 }
@@ -116,28 +109,22 @@ fn set_by_value(
 /// An actual parameter by value, for a formal one of type `ty`.
 #[tactic(auto, unfolding(crate::specs::Calls::by_value, crate::specs::View::value_of, ps_tree::specs::View::type_of, ps_tree::specs::View::argument_of))]
 pub fn by_value(ty: &Ty, value: TypedValue, line: Line, at: u32) -> Result<Argument, Fault>
-    ensures ok { IfOk result (λ a. by_value (type_of ty.now) (value_of value) line.number ≡ Some (argument_of a)) }
-    ensures err { IfErr result (λ fault. IsFault fault → by_value (type_of ty.now) (value_of value) line.number ≡ None) }
-    ensures told { IfErr result (IsToldAt at) }
+    ensures { Answers result (λ a. argument_of a) (by_value at (type_of ty.now) (value_of value) line.number) }
 {
-    let wrong = Fault::Broken {
-        rule: Rule::NotAssignable,
-        at,
-    };
     match value {
         TypedValue::Simple(value, from) => {
             if !assignable(&from, ty) {
                 drop(value);
-                return Err(wrong);
+                return Err(broken(Rule::NotAssignable, at));
             }
             let range = range_of(ty);
             Ok(Argument::Value { value, range, line })
         }
-        TypedValue::Set(value, from) => set_by_value(ty, value, from, line, wrong),
+        TypedValue::Set(value, from) => set_by_value(ty, value, from, line, at),
         TypedValue::Structure(value, from) => {
             if !assignable(&from, ty) {
                 drop(value);
-                return Err(wrong);
+                return Err(broken(Rule::NotAssignable, at));
             }
             let ty = ty.copy()?;
             Ok(Argument::Copy { value, ty })
@@ -146,11 +133,9 @@ pub fn by_value(ty: &Ty, value: TypedValue, line: Line, at: u32) -> Result<Argum
 }
 
 /// An actual variable parameter, for a formal one of type `ty`.
-#[tactic(auto, using(ps_tree::proofs::TreeLemmas::argument_of_Variable))]
+#[tactic(auto, using(ps_tree::proofs::TreeLemmas::argument_of_Variable), unfolding(crate::specs::Calls::by_variable))]
 pub fn by_variable(ty: &Ty, variable: TypedPlace, at: u32) -> Result<Argument, Fault>
-    ensures ok { IfOk result (λ a. by_variable (type_of ty.now) (variable_of variable) ≡ Some (argument_of a)) }
-    ensures err { IfErr result (λ fault. IsFault fault → by_variable (type_of ty.now) (variable_of variable) ≡ None) }
-    ensures told { IfErr result (IsToldAt at) }
+    ensures { Answers result (λ a. argument_of a) (by_variable at (type_of ty.now) (variable_of variable)) }
 {
     let TypedPlace {
         place,
@@ -161,10 +146,7 @@ pub fn by_variable(ty: &Ty, variable: TypedPlace, at: u32) -> Result<Argument, F
         return Err(wrong_type(at));
     }
     if in_packed {
-        return Err(Fault::Broken {
-            rule: Rule::PackedVariable,
-            at,
-        });
+        return Err(broken(Rule::PackedVariable, at));
     }
     Ok(Argument::Variable(place))
 }
@@ -181,21 +163,14 @@ fn are_exchangeable(
     congruous(sections, others) && are_one_type(result_type, other)
 }
 
-/// Whether a functional parameter's result and a routine's are there or not both.
-fn are_of_one_kind(a: &Option<Ty>, b: &Option<Ty>) -> bool {
-    a.is_some() == b.is_some()
-}
-
-fn not_congruous(a: &Option<Ty>, b: &Option<Ty>, at: u32) -> Fault
-    ensures fault { IsFault result }
-    ensures told { IsToldAt at result }
+/// The rule that a routine breaks that can't stand for a parameter: a procedure is of another kind than a function.
+fn unlike_routine(a: &Option<Ty>, b: &Option<Ty>) -> Rule
+    ensures { result ≡ unlike_routine (option_map type_of a.now) (option_map type_of b.now) }
 {
-    let rule = if are_of_one_kind(a, b) {
-        Rule::NotCongruous
-    } else {
-        Rule::WrongKind
-    };
-    Fault::Broken { rule, at }
+    match (a, b) {
+        (None, None) | (Some(_), Some(_)) => Rule::NotCongruous,
+        (None, Some(_)) | (Some(_), None) => Rule::WrongKind,
+    }
 }
 
 /// An actual procedural or functional parameter; its name is at `at`.
@@ -206,16 +181,14 @@ pub fn by_routine(
     found: Found<'_>,
     at: u32,
 ) -> Result<Argument, Fault>
-    ensures ok { IfOk result (λ a. by_routine (sections_of sections.now) (option_map type_of result_type.now) (point_of found.entry) ≡ Some (argument_of a)) }
-    ensures err { IfErr result (λ fault. IsFault fault → by_routine (sections_of sections.now) (option_map type_of result_type.now) (point_of found.entry) ≡ None) }
-    ensures told { IfErr result (IsToldAt at) }
+    ensures { Answers result (λ a. argument_of a) (by_routine at (sections_of sections.now) (option_map type_of result_type.now) (point_of found.entry)) }
 {
     match found {
-        Found::Field { .. } => Err(wrong_kind(at)),
+        Found::Field { .. } => Err(broken(misplacement(&found), at)),
         Found::Name { up, meaning } => match meaning {
             Meaning::Routine(heading) => {
                 if !are_exchangeable(sections, result_type, &heading.sections, &heading.result) {
-                    return Err(not_congruous(result_type, &heading.result, at));
+                    return Err(broken(unlike_routine(result_type, &heading.result), at));
                 }
                 Ok(Argument::Routine {
                     routine: heading.number,
@@ -228,7 +201,7 @@ pub fn by_routine(
                 result: other,
             } => {
                 if !are_exchangeable(sections, result_type, others, other) {
-                    return Err(not_congruous(result_type, other, at));
+                    return Err(broken(unlike_routine(result_type, other), at));
                 }
                 Ok(Argument::Formal { up, index: *entry })
             }
@@ -239,7 +212,7 @@ pub fn by_routine(
             | Meaning::Parameter { .. }
             | Meaning::Required(_)
             | Meaning::File(_)
-            | Meaning::LeftOut => Err(misplaced(meaning, at)),
+            | Meaning::LeftOut => Err(broken(misplacement(&found), at)),
         },
     }
 }

@@ -1,63 +1,28 @@
 //! Variables (ISO 7185, 6.5), step by step.
 
-ghost use Rattle.std.specs.Prelude.{◌≡◌, ℕ, false, IfOk, IfErr, Some, None};
+ghost use Rattle.std.specs.Prelude.{◌≡◌, ℕ, false, IfOk, IfErr};
 ghost use Rattle.ps_tree.specs.Tree as Tree;
 ghost use Rattle.ps_tree.specs.View.{type_of, expr_of, place_of, base_of};
-ghost use Rattle.ps_check_names.specs.Refusal.{IsFault, IsToldAt};
-ghost use Rattle.ps_check_names.specs.declared.refusal.Fault.TheVariants.{Broken};
-ghost use Rattle.ps_check_names.specs.declared.refusal.Rule.TheVariants.{WrongKind};
-ghost use Rattle.ps_check_names.specs.Views.{point_of, meaning_of};
+ghost use Rattle.ps_check_judgement.specs.Judged.{Answers};
+ghost use Rattle.ps_check_judgement.specs.declared.refusal.Fault.TheVariants.{OutOfMemory};
+ghost use Rattle.ps_check_names.specs.Views.{point_of};
 ghost use Rattle.ps_tree.specs.Chains.{selected};
 ghost use Rattle.ps_check_expressions.specs.Values.{is_packed};
-ghost use Rattle.ps_check_expressions.specs.Names.{misplacement};
 ghost use Rattle.ps_check_expressions.specs.Places.{variable_at, index_operand, element, component, target};
 ghost use Rattle.ps_check_expressions.specs.View.{context_at, value_of, variable_of};
 
 use crate::operators::{Operands, wrong_type};
 use crate::site::Site;
 use crate::value::{TypedPlace, TypedValue, is_packed};
-use ps_check_names::answer::paired;
+use ps_check_judgement::answer::{broken, paired};
+use ps_check_judgement::refusal::{Fault, Rule};
+use ps_check_names::constants::misplacement;
 use ps_check_names::meaning::Meaning;
-use ps_check_names::refusal::{Fault, Rule};
 use ps_check_names::scope::Found;
 use ps_tree::line::Line;
 use ps_tree::tree::{Expr, Place, PlaceBase, Selector};
 use ps_tree::types::{Ordinal, Ty, compatible};
 use std::alloc::Global;
-
-/// A name that is of another kind than its place needs.
-pub fn wrong_kind(at: u32) -> Fault
-    ensures fault { IsFault result }
-    ensures told { result ≡ Broken WrongKind at }
-{
-    Fault::Broken {
-        rule: Rule::WrongKind,
-        at,
-    }
-}
-
-/// Why a name that has such a meaning, at `at`, is not what its place needs. The profile leaves some out, there or
-/// everywhere: the files stand as first parameters of some required routines alone.
-#[tactic(auto, unfolding(crate::specs::Names::misplacement, ps_check_names::specs::Views::meaning_of))]
-pub(crate) fn misplaced(meaning: &Meaning, at: u32) -> Fault
-    ensures fault { IsFault result }
-    ensures told { result ≡ Broken (misplacement (meaning_of meaning.now)) at }
-{
-    match meaning {
-        Meaning::File(_) | Meaning::LeftOut => Fault::Broken {
-            rule: Rule::NotInProfile,
-            at,
-        },
-        Meaning::Constant { .. }
-        | Meaning::Text(_)
-        | Meaning::Type(_)
-        | Meaning::Variable { .. }
-        | Meaning::Parameter { .. }
-        | Meaning::RoutineParameter { .. }
-        | Meaning::Routine(_)
-        | Meaning::Required(_) => wrong_kind(at),
-    }
-}
 
 /// A variable without selectors; its name is at `at`.
 #[tactic(auto, unfolding(ps_tree::specs::View::selectors_of))]
@@ -75,9 +40,7 @@ fn entire(alloc: Global, base: PlaceBase, at: u32) -> Place
 /// The variable that a name denotes; the name is at `at`.
 #[tactic(auto, unfolding(crate::specs::Places::variable_at, ps_check_names::specs::Views::meaning_of))]
 pub fn variable_found(alloc: Global, found: Found<'_>, at: u32) -> Result<TypedPlace, Fault>
-    ensures ok { IfOk result (λ v. variable_at (point_of found.entry) ≡ Some (variable_of v)) }
-    ensures err { IfErr result (λ fault. IsFault fault → variable_at (point_of found.entry) ≡ None) }
-    ensures told { IfErr result (IsToldAt at) }
+    ensures found { Answers result (λ v. variable_of v) (variable_at at (point_of found.entry)) }
     ensures named { IfOk result (λ v. v.place.at ≡ at) }
 {
     match found {
@@ -117,7 +80,7 @@ pub fn variable_found(alloc: Global, found: Found<'_>, at: u32) -> Result<TypedP
             | Meaning::Routine(_)
             | Meaning::Required(_)
             | Meaning::File(_)
-            | Meaning::LeftOut => Err(misplaced(meaning, at)),
+            | Meaning::LeftOut => Err(broken(misplacement(&found), at)),
         },
     }
 }
@@ -125,8 +88,7 @@ pub fn variable_found(alloc: Global, found: Found<'_>, at: u32) -> Result<TypedP
 /// An index of a type that is compatible with an array's; it begins at `at`.
 #[tactic(auto, unfolding(crate::specs::Places::index_operand, crate::specs::View::value_of, ps_tree::specs::View::type_of))]
 fn index_operand(index: TypedValue, array: Ordinal, at: u32) -> Result<Expr, Fault>
-    ensures ok { IfOk result (λ e. index_operand array (value_of index) ≡ Some (expr_of e)) }
-    ensures err { IfErr result (λ fault. IsFault fault → index_operand array (value_of index) ≡ None) }
+    ensures { Answers result (λ e. expr_of e) (index_operand at array (value_of index)) }
 {
     match index {
         TypedValue::Simple(index, ty) => {
@@ -146,7 +108,7 @@ fn index_operand(index: TypedValue, array: Ordinal, at: u32) -> Result<Expr, Fau
 
 fn copy_of(ty: &Ty) -> Result<Ty, Fault>
     ensures ok { IfOk result (λ copy. type_of copy ≡ type_of ty.now) }
-    ensures err { IfErr result (λ fault. IsFault fault → ⊥) }
+    ensures err { IfErr result (λ fault. fault ≡ OutOfMemory) }
 {
     Ok(ty.copy()?)
 }
@@ -155,8 +117,7 @@ fn copy_of(ty: &Ty) -> Result<Ty, Fault>
 /// at `at.second`.
 #[tactic(auto, unfolding(crate::specs::Places::element, ps_tree::specs::View::type_of))]
 fn index_of(ty: &Ty, index: TypedValue, at: Operands) -> Result<(Expr, Ty), Fault>
-    ensures ok { IfOk result (λ e. (place : Tree.Place) (line : ℕ) → element place (type_of ty.now) (value_of index) line ≡ Some (record { place = selected place (Tree.Element (type_of ty.now) (expr_of e.0) line); type = type_of e.1; in_packed = is_packed (type_of ty.now) })) }
-    ensures err { IfErr result (λ fault. IsFault fault → (place : Tree.Place) (line : ℕ) → element place (type_of ty.now) (value_of index) line ≡ None) }
+    ensures { (place : Tree.Place) (line : ℕ) → Answers result (λ e. record { place = selected place (Tree.Element (type_of ty.now) (expr_of e.0) line); type = type_of e.1; in_packed = is_packed (type_of ty.now) }) (element at place (type_of ty.now) (value_of index) line) }
 {
     match ty {
         Ty::Array {
@@ -188,8 +149,7 @@ pub(crate) fn element(
     line: Line,
     at: Operands,
 ) -> Result<TypedPlace, Fault>
-    ensures ok { IfOk result (λ v. element (place_of array.place) (type_of array.ty) (value_of index) line.number ≡ Some (variable_of v)) }
-    ensures err { IfErr result (λ fault. IsFault fault → element (place_of array.place) (type_of array.ty) (value_of index) line.number ≡ None) }
+    ensures { Answers result (λ v. variable_of v) (element at (place_of array.place) (type_of array.ty) (value_of index) line.number) }
 {
     let TypedPlace { place, ty, .. } = array;
     let in_packed = is_packed(&ty);
@@ -205,15 +165,11 @@ pub(crate) fn element(
 /// The place and the type of a field of a record of type `ty`, which begins at `first`; the field's name is at `at`.
 #[tactic(auto, unfolding(crate::specs::Places::component, ps_tree::specs::View::type_of))]
 fn field_of(ty: &Ty, name: &[u8], first: u32, at: u32) -> Result<(u32, Ty), Fault>
-    ensures ok { IfOk result (λ f. (place : Tree.Place) → component place (type_of ty.now) name.now ≡ Some (record { place = selected place (Tree.Field (type_of ty.now) f.0); type = type_of f.1; in_packed = is_packed (type_of ty.now) })) }
-    ensures err { IfErr result (λ fault. IsFault fault → (place : Tree.Place) → component place (type_of ty.now) name.now ≡ None) }
+    ensures { (place : Tree.Place) → Answers result (λ f. record { place = selected place (Tree.Field (type_of ty.now) f.0); type = type_of f.1; in_packed = is_packed (type_of ty.now) }) (component first at place (type_of ty.now) name.now) }
 {
     match ty {
         Ty::Record { fields, .. } => match fields.find(name) {
-            None => Err(Fault::Broken {
-                rule: Rule::Unknown,
-                at,
-            }),
+            None => Err(broken(Rule::Unknown, at)),
             Some((number, field)) => Ok((number, field.copy()?)),
         },
         Ty::Simple(_)
@@ -234,8 +190,7 @@ pub(crate) fn component(
     first: u32,
     at: u32,
 ) -> Result<TypedPlace, Fault>
-    ensures ok { IfOk result (λ v. component (place_of base.place) (type_of base.ty) name.now ≡ Some (variable_of v)) }
-    ensures err { IfErr result (λ fault. IsFault fault → component (place_of base.place) (type_of base.ty) name.now ≡ None) }
+    ensures { Answers result (λ v. variable_of v) (component first at (place_of base.place) (type_of base.ty) name.now) }
 {
     let TypedPlace { place, ty, .. } = base;
     let (number, field) = field_of(&ty, name, first, at)?;
@@ -251,8 +206,7 @@ pub(crate) fn component(
 /// The number of a pointer's type, and the type of what a pointer of type `ty`, which begins at `first`, identifies.
 #[tactic(auto, unfolding(crate::specs::Places::target, ps_tree::specs::View::type_of))]
 fn domain_of(site: Site<'_>, ty: &Ty, first: u32) -> Result<(u32, Ty), Fault>
-    ensures ok { IfOk result (λ d. (place : Tree.Place) (line : ℕ) → target (context_at site.entry).domains place (type_of ty.now) line ≡ Some (record { place = selected place (Tree.Target d.0 line); type = type_of d.1; in_packed = false })) }
-    ensures err { IfErr result (λ fault. IsFault fault → (place : Tree.Place) (line : ℕ) → target (context_at site.entry).domains place (type_of ty.now) line ≡ None) }
+    ensures { (place : Tree.Place) (line : ℕ) → Answers result (λ d. record { place = selected place (Tree.Target d.0 line); type = type_of d.1; in_packed = false }) (target first (context_at site.entry).domains place (type_of ty.now) line) }
 {
     match ty {
         Ty::Pointer { number } => match site.reading.domains.get(*number as usize) {
@@ -277,8 +231,7 @@ pub(crate) fn target(
     line: Line,
     first: u32,
 ) -> Result<TypedPlace, Fault>
-    ensures ok { IfOk result (λ v. target (context_at site.entry).domains (place_of variable.place) (type_of variable.ty) line.number ≡ Some (variable_of v)) }
-    ensures err { IfErr result (λ fault. IsFault fault → target (context_at site.entry).domains (place_of variable.place) (type_of variable.ty) line.number ≡ None) }
+    ensures { Answers result (λ v. variable_of v) (target first (context_at site.entry).domains (place_of variable.place) (type_of variable.ty) line.number) }
 {
     let TypedPlace { place, ty, .. } = variable;
     let (pointer, domain) = domain_of(site, &ty, first)?;

@@ -1,31 +1,67 @@
 //! A place in the program.
 
-ghost use Rattle.std.specs.Prelude.{◌≡◌, IfOk, IfErr, Some, None};
-ghost use Rattle.ps_check_names.specs.Refusal.{IsFault};
-ghost use Rattle.ps_check_names.specs.Views.{point_of};
+ghost use Rattle.std.specs.Prelude.{◌≡◌};
+ghost use Rattle.ps_check_judgement.specs.Judged.{Answers};
+ghost use Rattle.ps_check_names.specs.Views.{scope_of, point_of};
 ghost use Rattle.ps_check_expressions.specs.Names.{denoted};
-ghost use Rattle.ps_check_expressions.specs.View.{context_at, regions_at};
+ghost use Rattle.ps_check_expressions.specs.View.{context_at, regions_at, with_controls};
 
+use crate::changed::Controls;
+use crate::inner::Inner;
+use ps_check_judgement::refusal::Fault;
 use ps_check_names::reading::Reading;
-use ps_check_names::refusal::Fault;
 use ps_check_names::scope::{Found, Scope};
 use ps_text::Span;
 use std::alloc::Global;
 
-/// What the typing at a place of the program needs: the text that is read, and the regions that enclose the place.
+/// What the typing at a place of the program needs: the text that is read, the regions that enclose the place, the control
+/// variables of the `for` statements round it, and what the routines of its block change.
 #[derive(Clone, Copy)]
 pub struct Site<'a> {
     pub alloc: Global,
     pub reading: &'a Reading<'a>,
     pub scope: &'a Scope<'a>,
+    pub controls: &'a Controls<'a>,
+    pub inner: &'a Inner<'a>,
 }
 
 impl<'a> Site<'a> {
     /// The defining point that a name denotes there.
     pub fn denoted(self, name: Span) -> Result<Found<'a>, Fault>
-        ensures ok { IfOk result (λ found. denoted (context_at self.entry) (regions_at self.entry) name ≡ Some (point_of found)) }
-        ensures err { IfErr result (λ fault. IsFault fault → denoted (context_at self.entry) (regions_at self.entry) name ≡ None) }
+        ensures { Answers result (λ found. point_of found) (denoted (context_at self.entry) (regions_at self.entry) name) }
     {
         self.reading.denoted(self.alloc, self.scope, name)
+    }
+
+    /// The same place within other regions.
+    pub fn within<'b>(self, scope: &'b Scope<'b>) -> Site<'b>
+    where
+        'a: 'b,
+        ensures context { context_at result ≡ context_at self.entry }
+        ensures regions { regions_at result ≡ scope_of scope.now }
+    {
+        Site {
+            alloc: self.alloc,
+            reading: self.reading,
+            scope,
+            controls: self.controls,
+            inner: self.inner,
+        }
+    }
+
+    /// The same place within a `for` statement.
+    pub fn with_controls<'b>(self, controls: &'b Controls<'b>) -> Site<'b>
+    where
+        'a: 'b,
+        ensures context { context_at result ≡ with_controls (context_at self.entry) controls.now }
+        ensures regions { regions_at result ≡ regions_at self.entry }
+    {
+        Site {
+            alloc: self.alloc,
+            reading: self.reading,
+            scope: self.scope,
+            controls,
+            inner: self.inner,
+        }
     }
 }

@@ -1,15 +1,15 @@
 //! What variables and expressions stand for: the checked tree, and the type.
 
-ghost use Rattle.std.specs.Prelude.{◌≡◌, IfOk, IfErr, Some, None, Option};
+ghost use Rattle.std.specs.Prelude.{◌≡◌};
 ghost use Rattle.ps_tree.specs.View.{type_of, place_of};
-ghost use Rattle.ps_tree.specs.Types.{DataType};
-ghost use Rattle.ps_check_names.specs.Refusal.{IsFault};
+ghost use Rattle.ps_check_judgement.specs.Judged.{Answers};
 ghost use Rattle.ps_check_expressions.specs.Values.{host_type, has_host, is_integer, is_boolean, is_packed, range_of, packing_of_both, set_type_of_both, contents, loaded};
 ghost use Rattle.ps_check_names.specs.Constants.{integer, char, boolean};
 ghost use Rattle.ps_check_expressions.specs.View.{value_of, variable_of};
 
+use ps_check_judgement::answer::broken;
+use ps_check_judgement::refusal::{Fault, Rule};
 use ps_check_names::constants::{BOOLEAN, CHAR, INTEGER};
-use ps_check_names::refusal::{Fault, Rule};
 use ps_tree::tree::{Expr, Place, Range, SetExpr, Structure};
 use ps_tree::types::{Host, Ordinal, Packing, Ty, same_host};
 use std::alloc::Global;
@@ -164,8 +164,7 @@ pub(crate) fn set_type_of_both(a: &Ty, b: &Ty) -> Ty
 /// The contents of a variable, whose first token is at `at`.
 #[tactic(auto, using(ps_tree::proofs::TreeLemmas::expr_of_Load, ps_tree::proofs::TreeLemmas::set_of_Load, ps_tree::proofs::TreeLemmas::structure_of_Contents), unfolding(crate::specs::Values::contents, crate::specs::View::value_of, ps_tree::specs::View::type_of))]
 pub(crate) fn loaded(alloc: Global, variable: TypedPlace, at: u32) -> Result<TypedValue, Fault>
-    ensures ok { IfOk result (λ v. loaded (variable_of variable) ≡ Some (value_of v)) }
-    ensures err { IfErr result (λ fault. IsFault fault → loaded (variable_of variable) ≡ None) }
+    ensures { Answers result (λ v. value_of v) (loaded at (variable_of variable)) }
 {
     let TypedPlace { place, ty, .. } = variable;
     let place = Box::new(alloc, place)?;
@@ -177,9 +176,8 @@ pub(crate) fn loaded(alloc: Global, variable: TypedPlace, at: u32) -> Result<Typ
             let contents = Structure::Contents { place, ty: copy };
             Ok(TypedValue::Structure(contents, ty))
         }
-        Ty::Nil { .. } | Ty::EmptySet { .. } | Ty::Text { .. } => Err(Fault::Broken {
-            rule: Rule::WrongType,
-            at,
-        }),
+        Ty::Nil { .. } | Ty::EmptySet { .. } | Ty::Text { .. } => {
+            Err(broken(Rule::WrongType, at))
+        }
     }
 }

@@ -1,16 +1,17 @@
 -- A name has one defining point in a block's region.
-use Rattle.std.proofs.Common.{◌≡◌, ℕ, Bool, true, false, not, List, [], ◌∷◌, ◌++◌, length, nat_lt, Some, None, is_some, ◌⊎◌, inl, inr, refl, sym, ap, ◌∙◌, subst}
+use Rattle.std.proofs.Common.{◌≡◌, ℕ, Bool, true, false, not, ◌||◌, List, [], ◌∷◌, ◌++◌, length, map, nat_lt, is_none, ◌⊎◌, inl, inr, refl, sym, ap, ◌∙◌, subst, append_assoc, append-nil}
 use Rattle.std.specs.Prelude.{if◌then◌else◌}
-use Rattle.ps_check_names.specs.Option.{provided, steps}
+use Rattle.ps_check_judgement.specs.declared.refusal.Rule.TheVariants.{Twice, Limit}
+use Rattle.ps_check_judgement.specs.Judged.{Yes, provided, steps}
+use Rattle.ps_check_judgement.proofs.Binds.{inside_yes, then_yes, provided_yes}
 use Rattle.ps_check_names.specs.Spelling.{spelled, has}
 use Rattle.ps_check_names.specs.Regions.{Heading}
 use Rattle.ps_check_declarations.specs.Points.{Points, add_name, add_point, add_points, block_points}
 use Rattle.ps_check.specs.Readings.{RoutineReading, BlockLayer, Start}
-use Rattle.ps_check.specs.Forwards.{add_routine, may_complete, block_names}
-use Rattle.ps_check.specs.Entries.{start, add_sections, first_entry}
+use Rattle.ps_check.specs.Forwards.{add_routine, add_routines, block_names}
+use Rattle.ps_check.specs.Entries.{add_names, start, add_sections, first_entry}
 use Rattle.ps_check.specs.RegionNames.{AreApart}
 use Rattle.ps_check.specs.Programs.{Files, list_file, file_named}
-use Rattle.ps_check_laws.proofs.Lists.{none_some, inside, then_some, provided_some}
 
 abbrev head_or : {A : Type 0} → A → List A → A
 head_or d [] = d
@@ -49,52 +50,83 @@ not_true : (b : Bool) → not b ≡ true → b ≡ false
 not_true true h = absurd (cc)
 not_true false h = refl
 
-one_apart : (xs : List (List ℕ)) (s : List ℕ) (ys : List (List ℕ)) → add_name xs s ≡ Some ys → AreApart xs → AreApart ys
-one_apart xs s ys e apart = (let q = provided_some (not (has xs s)) (xs ++ s ∷ []) ys e in subst AreApart q.1 (apart_more xs s (not_true (has xs s) q.0) apart))
+-- a name that is added is new, or there already
+pub one_apart : (xs : List (List ℕ)) (s : List ℕ) → AreApart xs → AreApart (add_name xs s)
+one_apart xs s apart = at (has xs s) refl
+  where
+    at : (b : Bool) → has xs s ≡ b → AreApart (if b then xs else xs ++ s ∷ [])
+    at true g = apart
+    at false g = apart_more xs s g apart
 
-names_apart : (ns xs ys : List (List ℕ)) → steps add_name xs ns ≡ Some ys → AreApart xs → AreApart ys
-names_apart [] xs ys e apart = subst AreApart (inside xs ys e) apart
-names_apart (n ∷ ns) xs ys e apart = (let one = then_some (add_name xs n) _ ys e in names_apart ns one.0 ys one.2 (one_apart xs n one.0 one.1 apart))
+pub names_apart : (ns xs : List (List ℕ)) → AreApart xs → AreApart (add_names xs ns)
+names_apart [] xs apart = apart
+names_apart (n ∷ ns) xs apart = names_apart ns (add_name xs n) (one_apart xs n apart)
+
+-- ---- names that are apart are added as they are
+
+-- a name is none of those before it
+pub apart_new : (xs : List (List ℕ)) (s : List ℕ) (ys : List (List ℕ)) → AreApart (xs ++ s ∷ ys) → has xs s ≡ false
+apart_new xs s ys apart = apart xs ys s refl
+
+pub apart_first : (xs ys : List (List ℕ)) → AreApart (xs ++ ys) → AreApart xs
+apart_first xs ys apart before after s e = apart before (after ++ ys) s (ap (λ l. l ++ ys) e ∙ append_assoc before (s ∷ after) ys)
+
+name_new : (xs : List (List ℕ)) (s : List ℕ) → has xs s ≡ false → add_name xs s ≡ xs ++ s ∷ []
+name_new xs s new = ap (λ b. if b then xs else xs ++ s ∷ []) new
+
+pub names_added : (xs ys : List (List ℕ)) → AreApart (xs ++ ys) → add_names xs ys ≡ xs ++ ys
+names_added xs [] apart = sym (append-nil xs)
+names_added xs (y ∷ ys) apart =
+    let longer = append_assoc xs (y ∷ []) ys in
+    ap (λ l. add_names l ys) (name_new xs y (apart_new xs y ys apart)) ∙ names_added (xs ++ y ∷ []) ys (subst AreApart (sym longer) apart) ∙ longer
 
 module _ (text : List ℕ) where
-  points_apart : (ps : Points) (xs ys : List (List ℕ)) → steps (add_point text) xs ps ≡ Some ys → AreApart xs → AreApart ys
-  points_apart [] xs ys e apart = subst AreApart (inside xs ys e) apart
-  points_apart (p ∷ ps) xs ys e apart = (let one = then_some (add_point text xs p) _ ys e in points_apart ps one.0 ys one.2 (one_apart xs (spelled text p) one.0 one.1 apart))
+  pub points_apart : (ps : Points) (xs : List (List ℕ)) → AreApart xs → AreApart (add_points text xs ps)
+  unfolding add_points
+  points_apart [] xs apart = apart
+  points_apart (p ∷ ps) xs apart = points_apart ps (add_point text xs p) (one_apart xs (spelled text p) apart)
 
-  routine_apart : (r : RoutineReading) (xs ys : List (List ℕ)) → add_routine text xs r ≡ Some ys → AreApart xs → AreApart ys
+  pub points_added : (ps : Points) (xs : List (List ℕ)) → AreApart (xs ++ map (spelled text) ps) → add_points text xs ps ≡ xs ++ map (spelled text) ps
+  unfolding add_points
+  points_added [] xs apart = sym (append-nil xs)
+  points_added (p ∷ ps) xs apart =
+      let s = spelled text p in
+      let longer = append_assoc xs (s ∷ []) (map (spelled text) ps) in
+      ap (λ l. add_points text l ps) (name_new xs s (apart_new xs s (map (spelled text) ps) apart)) ∙ points_added ps (xs ++ s ∷ []) (subst AreApart (sym longer) apart) ∙ longer
+
+  routine_apart : (r : RoutineReading) (xs : List (List ℕ)) → AreApart xs → AreApart (add_routine text xs r)
   unfolding add_routine
-  routine_apart r xs ys e apart = at (has xs (spelled text r.name)) (is_some r.heading) refl e
+  routine_apart r xs apart = at (is_none r.heading) (has xs (spelled text r.name)) refl
     where
-      at : (b c : Bool) → has xs (spelled text r.name) ≡ b → (if b then provided (may_complete r) xs else (if c then Some (xs ++ spelled text r.name ∷ []) else None)) ≡ Some ys → AreApart ys
-      at true c g h = subst AreApart (provided_some (may_complete r) xs ys h).1 apart
-      at false true g h = subst AreApart (inside (xs ++ spelled text r.name ∷ []) ys h) (apart_more xs (spelled text r.name) g apart)
-      at false false g h = absurd (none_some h)
+      at : (b c : Bool) → has xs (spelled text r.name) ≡ c → AreApart (if b || c then xs else xs ++ spelled text r.name ∷ [])
+      at true c g = apart
+      at false true g = apart
+      at false false g = apart_more xs (spelled text r.name) g apart
 
-  routines_apart : (rs : List RoutineReading) (xs ys : List (List ℕ)) → steps (add_routine text) xs rs ≡ Some ys → AreApart xs → AreApart ys
-  routines_apart [] xs ys e apart = subst AreApart (inside xs ys e) apart
-  routines_apart (r ∷ rs) xs ys e apart = (let one = then_some (add_routine text xs r) _ ys e in routines_apart rs one.0 ys one.2 (routine_apart r xs one.0 one.1 apart))
+  routines_apart : (rs : List RoutineReading) (xs : List (List ℕ)) → AreApart xs → AreApart (add_routines text xs rs)
+  routines_apart [] xs apart = apart
+  routines_apart (r ∷ rs) xs apart = routines_apart rs (add_routine text xs r) (routine_apart r xs apart)
 
-  pub block_apart : (b : BlockLayer) (first names : List (List ℕ)) → block_names text b first ≡ Some names → AreApart first → AreApart names
-  unfolding block_names add_points
-  block_apart b first names e apart =
-      let declared = then_some (add_points text first (block_points b.constants b.types b.variables)) _ names e in
-      routines_apart b.routines declared.0 names declared.2 (points_apart (block_points b.constants b.types b.variables) first declared.0 declared.1 apart)
+  pub block_apart : (b : BlockLayer) (first : List (List ℕ)) → AreApart first → AreApart (block_names text b first)
+  unfolding block_names
+  block_apart b first apart = routines_apart b.routines (add_points text first (block_points b.constants b.types b.variables)) (points_apart (block_points b.constants b.types b.variables) first apart)
 
-  pub files_apart : (ps : Points) (files last : Files) → steps (list_file text) files ps ≡ Some last → AreApart files.names → AreApart last.names
+  pub files_apart : (ps : Points) (files last : Files) → steps (list_file text) files ps ≡ Yes last → AreApart files.names → AreApart last.names
   unfolding list_file
-  files_apart [] files last e apart = subst (λ (z : Files). AreApart z.names) (inside files last e) apart
+  files_apart [] files last e apart = subst (λ (z : Files). AreApart z.names) (inside_yes files last e) apart
   files_apart (p ∷ ps) files last e apart =
-      let one = then_some (list_file text files p) _ last e in
-      let meaning = then_some (file_named (spelled text p)) _ one.0 one.1 in
-      let names = then_some (add_name files.names (spelled text p)) _ one.0 meaning.2 in
-      files_apart ps one.0 last one.2 (subst (λ (z : Files). AreApart z.names) (inside _ one.0 names.2) (one_apart files.names (spelled text p) names.0 names.1 apart))
+      let s = spelled text p in
+      let one = then_yes (list_file text files p) _ last e in
+      let meaning = then_yes (file_named p.from s) _ one.0 one.1 in
+      let names = then_yes (provided (not (has files.names s)) Twice p.from (files.names ++ s ∷ [])) _ one.0 meaning.2 in
+      let is = provided_yes (not (has files.names s)) Twice p.from (files.names ++ s ∷ []) names.0 names.1 in
+      files_apart ps one.0 last one.2 (subst (λ (z : Files). AreApart z.names) (inside_yes _ one.0 names.2) (subst AreApart is.1 (apart_more files.names s (not_true (has files.names s) is.0) apart)))
 
 -- the formal parameters of a routine
-pub start_apart : (chain : List ℕ) (h : Heading) (s : Start) → start chain h ≡ Some s → AreApart s.names
+pub start_apart : (at : ℕ) (chain : List ℕ) (h : Heading) (s : Start) → start at chain h ≡ Yes s → AreApart s.names
 unfolding start
-start_apart chain h s e =
-    let inner = then_some (provided (nat_lt (length chain) 16) (h.number ∷ chain)) _ s e in
-    let names = then_some (steps add_name [] h.names) _ s inner.2 in
-    let entries = then_some (add_sections (record { next = first_entry h.result; known = [] }) h.sections) _ s names.2 in
-    let made : Start = record { chain = inner.0; names = names.0; known = entries.0.known; first = entries.0.next } in
-    subst (λ (z : Start). AreApart z.names) (inside made s entries.2) (names_apart h.names [] names.0 names.1 none_apart)
+start_apart at chain h s e =
+    let inner = then_yes (provided (nat_lt (length chain) 16) Limit at (h.number ∷ chain)) _ s e in
+    let entries = then_yes (add_sections at (record { next = first_entry h.result; known = [] }) h.sections) _ s inner.2 in
+    let made : Start = record { chain = inner.0; names = add_names [] h.names; known = entries.0.known; first = entries.0.next } in
+    subst (λ (z : Start). AreApart z.names) (inside_yes made s entries.2) (names_apart h.names [] none_apart)

@@ -17,7 +17,7 @@ use Rattle.ps_check_laws.proofs.Lists.{inside, get_below, get_stays, there_is, t
 
 module _ (text : List ℕ) (p : syntax.Program) (v : List ℕ) (n : ℕ) (regions : List Region) (r : Region) (t : IsRegion text p v n regions r) (around : AreAround text p v regions) where
   abbrev frame : Frame
-  frame = record { text = text; routine = t.number; names = names_of text t.definitions; outer = regions }
+  frame = record { text = text; routine = t.number; names = names_of text t.definitions; begun = []; outer = regions }
 
   -- the region further up, where fewer points are known
   region_before : (known more : List Meaning) (m : ℕ) → t.known ≡ known ++ more → length known ≡ m → IsRegion text p v m regions (BlockRegion t.number (names_of text t.definitions) known)
@@ -45,7 +45,7 @@ module _ (text : List ℕ) (p : syntax.Program) (v : List ℕ) (n : ℕ) (region
   denoted_before m (u ∷ us) k =
       let is = region_before k.0.known k.0.more (m + u.before) k.0.longer k.0.count in
       let region = BlockRegion t.number (names_of text t.definitions) k.0.known in (
-        record { free = k.0.free; region = region; is_region = is; point = k.0.point; found = k.0.found; denotes = uses_find_what_they_denote text p v (m + u.before) region regions is around [] (spelled text u.name) k.0.point k.0.found },
+        record { free = k.0.free; region = region; is_region = is; point = k.0.point; found = k.0.found; denotes = uses_find_what_they_denote text p v (m + u.before) region regions is around [] (spelled text u.name) u.name.from k.0.point k.0.found },
         denoted_before m us k.1,
       )
 

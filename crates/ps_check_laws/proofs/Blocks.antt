@@ -1,16 +1,18 @@
 -- What a block that was read has: its names are its points, each means what its point gives, and its routines stand so too.
-use Rattle.std.proofs.Common.{◌≡◌, ℕ, ◌+◌, true, List, [], ◌∷◌, ◌++◌, length, map, take, drop, Some, slice_get, refl, sym, ap, ◌∙◌, subst, append_assoc, append-nil, length-append, arith}
+use Rattle.std.proofs.Common.{◌≡◌, ℕ, ◌+◌, List, [], ◌∷◌, ◌++◌, length, map, take, slice_get, refl, sym, ap, ◌∙◌, subst, append_assoc, append-nil, length-append, arith}
 use Rattle.std.proofs.lemmas.List.{map-append}
 use Rattle.ps_syntax.specs.declared.program.ConstantDefinition.{ConstantDefinition}
 use Rattle.ps_syntax.specs.declared.program.TypeDefinition.{TypeDefinition}
 use Rattle.ps_syntax.specs.declared.program.Variables.{Variables}
 use Rattle.ps_syntax.specs.declared.program.Block as syntax_block
-use Rattle.ps_syntax.specs.declared.program.Block.{out-Block, roll-Block, map-Block, out-roll-Block}
+use Rattle.ps_syntax.specs.declared.program.Block.{out-Block, roll-Block, out-roll-Block}
 use Rattle.ps_syntax.specs.declared.program.Routine.{Routine, roll-Routine, map-Routine, out-roll-Routine}
 use Rattle.ps_syntax.specs.declared.program.Routine.TheOpen.{Routine-F, Block-F}
 use Rattle.ps_syntax.specs.declared.program.Routine.TheFolds.{fold_out-Block, ind-Block}
 use Rattle.ps_tree.specs.Types.{DataType}
-use Rattle.ps_check_names.specs.Option.{provided, steps}
+use Rattle.ps_check_judgement.specs.declared.change.Change.{Change}
+use Rattle.ps_check_judgement.specs.Judged.{Yes, steps}
+use Rattle.ps_check_judgement.proofs.Binds.{inside_yes, then_yes}
 use Rattle.ps_check_names.specs.Spelling.{spelled, line_in}
 use Rattle.ps_check_names.specs.Regions.{Region, BlockRegion, Context}
 use Rattle.ps_check_declarations.specs.Points.{Points, all, add_points, constant_points, definition_points, variables_points, block_points, type_points}
@@ -18,36 +20,36 @@ use Rattle.ps_check_declarations.specs.Denoters.{Frame, Declared}
 use Rattle.ps_check_declarations.specs.Declarations.{declarations}
 use Rattle.ps_check_statements.specs.Statements.{statements}
 use Rattle.ps_check.specs.Readings.{Gathered, Start, Done, Routines, BlockReading, BlockLayer}
-use Rattle.ps_check.specs.Forwards.{add_routine, all_complete, block_names}
-use Rattle.ps_check.specs.Blocks.{own_number, with_domains, one_routine, declared, block_body, block_step, block, routine, layer}
-use Rattle.ps_check.specs.Threats.{is_safe}
+use Rattle.ps_check.specs.Forwards.{add_routines, all_complete, block_names}
+use Rattle.ps_check.specs.Blocks.{own_number, of_statements, one_routine, declared, block_body, block_step, block, routine, layer}
 use Rattle.ps_check.specs.Paths.{layer_block, routine_block}
 use Rattle.ps_check.proofs.Equations.{block_is}
 use Rattle.ps_check_laws.specs.Definitions.{Declarations, OfConstant, OfType, OfVariable, OfDeclaration, numbered, joined, type_declarations, definition_declarations, variable_declarations, own_declarations, declared_name, introduced_from, introduced, definitions_of, names_of, points_before_variables, points_before_routines}
 use Rattle.ps_check_laws.specs.Denoting as denoting
 use Rattle.ps_check_laws.specs.Denoting.{Count, count_step, counted, routine_count, headings_within}
-use Rattle.ps_check_laws.proofs.Lists.{take_whole, take_left, none_some, inside, then_some, provided_some, Each}
+use Rattle.ps_check_laws.proofs.Lists.{take_whole, take_left, none_some, inside, Each}
 use Rattle.ps_check_laws.proofs.TypePoints.{types_told}
 use Rattle.ps_check_laws.proofs.Declared.{Standing, Stand, declarations_stand}
 use Rattle.ps_check_laws.proofs.Routines.{counted_none}
 use Rattle.ps_check_laws.specs.Forward.{AreCompleted}
 use Rattle.ps_check_laws.specs.Domains.{type_domains, variable_domains, AreDomains}
 use Rattle.ps_check_laws.specs.InDeclarations.{declarations_part}
-use Rattle.ps_check.specs.RegionNames.{AreApart}
-use Rattle.ps_check_laws.proofs.Apart.{block_apart}
-use Rattle.ps_check_laws.proofs.Enclosed.{AllKnown, known_later, declarations_read, points_added}
+use Rattle.ps_check.specs.RegionNames.{AreApart, AreNames}
+use Rattle.ps_check.proofs.NameLemmas.{names_are_points}
+use Rattle.ps_check_laws.proofs.Apart.{apart_first, points_added}
+use Rattle.ps_check_laws.proofs.Enclosed.{AllKnown, known_later, declarations_read}
 use Rattle.ps_check_laws.proofs.Domains.{declarations_length, domains_stay, declarations_told, declarations_extend}
 use Rattle.ps_check_laws.proofs.Forwards.{none_open, all_open, are_completed}
 use Rattle.ps_check_laws.specs.Counts.{block_domains, own_domains}
 use Rattle.ps_check_laws.proofs.Drawn.{block_domains_are}
 use Rattle.ps_check_names.specs.Regions.{Meaning}
-use Rattle.ps_check_laws.proofs.Steps.{Longer, Grown, Ready, BlockGrows, RoutineGrows, points, At, AllTold, all_told}
+use Rattle.ps_check_laws.proofs.Steps.{Longer, Grown, Ready, BlockGrows, RoutineGrows, points, names_length, changes_of, At, AllTold, all_told}
 
 -- ---- the points of the declarations
 
 -- the reading of a denoter stands in any frame
 abbrev no_frame : Frame
-no_frame = record { text = []; routine = 0; names = []; outer = [] }
+no_frame = record { text = []; routine = 0; names = []; begun = []; outer = [] }
 
 constants_named : (cs : List ConstantDefinition) → map declared_name (map OfConstant cs) ≡ all (map constant_points cs)
 unfolding constant_points
@@ -109,68 +111,72 @@ module _ (c : Context) (b : syntax_block.Block) (outer : List Region) (s : Start
     pub names : List (List ℕ)
     pub before : Routines
     pub behind : Routines
-    pub known : Standing (record { text = c.text; routine = own_number s.chain; names = names; outer = outer }) s.first (λ k. length g.routines + counted c.text [] (map (routine_count c.text) (take k rs))) (definitions_of c.text D b) behind.known
+    pub known : Standing (record { text = c.text; routine = own_number s.chain; names = names; begun = []; outer = outer }) s.first (λ k. length g.routines + counted c.text [] (map (routine_count c.text) (take k rs))) (definitions_of c.text D b) behind.known
     pub apart : AreApart names
     pub names_are : names ≡ names_of c.text (definitions_of c.text D b)
     pub told : AllTold c (own_number s.chain) names outer s.first s.chain (D ++ own_declarations b) (length g.routines) (length before.gathered.domains) rs [] rs before behind
     pub same_gathered : d.gathered ≡ behind.gathered
     pub grown : Grown g d.gathered (headings_within c.text b) (block_domains b)
     pub drawn_first : length before.gathered.domains ≡ length g.domains + own_domains b
-    pub declared : declarations (record { text = c.text; routine = own_number s.chain; names = names; outer = outer }) s.first (record { known = s.known; domains = g.domains; pending = []; variables = [] }) (out-Block b).constants (out-Block b).types (out-Block b).variables
-        ≡ Some (record { known = take (points_before_routines D b) behind.known; domains = before.gathered.domains; pending = []; variables = d.variables })
+    pub declared : declarations (record { text = c.text; routine = own_number s.chain; names = names; begun = []; outer = outer }) s.first (record { known = s.known; domains = g.domains; pending = []; variables = [] }) (out-Block b).constants (out-Block b).types (out-Block b).variables
+        ≡ Yes (record { known = take (points_before_routines D b) behind.known; domains = before.gathered.domains; pending = []; variables = d.variables })
     pub later : Longer before.gathered d.gathered
     pub line : d.line ≡ line_in c.text (out-Block b).begin.from
     pub known_more : (more : List Meaning) × (behind.known ≡ s.known ++ more)
     pub completed : AreCompleted c.text rs
-    pub type_domains_are : AreDomains (record { text = c.text; routine = own_number s.chain; names = names; outer = outer }) (take (points_before_variables D b) behind.known) (length g.domains) (type_domains (out-Block b).types) d.gathered.domains
-    pub variable_domains_are : AreDomains (record { text = c.text; routine = own_number s.chain; names = names; outer = outer }) (take (points_before_routines D b) behind.known) (length g.domains + length (type_domains (out-Block b).types)) (variable_domains (out-Block b).variables) d.gathered.domains
-    pub uses : AllKnown (record { text = c.text; routine = own_number s.chain; names = names; outer = outer }) [] behind.known (length D) (declarations_part (out-Block b).constants (out-Block b).types (out-Block b).variables).uses
-    pub safe : is_safe (length s.chain) (drop (length g.routines) d.gathered.routines) d.body ≡ true
-    pub body : statements (with_domains c d.gathered.domains) (BlockRegion (own_number s.chain) names behind.known ∷ outer) (out-Block b).statements ≡ Some d.body
+    pub type_domains_are : AreDomains (record { text = c.text; routine = own_number s.chain; names = names; begun = []; outer = outer }) (take (points_before_variables D b) behind.known) (length g.domains) (type_domains (out-Block b).types) d.gathered.domains
+    pub variable_domains_are : AreDomains (record { text = c.text; routine = own_number s.chain; names = names; begun = []; outer = outer }) (take (points_before_routines D b) behind.known) (length g.domains + length (type_domains (out-Block b).types)) (variable_domains (out-Block b).variables) d.gathered.domains
+    pub uses : AllKnown (record { text = c.text; routine = own_number s.chain; names = names; begun = []; outer = outer }) [] behind.known (length D) (declarations_part (out-Block b).constants (out-Block b).types (out-Block b).variables).uses
+    -- what its routines change, and then its statements
+    pub inner_changes : behind.changes ≡ changes_of told.parts rs
+    pub changes : List Change
+    pub all_changes : d.changes ≡ behind.changes ++ changes
+    pub body : statements (of_statements c d.gathered.domains behind.changes) (BlockRegion (own_number s.chain) names behind.known ∷ outer) (out-Block b).statements [] ≡ Yes (d.body, changes)
 
-  inside_block : Ready c.text outer s D → Each (RoutineGrows c) rs → block c b outer s g ≡ Some d → BlockHas
-  unfolding block_step block_names add_points declared block_body introduced_from own_declarations definitions_of points_before_variables points_before_routines own_domains
+  inside_block : Ready c.text outer s D → Each (RoutineGrows c) rs → block c b outer s g ≡ Yes d → BlockHas
+  unfolding block_step block_names declared block_body introduced_from own_declarations definitions_of points_before_variables points_before_routines own_domains
   inside_block ready grows e =
       let q = ap (λ (r : BlockReading). r outer s g) (sym (block_is c b)) ∙ e in
       let l : BlockLayer = layer c b in
-      let n = then_some (block_names c.text l s.names) _ d q in
-      let f : Frame = record { text = c.text; routine = own_number s.chain; names = n.0; outer = outer } in
-      let declared_names = then_some (add_points c.text s.names (block_points l.constants l.types l.variables)) _ n.0 n.1 in
-      let o = then_some (declared f l s.first s.known g) _ d n.2 in
+      let names = block_names c.text l s.names in
+      let f : Frame = record { text = c.text; routine = own_number s.chain; names = names; begun = []; outer = outer } in
+      let first_points : length s.known ≡ length D = (ready.stands (own_number s.chain) names s.first (λ k. k)).many ∙ declarations_length D in
+      let first_names : length s.names ≡ length D = ap length ready.names ∙ names_length c.text (map OfDeclaration D) ∙ declarations_length D in
+      let law : AreNames c.text l s.names names = names_are_points c l outer s g d (first_points ∙ sym first_names) q in
+      let apart : AreApart names = law.apart ready.apart in
+      let first_apart = apart_first (s.names ++ map (spelled c.text) (block_points l.constants l.types l.variables)) law.routines (subst AreApart law.are apart) in
+      let o = then_yes (declared f l s.first s.known g) _ d q in
       let begin : Declared = record { known = s.known; domains = g.domains; pending = []; variables = [] } in
-      let made = then_some (declarations f s.first begin l.constants l.types l.variables) _ o.0 o.1 in
-      let first_routines : Routines = record { known = made.0.known; gathered = record { domains = made.0.domains; routines = g.routines } } in
-      let o_is : (first_routines, made.0.variables) ≡ o.0 = inside (first_routines, made.0.variables) o.0 made.2 in
+      let made = then_yes (declarations f s.first begin l.constants l.types l.variables) _ o.0 o.1 in
+      let first_routines : Routines = record { known = made.0.known; changes = []; gathered = record { domains = made.0.domains; routines = g.routines } } in
+      let o_is : (first_routines, made.0.variables) ≡ o.0 = inside_yes (first_routines, made.0.variables) o.0 made.2 in
       let before_is : first_routines ≡ o.0.0 = ap (λ (z : Routines × List DataType). z.0) o_is in
-      let t = then_some (steps (one_routine f s.chain) o.0.0 l.routines) _ d o.2 in
-      let body = then_some (block_body c f l (length s.chain) (length g.routines) t.0) _ d t.2 in
-      let d_is : record { variables = o.0.1; body = body.0; line = line_in c.text l.begin.from; gathered = t.0.gathered } ≡ d = inside _ d body.2 in
-      let complete = then_some (provided (all_complete t.0.gathered t.0.known) t.0.gathered) _ body.0 body.1 in
-      let complete_is = provided_some (all_complete t.0.gathered t.0.known) t.0.gathered complete.0 complete.1 in
-      let read = then_some (statements (with_domains c complete.0.domains) (BlockRegion f.routine f.names t.0.known ∷ outer) l.statements) _ body.0 complete.2 in
-      let read_is = provided_some (is_safe (length s.chain) (drop (length g.routines) complete.0.routines) read.0) read.0 body.0 read.2 in
+      let t = then_yes (steps (one_routine f s.chain) o.0.0 l.routines) _ d o.2 in
+      let body = then_yes (block_body c f l t.0) _ d t.2 in
+      let d_is : record { variables = o.0.1; body = body.0.0; line = line_in c.text l.begin.from; changes = t.0.changes ++ body.0.1; gathered = t.0.gathered } ≡ d = inside_yes _ d body.2 in
+      let complete = then_yes (all_complete t.0.gathered t.0.known) _ body.0 body.1 in
       let numbers : ℕ → ℕ = λ k. length g.routines + counted c.text [] (map (routine_count c.text) (take k rs)) in
       let all_declared = D ++ own_declarations b in
-      let stands : Stand f s.first numbers all_declared made.0.known = declarations_stand f s.first numbers l.constants l.types l.variables D begin made.0 made.1 refl (ready.stands (own_number s.chain) n.0 s.first numbers) in
-      let domains = declarations_told f s.first l.constants l.types l.variables numbers D begin made.0 made.1 refl (ready.stands (own_number s.chain) n.0 s.first numbers) in
+      let stands : Stand f s.first numbers all_declared made.0.known = declarations_stand f s.first numbers l.constants l.types l.variables D begin made.0 made.1 refl (ready.stands (own_number s.chain) names s.first numbers) in
+      let domains = declarations_told f s.first l.constants l.types l.variables numbers D begin made.0 made.1 refl (ready.stands (own_number s.chain) names s.first numbers) in
       let declared_is : o.0.0.gathered.domains ≡ made.0.domains = ap (λ (z : Routines). z.gathered.domains) (sym before_is) in
-      let at : At c (own_number s.chain) n.0 outer s.first s.chain all_declared (length g.routines) (length o.0.0.gathered.domains) rs [] first_routines = record {
+      let at : At c (own_number s.chain) names outer s.first s.chain all_declared (length g.routines) (length o.0.0.gathered.domains) rs [] first_routines = record {
         stands = subst (λ ds. Standing f s.first numbers ds made.0.known) (sym (append-nil (map OfDeclaration all_declared))) stands;
         count = (let z = counted_none c.text [] in omega (arith, z));
         drawn_so = (let z = ap length declared_is in omega (arith, z));
       } in
-      let from_is : declared_names.0 ≡ names_of c.text (points c.text all_declared (introduced c.text [])) =
-      points_added c.text (block_points l.constants l.types l.variables) s.names declared_names.0 declared_names.1
+      let from_is : add_points c.text s.names (block_points l.constants l.types l.variables) ≡ names_of c.text (points c.text all_declared (introduced c.text [])) =
+      points_added c.text (block_points l.constants l.types l.variables) s.names first_apart
       ∙ ap (λ x. x ++ map (spelled c.text) (block_points l.constants l.types l.variables)) ready.names
       ∙ ap (λ x. names_of c.text (map OfDeclaration D) ++ map (spelled c.text) x) (sym (own_named b))
       ∙ sym (names_both c.text D (own_declarations b)) ∙ ap (names_of c.text) (sym (append-nil (map OfDeclaration all_declared))) in
-      let told = all_told c (own_number s.chain) n.0 outer s.first s.chain all_declared (length g.routines) (length o.0.0.gathered.domains) rs rs [] o.0.0 t.0 refl grows
-      (subst (At c (own_number s.chain) n.0 outer s.first s.chain all_declared (length g.routines) (length o.0.0.gathered.domains) rs []) before_is at)
-      (ap (λ x. steps (add_routine c.text) x (map (routine c) rs)) (sym from_is) ∙ declared_names.2) t.1 in
-      let opened = all_open c (own_number s.chain) n.0 outer s.first s.chain all_declared (length g.routines) (length o.0.0.gathered.domains) rs rs [] o.0.0 t.0 refl grows
-      (subst (At c (own_number s.chain) n.0 outer s.first s.chain all_declared (length g.routines) (length o.0.0.gathered.domains) rs []) before_is at)
-      (none_open c (own_number s.chain) n.0 outer s.first s.chain all_declared (length g.routines) (length o.0.0.gathered.domains) rs o.0.0 (subst (At c (own_number s.chain) n.0 outer s.first s.chain all_declared (length g.routines) (length o.0.0.gathered.domains) rs []) before_is at))
-      (ap (λ x. steps (add_routine c.text) x (map (routine c) rs)) (sym from_is) ∙ declared_names.2) t.1 in
+      let told = all_told c (own_number s.chain) names outer s.first s.chain all_declared (length g.routines) (length o.0.0.gathered.domains) rs rs [] o.0.0 t.0 refl grows
+      (subst (At c (own_number s.chain) names outer s.first s.chain all_declared (length g.routines) (length o.0.0.gathered.domains) rs []) before_is at)
+      (ap (λ x. add_routines c.text x (map (routine c) rs)) (sym from_is)) t.1 in
+      let opened = all_open c (own_number s.chain) names outer s.first s.chain all_declared (length g.routines) (length o.0.0.gathered.domains) rs rs [] o.0.0 t.0 refl grows
+      (subst (At c (own_number s.chain) names outer s.first s.chain all_declared (length g.routines) (length o.0.0.gathered.domains) rs []) before_is at)
+      (none_open c (own_number s.chain) names outer s.first s.chain all_declared (length g.routines) (length o.0.0.gathered.domains) rs o.0.0 (subst (At c (own_number s.chain) names outer s.first s.chain all_declared (length g.routines) (length o.0.0.gathered.domains) rs []) before_is at))
+      (ap (λ x. add_routines c.text x (map (routine c) rs)) (sym from_is)) t.1 in
       let gathered_is : d.gathered ≡ t.0.gathered = ap (λ (z : Done). z.gathered) (sym d_is) in
       let domains_longer : d.gathered.domains ≡ made.0.domains ++ told.domains.0 = ap (λ (z : Gathered). z.domains) gathered_is ∙ told.domains.1 ∙ ap (λ l. l ++ told.domains.0) declared_is in
       let known_longer : t.0.known ≡ made.0.known ++ told.known_more.0 = told.known_more.1 ∙ ap (λ (z : Routines). z.known ++ told.known_more.0) (sym before_is) in
@@ -180,7 +186,6 @@ module _ (c : Context) (b : syntax_block.Block) (outer : List Region) (s : Start
       let before_variables : take types_end made.0.known ≡ take types_end t.0.known = sym (ap (take types_end) known_longer ∙ take_left made.0.known told.known_more.0 types_end domains.below) in
       let counted_all = told.behind.count in
       let part = declarations_part l.constants l.types l.variables in
-      let first_points : length s.known ≡ length D = (ready.stands (own_number s.chain) n.0 s.first numbers).many ∙ declarations_length D in
       let used = subst (λ k. AllKnown f [] made.0.known k part.uses) first_points (declarations_read f s.first l.constants l.types l.variables begin made.0 made.1).uses in
       let within = within_is c.text b in
       let drawn_count : length o.0.0.gathered.domains ≡ length g.domains + own_domains b =
@@ -193,13 +198,13 @@ module _ (c : Context) (b : syntax_block.Block) (outer : List Region) (s : Start
       ∙ ap (λ x. record { known = take (length all_declared) t.0.known; domains = o.0.0.gathered.domains; pending = x; variables = made.0.variables }) domains.none_waits
       ∙ ap (λ x. record { known = take (length all_declared) t.0.known; domains = o.0.0.gathered.domains; pending = []; variables = x }) variables_are in
       let first_more = declarations_extend f s.first l.constants l.types l.variables begin made.0 made.1 in
-      let behind_domains : complete.0.domains ≡ d.gathered.domains = ap (λ (z : Gathered). z.domains) (sym complete_is.1 ∙ sym gathered_is) in
+      let behind_domains : t.0.gathered.domains ≡ d.gathered.domains = ap (λ (z : Gathered). z.domains) (sym gathered_is) in
       record {
-        names = n.0;
+        names = names;
         before = o.0.0;
         behind = t.0;
         known = told.behind.stands;
-        apart = block_apart c.text l s.names n.0 n.1 ready.apart;
+        apart = apart;
         names_are = told.names_are;
         told = told;
         same_gathered = gathered_is;
@@ -208,14 +213,15 @@ module _ (c : Context) (b : syntax_block.Block) (outer : List Region) (s : Start
         variable_domains_are = domains_stay f (take (length all_declared) t.0.known) (length g.domains + length (type_domains l.types)) (variable_domains l.variables) made.0.domains told.domains.0 d.gathered.domains domains_longer
             (subst (λ k. AreDomains f k (length g.domains + length (type_domains l.types)) (variable_domains l.variables) made.0.domains) before_routines domains.variables);
         uses = known_later f [] made.0.known t.0.known told.known_more.0 (length D) part.uses known_longer used;
-        safe = ap (λ (x : Gathered). is_safe (length s.chain) (drop (length g.routines) x.routines) d.body) (gathered_is ∙ complete_is.1)
-            ∙ ap (is_safe (length s.chain) (drop (length g.routines) complete.0.routines)) (sym (read_is.1 ∙ ap (λ (z : Done). z.body) d_is)) ∙ read_is.0;
+        inner_changes = told.changes ∙ ap (λ (z : Routines). z.changes ++ changes_of told.parts rs) (sym before_is);
+        changes = body.0.1;
+        all_changes = ap (λ (z : Done). z.changes) (sym d_is);
         drawn_first = drawn_count;
-        declared = made.1 ∙ ap (λ z. Some z) made_is;
+        declared = made.1 ∙ ap (λ z. Yes z) made_is;
         later = (told.domains.0, domains_longer ∙ ap (λ z. z ++ told.domains.0) (sym declared_is));
         line = ap (λ (z : Done). z.line) (sym d_is);
         known_more = (first_more.0 ++ told.known_more.0, known_longer ∙ ap (λ z. z ++ told.known_more.0) first_more.1 ∙ append_assoc s.known first_more.0 told.known_more.0);
-        completed = are_completed c (own_number s.chain) n.0 outer s.first s.chain all_declared (length g.routines) (length o.0.0.gathered.domains) rs t.0 opened complete_is.0;
+        completed = are_completed c (own_number s.chain) names outer s.first s.chain all_declared (length g.routines) (length o.0.0.gathered.domains) rs t.0 opened complete.0 complete.1;
         grown = record {
           count = ap (λ (z : Gathered). length z.routines) gathered_is ∙ counted_all ∙ ap (λ k. length g.routines + k) (sym within);
           keeps = λ k x z. ap (λ (y : Gathered). slice_get y.routines k) gathered_is ∙ told.keeps k x (ap (λ (y : Routines). slice_get y.gathered.routines k) (sym before_is) ∙ z);
@@ -223,7 +229,7 @@ module _ (c : Context) (b : syntax_block.Block) (outer : List Region) (s : Start
           domains = (domains.more ++ told.domains.0, domains_longer ∙ ap (λ z. z ++ told.domains.0) domains.longer ∙ append_assoc g.domains domains.more told.domains.0);
           lower = λ k l. ap (λ (y : Gathered). slice_get y.routines k) gathered_is ∙ told.lower k l ∙ ap (λ (y : Routines). slice_get y.gathered.routines k) (sym before_is);
         };
-        body = ap (λ x. statements (with_domains c x) (BlockRegion f.routine f.names t.0.known ∷ outer) l.statements) (sym behind_domains) ∙ read.1 ∙ ap (λ z. Some z) (read_is.1 ∙ ap (λ (z : Done). z.body) d_is);
+        body = ap (λ x. statements (of_statements c x t.0.changes) (BlockRegion f.routine f.names t.0.known ∷ outer) l.statements []) (sym behind_domains) ∙ complete.2 ∙ ap (λ y. Yes (y, body.0.1)) (ap (λ (z : Done). z.body) d_is);
       }
 
 -- ---- all blocks
@@ -258,5 +264,5 @@ module _ (c : Context) where
   all_grow [] = tt
   all_grow (x ∷ rs) = (λ b e. blocks_grow b, all_grow rs)
 
-  pub block_told : (b : syntax_block.Block) (outer : List Region) (s : Start) (g : Gathered) (d : Done) (D : Declarations) → Ready c.text outer s D → block c b outer s g ≡ Some d → BlockHas c b outer s g d D
+  pub block_told : (b : syntax_block.Block) (outer : List Region) (s : Start) (g : Gathered) (d : Done) (D : Declarations) → Ready c.text outer s D → block c b outer s g ≡ Yes d → BlockHas c b outer s g d D
   block_told b outer s g d D ready e = inside_block c b outer s g d D ready (all_grow (out-Block b).routines) e

@@ -1,5 +1,6 @@
 -- Reading a type denoter lets just the names of the domain types within it wait; where the part ends they are read.
-use Rattle.std.proofs.Common.{◌≡◌, ℕ, zero, suc, ◌+◌, ◌≤◌, List, [], ◌∷◌, ◌++◌, length, map, take, nat_lt, Option, Some, None, slice_get, refl, sym, ap, ◌∙◌, subst, append_assoc, append-nil, length-append, arith}
+use Rattle.std.proofs.Common.{◌≡◌, ℕ, zero, suc, ◌+◌, ◌≤◌, Bool, true, false, List, [], ◌∷◌, ◌++◌, length, map, take, nat_lt, Option, Some, None, slice_get, refl, sym, ap, ◌∙◌, subst, append_assoc, append-nil, length-append, arith}
+use Rattle.std.proofs.lemmas.List.{map-append}
 use Rattle.ps_text.specs.declared.Span.{Span}
 use Rattle.ps_syntax.specs.First.{first_of_ordinal}
 use Rattle.ps_syntax.specs.declared.program.Ordinal as syntax
@@ -14,18 +15,22 @@ use Rattle.ps_syntax.specs.declared.program.Structure.TheOpen.{Structure-F, Type
 use Rattle.ps_syntax.specs.declared.program.Structure.TheFolds.{fold-Structure, fold-Fields, fold-roll-Structure, fold-roll-TypeDenoter, fold-roll-Fields, ind-TypeDenoter}
 use Rattle.ps_tree.specs.Types.{DataType, OrdinalType, RecordType, field_list, listed}
 use Rattle.ps_tree.specs.declared.types.Ordinal.{Ordinal}
-use Rattle.ps_check_names.specs.Option.{steps}
-use Rattle.ps_check_names.specs.Regions.{Meaning, TypeMeaning, VariableMeaning, one_more}
-use Rattle.ps_check_names.specs.Constants.{constant}
-use Rattle.ps_check_declarations.specs.Points.{Points, all}
+use Rattle.ps_check_judgement.specs.declared.refusal.Rule.TheVariants.{Limit}
+use Rattle.ps_check_judgement.specs.Judged.{Yes, ◌>>=◌, some_or, steps}
+use Rattle.ps_check_judgement.proofs.Binds.{no_yes, inside_yes, then_yes, provided_yes}
+use Rattle.ps_check_names.specs.Spelling.{spelled}
+use Rattle.ps_check_names.specs.Regions.{Point, BlockPoint, Meaning, TypeMeaning, VariableMeaning, one_more}
+use Rattle.ps_check_names.specs.Constants.{constant, denoted}
+use Rattle.ps_check_declarations.specs.Points.{Points, all, is_later, new_points}
 use Rattle.ps_check_declarations.specs.Denoters as denoters
-use Rattle.ps_check_declarations.specs.Denoters.{Frame, Declared, Hidden, Reading, StructureReading, FieldsReading, Indices, FieldTypes, regions, type_named, ordinal_at, enumerated, constants_from, subrange, begins, is_packed, index_begins, index_type, array_of, set_of, small, fields_of_type, ordinal, pointer, add_fields, record_names, array_type, record_type, set_type, simple_type, denoter, structure, fields}
-use Rattle.ps_check_declarations.specs.Declarations.{meaning_of_constant, define_constant, define_type, resolve_domain, resolve_domains, declare_variable, declare_variables, declarations}
+use Rattle.ps_check_declarations.specs.Denoters.{Frame, Declared, Hidden, Reading, StructureReading, FieldsReading, Indices, FieldTypes, begin, within, regions, passes, type_at, type_named, ordinal_at, enumerated, constants_from, subrange_of, begins, is_packed, index_begins, index_type, array_of, set_of, small, fields_of_type, ordinal, pointer, add_fields, record_names, array_type, record_type, set_type, simple_type, denoter, structure, fields}
+use Rattle.ps_check_declarations.specs.Declarations.{meaning_of_constant, domain_at, define_constant, define_type, resolve_domain, resolve_domains, declare_variable, declare_variables, declarations}
 use Rattle.ps_check_laws.specs.Domains.{fields_step, structure_step, type_step, domain_names, type_domains, variable_domains, AreDomains}
 use Rattle.ps_check_laws.specs.Definitions.{Declarations, OfConstant, OfDeclaration, joined, type_declarations, definition_declarations}
 use Rattle.ps_check_laws.proofs.TypePoints.{constant_of, types_told}
-use Rattle.ps_check_laws.proofs.Declared.{Stand, constants_stand, types_stand}
-use Rattle.ps_check_laws.proofs.Lists.{take_whole, inside, none_some, then_some, provided_some, get_stays}
+use Rattle.ps_check_laws.specs.Meanings.{variable_names, hidden_by}
+use Rattle.ps_check_laws.proofs.Declared.{type_defined, variables_declared, Stand, constants_stand, types_stand}
+use Rattle.ps_check_laws.proofs.Lists.{take_whole, inside, none_some, get_stays}
 
 abbrev structure_domains : Structure → Points
 structure_domains = fold-Structure Points Points Points structure_step type_step fields_step
@@ -43,66 +48,79 @@ domains_stay f known base names domains more whole e are i name at =
     let r = are i name at in
     (r.0, r.1, ap (λ l. slice_get l (base + i)) e ∙ get_stays domains more (base + i) r.0 r.2)
 
+-- the names that wait
+abbrev pub pending_names : List (Span × ℕ) → Points
+pending_names ws = map (λ w. w.0) ws
+
+abbrev pub waiting : Declared → Points
+waiting d = pending_names d.pending
+
 -- these names wait besides
 pub record Waits (d : Declared) (names : Points) (e : Declared) : Type 0 where
-  pub pending : e.pending ≡ d.pending ++ names
+  pub pending : waiting e ≡ waiting d ++ names
   pub domains : e.domains ≡ d.domains
 
 waits_none : (d : Declared) → Waits d [] d
-waits_none d = record { pending = sym (append-nil d.pending); domains = refl }
+waits_none d = record { pending = sym (append-nil (waiting d)); domains = refl }
 
-waits_at : {A : Type 0} (d : Declared) (names : Points) (x y : A × Declared) → Some x ≡ Some y → Waits d names x.1 → Waits d names y.1
-waits_at d names x y e a = subst (λ (z : _ × Declared). Waits d names z.1) (inside x y e) a
+waits_at : {A : Type 0} (d : Declared) (names : Points) (x y : A × Declared) → Yes x ≡ Yes y → Waits d names x.1 → Waits d names y.1
+waits_at d names x y e a = subst (λ (z : _ × Declared). Waits d names z.1) (inside_yes x y e) a
 
 pub waits_both : (d e g : Declared) (xs ys : Points) → Waits d xs e → Waits e ys g → Waits d (xs ++ ys) g
-waits_both d e g xs ys a b = record { pending = b.pending ∙ ap (λ l. l ++ ys) a.pending ∙ append_assoc d.pending xs ys; domains = b.domains ∙ a.domains }
+waits_both d e g xs ys a b = record { pending = b.pending ∙ ap (λ l. l ++ ys) a.pending ∙ append_assoc (waiting d) xs ys; domains = b.domains ∙ a.domains }
+
+-- a domain type is the type that its name denotes
+domain_is : (later : Bool) (at : ℕ) (p : Point) (type : DataType) → domain_at later at p ≡ Yes type → type_at at p ≡ Yes type
+unfolding domain_at type_at
+domain_is later at (BlockPoint up (TypeMeaning t)) type e = e
+domain_is true at p type e = absurd (no_yes e)
+domain_is false at p type e = e
 
 module _ (f : Frame) where
-  ordinal_waits : (hidden : Hidden) (d : Declared) (x : syntax.Ordinal) (r : Ordinal × Declared) → ordinal f hidden d x ≡ Some r → Waits d [] r.1
+  ordinal_waits : (hidden : Hidden) (d : Declared) (x : syntax.Ordinal) (r : Ordinal × Declared) → ordinal f hidden d x ≡ Yes r → Waits d [] r.1
   unfolding ordinal
   ordinal_waits hidden d (o.Name at) r e =
-      let t = then_some (type_named f.text (regions f hidden d.known) at) _ r e in
-      let q = then_some (ordinal_at t.0) _ r t.2 in
+      let t = then_yes (type_named f.text (regions f hidden d.known) at) _ r e in
+      let q = then_yes (ordinal_at at.from t.0) _ r t.2 in
       waits_at d [] (q.0, d) r q.2 (waits_none d)
   ordinal_waits hidden d (o.Enumeration at names) r e =
       let made : Ordinal × Declared = (enumerated at.from (length names), denoters.with_known d (d.known ++ constants_from (enumerated at.from (length names)) 0 names)) in
-      let q = provided_some (nat_lt (length names) 2147483648) made r e in
-      waits_at d [] made r (ap (λ z. Some z) q.1) (record { pending = sym (append-nil d.pending); domains = refl })
+      let n = then_yes (new_points f.text f.names f.begun (length d.known) names) _ r e in
+      let q = provided_yes (nat_lt (length names) 2147483648) _ _ made r n.2 in
+      waits_at d [] made r (ap (λ z. Yes z) q.1) (record { pending = sym (append-nil (waiting d)); domains = refl })
   ordinal_waits hidden d (o.Subrange low high) r e =
-      let a = then_some (constant f.text (regions f hidden d.known) low) _ r e in
-      let b = then_some (constant f.text (regions f hidden d.known) high) _ r a.2 in
-      let q = then_some (subrange (first_of_ordinal (o.Subrange low high)) a.0 b.0) _ r b.2 in
+      let q = then_yes (subrange_of f hidden d.known (first_of_ordinal (o.Subrange low high)) low high) _ r e in
       waits_at d [] (q.0, d) r q.2 (waits_none d)
 
-  indices_wait : (hidden : Hidden) (at : ℕ) (xs : List syntax.Ordinal) (s t : Indices × Declared) → steps (index_type f hidden at) s xs ≡ Some t → Waits s.1 [] t.1
+  indices_wait : (hidden : Hidden) (at : ℕ) (xs : List syntax.Ordinal) (s t : Indices × Declared) → steps (index_type f hidden at) s xs ≡ Yes t → Waits s.1 [] t.1
   indices_wait hidden at [] s t e = waits_at s.1 [] s t e (waits_none s.1)
   indices_wait hidden at (x ∷ xs) s t e =
-      let one = then_some (index_type f hidden at s x) _ t e in
-      let r = then_some (ordinal f hidden s.1 x) _ one.0 one.1 in
+      let one = then_yes (index_type f hidden at s x) _ t e in
+      let r = then_yes (ordinal f hidden s.1 x) _ one.0 one.1 in
       waits_both s.1 one.0.1 t.1 [] [] (waits_at s.1 [] (s.0 ++ (index_begins at s.0 x, r.0.0) ∷ [], r.0.1) one.0 r.2 (ordinal_waits hidden s.1 x r.0 r.1)) (indices_wait hidden at xs one.0 t one.2)
 
-  simple_waits : (hidden : Hidden) (d : Declared) (x : syntax.Ordinal) (r : DataType × Declared) → simple_type f hidden d x ≡ Some r → Waits d [] r.1
+  simple_waits : (hidden : Hidden) (d : Declared) (x : syntax.Ordinal) (r : DataType × Declared) → simple_type f hidden d x ≡ Yes r → Waits d [] r.1
   unfolding simple_type
   simple_waits hidden d (o.Name at) r e =
-      let t = then_some (type_named f.text (regions f hidden d.known) at) _ r e in
+      let t = then_yes (type_named f.text (regions f hidden d.known) at) _ r e in
       waits_at d [] (t.0, d) r t.2 (waits_none d)
   simple_waits hidden d (o.Enumeration at names) r e =
-      let t = then_some (ordinal f hidden d (o.Enumeration at names)) _ r e in
+      let t = then_yes (ordinal f hidden d (o.Enumeration at names)) _ r e in
       waits_at d [] (OrdinalType t.0.0, t.0.1) r t.2 (ordinal_waits hidden d (o.Enumeration at names) t.0 t.1)
   simple_waits hidden d (o.Subrange low high) r e =
-      let t = then_some (ordinal f hidden d (o.Subrange low high)) _ r e in
+      let t = then_yes (ordinal f hidden d (o.Subrange low high)) _ r e in
       waits_at d [] (OrdinalType t.0.0, t.0.1) r t.2 (ordinal_waits hidden d (o.Subrange low high) t.0 t.1)
 
   -- ---- all parts of denoters
 
   abbrev TypeWaits : TypeDenoter → Type 0
-  TypeWaits t = (hidden : Hidden) (d : Declared) (r : DataType × Declared) → denoter f t hidden d ≡ Some r → Waits d (domain_names t) r.1
+  TypeWaits t = (hidden : Hidden) (d : Declared) (r : DataType × Declared) → denoter f t hidden d ≡ Yes r → Waits d (domain_names t) r.1
 
   abbrev StructureWaits : Structure → Type 0
-  StructureWaits s = (packed : Option ℕ) (hidden : Hidden) (d : Declared) (r : DataType × Declared) → structure f s packed hidden d ≡ Some r → Waits d (structure_domains s) r.1
+  StructureWaits s = (packed : Option ℕ) (hidden : Hidden) (d : Declared) (r : DataType × Declared) → structure f s packed hidden d ≡ Yes r → Waits d (structure_domains s) r.1
 
   abbrev FieldsWait : Fields → Type 0
-  FieldsWait x = (hidden : Hidden) (d : Declared) (r : DataType × Declared) → (fields f x).1 hidden d ≡ Some r → Waits d (fields_domains x) r.1
+  FieldsWait x = (hidden : Hidden) (d : Declared) (r : DataType × Declared) → (fields f x).1 hidden d ≡ Yes r → Waits d (fields_domains x) r.1
 
   abbrev AtStructure : Type 0
   AtStructure = (x : Structure) × StructureWaits x
@@ -116,46 +134,50 @@ module _ (f : Frame) where
   abbrev first_of : List AtFields → List Fields
   first_of ys = map (λ y. y.0) ys
 
-  all_wait : (hidden : Hidden) (ys : List AtFields) (s t : FieldTypes × Declared) → steps (add_fields f hidden) s (map (fields f) (first_of ys)) ≡ Some t → Waits s.1 (all (map fields_domains (first_of ys))) t.1
-  all_wait hidden [] s t e = waits_at s.1 [] s t e (waits_none s.1)
-  all_wait hidden (y ∷ ys) s t e =
-      let one = then_some (add_fields f hidden s (fields f y.0)) _ t e in
-      let r = then_some ((fields f y.0).1 hidden s.1) _ one.0 one.1 in
-      waits_both s.1 one.0.1 t.1 (fields_domains y.0) (all (map fields_domains (first_of ys))) (waits_at s.1 (fields_domains y.0) (s.0 ++ fields_of_type r.0.0 (fields f y.0).0, r.0.1) one.0 r.2 (y.1 hidden s.1 r.0 r.1)) (all_wait hidden ys one.0 t one.2)
+  all_wait : (names : List (List ℕ)) (hidden : Hidden) (ys : List AtFields) (s t : FieldTypes × Declared) → steps (add_fields f names hidden) s (map (fields f) (first_of ys)) ≡ Yes t → Waits s.1 (all (map fields_domains (first_of ys))) t.1
+  all_wait names hidden [] s t e = waits_at s.1 [] s t e (waits_none s.1)
+  all_wait names hidden (y ∷ ys) s t e =
+      let one = then_yes (add_fields f names hidden s (fields f y.0)) _ t e in
+      let n = then_yes (new_points f.text names [] (length s.0) (fields f y.0).0) _ one.0 one.1 in
+      let r = then_yes ((fields f y.0).1 ((names, n.0) ∷ hidden) s.1) _ one.0 n.2 in
+      waits_both s.1 one.0.1 t.1 (fields_domains y.0) (all (map fields_domains (first_of ys))) (waits_at s.1 (fields_domains y.0) (s.0 ++ fields_of_type r.0.0 (fields f y.0).0, r.0.1) one.0 r.2 (y.1 ((names, n.0) ∷ hidden) s.1 r.0 r.1)) (all_wait names hidden ys one.0 t one.2)
 
   structure_by : (x : Structure) (names : Points) (reading : StructureReading) → structure_domains x ≡ names → structure f x ≡ reading
-      → ((packed : Option ℕ) (hidden : Hidden) (d : Declared) (r : DataType × Declared) → reading packed hidden d ≡ Some r → Waits d names r.1) → StructureWaits x
+      → ((packed : Option ℕ) (hidden : Hidden) (d : Declared) (r : DataType × Declared) → reading packed hidden d ≡ Yes r → Waits d names r.1) → StructureWaits x
   structure_by x names reading a c waits packed hidden d r e = subst (λ l. Waits d l r.1) (sym a) (waits packed hidden d r (ap (λ (q : StructureReading). q packed hidden d) (sym c) ∙ e))
 
   type_by : (x : TypeDenoter) (names : Points) (reading : Reading) → domain_names x ≡ names → denoter f x ≡ reading
-      → ((hidden : Hidden) (d : Declared) (r : DataType × Declared) → reading hidden d ≡ Some r → Waits d names r.1) → TypeWaits x
+      → ((hidden : Hidden) (d : Declared) (r : DataType × Declared) → reading hidden d ≡ Yes r → Waits d names r.1) → TypeWaits x
   type_by x names reading a c waits hidden d r e = subst (λ l. Waits d l r.1) (sym a) (waits hidden d r (ap (λ (q : Reading). q hidden d) (sym c) ∙ e))
 
-  array_waits : (packed : Option ℕ) (hidden : Hidden) (d : Declared) (at : ℕ) (xs : List syntax.Ordinal) (c : TypeDenoter) → TypeWaits c → (r : DataType × Declared) → array_type f packed hidden d at xs (denoter f c) ≡ Some r → Waits d (domain_names c) r.1
+  array_waits : (packed : Option ℕ) (hidden : Hidden) (d : Declared) (at : ℕ) (xs : List syntax.Ordinal) (c : TypeDenoter) → TypeWaits c → (r : DataType × Declared) → array_type f packed hidden d at xs (denoter f c) ≡ Yes r → Waits d (domain_names c) r.1
   unfolding array_type
   array_waits packed hidden d at xs c told r e =
-      let is = then_some (steps (index_type f hidden (begins packed at)) ([], d) xs) _ r e in
-      let q = then_some (denoter f c hidden is.0.1) _ r is.2 in
-      let t = then_some (array_of (is_packed packed) is.0.0 q.0.0) _ r q.2 in
+      let is = then_yes (steps (index_type f hidden (begins packed at)) ([], d) xs) _ r e in
+      let q = then_yes (denoter f c hidden is.0.1) _ r is.2 in
+      let t = then_yes (array_of (is_packed packed) is.0.0 q.0.0) _ r q.2 in
       waits_both d is.0.1 r.1 [] (domain_names c) (indices_wait hidden (begins packed at) xs ([], d) is.0 is.1) (waits_at is.0.1 (domain_names c) (t.0, q.0.1) r t.2 (told hidden is.0.1 q.0 q.1))
 
-  record_waits : (packed : Option ℕ) (hidden : Hidden) (d : Declared) (at : ℕ) (ys : List AtFields) (r : DataType × Declared) → record_type f packed hidden d at (map (fields f) (first_of ys)) ≡ Some r → Waits d (all (map fields_domains (first_of ys))) r.1
+  record_waits : (packed : Option ℕ) (hidden : Hidden) (d : Declared) (at : ℕ) (ys : List AtFields) (r : DataType × Declared) → record_type f packed hidden d at (map (fields f) (first_of ys)) ≡ Yes r → Waits d (all (map fields_domains (first_of ys))) r.1
   unfolding record_type
   record_waits packed hidden d at ys r e =
-      let names = then_some (record_names f (map (fields f) (first_of ys))) _ r e in
-      let types = then_some (steps (add_fields f (names.0 ∷ hidden)) ([], d) (map (fields f) (first_of ys))) _ r names.2 in
-      let t = then_some (small (RecordType (begins packed at) (is_packed packed) (field_list names.0 (listed types.0.0)))) _ r types.2 in
-      waits_at d (all (map fields_domains (first_of ys))) (t.0, types.0.1) r t.2 (all_wait (names.0 ∷ hidden) ys ([], d) types.0 types.1)
+      let names = record_names f (map (fields f) (first_of ys)) in
+      let types = then_yes (steps (add_fields f names hidden) ([], d) (map (fields f) (first_of ys))) _ r e in
+      let t = then_yes (small (begins packed at) (RecordType (begins packed at) (is_packed packed) (field_list names (listed types.0.0)))) _ r types.2 in
+      waits_at d (all (map fields_domains (first_of ys))) (t.0, types.0.1) r t.2 (all_wait names hidden ys ([], d) types.0 types.1)
 
-  set_waits : (packed : Option ℕ) (hidden : Hidden) (d : Declared) (at : ℕ) (x : syntax.Ordinal) (r : DataType × Declared) → set_type f packed hidden d at x ≡ Some r → Waits d [] r.1
+  set_waits : (packed : Option ℕ) (hidden : Hidden) (d : Declared) (at : ℕ) (x : syntax.Ordinal) (r : DataType × Declared) → set_type f packed hidden d at x ≡ Yes r → Waits d [] r.1
   unfolding set_type
   set_waits packed hidden d at x r e =
-      let q = then_some (ordinal f hidden d x) _ r e in
-      let t = then_some (set_of (begins packed at) (is_packed packed) q.0.0) _ r q.2 in
+      let q = then_yes (ordinal f hidden d x) _ r e in
+      let t = then_yes (set_of at (begins packed at) (is_packed packed) q.0.0) _ r q.2 in
       waits_at d [] (t.0, q.0.1) r t.2 (ordinal_waits hidden d x q.0 q.1)
 
-  pointer_waits : (hidden : Hidden) (d : Declared) (domain : Span) (r : DataType × Declared) → pointer f hidden d domain ≡ Some r → Waits d (domain ∷ []) r.1
-  pointer_waits hidden d domain r e = let q = provided_some _ _ r e in waits_at d (domain ∷ []) _ r (ap (λ z. Some z) q.1) (record { pending = refl; domains = refl })
+  pointer_waits : (hidden : Hidden) (d : Declared) (domain : Span) (r : DataType × Declared) → pointer f hidden d domain ≡ Yes r → Waits d (domain ∷ []) r.1
+  pointer_waits hidden d domain r e =
+      let free = then_yes (passes hidden (spelled f.text domain) domain.from) _ r e in
+      let q = provided_yes _ _ _ _ r free.2 in
+      waits_at d (domain ∷ []) _ r (ap (λ z. Yes z) q.1) (record { pending = map-append (λ (w : Span × ℕ). w.0) d.pending ((domain, length d.known) ∷ []); domains = refl })
 
   structure_layer : (y : Structure-F AtStructure AtType AtFields) → StructureWaits (roll-Structure (map-Structure AtStructure AtType AtFields Structure TypeDenoter Fields (λ e. e.0) (λ e. e.0) (λ e. e.0) y))
   unfolding denoters.structure_step
@@ -204,89 +226,88 @@ module _ (f : Frame) where
       (λ x y is. subst (λ z. TypeWaits (roll-TypeDenoter z)) is (type_layer y))
       (λ x y is. subst (λ z. FieldsWait (roll-Fields z)) is (fields_layer y))
 
-  -- ---- the parts of a block
+-- ---- the parts of a block
 
-  constants_wait : (cs : List ConstantDefinition) (d e : Declared) → steps (define_constant f) d cs ≡ Some e → Waits d [] e
+module _ (f : Frame) where
+  constants_wait : (cs : List ConstantDefinition) (d e : Declared) → steps (define_constant f) d cs ≡ Yes e → Waits d [] e
   unfolding define_constant
-  constants_wait [] d e q = subst (Waits d []) (inside d e q) (waits_none d)
+  constants_wait [] d e q = subst (Waits d []) (inside_yes d e q) (waits_none d)
   constants_wait (c ∷ cs) d e q =
-      let one = then_some (define_constant f d c) _ e q in
-      let v = then_some (constant f.text (regions f [] d.known) c.value) _ one.0 one.1 in
+      let one = then_yes (define_constant f d c) _ e q in
+      let begun = then_yes (begin f d.known [] c.name) _ one.0 one.1 in
+      let v = then_yes (constant f.text (regions f [] d.known) c.value) _ one.0 begun.2 in
       let n : Declared = denoters.with_known d (d.known ++ meaning_of_constant v.0 ∷ []) in
-      waits_both d one.0 e [] [] (subst (Waits d []) (inside n one.0 v.2) (record { pending = sym (append-nil d.pending); domains = refl })) (constants_wait cs one.0 e one.2)
+      waits_both d one.0 e [] [] (subst (Waits d []) (inside_yes n one.0 v.2) (record { pending = sym (append-nil (waiting d)); domains = refl })) (constants_wait cs one.0 e one.2)
 
-  types_wait : (ts : List TypeDefinition) (d e : Declared) → steps (define_type f) d ts ≡ Some e → Waits d (type_domains ts) e
-  unfolding define_type
-  types_wait [] d e q = subst (Waits d []) (inside d e q) (waits_none d)
+  types_wait : (ts : List TypeDefinition) (d e : Declared) → steps (define_type f) d ts ≡ Yes e → Waits d (type_domains ts) e
+  types_wait [] d e q = subst (Waits d []) (inside_yes d e q) (waits_none d)
   types_wait (t ∷ ts) d e q =
-      let one = then_some (define_type f d t) _ e q in
-      let r = then_some (denoter f t.ty [] d) _ one.0 one.1 in
-      let inner = type_waits t.ty [] d r.0 r.1 in
-      waits_both d one.0 e (domain_names t.ty) (type_domains ts) (subst (Waits d (domain_names t.ty)) (inside _ one.0 r.2) (record { pending = inner.pending; domains = inner.domains })) (types_wait ts one.0 e one.2)
+      let one = then_yes (define_type f d t) _ e q in
+      let r = type_defined f d t one.0 one.1 in
+      let inner = type_waits (within f (spelled f.text t.name ∷ [])) t.ty [] d r.read r.reading in
+      waits_both d one.0 e (domain_names t.ty) (type_domains ts) (subst (Waits d (domain_names t.ty)) r.is (record { pending = inner.pending; domains = inner.domains })) (types_wait ts one.0 e one.2)
 
   module _ (first : ℕ) where
-    names_wait : (type : DataType) (names : List Span) (d e : Declared) → steps (declare_variable first type) d names ≡ Some e → Waits d [] e
-    names_wait type [] d e q = subst (Waits d []) (inside d e q) (waits_none d)
+    names_wait : (type : DataType) (names : List Span) (d e : Declared) → steps (declare_variable first type) d names ≡ Yes e → Waits d [] e
+    names_wait type [] d e q = subst (Waits d []) (inside_yes d e q) (waits_none d)
     names_wait type (name ∷ names) d e q =
-        let one = then_some (declare_variable first type d name) _ e q in
-        let next = then_some (one_more (first + length d.variables)) _ one.0 one.1 in
+        let one = then_yes (declare_variable first type d name) _ e q in
+        let next = then_yes (some_or Limit name.from (one_more (first + length d.variables))) _ one.0 one.1 in
         let made : Declared = record { known = d.known ++ VariableMeaning (first + length d.variables) type ∷ []; domains = d.domains; pending = d.pending; variables = d.variables ++ type ∷ [] } in
-        waits_both d one.0 e [] [] (subst (Waits d []) (inside made one.0 next.2) (record { pending = sym (append-nil d.pending); domains = refl })) (names_wait type names one.0 e one.2)
+        waits_both d one.0 e [] [] (subst (Waits d []) (inside_yes made one.0 next.2) (record { pending = sym (append-nil (waiting d)); domains = refl })) (names_wait type names one.0 e one.2)
 
-    variables_wait : (vs : List Variables) (d e : Declared) → steps (declare_variables f first) d vs ≡ Some e → Waits d (variable_domains vs) e
-    unfolding declare_variables
-    variables_wait [] d e q = subst (Waits d []) (inside d e q) (waits_none d)
+    variables_wait : (vs : List Variables) (d e : Declared) → steps (declare_variables f first) d vs ≡ Yes e → Waits d (variable_domains vs) e
+    variables_wait [] d e q = subst (Waits d []) (inside_yes d e q) (waits_none d)
     variables_wait (v ∷ vs) d e q =
-        let one = then_some (declare_variables f first d v) _ e q in
-        let r = then_some (denoter f v.ty [] d) _ one.0 one.1 in
+        let one = then_yes (declare_variables f first d v) _ e q in
+        let r = variables_declared f first d v one.0 one.1 in
         let names : List Span = domain_names v.ty in
-        let both = waits_both d r.0.1 one.0 names [] (type_waits v.ty [] d r.0 r.1) (names_wait r.0.0 v.names r.0.1 one.0 r.2) in
+        let both = waits_both d r.read.1 one.0 names [] (type_waits (within f (variable_names f v)) v.ty (hidden_by f v) d r.read r.reading) (names_wait r.read.0 v.names r.read.1 one.0 r.names) in
         waits_both d one.0 e names (variable_domains vs) (subst (λ l. Waits d l one.0) (append-nil names) both) (variables_wait vs one.0 e one.2)
 
-    names_extend : (type : DataType) (names : List Span) (d e : Declared) → steps (declare_variable first type) d names ≡ Some e → (more : List Meaning) × (e.known ≡ d.known ++ more)
-    names_extend type [] d e q = ([], ap (λ (z : Declared). z.known) (sym (inside d e q)) ∙ sym (append-nil d.known))
+    names_extend : (type : DataType) (names : List Span) (d e : Declared) → steps (declare_variable first type) d names ≡ Yes e → (more : List Meaning) × (e.known ≡ d.known ++ more)
+    names_extend type [] d e q = ([], ap (λ (z : Declared). z.known) (sym (inside_yes d e q)) ∙ sym (append-nil d.known))
     names_extend type (name ∷ names) d e q =
-        let one = then_some (declare_variable first type d name) _ e q in
-        let next = then_some (one_more (first + length d.variables)) _ one.0 one.1 in
+        let one = then_yes (declare_variable first type d name) _ e q in
+        let next = then_yes (some_or Limit name.from (one_more (first + length d.variables))) _ one.0 one.1 in
         let m = VariableMeaning (first + length d.variables) type in
         let made : Declared = record { known = d.known ++ m ∷ []; domains = d.domains; pending = d.pending; variables = d.variables ++ type ∷ [] } in
         let rest = names_extend type names one.0 e one.2 in
-        (m ∷ rest.0, rest.1 ∙ ap (λ (z : Declared). z.known ++ rest.0) (sym (inside made one.0 next.2)) ∙ append_assoc d.known (m ∷ []) rest.0)
+        (m ∷ rest.0, rest.1 ∙ ap (λ (z : Declared). z.known ++ rest.0) (sym (inside_yes made one.0 next.2)) ∙ append_assoc d.known (m ∷ []) rest.0)
 
-    variables_extend : (vs : List Variables) (d e : Declared) → steps (declare_variables f first) d vs ≡ Some e → (more : List Meaning) × (e.known ≡ d.known ++ more)
-    unfolding declare_variables
-    variables_extend [] d e q = ([], ap (λ (z : Declared). z.known) (sym (inside d e q)) ∙ sym (append-nil d.known))
+    variables_extend : (vs : List Variables) (d e : Declared) → steps (declare_variables f first) d vs ≡ Yes e → (more : List Meaning) × (e.known ≡ d.known ++ more)
+    variables_extend [] d e q = ([], ap (λ (z : Declared). z.known) (sym (inside_yes d e q)) ∙ sym (append-nil d.known))
     variables_extend (v ∷ vs) d e q =
-        let one = then_some (declare_variables f first d v) _ e q in
-        let r = then_some (denoter f v.ty [] d) _ one.0 one.1 in
+        let one = then_yes (declare_variables f first d v) _ e q in
+        let r = variables_declared f first d v one.0 one.1 in
         let constants : List Meaning = map constant_of (type_declarations v.ty) in
-        let a = (types_told f v.ty).adds [] d r.0 r.1 in
-        let b = names_extend r.0.0 v.names r.0.1 one.0 r.2 in
+        let a = (types_told (within f (variable_names f v)) v.ty).adds (hidden_by f v) d r.read r.reading in
+        let b = names_extend r.read.0 v.names r.read.1 one.0 r.names in
         let c = variables_extend vs one.0 e one.2 in
         ((constants ++ b.0) ++ c.0, c.1 ∙ ap (λ l. l ++ c.0) (b.1 ∙ ap (λ l. l ++ b.0) a.0 ∙ append_assoc d.known constants b.0) ∙ append_assoc d.known (constants ++ b.0) c.0)
 
-  constants_extend : (cs : List ConstantDefinition) (d e : Declared) → steps (define_constant f) d cs ≡ Some e → (more : List Meaning) × (e.known ≡ d.known ++ more)
+  constants_extend : (cs : List ConstantDefinition) (d e : Declared) → steps (define_constant f) d cs ≡ Yes e → (more : List Meaning) × (e.known ≡ d.known ++ more)
   unfolding define_constant
-  constants_extend [] d e q = ([], ap (λ (z : Declared). z.known) (sym (inside d e q)) ∙ sym (append-nil d.known))
+  constants_extend [] d e q = ([], ap (λ (z : Declared). z.known) (sym (inside_yes d e q)) ∙ sym (append-nil d.known))
   constants_extend (c ∷ cs) d e q =
-      let one = then_some (define_constant f d c) _ e q in
-      let v = then_some (constant f.text (regions f [] d.known) c.value) _ one.0 one.1 in
+      let one = then_yes (define_constant f d c) _ e q in
+      let begun = then_yes (begin f d.known [] c.name) _ one.0 one.1 in
+      let v = then_yes (constant f.text (regions f [] d.known) c.value) _ one.0 begun.2 in
       let m = meaning_of_constant v.0 in
       let rest = constants_extend cs one.0 e one.2 in
-      (m ∷ rest.0, rest.1 ∙ ap (λ (z : Declared). z.known ++ rest.0) (sym (inside (denoters.with_known d (d.known ++ m ∷ [])) one.0 v.2)) ∙ append_assoc d.known (m ∷ []) rest.0)
+      (m ∷ rest.0, rest.1 ∙ ap (λ (z : Declared). z.known ++ rest.0) (sym (inside_yes (denoters.with_known d (d.known ++ m ∷ [])) one.0 v.2)) ∙ append_assoc d.known (m ∷ []) rest.0)
 
-  types_extend : (ts : List TypeDefinition) (d e : Declared) → steps (define_type f) d ts ≡ Some e → (more : List Meaning) × (e.known ≡ d.known ++ more)
-  unfolding define_type
-  types_extend [] d e q = ([], ap (λ (z : Declared). z.known) (sym (inside d e q)) ∙ sym (append-nil d.known))
+  types_extend : (ts : List TypeDefinition) (d e : Declared) → steps (define_type f) d ts ≡ Yes e → (more : List Meaning) × (e.known ≡ d.known ++ more)
+  types_extend [] d e q = ([], ap (λ (z : Declared). z.known) (sym (inside_yes d e q)) ∙ sym (append-nil d.known))
   types_extend (t ∷ ts) d e q =
-      let one = then_some (define_type f d t) _ e q in
-      let r = then_some (denoter f t.ty [] d) _ one.0 one.1 in
+      let one = then_yes (define_type f d t) _ e q in
+      let r = type_defined f d t one.0 one.1 in
       let constants : List Meaning = map constant_of (type_declarations t.ty) in
-      let m = TypeMeaning r.0.0 in
-      let a = (types_told f t.ty).adds [] d r.0 r.1 in
+      let m = TypeMeaning r.read.0 in
+      let a = (types_told (within f (spelled f.text t.name ∷ [])) t.ty).adds [] d r.read r.reading in
       let rest = types_extend ts one.0 e one.2 in (
         (constants ++ m ∷ []) ++ rest.0,
-        rest.1 ∙ ap (λ (z : Declared). z.known ++ rest.0) (sym (inside (denoters.with_known r.0.1 (r.0.1.known ++ m ∷ [])) one.0 r.2)) ∙ ap (λ l. (l ++ m ∷ []) ++ rest.0) a.0 ∙ ap (λ l. l ++ rest.0) (append_assoc d.known constants (m ∷ [])) ∙ append_assoc d.known (constants ++ m ∷ []) rest.0,
+        rest.1 ∙ ap (λ (z : Declared). z.known ++ rest.0) (sym r.is) ∙ ap (λ l. (l ++ m ∷ []) ++ rest.0) a.0 ∙ ap (λ l. l ++ rest.0) (append_assoc d.known constants (m ∷ [])) ∙ append_assoc d.known (constants ++ m ∷ []) rest.0,
       )
 
   -- ---- where a part ends
@@ -297,38 +318,40 @@ module _ (f : Frame) where
     pub known : e.known ≡ d.known
     domains : e.domains ≡ d.domains ++ types
     many : length types ≡ length names
-    are : (i : ℕ) (name : Span) → slice_get names i ≡ Some name → (type : DataType) × (type_named f.text (regions f [] d.known) name ≡ Some type) × (slice_get types i ≡ Some type)
+    are : (i : ℕ) (name : Span) → slice_get names i ≡ Some name → (type : DataType) × (type_named f.text (regions f [] d.known) name ≡ Yes type) × (slice_get types i ≡ Some type)
 
   abbrev AreNamed : Points → List DataType → List Meaning → Type 0
-  AreNamed names types known = (i : ℕ) (name : Span) → slice_get names i ≡ Some name → (type : DataType) × (type_named f.text (regions f [] known) name ≡ Some type) × (slice_get types i ≡ Some type)
+  AreNamed names types known = (i : ℕ) (name : Span) → slice_get names i ≡ Some name → (type : DataType) × (type_named f.text (regions f [] known) name ≡ Yes type) × (slice_get types i ≡ Some type)
 
-  settled_at : (x : Span) (xs : Points) (type : DataType) (types : List DataType) (known : List Meaning) → type_named f.text (regions f [] known) x ≡ Some type → AreNamed xs types known → AreNamed (x ∷ xs) (type ∷ types) known
+  settled_at : (x : Span) (xs : Points) (type : DataType) (types : List DataType) (known : List Meaning) → type_named f.text (regions f [] known) x ≡ Yes type → AreNamed xs types known → AreNamed (x ∷ xs) (type ∷ types) known
   settled_at x xs type types known e further zero name g = (type, ap (type_named f.text (regions f [] known)) (sym (inside x name g)) ∙ e, refl)
   settled_at x xs type types known e further (suc i) name g = further i name g
 
-  all_settled : (names : Points) (d e : Declared) → steps (resolve_domain f) d names ≡ Some e → Settled names d e
+  all_settled : (ws : List (Span × ℕ)) (d e : Declared) → steps (resolve_domain f) d ws ≡ Yes e → Settled (pending_names ws) d e
   unfolding resolve_domain
-  all_settled [] d e q = subst (Settled [] d) (inside d e q) (record { types = []; known = refl; domains = sym (append-nil d.domains); many = refl; are = λ i name g. absurd (none_some g) })
-  all_settled (x ∷ xs) d e q =
-      let one = then_some (resolve_domain f d x) _ e q in
-      let t = then_some (type_named f.text (regions f [] d.known) x) _ one.0 one.1 in
+  all_settled [] d e q = subst (Settled [] d) (inside_yes d e q) (record { types = []; known = refl; domains = sym (append-nil d.domains); many = refl; are = λ i name g. absurd (none_some g) })
+  all_settled (w ∷ ws) d e q =
+      let one = then_yes (resolve_domain f d w) _ e q in
+      let point = then_yes (denoted f.text (regions f [] d.known) w.0) _ one.0 one.1 in
+      let t = then_yes (domain_at (is_later f.names w.1 (spelled f.text w.0)) w.0.from point.0) _ one.0 point.2 in
       let made : Declared = record { known = d.known; domains = d.domains ++ t.0 ∷ []; pending = d.pending; variables = d.variables } in
-      let is : made ≡ one.0 = inside made one.0 t.2 in
-      let rest = all_settled xs one.0 e one.2 in
+      let is : made ≡ one.0 = inside_yes made one.0 t.2 in
+      let rest = all_settled ws one.0 e one.2 in
       let same_known : one.0.known ≡ d.known = ap (λ (z : Declared). z.known) (sym is) in
+      let named : type_named f.text (regions f [] d.known) w.0 ≡ Yes t.0 = ap (λ j. j >>= type_at w.0.from) point.1 ∙ domain_is (is_later f.names w.1 (spelled f.text w.0)) w.0.from point.0 t.0 t.1 in
       record {
         types = t.0 ∷ rest.types;
         known = rest.known ∙ same_known;
         domains = rest.domains ∙ ap (λ (z : Declared). z.domains ++ rest.types) (sym is) ∙ append_assoc d.domains (t.0 ∷ []) rest.types;
         many = ap suc rest.many;
-        are = settled_at x xs t.0 rest.types d.known t.1 (λ j n h. let r = rest.are j n h in (r.0, ap (λ k. type_named f.text (regions f [] k) n) (sym same_known) ∙ r.1, r.2));
+        are = settled_at w.0 (pending_names ws) t.0 rest.types d.known named (λ j n h. let r = rest.are j n h in (r.0, ap (λ k. type_named f.text (regions f [] k) n) (sym same_known) ∙ r.1, r.2));
       }
 
-  pub settled : (d e : Declared) → resolve_domains f d ≡ Some e → Settled d.pending d e × (e.pending ≡ [])
+  pub settled : (d e : Declared) → resolve_domains f d ≡ Yes e → Settled (waiting d) d e × (e.pending ≡ [])
   unfolding resolve_domains
   settled d e q =
-      let t = then_some (steps (resolve_domain f) d d.pending) _ e q in
-      let is = inside (record { known = t.0.known; domains = t.0.domains; pending = []; variables = t.0.variables }) e t.2 in
+      let t = then_yes (steps (resolve_domain f) d d.pending) _ e q in
+      let is = inside_yes (record { known = t.0.known; domains = t.0.domains; pending = []; variables = t.0.variables }) e t.2 in
       let a = all_settled d.pending d t.0 t.1 in
       (record { types = a.types; known = ap (λ (z : Declared). z.known) (sym is) ∙ a.known; domains = ap (λ (z : Declared). z.domains) (sym is) ∙ a.domains; many = a.many; are = a.are }, ap (λ (z : Declared). z.pending) (sym is))
 
@@ -350,21 +373,21 @@ module _ (f : Frame) where
       let m : n + i ≡ suc (length before + i) = omega (arith, e) in
       ap (slice_get domains) m ∙ ap (λ l. slice_get l (suc (length before + i))) is ∙ shifted (length before) before types more ((before ++ types) ++ more) i type refl refl g
 
-  pub declarations_told : (first : ℕ) (cs : List ConstantDefinition) (ts : List TypeDefinition) (vs : List Variables) (numbers : ℕ → ℕ) (xs : Declarations) (d e : Declared) → declarations f first d cs ts vs ≡ Some e → d.pending ≡ [] → Stand f first numbers xs d.known
+  pub declarations_told : (first : ℕ) (cs : List ConstantDefinition) (ts : List TypeDefinition) (vs : List Variables) (numbers : ℕ → ℕ) (xs : Declarations) (d e : Declared) → declarations f first d cs ts vs ≡ Yes e → d.pending ≡ [] → Stand f first numbers xs d.known
       → DomainsTold (length ((xs ++ map OfConstant cs) ++ joined (map definition_declarations ts))) ts vs d e
   unfolding declarations
   declarations_told first cs ts vs numbers xs d e q none stands =
-      let a = then_some (steps (define_constant f) d cs) _ e q in
-      let b = then_some (steps (define_type f) a.0 ts) _ e a.2 in
-      let c = then_some (resolve_domains f b.0) _ e b.2 in
-      let g = then_some (steps (declare_variables f first) c.0 vs) _ e c.2 in
+      let a = then_yes (steps (define_constant f) d cs) _ e q in
+      let b = then_yes (steps (define_type f) a.0 ts) _ e a.2 in
+      let c = then_yes (resolve_domains f b.0) _ e b.2 in
+      let g = then_yes (steps (declare_variables f first) c.0 vs) _ e c.2 in
       let one = constants_wait cs d a.0 a.1 in
       let two = types_wait ts a.0 b.0 b.1 in
       let three = settled b.0 c.0 c.1 in
       let four = variables_wait first vs c.0 g.0 g.1 in
       let five = settled g.0 e g.2 in
-      let in_types : b.0.pending ≡ type_domains ts = two.pending ∙ ap (λ l. l ++ type_domains ts) (one.pending ∙ ap (λ l. l ++ []) none) in
-      let in_variables : g.0.pending ≡ variable_domains vs = four.pending ∙ ap (λ l. l ++ variable_domains vs) three.1 in
+      let in_types : waiting b.0 ≡ type_domains ts = two.pending ∙ ap (λ l. l ++ type_domains ts) (one.pending ∙ ap (λ l. pending_names l ++ []) none) in
+      let in_variables : waiting g.0 ≡ variable_domains vs = four.pending ∙ ap (λ l. pending_names l ++ variable_domains vs) three.1 in
       let before : b.0.domains ≡ d.domains = two.domains ∙ one.domains in
       let middle : g.0.domains ≡ d.domains ++ three.0.types = four.domains ∙ three.0.domains ∙ ap (λ l. l ++ three.0.types) before in
       let whole : e.domains ≡ (d.domains ++ three.0.types) ++ five.0.types = five.0.domains ∙ ap (λ l. l ++ five.0.types) middle in
@@ -397,13 +420,13 @@ module _ (f : Frame) where
       }
 
   -- the points that were known stay the first
-  pub declarations_extend : (first : ℕ) (cs : List ConstantDefinition) (ts : List TypeDefinition) (vs : List Variables) (d e : Declared) → declarations f first d cs ts vs ≡ Some e → (more : List Meaning) × (e.known ≡ d.known ++ more)
+  pub declarations_extend : (first : ℕ) (cs : List ConstantDefinition) (ts : List TypeDefinition) (vs : List Variables) (d e : Declared) → declarations f first d cs ts vs ≡ Yes e → (more : List Meaning) × (e.known ≡ d.known ++ more)
   unfolding declarations
   declarations_extend first cs ts vs d e q =
-      let a = then_some (steps (define_constant f) d cs) _ e q in
-      let b = then_some (steps (define_type f) a.0 ts) _ e a.2 in
-      let c = then_some (resolve_domains f b.0) _ e b.2 in
-      let g = then_some (steps (declare_variables f first) c.0 vs) _ e c.2 in
+      let a = then_yes (steps (define_constant f) d cs) _ e q in
+      let b = then_yes (steps (define_type f) a.0 ts) _ e a.2 in
+      let c = then_yes (resolve_domains f b.0) _ e b.2 in
+      let g = then_yes (steps (declare_variables f first) c.0 vs) _ e c.2 in
       let one = constants_extend cs d a.0 a.1 in
       let two = types_extend ts a.0 b.0 b.1 in
       let three = (settled b.0 c.0 c.1).0.known in

@@ -9,7 +9,7 @@
 --       procedure s; begin end;      { path: 1 }
 --       begin end.
 use Rattle.std.proofs.Common.{◌≡◌, ℕ, true, false, List, [], ◌∷◌, ◌++◌, Some, None, refl, sym, ap, ◌∙◌, arith}
-use Rattle.std.specs.Prelude.{Option, codes}
+use Rattle.std.specs.Prelude.{Option, codes, pos, nat_eq, if◌then◌else◌}
 use Rattle.ps_text.specs.declared.Span.{Span}
 use Rattle.ps_syntax.specs.declared.statement.Constant.TheVariants as constant
 use Rattle.ps_syntax.specs.declared.program.ConstantDefinition.{ConstantDefinition}
@@ -21,12 +21,17 @@ use Rattle.ps_syntax.specs.declared.program.Routine.{Routine, roll-Routine, out-
 use Rattle.ps_syntax.specs.declared.program.Routine.TheOpen.{Routine-F}
 use Rattle.ps_syntax.specs.declared.program.Routine.TheFolds.{fold-roll-Block, fold-roll-Routine}
 use Rattle.ps_syntax.specs.declared.program.Program as syntax
-use Rattle.ps_check_names.specs.Option.{◌>>=◌}
+use Rattle.ps_tree.specs.Tree as Tree
+use Rattle.ps_tree.specs.declared.tree.Direction.TheVariants.{To}
+use Rattle.ps_check_judgement.specs.declared.change.Change.{Change}
+use Rattle.ps_check_judgement.specs.Judged.{Yes}
+use Rattle.ps_check_laws.specs.Option.{◌>>=◌}
 use Rattle.ps_tree.specs.Types.{DataType, OrdinalType, RecordType, FieldList, field_list, type_before, no_type, field_in}
 use Rattle.ps_check_names.specs.Spelling.{has, place}
 use Rattle.ps_check_names.specs.Regions.{Region, BlockRegion, Point, BlockPoint, FieldPoint, VariableMeaning, find, find_past}
 use Rattle.ps_check_names.specs.Constants.{integer}
 use Rattle.ps_check.specs.Readings.{heading_name, heading_list, is_bare}
+use Rattle.ps_check.specs.Changes as changes
 use Rattle.ps_check.specs.Paths.{block_at, routine_block}
 use Rattle.ps_check_laws.specs.Definitions.{Definition, own_declarations, variable_declarations, section_points, formal_points, formal_declarations, routine_name, routine_heading, routine_names, introduced_from, definitions_of, names_of, introducer, heading_of, points_before}
 use Rattle.ps_check_laws.specs.Uses.{Opened, opened_regions, IsOfRecord, IsDenoted, of_record, of_block, of_required}
@@ -52,6 +57,7 @@ use Rattle.ps_check_laws.specs.Occurrences.{statements_uses}
 use Rattle.ps_check_laws.specs.InDeclarations as declarations
 use Rattle.ps_check_laws.specs.Counts as drawn
 use Rattle.ps_check_laws.specs.Counts.{own_domains, domains_before, first_domain_at}
+use Rattle.ps_check_laws.specs.Controls.{statement_loops, statements_loops, statements_control, AreUnchanged, changes_from}
 use Rattle.ps_check_laws.proofs.Lists.{none_some, inside}
 use Rattle.ps_check_laws.specs.Denoting.{Where, Denotes, here, outward, first_declarations, definitions_at, points_before_at, counted, block_step, headings_before, own_heading, first_number, number_at}
 
@@ -191,13 +197,13 @@ type_of_r = RecordType 0 false fields_of_r
 abbrev with_own_a : Region
 with_own_a = BlockRegion 0 (codes "a" ∷ codes "r" ∷ []) (VariableMeaning 0 (OrdinalType integer) ∷ VariableMeaning 1 type_of_r ∷ [])
 
-within_the_with : find (opened_regions ((type_of_r, fields_of_r) ∷ []) ++ with_own_a ∷ []) (codes "a") ≡ Some (FieldPoint 0 type_of_r 0 (OrdinalType integer))
+within_the_with : (from : ℕ) → find (opened_regions ((type_of_r, fields_of_r) ∷ []) ++ with_own_a ∷ []) (codes "a") from ≡ Yes (FieldPoint 0 type_of_r 0 (OrdinalType integer))
 unfolding find_past
-within_the_with = refl
+within_the_with from = refl
 
-behind_the_with : find (opened_regions [] ++ with_own_a ∷ []) (codes "a") ≡ Some (BlockPoint 0 (VariableMeaning 0 (OrdinalType integer)))
+behind_the_with : (from : ℕ) → find (opened_regions [] ++ with_own_a ∷ []) (codes "a") from ≡ Yes (BlockPoint 0 (VariableMeaning 0 (OrdinalType integer)))
 unfolding find_past
-behind_the_with = refl
+behind_the_with from = refl
 
 -- ---- a forward heading
 --
@@ -286,3 +292,30 @@ q_function = roll-Heading (Heading-F.Function (at 1 2) (roll-Section (Section-F.
 -- the parameter's type is used within the list, which has the name b, and the result's behind it
 used_in_heading : (declarations.heading_part q_function).1 ≡ record { name = at 0 1; enclosing = (at 2 3 ∷ []) ∷ []; before = 0 } ∷ record { name = at 3 4; enclosing = []; before = 0 } ∷ []
 used_in_heading = simp (fold-roll-Heading, fold-roll-Section) refl
+
+-- ---- changes: of three routines the second is a forward heading; the third changes the entry 2 of the block round its own, and an entry of its own
+
+abbrev change : ℕ → ℕ → ℕ → Change
+change up entry from = record { up = up; entry = entry; at = from }
+
+abbrev their_changes : ℕ → List Change
+their_changes k = if nat_eq k 2 then change 1 2 30 ∷ change 0 2 40 ∷ [] else []
+
+changed_outside : changes_from their_changes 0 (r ∷ q_forward ∷ q_completed ∷ []) ≡ change 0 2 30 ∷ []
+unfolding changes_from routine_block changes.outward
+changed_outside = simp (out-roll-Routine) refl
+
+-- so 2 can be no control variable of the block's `for` statements, and 1 can
+no_control : AreUnchanged (change 0 2 30 ∷ []) (2 ∷ []) → ⊥
+no_control t = (let clash = t.0.0 in cc)
+
+a_control : AreUnchanged (change 0 2 30 ∷ []) (1 ∷ [])
+a_control = ((refl, tt), tt)
+
+-- the control variables of nested `for` statements
+abbrev counting : ℕ → Tree.Statement → Tree.Statement
+counting entry body = Tree.For entry (pos 0) (pos 1) (Tree.Number (pos 0)) 1 To (Tree.Number (pos 1)) 1 body
+
+nested_controls : statements_control (Tree.statement_before (counting 2 (Tree.Compound (Tree.statement_before (counting 1 Tree.Empty) Tree.no_statement))) Tree.no_statement) ≡ 2 ∷ 1 ∷ []
+unfolding statements_loops statement_loops
+nested_controls = refl

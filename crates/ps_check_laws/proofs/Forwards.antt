@@ -1,36 +1,28 @@
 -- The forward headings of a block: while its routines are read, those without a block are the ones whose block hasn't come; at its end all have come.
-use Rattle.std.proofs.Common.{◌≡◌, ℕ, zero, suc, ◌+◌, ◌<◌, ◌≤◌, Bool, true, false, ◌&&◌, not, if◌then◌else◌, cond, List, [], ◌∷◌, ◌++◌, length, map, take, nat_eq, Option, Some, None, is_some, is_none, option_map, slice_get, refl, sym, ap, ◌∙◌, subst, append_assoc, append-nil, eqb-true, eq-eqb, arith}
-use Rattle.std.specs.List.{position_from, list_all}
+use Rattle.std.proofs.Common.{◌≡◌, ℕ, zero, suc, ◌<◌, ◌≤◌, Bool, true, false, ◌&&◌, not, if◌then◌else◌, List, [], ◌∷◌, ◌++◌, length, map, take, nat_eq, Option, Some, None, is_some, is_none, option_map, slice_get, refl, sym, ap, ◌∙◌, subst, append_assoc, append-nil, eqb-true, eq-eqb, arith}
 use Rattle.ps_syntax.specs.declared.program.Heading as syntax
 use Rattle.ps_syntax.specs.declared.program.Block as syntax_block
 use Rattle.ps_syntax.specs.declared.program.Routine.{Routine, out-Routine}
 use Rattle.ps_syntax.specs.declared.program.Routine.TheOpen.{Routine-F}
 use Rattle.ps_tree.specs.Tree as Tree
-use Rattle.ps_check_names.specs.Option.{steps}
-use Rattle.ps_check_names.specs.Spelling.{same, has, place}
+use Rattle.ps_check_judgement.specs.declared.refusal.Rule.TheVariants.{ForwardOpen}
+use Rattle.ps_check_judgement.specs.Judged.{Yes, steps}
+use Rattle.ps_check_judgement.proofs.Binds.{inside_yes, then_yes, holds_yes}
+use Rattle.ps_check_names.specs.Spelling.{place}
 use Rattle.ps_check_names.specs.Regions.{Region, Meaning, RoutineMeaning, Heading, Context}
-use Rattle.ps_check.specs.Readings.{Routines, is_bare, is_name_alone}
-use Rattle.ps_check.specs.Forwards.{may_complete, add_routine, is_vacant, is_same_kind, is_complete, all_complete}
+use Rattle.ps_check.specs.Readings.{Gathered, Routines, is_bare, is_name_alone}
+use Rattle.ps_check.specs.Forwards.{may_complete, add_routine, add_routines, is_vacant, is_open, is_same_kind, one_complete, all_complete}
 use Rattle.ps_check.specs.Blocks.{one_routine, block, routine}
 use Rattle.ps_check.specs.Paths.{layer_block, routine_block}
 use Rattle.ps_check_laws.specs.Definitions.{Declaration, Declarations, Definition, OfDeclaration, layer_heading, routine_heading, introduced_from, names_of}
 use Rattle.ps_check_laws.specs.Forward.{is_function, layer_completes, Completes, HasBlock, AreCompleted}
-use Rattle.ps_check_laws.proofs.Lists.{none_some, inside, then_some, never, get_below, there_is, get_left, get_stays, get_at, get_last, compare, Each}
+use Rattle.ps_check_laws.proofs.Lists.{none_some, inside, never, get_below, there_is, get_left, get_stays, get_at, get_last, compare, Each}
 use Rattle.ps_check_laws.proofs.Formals.{heading_told}
-use Rattle.ps_check_laws.proofs.Routines.{same_equal, read, sp}
+use Rattle.ps_check_laws.proofs.Routines.{read, sp}
+pub use Rattle.ps_check_laws.proofs.Routines.{placed}
 use Rattle.ps_check_laws.proofs.Steps.{declares_plain, plain_not, not_both, heading_or, Keeps, RoutineGrows, At, How, completing, introducing, HasHeading, one_taken, step_at, all_more, before, f}
 
 -- ---- places
-
-next_place : (s : List ℕ) (n : ℕ) (x : List ℕ) (xs : List (List ℕ)) (i : ℕ) (b : Bool) → same s x ≡ b → cond b (Some n) (position_from (same s) (n + 1) xs) ≡ Some i
-    → (position_from (same s) (n + 1) xs ≡ Some i → (m : ℕ) × (i ≡ (n + 1) + m) × (slice_get xs m ≡ Some s)) → (m : ℕ) × (i ≡ n + m) × (slice_get (x ∷ xs) m ≡ Some s)
-next_place s n x xs i true q e further = (0, sym (inside n i e) ∙ (let z : n ≡ n + 0 = omega arith in z), ap (λ y. Some y) (sym (same_equal s x q)))
-next_place s n x xs i false q e further = let r = further e in (suc r.0, (let z = r.1 in omega (arith, z)), r.2)
-
--- the name at the place of a spelling is that spelling
-pub placed : (s : List ℕ) (n : ℕ) (xs : List (List ℕ)) (i : ℕ) → position_from (same s) n xs ≡ Some i → (m : ℕ) × (i ≡ n + m) × (slice_get xs m ≡ Some s)
-placed s n [] i e = absurd (none_some e)
-placed s n (x ∷ xs) i e = next_place s n x xs i (same s x) refl e (placed s (n + 1) xs i)
 
 same_place : (names : List (List ℕ)) (s t : List ℕ) (i : ℕ) → place names s ≡ Some i → place names t ≡ Some i → s ≡ t
 same_place names s t i e g =
@@ -87,10 +79,16 @@ block_of c x may none =
     let block_none : is_some (routine c x).block ≡ false = ap is_some ((read c x).block_is ∙ ap (option_map (block c)) none) in
     never (sym block_none ∙ and_left (is_some (routine c x).block) (is_name_alone (routine c x).heading) may)
 
-of_all : {A : Type 0} (p : A → Bool) (xs : List A) (i : ℕ) (x : A) → list_all p xs ≡ true → slice_get xs i ≡ Some x → p x ≡ true
-of_all p [] i x e g = absurd (none_some g)
-of_all p (y ∷ xs) zero x e g = ap p (sym (inside y x g)) ∙ and_left (p y) (list_all p xs) e
-of_all p (y ∷ xs) (suc i) x e g = of_all p xs i x (and_right (p y) (list_all p xs) e) g
+-- a routine of a block whose forward headings have their blocks has its block
+complete_at : (g : Gathered) (ms : List Meaning) (u v : Unit {0}) (i : ℕ) (h : Heading) → steps (one_complete g) u ms ≡ Yes v → slice_get ms i ≡ Some (RoutineMeaning h) → not (is_open g h) ≡ true
+unfolding one_complete
+complete_at g [] u v i h e q = absurd (none_some q)
+complete_at g (m ∷ ms) u v zero h e q =
+    let one = then_yes (one_complete g u m) _ v e in
+    holds_yes (not (is_open g h)) ForwardOpen h.at one.0 (ap (one_complete g u) (sym (inside m (RoutineMeaning h) q)) ∙ one.1)
+complete_at g (m ∷ ms) u v (suc i) h e q =
+    let one = then_yes (one_complete g u m) _ v e in
+    complete_at g ms one.0 v i h one.2 q
 
 declaration_at : (D : Declarations) (i : ℕ) (d : Definition) → slice_get (map OfDeclaration D ++ []) i ≡ Some d → (y : Declaration) × (d ≡ OfDeclaration y)
 declaration_at [] i d e = absurd (none_some e)
@@ -134,14 +132,13 @@ module _ (c : Context) (number : ℕ) (names : List (List ℕ)) (outer : List Re
       (known_same : w.known ≡ s.known) (longer : length s.gathered.routines ≤ length w.gathered.routines) (keeps : Keeps r.gathered w.gathered)
       (others : (n : ℕ) → n < length s.gathered.routines → (n ≡ intro.heading.number → ⊥) → slice_get w.gathered.routines n ≡ slice_get s.gathered.routines n)
       (without : routine_block x ≡ None → s ≡ w)
-      (made : (b : syntax_block.Block) → routine_block x ≡ Some b → (y : Tree.Routine) × (slice_get w.gathered.routines intro.heading.number ≡ Some (Some y)))
-      (may : has (names_of c.text (before c number names outer first chain D base drawn all done)) (sp c.text x) ≡ true → may_complete (routine c x) ≡ true) where
+      (made : (b : syntax_block.Block) → routine_block x ≡ Some b → (y : Tree.Routine) × (slice_get w.gathered.routines intro.heading.number ≡ Some (Some y))) where
     abbrev IsHow : Type 0
     IsHow = How c number names outer first chain D base drawn all done x r s index intro.by intro.heading
 
     old_or_new : IsHow → (i : ℕ) (h : Heading) (C : Type 0) → slice_get s.known i ≡ Some (RoutineMeaning h) → (slice_get r.known i ≡ Some (RoutineMeaning h) → C)
         → (h ≡ intro.heading → i ≡ index → intro.heading.number ≡ length r.gathered.routines → C) → C
-    old_or_new (completing here same_routines alike) i h C e old new = old (ap (λ (z : Routines). slice_get z.known i) same_routines ∙ e)
+    old_or_new (completing here same_routines alike may) i h C e old new = old (ap (λ (z : Routines). slice_get z.known i) same_routines ∙ e)
     old_or_new (introducing is last known numbered) i h C e old new =
         get_last r.known (RoutineMeaning intro.heading) i (RoutineMeaning h) C (sym (ap (λ l. slice_get l i) known) ∙ e) old
         (λ q same_meaning. new (ap (heading_or h) (sym same_meaning)) (q ∙ sym last) numbered)
@@ -164,7 +161,7 @@ module _ (c : Context) (number : ℕ) (names : List (List ℕ)) (outer : List Re
         (λ is_too p m. q ∙ sym p))
 
     still_known : IsHow → (i : ℕ) (m : Meaning) → slice_get r.known i ≡ Some m → slice_get s.known i ≡ Some m
-    still_known (completing here same_routines alike) i m e = ap (λ (z : Routines). slice_get z.known i) (sym same_routines) ∙ e
+    still_known (completing here same_routines alike may) i m e = ap (λ (z : Routines). slice_get z.known i) (sym same_routines) ∙ e
     still_known (introducing is last known numbered) i m e = ap (λ l. slice_get l i) known ∙ get_stays r.known (RoutineMeaning intro.heading ∷ []) i m e
 
     in_s : (i : ℕ) (m : Meaning) → slice_get w.known i ≡ Some m → slice_get s.known i ≡ Some m
@@ -183,7 +180,7 @@ module _ (c : Context) (number : ℕ) (names : List (List ℕ)) (outer : List Re
     }
 
     forward_new : IsHow → routine_block x ≡ None → (g : syntax.Heading) × (out-Routine x ≡ Routine-F.Forward g) × (is_some intro.heading.result ≡ is_function g)
-    forward_new (completing here same_routines alike) none = absurd (block_of c x (may here) none)
+    forward_new (completing here same_routines alike may) none = absurd (block_of c x may none)
     forward_new (introducing is last known numbered) none =
         let said : routine_heading x ≡ Some intro.said = ap routine_heading (sym is) ∙ intro.is_said in
         let told = heading_told (f c number names outer first chain D base drawn all) intro.known intro.said intro.is.said intro.is.reading in
@@ -223,7 +220,7 @@ module _ (c : Context) (number : ℕ) (names : List (List ℕ)) (outer : List Re
 
     completes_by : IsHow → (p : Routine) (t : Named r p) (b : Option syntax_block.Block) → routine_block p ≡ b → sp c.text x ≡ sp c.text p → t.index ≡ index → Completes c.text p x
     completes_by (introducing is last known numbered) p t b q e i = let l = get_below r.known t.index (RoutineMeaning t.heading) t.known in absurd (omega (arith, l, i, last))
-    completes_by (completing here same_routines alike) p t b q e i =
+    completes_by (completing here same_routines alike may) p t b q e i =
         let same_heading : t.heading ≡ intro.heading = ap (heading_or t.heading) (inside (RoutineMeaning t.heading) (RoutineMeaning intro.heading) (sym t.known ∙ ap (slice_get r.known) i ∙ ap (λ (z : Routines). slice_get z.known index) same_routines ∙ intro.known_there)) in
         at b q same_heading
       where
@@ -233,7 +230,7 @@ module _ (c : Context) (number : ℕ) (names : List (List ℕ)) (outer : List Re
             absurd (not_both (slice_get r.gathered.routines t.heading.number) slot.0 (ap (λ (z : Heading). slice_get r.gathered.routines z.number) same_heading ∙ ap (λ (z : Routines). slice_get z.gathered.routines intro.heading.number) same_routines ∙ intro.vacant) slot.1)
         at None q same_heading =
             let g = t.forward q in
-            record { heading = g.0; forward = g.1; named = e; block = completes_at c x (out-Routine x) g.0 intro.heading refl (ap (λ (z : Heading). is_some z.result) (sym same_heading) ∙ g.2) alike (may here) }
+            record { heading = g.0; forward = g.1; named = e; block = completes_at c x (out-Routine x) g.0 intro.heading refl (ap (λ (z : Heading). is_some z.result) (sym same_heading) ∙ g.2) alike may }
 
     only_last : (k : ℕ) (p : Routine) → slice_get done k ≡ Some p → sp c.text x ≡ sp c.text p → Completes c.text p x
     only_last k p a e =
@@ -271,22 +268,20 @@ module _ (c : Context) (number : ℕ) (names : List (List ℕ)) (outer : List Re
       }
 
   pub all_open : (rs done : List Routine) (r w : Routines) → all ≡ done ++ rs → Each (RoutineGrows c) rs → At c number names outer first chain D base drawn all done r → Open done r
-      → steps (add_routine c.text) (names_of c.text (before c number names outer first chain D base drawn all done)) (map (routine c) rs) ≡ Some names → steps (one_routine (f c number names outer first chain D base drawn all) chain) r (map (routine c) rs) ≡ Some w → Open all w
-  all_open [] done r w split grows at o added e = subst (Open all) (inside r w e) (subst (λ l. Open l r) (sym (append-nil done) ∙ sym split) o)
+      → add_routines c.text (names_of c.text (before c number names outer first chain D base drawn all done)) (map (routine c) rs) ≡ names → steps (one_routine (f c number names outer first chain D base drawn all) chain) r (map (routine c) rs) ≡ Yes w → Open all w
+  all_open [] done r w split grows at o added e = subst (Open all) (inside_yes r w e) (subst (λ l. Open l r) (sym (append-nil done) ∙ sym split) o)
   all_open (x ∷ rs) done r w split grows at o added e =
-      let to = then_some (add_routine c.text (names_of c.text (before c number names outer first chain D base drawn all done)) (routine c x)) _ names added in
-      let v = then_some (one_routine (f c number names outer first chain D base drawn all) chain r (routine c x)) _ w e in
-      let more = all_more c.text (map (routine c) rs) to.0 names to.2 in
-      let taken = one_taken c number names outer first chain D base drawn all done rs x r v.0 more.0 split at to.0 to.1 more.1 v.1 in
+      let v = then_yes (one_routine (f c number names outer first chain D base drawn all) chain r (routine c x)) _ w e in
+      let more = all_more c.text (map (routine c) rs) (add_routine c.text (names_of c.text (before c number names outer first chain D base drawn all done)) (routine c x)) in
+      let taken = one_taken c number names outer first chain D base drawn all done rs x r v.0 more.0 split at (sym added ∙ more.1) v.1 in
       let step = step_at c number names outer first chain D base drawn all done rs x r taken.introduced_to v.0 split at grows.0 taken.index taken.found taken.intro (routine_block x) refl taken.reading in
-      let behind = open_behind done x r taken.introduced_to v.0 taken.index taken.found taken.intro o step.known_same step.longer step.keeps step.others step.without step.made taken.may in
-      all_open rs (done ++ x ∷ []) v.0 w (split ∙ sym (append_assoc done (x ∷ []) rs)) grows.1 step.behind behind (ap (λ l. steps (add_routine c.text) l (map (routine c) rs)) (sym taken.names_are) ∙ to.2) v.2
+      let behind = open_behind done x r taken.introduced_to v.0 taken.index taken.found taken.intro o step.known_same step.longer step.keeps step.others step.without step.made in
+      all_open rs (done ++ x ∷ []) v.0 w (split ∙ sym (append_assoc done (x ∷ []) rs)) grows.1 step.behind behind (ap (λ l. add_routines c.text l (map (routine c) rs)) (sym taken.names_are) ∙ added) v.2
 
   -- ---- at the end of the block
 
-  module _ (w : Routines) (o : Open all w) (complete : all_complete w.gathered w.known ≡ true) where
-    slot_made : (h : Heading) (s : Option Tree.Routine) → slice_get w.gathered.routines h.number ≡ Some s → is_complete w.gathered (RoutineMeaning h) ≡ true → (y : Tree.Routine) × (slice_get w.gathered.routines h.number ≡ Some (Some y))
-    unfolding is_complete
+  module _ (w : Routines) (o : Open all w) (u : Unit {0}) (complete : all_complete w.gathered w.known ≡ Yes u) where
+    slot_made : (h : Heading) (s : Option Tree.Routine) → slice_get w.gathered.routines h.number ≡ Some s → not (is_open w.gathered h) ≡ true → (y : Tree.Routine) × (slice_get w.gathered.routines h.number ≡ Some (Some y))
     slot_made h None slot e = never (sym (ap (λ z. not (is_vacant z)) slot) ∙ e)
     slot_made h (Some y) slot e = (y, slot)
 
@@ -295,7 +290,7 @@ module _ (c : Context) (number : ℕ) (names : List (List ℕ)) (outer : List Re
     block_further_on k x h there forward =
         let t = o.named k x there in
         let s = there_is w.gathered.routines t.heading.number (o.below t.index t.heading t.known) in
-        let y = slot_made t.heading s.0 s.1 (of_all (is_complete w.gathered) w.known t.index (RoutineMeaning t.heading) complete t.known) in
+        let y = slot_made t.heading s.0 s.1 (complete_at w.gathered w.known tt u t.index t.heading complete t.known) in
         let z = o.closed t.index t.heading y.0 t.known y.1 in
         let none = forward_no_block x h forward in
         let alike : sp c.text z.routine ≡ sp c.text x = same_place names (sp c.text z.routine) (sp c.text x) t.index z.found t.found in

@@ -1,6 +1,11 @@
 pub mod Lists
+pub mod Values
+pub mod Handed
+pub mod Threatened
+pub mod Controls
 pub mod Shown
 pub mod Drawn
+pub mod New
 pub mod Apart
 pub mod TypePoints
 pub mod Declared
@@ -21,5 +26,6 @@ pub mod Before
 pub mod Expressions
 pub mod Statements
 pub mod Paths
+pub mod Safe
 pub mod Denoted
 pub mod Examples

@@ -1,8 +1,12 @@
 -- Lists, and steps that were made.
 use Rattle.std.proofs.Common.{◌≡◌, ℕ, zero, suc, ◌+◌, ◌<◌, ◌≤◌, Bool, true, false, ◌||◌, cond, List, [], ◌∷◌, ◌++◌, length, take, drop, Option, Some, None, slice_get, slice_set, refl, sym, ap, ◌∙◌, subst, arith}
+use Rattle.std.specs.Prelude.{if◌then◌else◌}
 use Rattle.std.specs.List.{position_from}
-use Rattle.ps_check_names.specs.Option.{◌>>=◌, provided}
+use Rattle.ps_check_judgement.specs.Judged as j
+use Rattle.ps_check_judgement.specs.Judged.{Judged, Yes, No}
+use Rattle.ps_check_judgement.proofs.Binds.{no_yes, inside_yes}
 use Rattle.ps_check_names.specs.Spelling.{same, has}
+use Rattle.ps_check_laws.specs.Option.{◌>>=◌}
 pub use Rattle.ps_check.specs.RegionNames.{Each}
 
 -- ---- steps that were made
@@ -21,9 +25,19 @@ pub then_some : {A B : Type 0} (o : Option A) (f : A → Option B) (y : B) → (
 then_some None f y h = absurd (none_some h)
 then_some (Some x) f y h = (x, refl, h)
 
-pub provided_some : {A : Type 0} (b : Bool) (x y : A) → provided b x ≡ Some y → (b ≡ true) × (x ≡ y)
-provided_some true x y h = (refl, inside x y h)
-provided_some false x y h = absurd (none_some h)
+-- a judgement that changes nothing, and what comes behind it
+pub then_still : {A B D : Type 0} (q : Judged A) (d : D) (g : A × D → Judged B) (b : B) → j.◌>>=◌ (j.◌>>=◌ q (λ a. Yes (a, d))) g ≡ Yes b → (a : A) × (q ≡ Yes a) × (g (a, d) ≡ Yes b)
+then_still (Yes a) d g b e = (a, refl, e)
+then_still (No rule at) d g b e = absurd (no_yes e)
+
+-- the same at the end
+pub last_still : {A D : Type 0} (q : Judged A) (d : D) (b : A × D) → j.◌>>=◌ q (λ a. Yes (a, d)) ≡ Yes b → (a : A) × (q ≡ Yes a) × ((a, d) ≡ b)
+last_still (Yes a) d b e = (a, refl, inside_yes (a, d) b e)
+last_still (No rule at) d b e = absurd (no_yes e)
+
+pub some_if : {A : Type 0} (b : Bool) (x y : A) → (if b then Some x else None) ≡ Some y → (b ≡ true) × (x ≡ y)
+some_if true x y h = (refl, inside x y h)
+some_if false x y h = absurd (none_some h)
 
 pub never : {A : Type 0} → false ≡ true → A
 never e = absurd (cc)

@@ -6,12 +6,11 @@ use Rattle.ps_syntax.specs.declared.program.Heading as syntax
 use Rattle.ps_syntax.specs.declared.program.Block as syntax_block
 use Rattle.ps_syntax.specs.declared.program.Routine.{Routine, out-Routine}
 use Rattle.ps_syntax.specs.declared.program.Routine.TheOpen.{Routine-F}
-use Rattle.ps_check_names.specs.Option.{◌>>=◌, provided, steps}
 use Rattle.ps_check_names.specs.Spelling.{spelled, same, has, place}
 use Rattle.ps_check_names.specs.Regions.{Heading, Context}
-use Rattle.ps_check_declarations.specs.Points.{Points, add_name, add_point}
+use Rattle.ps_check_declarations.specs.Points.{Points, add_points}
 use Rattle.ps_check.specs.Readings.{is_bare, is_name_alone}
-use Rattle.ps_check.specs.Forwards.{may_complete, is_same_kind, add_routine}
+use Rattle.ps_check.specs.Forwards.{may_complete, is_same_kind, add_routine, add_routines}
 use Rattle.ps_check.specs.Blocks.{block, routine}
 use Rattle.ps_check.specs.RegionNames.{AreApart}
 use Rattle.ps_check.specs.Paths.{layer_block, routine_block}
@@ -45,20 +44,14 @@ place_apart names i s apart e =
     ap (λ l. place l s) split ∙ new_place 0 (take i names) (drop (suc i) names) s s (apart (take i names) (drop (suc i) names) s split) (same_itself s) ∙ ap (λ k. Some k) z
 
 -- points whose names stand once are added
-pub points_added_apart : (text : List ℕ) (whole xs more : List (List ℕ)) (ps : Points) → AreApart whole → whole ≡ xs ++ (map (spelled text) ps ++ more) → steps (add_point text) xs ps ≡ Some (xs ++ map (spelled text) ps)
-points_added_apart text whole xs more [] apart e = ap (λ l. Some l) (sym (append-nil xs))
+pub points_added_apart : (text : List ℕ) (whole xs more : List (List ℕ)) (ps : Points) → AreApart whole → whole ≡ xs ++ (map (spelled text) ps ++ more) → add_points text xs ps ≡ xs ++ map (spelled text) ps
+unfolding add_points
+points_added_apart text whole xs more [] apart e = sym (append-nil xs)
 points_added_apart text whole xs more (p ∷ ps) apart e =
     let s = spelled text p in
     let new : has xs s ≡ false = apart xs (map (spelled text) ps ++ more) s e in
-    ap (λ b. provided (not b) (xs ++ s ∷ []) >>= (λ t. steps (add_point text) t ps)) new
-    ∙ points_added_apart text whole (xs ++ s ∷ []) more ps apart (e ∙ sym (append_assoc xs (s ∷ []) (map (spelled text) ps ++ more))) ∙ ap (λ l. Some l) (append_assoc xs (s ∷ []) (map (spelled text) ps))
-
-pub names_added_apart : (whole xs more ys : List (List ℕ)) → AreApart whole → whole ≡ xs ++ (ys ++ more) → steps add_name xs ys ≡ Some (xs ++ ys)
-names_added_apart whole xs more [] apart e = ap (λ l. Some l) (sym (append-nil xs))
-names_added_apart whole xs more (s ∷ ys) apart e =
-    let new : has xs s ≡ false = apart xs (ys ++ more) s e in
-    ap (λ b. provided (not b) (xs ++ s ∷ []) >>= (λ t. steps add_name t ys)) new
-    ∙ names_added_apart whole (xs ++ s ∷ []) more ys apart (e ∙ sym (append_assoc xs (s ∷ []) (ys ++ more))) ∙ ap (λ l. Some l) (append_assoc xs (s ∷ []) ys)
+    ap (λ b. add_points text (if b then xs else xs ++ s ∷ []) ps) new
+    ∙ points_added_apart text whole (xs ++ s ∷ []) more ps apart (e ∙ sym (append_assoc xs (s ∷ []) (map (spelled text) ps ++ more))) ∙ append_assoc xs (s ∷ []) (map (spelled text) ps)
 
 -- ---- a routine that completes a heading
 
@@ -241,24 +234,24 @@ module _ (c : Context) (D : Declarations) (rs : List Routine) (apart : AreApart 
 
   -- the names of the routines are added to those of the declarations
   module _ (headed : (i k : ℕ) (x : Routine) → slice_get whole i ≡ Some (OfRoutine k x) → (h : syntax.Heading) × (routine_heading x ≡ Some h)) where
-    abbrev named : Bool → List (List ℕ) → Routine → Option (List (List ℕ))
-    named b names x = if b then provided (may_complete (routine c x)) names else (if is_some (routine c x).heading then Some (names ++ sp c.text x ∷ []) else None)
+    abbrev named : Bool → Bool → List (List ℕ) → Routine → List (List ℕ)
+    named b d names x = if b || d then names else names ++ sp c.text x ∷ []
 
-    one_named : (done rest : List Routine) (x : Routine) (split : rs ≡ done ++ x ∷ rest) → Point done rest x split → add_routine c.text (names_of c.text (before done)) (routine c x) ≡ Some (names_of c.text (before (done ++ x ∷ [])))
+    one_named : (done rest : List Routine) (x : Routine) (split : rs ≡ done ++ x ∷ rest) → Point done rest x split → add_routine c.text (names_of c.text (before done)) (routine c x) ≡ names_of c.text (before (done ++ x ∷ []))
     unfolding add_routine
     one_named done rest x split (new h grown absent at) =
         let names = names_of c.text (before done) in
         let heading = headed (length (before done)) (length done) x at in
-        ap (λ n. if has names (spelled c.text n) then provided (may_complete (routine c x)) names else (if is_some (routine c x).heading then Some (names ++ spelled c.text n ∷ []) else None)) (read c x).name
-        ∙ ap (λ b. named b names x) absent ∙ ap (λ o. if is_some o then Some (names ++ sp c.text x ∷ []) else None) ((read c x).heading ∙ heading.1)
-        ∙ ap (λ l. Some l) (sym (points_names_last c.text (before done) (length done) x)) ∙ ap (λ l. Some (names_of c.text l)) (sym (ap (points c.text D) grown ∙ points_last c.text D (introduced c.text done) (length done) x))
+        ap (λ n. if is_none (routine c x).heading || has names (spelled c.text n) then names else names ++ spelled c.text n ∷ []) (read c x).name
+        ∙ ap (λ b. named (is_none (routine c x).heading) b names x) absent ∙ ap (λ o. named (is_none o) false names x) ((read c x).heading ∙ heading.1)
+        ∙ sym (points_names_last c.text (before done) (length done) x) ∙ ap (names_of c.text) (sym (ap (points c.text D) grown ∙ points_last c.text D (introduced c.text done) (length done) x))
     one_named done rest x split (old i j y kept there there_too at in_done alike completes) =
         let names = names_of c.text (before done) in
-        ap (λ n. if has names (spelled c.text n) then provided (may_complete (routine c x)) names else (if is_some (routine c x).heading then Some (names ++ spelled c.text n ∷ []) else None)) (read c x).name
-        ∙ ap (λ b. named b names x) there ∙ ap (λ b. provided b names) (may_so c y x completes) ∙ ap (λ l. Some (names_of c.text (points c.text D l))) (sym kept)
+        ap (λ n. if is_none (routine c x).heading || has names (spelled c.text n) then names else names ++ spelled c.text n ∷ []) (read c x).name
+        ∙ ap (λ b. named (is_none (routine c x).heading) b names x) there ∙ ap (λ b. if b then names else names ++ sp c.text x ∷ []) (or_true (is_none (routine c x).heading)) ∙ ap (λ l. names_of c.text (points c.text D l)) (sym kept)
 
-    pub names_read : (rest done : List Routine) → rs ≡ done ++ rest → steps (add_routine c.text) (names_of c.text (before done)) (map (routine c) rest) ≡ Some (names_of c.text whole)
-    names_read [] done split = ap (λ l. Some (names_of c.text (before l))) (sym (append-nil done) ∙ sym split)
+    pub names_read : (rest done : List Routine) → rs ≡ done ++ rest → add_routines c.text (names_of c.text (before done)) (map (routine c) rest) ≡ names_of c.text whole
+    names_read [] done split = ap (λ l. names_of c.text (before l)) (sym (append-nil done) ∙ sym split)
     names_read (x ∷ rest) done split =
-        ap (λ o. o >>= (λ t. steps (add_routine c.text) t (map (routine c) rest))) (one_named done rest x split (routed done rest x split))
+        ap (λ l. add_routines c.text l (map (routine c) rest)) (one_named done rest x split (routed done rest x split))
         ∙ names_read rest (done ++ x ∷ []) (split ∙ sym (append_assoc done (x ∷ []) rest))

@@ -1,5 +1,5 @@
 -- Each block of an accepted program is read in the regions that enclose it in the tree, where names mean what their points give.
-use Rattle.std.proofs.Common.{◌≡◌, ℕ, zero, suc, ◌+◌, ◌<◌, ◌≤◌, Bool, true, false, if◌then◌else◌, List, [], ◌∷◌, ◌++◌, length, map, take, drop, Option, Some, None, slice_get, slice_set, refl, sym, ap, ◌∙◌, subst, append_assoc, append-nil, length-append, arith}
+use Rattle.std.proofs.Common.{◌≡◌, ℕ, zero, suc, ◌+◌, ◌<◌, ◌≤◌, Bool, true, false, if◌then◌else◌, List, [], ◌∷◌, ◌++◌, length, map, take, drop, Option, Some, None, get_or, slice_get, slice_set, refl, sym, ap, ◌∙◌, subst, append_assoc, append-nil, length-append, arith}
 use Rattle.std.proofs.lemmas.List.{map-append}
 use Rattle.ps_syntax.specs.declared.program.Block as syntax_block
 use Rattle.ps_syntax.specs.declared.program.Block.{out-Block, roll-Block, out-roll-Block}
@@ -10,15 +10,19 @@ use Rattle.ps_syntax.specs.declared.program.Routine.TheFolds.{ind-Block}
 use Rattle.ps_syntax.specs.declared.program.Program as syntax
 use Rattle.ps_tree.specs.Tree as Tree
 use Rattle.ps_tree.specs.Counts.{is_within_limits}
-use Rattle.ps_check_names.specs.Option.{◌>>=◌, steps, traverse}
+use Rattle.ps_check_judgement.specs.declared.change.Change.{Change}
+use Rattle.ps_check_judgement.specs.declared.refusal.Rule.TheVariants.{Limit}
+use Rattle.ps_check_judgement.specs.Judged.{Yes, some_or, steps, traverse}
+use Rattle.ps_check_judgement.proofs.Binds.{inside_yes, then_yes, provided_yes, some_or_yes}
 use Rattle.ps_check_names.specs.Spelling.{spelled, has, place}
 use Rattle.ps_check_names.specs.Regions.{Region, BlockRegion, Meaning, Heading, formals_of, Context}
 use Rattle.ps_check_declarations.specs.Denoters.{Frame}
 use Rattle.ps_check.specs.Readings.{Gathered, Start, Done}
-use Rattle.ps_check.specs.Blocks.{routine_tree, own_number, block, with_domains}
+use Rattle.ps_check.specs.Blocks.{routine_tree, own_number, block, of_statements}
 use Rattle.ps_check.specs.Programs.{Files, no_files, list_file, program, program_with, program_of, program_context, program_start, program_routine, assembled, nothing_gathered, required}
-use Rattle.ps_check.specs.Threats.{is_safe, assigns}
+use Rattle.ps_check.specs.Changes.{assigns}
 use Rattle.ps_check.specs.Paths.{layer_block, routine_block, block_at}
+use Rattle.ps_check_laws.specs.Option.{◌>>=◌}
 use Rattle.ps_check_laws.specs.Definitions.{points_before_variables, points_before_routines, routine_names, Declarations, OfFile, Definition, OfDeclaration, OfRoutine, InPart, formal_declarations, entries_before, routine_heading, routine_name, own_declarations, introduced, of_routine, definitions_of, names_of, introducer, heading_of, points_before, as_routine}
 use Rattle.ps_check_laws.specs.Denoting.{heading_at, counted, routine_count, headings_within, first_declarations, first_entry_at, definitions_at, points_before_at, headings_before, own_heading, first_number, number_at, chain_at}
 use Rattle.ps_check_laws.specs.Meanings.{AreMeanings, IsRegion, AreAround, program_block, routine_block as further_in}
@@ -30,6 +34,7 @@ use Rattle.ps_check_laws.specs.Forward.{layer_completes, AreCompleted, ForwardHe
 use Rattle.ps_check_laws.specs.Occurrences.{statements_uses}
 use Rattle.ps_check_laws.specs.InDeclarations.{declarations_part}
 use Rattle.ps_check_laws.proofs.Statements.{statements_read, denoted_there}
+use Rattle.ps_check_laws.proofs.Controls.{controls_unchanged}
 use Rattle.ps_check.specs.RegionNames.{AreApart}
 use Rattle.ps_check_laws.proofs.Apart.{none_apart, files_apart}
 use Rattle.ps_check_laws.proofs.Enclosed.{AllKnown}
@@ -38,13 +43,13 @@ use Rattle.ps_tree.specs.Types.{DataType}
 use Rattle.ps_check_declarations.specs.Declarations.{declarations}
 use Rattle.ps_check_statements.specs.Statements.{statements}
 use Rattle.ps_check_laws.proofs.Domains.{declarations_length}
-use Rattle.ps_check_laws.proofs.Lists.{take_whole, set_length, never, take_drop, get_drop, drop_length, take_next, take_all, compare, difference, Each, each_at, none_some, inside, then_some, provided_some, get_below, there_is, get_left, get_stays, set_same, set_other}
+use Rattle.ps_check_laws.proofs.Lists.{take_whole, set_length, never, take_drop, get_drop, drop_length, take_next, take_all, compare, difference, Each, each_at, none_some, inside, then_some, get_below, there_is, get_left, get_stays, set_same, set_other}
 use Rattle.ps_check_laws.proofs.Declared.{Standing}
 use Rattle.ps_check_laws.proofs.Formals.{Listed, files_listed}
 use Rattle.ps_check_laws.proofs.Routines.{introduced_append, introduced_more, inner_count, count_is, own, counts, counted_none, counted_last, sp, one_introduced, introduced_there}
-use Rattle.ps_check_laws.proofs.Steps.{Longer, longer_both, Ready, points, in_part, Nested}
+use Rattle.ps_check_laws.proofs.Steps.{Longer, longer_both, Ready, points, in_part, changes_told, Nested, NestedPart}
 use Rattle.ps_check_laws.specs.Counts.{sum, routine_domains, block_domains, own_domains, domains_before, first_domain_at}
-use Rattle.ps_check_laws.specs.Rule.{IsBegun, of_program as begins_program, of_heading as begins_heading, routines_within, KeepsRules, BlockIsRead, is_read, CheckedProgramsAreRead}
+use Rattle.ps_check_laws.specs.Rule.{IsBegun, of_program as begins_program, of_heading as begins_heading, KeepsRules, BlockIsRead, is_read, CheckedProgramsAreRead}
 use Rattle.ps_check_laws.proofs.Blocks.{BlockHas, blocks_grow, block_told, within_is}
 
 -- ---- lists
@@ -61,16 +66,16 @@ prefix_meanings f first numbers ds more all known e s i d m at g =
     s.are i d m (sym (ap (λ l. slice_get l i) e ∙ get_left ds more i (omega (arith, many, below))) ∙ at) g
 
 -- those that are traversed
-traversed : (xs : List (Option Tree.Routine)) (ys : List Tree.Routine) (n : ℕ) (x : Tree.Routine) → traverse (λ r. r) xs ≡ Some ys → slice_get xs n ≡ Some (Some x) → slice_get ys n ≡ Some x
-traversed [] ys n x e g = absurd (none_some g)
-traversed (y ∷ xs) ys zero x e g =
-    let a = then_some y _ ys e in
-    let b = then_some (traverse (λ r. r) xs) _ ys a.2 in
-    ap (λ l. slice_get l 0) (sym (inside (a.0 ∷ b.0) ys b.2)) ∙ sym a.1 ∙ inside y (Some x) g
-traversed (y ∷ xs) ys (suc n) x e g =
-    let a = then_some y _ ys e in
-    let b = then_some (traverse (λ r. r) xs) _ ys a.2 in
-    ap (λ l. slice_get l (suc n)) (sym (inside (a.0 ∷ b.0) ys b.2)) ∙ traversed xs b.0 n x b.1 g
+traversed : (at : ℕ) (xs : List (Option Tree.Routine)) (ys : List Tree.Routine) (n : ℕ) (x : Tree.Routine) → traverse (some_or Limit at) xs ≡ Yes ys → slice_get xs n ≡ Some (Some x) → slice_get ys n ≡ Some x
+traversed at [] ys n x e g = absurd (none_some g)
+traversed at (y ∷ xs) ys zero x e g =
+    let a = then_yes (some_or Limit at y) _ ys e in
+    let b = then_yes (traverse (some_or Limit at) xs) _ ys a.2 in
+    ap (λ l. slice_get l 0) (sym (inside_yes (a.0 ∷ b.0) ys b.2)) ∙ sym (some_or_yes Limit at y a.0 a.1) ∙ inside y (Some x) g
+traversed at (y ∷ xs) ys (suc n) x e g =
+    let a = then_yes (some_or Limit at y) _ ys e in
+    let b = then_yes (traverse (some_or Limit at) xs) _ ys a.2 in
+    ap (λ l. slice_get l (suc n)) (sym (inside_yes (a.0 ∷ b.0) ys b.2)) ∙ traversed at xs b.0 n x b.1 g
 
 tree_body : (chain : List ℕ) (h : Heading) (d : Done) → (routine_tree chain h d).body ≡ d.body
 unfolding routine_tree
@@ -122,7 +127,7 @@ module _ (text : List ℕ) (p : syntax.Program) (files : Files) (made : Tree.Pro
     done : Done
     first : Declarations
     base : ℕ
-    reading : block c b regions start gathered ≡ Some done
+    reading : block c b regions start gathered ≡ Yes done
     there : block_at p.block v ≡ Some b
     firsts : first_declarations text p v ≡ Some first
     entries : first_entry_at text p v ≡ Some start.first
@@ -146,7 +151,7 @@ module _ (text : List ℕ) (p : syntax.Program) (files : Files) (made : Tree.Pro
     domains : Longer done.gathered final
     levels : length start.chain ≡ suc (length v)
     deep : length v < 16
-    assigned : assigns (length start.chain) routine.result done.body (drop (length gathered.routines) done.gathered.routines) ≡ true
+    assigned : assigns routine.result done.changes ≡ true
 
   module _ (v : List ℕ) (b : syntax_block.Block) (t : There v b) where
     abbrev ds : List Definition
@@ -161,12 +166,12 @@ module _ (text : List ℕ) (p : syntax.Program) (files : Files) (made : Tree.Pro
 
     -- the region, where the first points are known
     region_at : (n : ℕ) (known : List Meaning) (prefix more : List Definition) → length known ≡ n → ds ≡ prefix ++ more
-        → Standing (record { text = text; routine = own_number t.start.chain; names = in_block.names; outer = t.regions }) t.start.first (λ k. length t.gathered.routines + counted text [] (map (routine_count text) (take k (out-Block b).routines))) prefix known
+        → Standing (record { text = text; routine = own_number t.start.chain; names = in_block.names; begun = []; outer = t.regions }) t.start.first (λ k. length t.gathered.routines + counted text [] (map (routine_count text) (take k (out-Block b).routines))) prefix known
         → IsRegion text p v n t.regions (BlockRegion (own_number t.start.chain) in_block.names known)
     unfolding headings_before
     region_at n known prefix more many split s =
         let number = own_number t.start.chain in
-        let as_frame : List (List ℕ) → Frame = λ names. record { text = text; routine = number; names = names; outer = t.regions } in
+        let as_frame : List (List ℕ) → Frame = λ names. record { text = text; routine = number; names = names; begun = []; outer = t.regions } in
         let as_numbers : ℕ → ℕ → ℕ = λ m k. m + counted text [] (map (routine_count text) (take k (out-Block b).routines)) in
         let one : AreMeanings (as_frame in_block.names) t.start.first (as_numbers (length t.gathered.routines)) ds known = prefix_meanings (as_frame in_block.names) t.start.first (as_numbers (length t.gathered.routines)) prefix more ds known split s in
         let two : AreMeanings (as_frame (names_of text ds)) t.start.first (as_numbers (length t.gathered.routines)) ds known = subst (λ names. AreMeanings (as_frame names) t.start.first (as_numbers (length t.gathered.routines)) ds known) in_block.names_are one in
@@ -190,10 +195,18 @@ module _ (text : List ℕ) (p : syntax.Program) (files : Files) (made : Tree.Pro
     -- ---- one path further in
 
     module _ (k : ℕ) (r : Routine) (inner : syntax_block.Block) (at : slice_get (out-Block b).routines k ≡ Some r) (is : routine_block r ≡ Some inner) where
-      nested : Nested c (own_number t.start.chain) in_block.names t.regions t.start.first t.start.chain (t.first ++ own_declarations b) (length t.gathered.routines) (length in_block.before.gathered.domains) (out-Block b).routines k r inner in_block.behind
-      nested =
+      part : NestedPart c (own_number t.start.chain) in_block.names t.regions t.start.first t.start.chain (t.first ++ own_declarations b) (length t.gathered.routines) (length in_block.before.gathered.domains) (out-Block b).routines k r inner in_block.behind (get_or in_block.told.parts k [])
+      part =
           let z : 0 + k ≡ k = omega arith in
-          subst (λ n. Nested c (own_number t.start.chain) in_block.names t.regions t.start.first t.start.chain (t.first ++ own_declarations b) (length t.gathered.routines) (length in_block.before.gathered.domains) (out-Block b).routines n r inner in_block.behind) z (in_block.told.nested k r inner at is)
+          subst (λ n. NestedPart c (own_number t.start.chain) in_block.names t.regions t.start.first t.start.chain (t.first ++ own_declarations b) (length t.gathered.routines) (length in_block.before.gathered.domains) (out-Block b).routines n r inner in_block.behind (get_or in_block.told.parts k [])) z (in_block.told.nested k r inner at is)
+
+      nested : Nested c (own_number t.start.chain) in_block.names t.regions t.start.first t.start.chain (t.first ++ own_declarations b) (length t.gathered.routines) (length in_block.before.gathered.domains) (out-Block b).routines k r inner in_block.behind
+      nested = part.0
+
+      -- what its block changes
+      part_changes : nested.done.changes ≡ get_or in_block.told.parts k []
+      unfolding nested
+      part_changes = part.1
 
       abbrev before : List Definition
       before = points text (t.first ++ own_declarations b) (introduced text (take (k + 1) (out-Block b).routines))
@@ -344,7 +357,7 @@ module _ (text : List ℕ) (p : syntax.Program) (files : Files) (made : Tree.Pro
             domains = longer_both nested.done.gathered t.done.gathered final (nested.inner_domains.0, ap (λ (y : Gathered). y.domains) same_done ∙ nested.inner_domains.1) t.domains;
             levels = ap length nested.begins.chain_is ∙ ap suc t.levels;
             deep = (let l = t.levels in let d = nested.begins.deep in omega (arith, l, d));
-            assigned = ap (λ r. assigns (length nested.inner.chain) r nested.done.body (drop (length nested.gathered.routines) nested.done.gathered.routines)) (tree_result nested.inner.chain nested.heading nested.done) ∙ nested.assigned;
+            assigned = ap (λ r. assigns r nested.done.changes) (tree_result nested.inner.chain nested.heading nested.done) ∙ nested.assigned;
           }
 
   -- ---- the routines within a block
@@ -571,7 +584,7 @@ module _ (text : List ℕ) (p : syntax.Program) (files : Files) (made : Tree.Pro
     those_within = record { base = t.base; first = t.numbers; many = taken_many; each = taken_by; only = taken_only }
 
     abbrev frame_of : (w : List ℕ) (a : syntax_block.Block) (s : There w a) → List (List ℕ) → Frame
-    frame_of w a s names = record { text = text; routine = own_number s.start.chain; names = names; outer = s.regions }
+    frame_of w a s names = record { text = text; routine = own_number s.start.chain; names = names; begun = []; outer = s.regions }
 
     abbrev framed_at : (w : List ℕ) (a : syntax_block.Block) (s : There w a) → Frame
     framed_at w a s = frame_of w a s (names_of text (ds w a s))
@@ -597,10 +610,13 @@ module _ (text : List ℕ) (p : syntax.Program) (files : Files) (made : Tree.Pro
       points = points_are v b t;
       apart = subst AreApart (in_block v b t).names_are (in_block v b t).apart;
       region = region_there;
+      inner = (in_block v b t).behind.changes;
+      changes = (in_block v b t).changes;
+      all_changes = (in_block v b t).all_changes;
       body = (in_block v b t).body;
-      uses = denoted_there (with_domains (program_context text files) t.done.gathered.domains) p v (length (ds v b t)) (BlockRegion (own_number t.start.chain) (in_block v b t).names (in_block v b t).behind.known) t.regions
+      uses = denoted_there (of_statements (program_context text files) t.done.gathered.domains (in_block v b t).behind.changes) p v (length (ds v b t)) (BlockRegion (own_number t.start.chain) (in_block v b t).names (in_block v b t).behind.known) t.regions
           region_there t.around (statements_uses (out-Block b).statements)
-          (statements_read (with_domains (program_context text files) t.done.gathered.domains) (BlockRegion (own_number t.start.chain) (in_block v b t).names (in_block v b t).behind.known ∷ t.regions) (out-Block b).statements t.done.body (in_block v b t).body);
+          (statements_read (of_statements (program_context text files) t.done.gathered.domains (in_block v b t).behind.changes) (BlockRegion (own_number t.start.chain) (in_block v b t).names (in_block v b t).behind.known ∷ t.regions) (out-Block b).statements [] (t.done.body, (in_block v b t).changes) (in_block v b t).body);
       declared = denoted_before text p v (length (ds v b t)) t.regions (BlockRegion (own_number t.start.chain) (in_block v b t).names (in_block v b t).behind.known) region_there t.around (length t.first) (declarations_part (out-Block b).constants (out-Block b).types (out-Block b).variables).uses
           (subst (λ z. AllKnown (frame_of v b t z) [] (in_block v b t).behind.known (length t.first) (declarations_part (out-Block b).constants (out-Block b).types (out-Block b).variables).uses) (in_block v b t).names_are (in_block v b t).uses);
       headings = λ i k r h at is. headings_denoted text p v (length (ds v b t)) t.regions (BlockRegion (own_number t.start.chain) (in_block v b t).names (in_block v b t).behind.known) region_there t.around i k r h (in_block v b t).known.many at is;
@@ -618,7 +634,7 @@ module _ (text : List ℕ) (p : syntax.Program) (files : Files) (made : Tree.Pro
           (subst (λ z. AreDomains (frame_of v b t z) (take (points_before_routines t.first b) (in_block v b t).behind.known) (length t.gathered.domains + length (type_domains (out-Block b).types)) (variable_domains (out-Block b).variables) t.done.gathered.domains) (in_block v b t).names_are (in_block v b t).variable_domains_are);
       deep = t.deep;
       within = those_within;
-      safe = (in_block v b t).safe;
+      safe = controls_unchanged (of_statements (program_context text files) t.done.gathered.domains (in_block v b t).behind.changes) (BlockRegion (own_number t.start.chain) (in_block v b t).names (in_block v b t).behind.known ∷ t.regions) (out-Block b).statements [] (t.done.body, (in_block v b t).changes) (in_block v b t).body;
       assigned = t.assigned;
     }
 
@@ -632,20 +648,7 @@ module _ (text : List ℕ) (p : syntax.Program) (files : Files) (made : Tree.Pro
 
   -- ---- what the block keeps of the rules
 
-  all_some_list : (xs : List (Option Tree.Routine)) (ys : List Tree.Routine) → ((i : ℕ) → i < length xs → (r : Tree.Routine) × (slice_get xs i ≡ Some (Some r)) × (slice_get ys i ≡ Some r)) → xs ≡ map (λ r. Some r) (take (length xs) ys)
-  all_some_list [] ys each = refl
-  all_some_list (x ∷ xs) [] each = absurd (none_some (each 0 (omega arith)).2)
-  all_some_list (x ∷ xs) (y ∷ ys) each =
-      let one = each 0 (omega arith) in
-      ap (λ z. z ∷ xs) (inside x (Some one.0) one.1 ∙ ap (λ z. Some z) (sym (inside y one.0 one.2))) ∙ ap (λ l. Some y ∷ l) (all_some_list xs ys (λ i l. each (suc i) (omega (arith, l))))
-
   module _ (v : List ℕ) (b : syntax_block.Block) (t : There v b) where
-    taken_is : taken v b t ≡ routines_within text p files made t.base b
-    unfolding routines_within
-    taken_is =
-        let xs = taken v b t in
-        all_some_list xs (drop t.base made.routines) (λ i l. let r = (taken_only v b t i l).1 in (r.routine, r.is, get_drop t.base made.routines i ∙ r.checked)) ∙ ap (λ n. map (λ r. Some r) (take n (drop t.base made.routines))) (taken_many v b t)
-
     first_part : (some : List DataType) (more : List DataType) (n : ℕ) → made.domains ≡ some ++ more → length some ≡ n → some ≡ take n made.domains
     first_part some more n e many = sym (take_whole some more) ∙ ap (take (length some)) (sym e) ∙ ap (λ k. take k made.domains) many
 
@@ -697,13 +700,14 @@ module _ (text : List ℕ) (p : syntax.Program) (files : Files) (made : Tree.Pro
       means = (region_there v b t).meanings;
       declared = ap (λ l. declarations (frame_of v b t v b t (names_of text (ds v b t))) t.start.first (record { known = t.start.known; domains = l; pending = []; variables = [] }) (out-Block b).constants (out-Block b).types (out-Block b).variables) (sym domains_first)
           ∙ ap (λ z. declarations (frame_of v b t v b t z) t.start.first (record { known = t.start.known; domains = t.gathered.domains; pending = []; variables = [] }) (out-Block b).constants (out-Block b).types (out-Block b).variables) (sym (in_block v b t).names_are)
-          ∙ (in_block v b t).declared ∙ ap (λ l. Some (record { known = take (points_before_routines t.first b) behind_known; domains = l; pending = []; variables = t.done.variables })) domains_own
-          ∙ ap (λ l. Some (record { known = take (points_before_routines t.first b) behind_known; domains = take (length t.gathered.domains + own_domains b) made.domains; pending = []; variables = l })) (sym t.is_variables);
-      body = ap (λ l. statements (with_domains (program_context text files) l) (BlockRegion (own_number t.start.chain) (names_of text (ds v b t)) behind_known ∷ t.regions) (out-Block b).statements) (sym domains_behind)
-          ∙ ap (λ z. statements (with_domains (program_context text files) t.done.gathered.domains) (BlockRegion (own_number t.start.chain) z behind_known ∷ t.regions) (out-Block b).statements) (sym (in_block v b t).names_are)
-          ∙ (in_block v b t).body ∙ ap (λ l. Some l) (sym t.is_body);
-      safe = ap (λ l. is_safe (length t.start.chain) l t.routine.body) (sym taken_is) ∙ ap (is_safe (length t.start.chain) (taken v b t)) t.is_body ∙ (in_block v b t).safe;
-      assigned = ap (λ l. assigns (length t.start.chain) t.routine.result t.routine.body l) (sym taken_is) ∙ ap (λ s. assigns (length t.start.chain) t.routine.result s (taken v b t)) t.is_body ∙ t.assigned;
+          ∙ (in_block v b t).declared ∙ ap (λ l. Yes (record { known = take (points_before_routines t.first b) behind_known; domains = l; pending = []; variables = t.done.variables })) domains_own
+          ∙ ap (λ l. Yes (record { known = take (points_before_routines t.first b) behind_known; domains = take (length t.gathered.domains + own_domains b) made.domains; pending = []; variables = l })) (sym t.is_variables);
+      inner = (in_block v b t).behind.changes;
+      changes = (in_block v b t).changes;
+      body = ap (λ l. statements (of_statements (program_context text files) l (in_block v b t).behind.changes) (BlockRegion (own_number t.start.chain) (names_of text (ds v b t)) behind_known ∷ t.regions) (out-Block b).statements []) (sym domains_behind)
+          ∙ ap (λ z. statements (of_statements (program_context text files) t.done.gathered.domains (in_block v b t).behind.changes) (BlockRegion (own_number t.start.chain) z behind_known ∷ t.regions) (out-Block b).statements []) (sym (in_block v b t).names_are)
+          ∙ (in_block v b t).body ∙ ap (λ l. Yes (l, (in_block v b t).changes)) (sym t.is_body);
+      assigned = ap (assigns t.routine.result) (sym (in_block v b t).all_changes) ∙ t.assigned;
     }
 
     -- its regions within are those that the rule says
@@ -716,15 +720,20 @@ module _ (text : List ℕ) (p : syntax.Program) (files : Files) (made : Tree.Pro
         (sym (take_whole n.known n.known_more.0) ∙ ap (take (length n.known)) (sym n.known_more.1) ∙ ap (λ k. take k behind_known) (many v b t k r inner at is))
 
   abbrev BlockReads : syntax_block.Block → Type 0
-  BlockReads b = (v : List ℕ) (t : There v b) → BlockIsRead text p files made v b t.regions
+  BlockReads b = (v : List ℕ) (t : There v b) → BlockIsRead text p files made v b t.regions t.done.changes
 
   abbrev RoutineReads : Routine → Type 0
   RoutineReads x = (b : syntax_block.Block) → routine_block x ≡ Some b → BlockReads b
 
   block_reads : (b : syntax_block.Block) → Each RoutineReads (out-Block b).routines → BlockReads b
   unfolding inner_there kept
-  block_reads b reads v t = is_read v b t.regions (kept v b t) (λ k r inner at is.
-      subst (λ z. BlockIsRead text p files made (k ∷ v) inner (z ∷ t.regions)) (inner_region v b t k r inner at is) (each_at RoutineReads (out-Block b).routines k r reads at inner is (k ∷ v) (inner_there v b t k r inner at is)))
+  block_reads b reads v t =
+      let h = in_block v b t in
+      let changes : ℕ → List Change = λ k. get_or h.told.parts k [] in
+      is_read v b t.regions t.done.changes (kept v b t) h.all_changes changes (h.inner_changes ∙ sym (changes_told h.told.parts (out-Block b).routines h.told.many_parts)) (λ k r inner at is.
+      subst (λ z. BlockIsRead text p files made (k ∷ v) inner (z ∷ t.regions) (changes k)) (inner_region v b t k r inner at is)
+      (subst (λ l. BlockIsRead text p files made (k ∷ v) inner (BlockRegion (own_number t.start.chain) h.names (nested v b t k r inner at is).known ∷ t.regions) l) (part_changes v b t k r inner at is)
+      (each_at RoutineReads (out-Block b).routines k r reads at inner is (k ∷ v) (inner_there v b t k r inner at is))))
 
   reads_layer : (y : Routine-F ((x : Routine) × RoutineReads x) ((x : syntax_block.Block) × BlockReads x)) → RoutineReads (roll-Routine (map-Routine ((x : Routine) × RoutineReads x) ((x : syntax_block.Block) × BlockReads x) Routine syntax_block.Block (λ e. e.0) (λ e. e.0) y))
   unfolding routine_block
@@ -748,30 +757,31 @@ unfolding names_of
 nothing_listed f first numbers = record { names = refl; stands = record { many = refl; are = λ i d m e g. absurd (none_some e) } }
 
 -- the checked program has the routines that were gathered
-finals : (d : Done) (made : Tree.Program) (n : ℕ) (x : Tree.Routine) → program_of d ≡ Some made → slice_get (slice_set d.gathered.routines 0 (Some (program_routine d))) n ≡ Some (Some x) → slice_get made.routines n ≡ Some x
+finals : (at : ℕ) (d : Done) (made : Tree.Program) (n : ℕ) (x : Tree.Routine) → program_of at d ≡ Yes made → slice_get (slice_set d.gathered.routines 0 (Some (program_routine d))) n ≡ Some (Some x) → slice_get made.routines n ≡ Some x
 unfolding program_of assembled
-finals d made n x e g =
-    let rs = then_some (traverse (λ r. r) (slice_set d.gathered.routines 0 (Some (program_routine d)))) _ made e in
-    let is = provided_some (is_within_limits (record { routines = rs.0; domains = d.gathered.domains })) (record { routines = rs.0; domains = d.gathered.domains }) made rs.2 in
-    ap (λ (z : Tree.Program). slice_get z.routines n) (sym is.1) ∙ traversed (slice_set d.gathered.routines 0 (Some (program_routine d))) rs.0 n x rs.1 g
+finals at d made n x e g =
+    let set = slice_set d.gathered.routines 0 (Some (program_routine d)) in
+    let rs = then_yes (traverse (some_or Limit at) set) _ made e in
+    let is = provided_yes (is_within_limits (record { routines = rs.0; domains = d.gathered.domains })) Limit at (record { routines = rs.0; domains = d.gathered.domains }) made rs.2 in
+    ap (λ (z : Tree.Program). slice_get z.routines n) (sym is.1) ∙ traversed at set rs.0 n x rs.1 g
 
-domains_of : (d : Done) (made : Tree.Program) → program_of d ≡ Some made → made.domains ≡ d.gathered.domains
+domains_of : (at : ℕ) (d : Done) (made : Tree.Program) → program_of at d ≡ Yes made → made.domains ≡ d.gathered.domains
 unfolding program_of assembled
-domains_of d made e =
-    let rs = then_some (traverse (λ r. r) (slice_set d.gathered.routines 0 (Some (program_routine d)))) _ made e in
-    let is = provided_some (is_within_limits (record { routines = rs.0; domains = d.gathered.domains })) (record { routines = rs.0; domains = d.gathered.domains }) made rs.2 in
+domains_of at d made e =
+    let rs = then_yes (traverse (some_or Limit at) (slice_set d.gathered.routines 0 (Some (program_routine d)))) _ made e in
+    let is = provided_yes (is_within_limits (record { routines = rs.0; domains = d.gathered.domains })) Limit at (record { routines = rs.0; domains = d.gathered.domains }) made rs.2 in
     ap (λ (z : Tree.Program). z.domains) (sym is.1)
 
-module _ (text : List ℕ) (p : syntax.Program) (files : Files) (made : Tree.Program) (d : Done) (listed : steps (list_file text) no_files p.parameters ≡ Some files)
-    (read : block (program_context text files) p.block (required ∷ []) (program_start files) nothing_gathered ≡ Some d) (is : program_of d ≡ Some made) where
+module _ (text : List ℕ) (p : syntax.Program) (files : Files) (made : Tree.Program) (d : Done) (listed : steps (list_file text) no_files p.parameters ≡ Yes files)
+    (read : block (program_context text files) p.block (required ∷ []) (program_start files) nothing_gathered ≡ Yes d) (is : program_of p.name.from d ≡ Yes made) where
   others : (n : ℕ) (x : Tree.Routine) → 1 ≤ n → slice_get d.gathered.routines n ≡ Some (Some x) → slice_get made.routines n ≡ Some x
-  others n x le e = finals d made n x is (set_other d.gathered.routines n 0 (Some (program_routine d)) (λ q. omega (arith, le, q)) ∙ e)
+  others n x le e = finals p.name.from d made n x is (set_other d.gathered.routines n 0 (Some (program_routine d)) (λ q. omega (arith, le, q)) ∙ e)
 
   all_domains : made.domains ≡ d.gathered.domains
-  all_domains = domains_of d made is
+  all_domains = domains_of p.name.from d made is
 
   abbrev framed : ℕ → List (List ℕ) → Frame
-  framed number names = record { text = text; routine = number; names = names; outer = required ∷ [] }
+  framed number names = record { text = text; routine = number; names = names; begun = []; outer = required ∷ [] }
 
   root_listed : (number : ℕ) (names : List (List ℕ)) (first : ℕ) (numbers : ℕ → ℕ) → Listed (framed number names) first numbers (map OfFile p.parameters) files
   root_listed number names first numbers = files_listed (framed number names) first numbers p.parameters [] no_files files listed (nothing_listed (framed number names) first numbers)
@@ -805,7 +815,7 @@ module _ (text : List ℕ) (p : syntax.Program) (files : Files) (made : Tree.Pro
         around = program_block;
         keeps = λ n x le e. e;
         routine = program_routine d;
-        checked = finals d made 0 (program_routine d) is (set_same d.gathered.routines 0 slot.0 (Some (program_routine d)) slot.1);
+        checked = finals p.name.from d made 0 (program_routine d) is (set_same d.gathered.routines 0 slot.0 (Some (program_routine d)) slot.1);
         is_body = refl;
         is_variables = refl;
         is_chain = refl;
@@ -833,11 +843,11 @@ pub record Accepted (text : List ℕ) (p : syntax.Program) (v : List ℕ) (b : s
   pub first : Declarations
   pub has : BlockHas context b regions start gathered done first
 
-pub accepted : (text : List ℕ) (p : syntax.Program) (made : Tree.Program) → program text p ≡ Some made → (v : List ℕ) (b : syntax_block.Block) → block_at p.block v ≡ Some b → Accepted text p v b
+pub accepted : (text : List ℕ) (p : syntax.Program) (made : Tree.Program) → program text p ≡ Yes made → (v : List ℕ) (b : syntax_block.Block) → block_at p.block v ≡ Some b → Accepted text p v b
 unfolding program program_with
 accepted text p made e v b there =
-    let files = then_some (steps (list_file text) no_files p.parameters) (program_with text p) made e in
-    let whole = then_some (block (program_context text files.0) p.block (required ∷ []) (program_start files.0) nothing_gathered) program_of made files.2 in
+    let files = then_yes (steps (list_file text) no_files p.parameters) (program_with text p) made e in
+    let whole = then_yes (block (program_context text files.0) p.block (required ∷ []) (program_start files.0) nothing_gathered) (program_of p.name.from) made files.2 in
     let final = others text p files.0 made whole.0 files.1 whole.1 whole.2 in
     let t = all_there text p files.0 made whole.0.gathered final (all_domains text p files.0 made whole.0 files.1 whole.1 whole.2) (root_there text p files.0 made whole.0 files.1 whole.1 whole.2) v b there in
     record {
@@ -859,34 +869,34 @@ forward_headings_have_blocks text p made e v b there =
 pub names_mean_their_points : NamesMeanTheirPoints
 unfolding program program_with
 names_mean_their_points text p made e =
-    let files = then_some (steps (list_file text) no_files p.parameters) (program_with text p) made e in
-    let whole = then_some (block (program_context text files.0) p.block (required ∷ []) (program_start files.0) nothing_gathered) program_of made files.2 in
+    let files = then_yes (steps (list_file text) no_files p.parameters) (program_with text p) made e in
+    let whole = then_yes (block (program_context text files.0) p.block (required ∷ []) (program_start files.0) nothing_gathered) (program_of p.name.from) made files.2 in
     all_read text p files.0 made whole.0 files.1 whole.1 whole.2
 
-traversed_length : (xs : List (Option Tree.Routine)) (ys : List Tree.Routine) → traverse (λ r. r) xs ≡ Some ys → length ys ≡ length xs
-traversed_length [] ys e = ap length (sym (inside [] ys e))
-traversed_length (x ∷ xs) ys e =
-    let a = then_some x _ ys e in
-    let b = then_some (traverse (λ r. r) xs) _ ys a.2 in
-    ap length (sym (inside (a.0 ∷ b.0) ys b.2)) ∙ ap suc (traversed_length xs b.0 b.1)
+traversed_length : (at : ℕ) (xs : List (Option Tree.Routine)) (ys : List Tree.Routine) → traverse (some_or Limit at) xs ≡ Yes ys → length ys ≡ length xs
+traversed_length at [] ys e = ap length (sym (inside_yes [] ys e))
+traversed_length at (x ∷ xs) ys e =
+    let a = then_yes (some_or Limit at x) _ ys e in
+    let b = then_yes (traverse (some_or Limit at) xs) _ ys a.2 in
+    ap length (sym (inside_yes (a.0 ∷ b.0) ys b.2)) ∙ ap suc (traversed_length at xs b.0 b.1)
 
-made_length : (d : Done) (made : Tree.Program) → program_of d ≡ Some made → (length made.routines ≡ length d.gathered.routines) × (is_within_limits made ≡ true)
+made_length : (at : ℕ) (d : Done) (made : Tree.Program) → program_of at d ≡ Yes made → (length made.routines ≡ length d.gathered.routines) × (is_within_limits made ≡ true)
 unfolding program_of assembled
-made_length d made e =
+made_length at d made e =
     let set = slice_set d.gathered.routines 0 (Some (program_routine d)) in
-    let rs = then_some (traverse (λ r. r) set) _ made e in
-    let is = provided_some (is_within_limits (record { routines = rs.0; domains = d.gathered.domains })) (record { routines = rs.0; domains = d.gathered.domains }) made rs.2 in
-    (ap (λ (z : Tree.Program). length z.routines) (sym is.1) ∙ traversed_length set rs.0 rs.1 ∙ set_length d.gathered.routines 0 (Some (program_routine d)), ap is_within_limits (sym is.1) ∙ is.0)
+    let rs = then_yes (traverse (some_or Limit at) set) _ made e in
+    let is = provided_yes (is_within_limits (record { routines = rs.0; domains = d.gathered.domains })) Limit at (record { routines = rs.0; domains = d.gathered.domains }) made rs.2 in
+    (ap (λ (z : Tree.Program). length z.routines) (sym is.1) ∙ traversed_length at set rs.0 rs.1 ∙ set_length d.gathered.routines 0 (Some (program_routine d)), ap is_within_limits (sym is.1) ∙ is.0)
 
 pub checked_programs_are_read : CheckedProgramsAreRead
 unfolding program program_with root_there
 checked_programs_are_read text p made e =
-    let files = then_some (steps (list_file text) no_files p.parameters) (program_with text p) made e in
-    let whole = then_some (block (program_context text files.0) p.block (required ∷ []) (program_start files.0) nothing_gathered) program_of made files.2 in
+    let files = then_yes (steps (list_file text) no_files p.parameters) (program_with text p) made e in
+    let whole = then_yes (block (program_context text files.0) p.block (required ∷ []) (program_start files.0) nothing_gathered) (program_of p.name.from) made files.2 in
     let final = others text p files.0 made whole.0 files.1 whole.1 whole.2 in
     let domains = all_domains text p files.0 made whole.0 files.1 whole.1 whole.2 in
     let grown = blocks_grow (program_context text files.0) p.block (required ∷ []) (program_start files.0) nothing_gathered whole.0 (map OfFile p.parameters) (root_ready text p files.0 made whole.0 files.1 whole.1 whole.2) whole.1 in
-    let limits = made_length whole.0 made whole.2 in
+    let limits = made_length p.name.from whole.0 made whole.2 in
     let count = grown.count in
     let drawn = grown.drawn in
     let m = limits.0 in
@@ -894,6 +904,7 @@ checked_programs_are_read text p made e =
     record {
       files = files.0;
       listed = files.1;
+      changes = whole.0.changes;
       block = all_reads text p files.0 made whole.0.gathered final domains p.block [] (root_there text p files.0 made whole.0 files.1 whole.1 whole.2);
       routines = omega (arith, count, m);
       domains = omega (arith, drawn, n);

@@ -1,5 +1,5 @@
 -- A tree that is read as a checked program is one whose checked program it is.
-use Rattle.std.proofs.Common.{◌≡◌, ℕ, suc, ◌+◌, ◌≤◌, Bool, true, false, ◌&&◌, if◌then◌else◌, List, [], ◌∷◌, length, map, take, nat_eq, nat_le, Option, Some, None, slice_get, slice_set, refl, sym, ap, ◌∙◌, subst, arith}
+use Rattle.std.proofs.Common.{◌≡◌, ℕ, suc, ◌+◌, ◌≤◌, Bool, true, false, ◌&&◌, if◌then◌else◌, List, [], ◌∷◌, ◌++◌, length, map, take, nat_eq, nat_le, Option, Some, None, slice_get, slice_set, refl, sym, ap, ◌∙◌, subst, arith}
 use Rattle.ps_syntax.specs.declared.program.Block as syntax_block
 use Rattle.ps_syntax.specs.declared.program.Block.{roll-Block, out-roll-Block}
 use Rattle.ps_syntax.specs.declared.program.Routine.{Routine, roll-Routine, map-Routine, out-roll-Routine}
@@ -8,7 +8,10 @@ use Rattle.ps_syntax.specs.declared.program.Routine.TheFolds.{ind-Block}
 use Rattle.ps_syntax.specs.declared.program.Program as syntax
 use Rattle.ps_tree.specs.Tree as Tree
 use Rattle.ps_tree.specs.Counts.{is_within_limits, are_small, are_routines_within_limits}
-use Rattle.ps_check_names.specs.Option.{◌>>=◌, provided, traverse}
+use Rattle.ps_check_judgement.specs.declared.change.Change.{Change}
+use Rattle.ps_check_judgement.specs.declared.refusal.Rule.TheVariants.{Limit}
+use Rattle.ps_check_judgement.specs.Judged.{Yes, ◌>>=◌, provided, some_or, traverse}
+use Rattle.ps_check_judgement.proofs.Binds.{inside_yes}
 use Rattle.ps_check_names.specs.Regions.{Region}
 use Rattle.ps_check.specs.Readings.{Start, Done}
 use Rattle.ps_check.specs.Blocks.{own_number, block}
@@ -69,8 +72,8 @@ module _ (text : List ℕ) (p : syntax.Program) (files : Files) (made : Tree.Pro
   routine_layer (Routine-F.Completion name x) b e = subst (BlockRecovers text p files made limits few) (inside x.0 b (sym (ap layer_block (out-roll-Routine (Routine-F.Completion name x.0))) ∙ e)) x.1
 
   block_layer : (x : Block-F Routine syntax_block.Block) → Each (RoutineRecovers text p files made limits few) x.routines → BlockRecovers text p files made limits few (roll-Block x)
-  block_layer x claims v Γ mine nested there room vacant low =
-      recovered text p files made limits few v (roll-Block x) Γ mine nested there room vacant low (subst (λ (z : Block-F Routine syntax_block.Block). Each (RoutineRecovers text p files made limits few) z.routines) (sym (out-roll-Block x)) claims)
+  block_layer x claims v Γ mine changes inner_is nested there room vacant low =
+      recovered text p files made limits few v (roll-Block x) Γ mine changes inner_is nested there room vacant low (subst (λ (z : Block-F Routine syntax_block.Block). Each (RoutineRecovers text p files made limits few) z.routines) (sym (out-roll-Block x)) claims)
 
   blocks_recover : (b : syntax_block.Block) → BlockRecovers text p files made limits few b
   blocks_recover = ind-Block (RoutineRecovers text p files made limits few) (BlockRecovers text p files made limits few)
@@ -90,10 +93,10 @@ root_begun text p files made Γ s r (of_program G t f q) = record { is = refl; f
 abbrev is_root : ℕ → Bool
 is_root m = nat_eq m 0
 
-by_root : (text : List ℕ) (p : syntax.Program) (files : Files) (made : Tree.Program) → length made.routines ≡ suc (headings_within text p.block) → length made.domains ≡ block_domains p.block → is_within_limits made ≡ true
-    → BlockIsRead text p files made [] p.block (required ∷ []) → (block (program_context text files) p.block (required ∷ []) (program_start files) nothing_gathered >>= program_of) ≡ Some made
+by_root : (text : List ℕ) (p : syntax.Program) (files : Files) (made : Tree.Program) (all : List Change) → length made.routines ≡ suc (headings_within text p.block) → length made.domains ≡ block_domains p.block → is_within_limits made ≡ true
+    → BlockIsRead text p files made [] p.block (required ∷ []) all → (block (program_context text files) p.block (required ∷ []) (program_start files) nothing_gathered >>= program_of p.name.from) ≡ Yes made
 unfolding program_of assembled first_number first_domain_at own_number block_at
-by_root text p files made many drawn within (is_read u a G mine nested) =
+by_root text p files made all many drawn within (is_read u a G some mine all_changes changes inner_is nested) =
     let limits = limits_told made within in
     let begun = root_begun text p files made (required ∷ []) mine.start mine.routine mine.begins in
     let one : mine.next ≡ 1 = inside mine.next 1 (sym mine.numbers) in
@@ -107,13 +110,13 @@ by_root text p files made many drawn within (is_read u a G mine nested) =
     ap (λ k. record { domains = take k made.domains; routines = None ∷ [] }) (sym none) ∙ ap (λ l. record { domains = take mine.pointers made.domains; routines = l }) (sym first) in
     let domains_are : take (mine.pointers + block_domains p.block) made.domains ≡ made.domains = (let z : mine.pointers + block_domains p.block ≡ length made.domains = omega (arith, none, drawn) in ap (λ k. take k made.domains) z ∙ take_all made.domains) in
     let set : List (Option Tree.Routine) = shown made.routines is_root (length made.routines) in
-    let d : Done = record { variables = mine.routine.variables; body = mine.routine.body; line = mine.routine.line; gathered = record { domains = made.domains; routines = set } } in
-    let as_done : _ → _ → Done = λ l s. record { variables = mine.routine.variables; body = mine.routine.body; line = mine.routine.line; gathered = record { domains = l; routines = s } } in
-    let reading : block (program_context text files) p.block (required ∷ []) (program_start files) nothing_gathered ≡ Some d =
+    let as_done : _ → _ → Done = λ l s. record { variables = mine.routine.variables; body = mine.routine.body; line = mine.routine.line; changes = mine.inner ++ mine.changes; gathered = record { domains = l; routines = s } } in
+    let d : Done = as_done made.domains set in
+    let reading : block (program_context text files) p.block (required ∷ []) (program_start files) nothing_gathered ≡ Yes d =
     ap (block (program_context text files) p.block (required ∷ []) (program_start files)) g_is
     ∙ ap (λ s. block (program_context text files) p.block (required ∷ []) s (record { domains = take mine.pointers made.domains; routines = shown made.routines is_root mine.next })) (sym begun.is)
-    ∙ blocks_recover text p files made limits.1 limits.0 p.block [] (required ∷ []) mine nested refl (omega (arith, count)) is_root low
-    ∙ ap (λ l. Some (as_done l (shown made.routines is_root (mine.next + headings_within text p.block)))) domains_are ∙ ap (λ k. Some (as_done made.domains (shown made.routines is_root k))) count in
+    ∙ blocks_recover text p files made limits.1 limits.0 p.block [] (required ∷ []) mine changes inner_is nested refl (omega (arith, count)) is_root low
+    ∙ ap (λ l. Yes (as_done l (shown made.routines is_root (mine.next + headings_within text p.block)))) domains_are ∙ ap (λ k. Yes (as_done made.domains (shown made.routines is_root k))) count in
     let chain : mine.start.chain ≡ program_chain = ap (λ (s : Start). s.chain) begun.is in
     let routine_is : program_routine d ≡ mine.routine = tree_parts (program_routine d) mine.routine (sym (mine.is_chain ∙ chain)) (sym begun.formals) (sym begun.result) refl refl refl in
     let checked : slice_get made.routines 0 ≡ Some mine.routine = ap (λ l. slice_get made.routines (own_number l)) (sym chain) ∙ mine.checked in
@@ -121,10 +124,11 @@ by_root text p files made many drawn within (is_read u a G mine nested) =
     let all_of : slice_set set 0 (Some mine.routine) ≡ map (λ r. Some r) made.routines =
     shown_closed made.routines is_root (length made.routines) 0 mine.routine (omega (arith, many)) checked ∙ ap (shown_from (closed 0 is_root) 0) (take_all made.routines) ∙ shown_all (closed 0 is_root) 0 made.routines shut in
     let as_made : List Tree.Routine → Tree.Program = λ rs. record { routines = rs; domains = made.domains } in
-    ap (λ o. o >>= program_of) reading
-    ∙ ap (λ r. traverse (λ (x : Option Tree.Routine). x) (slice_set set 0 (Some r)) >>= (λ rs. provided (is_within_limits (as_made rs)) (as_made rs))) routine_is
-    ∙ ap (λ l. traverse (λ (x : Option Tree.Routine). x) l >>= (λ rs. provided (is_within_limits (as_made rs)) (as_made rs))) all_of
-    ∙ ap (λ o. o >>= (λ rs. provided (is_within_limits (as_made rs)) (as_made rs))) (all_some made.routines) ∙ ap (λ b. provided b made) within
+    let from = p.name.from in
+    ap (λ o. o >>= program_of from) reading
+    ∙ ap (λ r. traverse (some_or Limit from) (slice_set set 0 (Some r)) >>= (λ rs. provided (is_within_limits (as_made rs)) Limit from (as_made rs))) routine_is
+    ∙ ap (λ l. traverse (some_or Limit from) l >>= (λ rs. provided (is_within_limits (as_made rs)) Limit from (as_made rs))) all_of
+    ∙ ap (λ o. o >>= (λ rs. provided (is_within_limits (as_made rs)) Limit from (as_made rs))) (all_some from made.routines) ∙ ap (λ b. provided b Limit from made) within
   where
     at : (b : Bool) → (if b then false else b) ≡ false
     at true = refl
@@ -132,7 +136,7 @@ by_root text p files made many drawn within (is_read u a G mine nested) =
 
 pub read_programs_are_checked : ReadProgramsAreChecked
 unfolding program program_with
-read_programs_are_checked text p made r = ap (λ o. o >>= program_with text p) r.listed ∙ by_root text p r.files made r.routines r.domains r.limits r.block
+read_programs_are_checked text p made r = ap (λ o. o >>= program_with text p) r.listed ∙ by_root text p r.files made r.changes r.routines r.domains r.limits r.block
 
 pub one_program_is_read : OneProgramIsRead
-one_program_is_read text p made other a b = inside made other (sym (read_programs_are_checked text p made a) ∙ read_programs_are_checked text p other b)
+one_program_is_read text p made other a b = inside_yes made other (sym (read_programs_are_checked text p made a) ∙ read_programs_are_checked text p other b)

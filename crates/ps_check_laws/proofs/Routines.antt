@@ -1,5 +1,6 @@
 -- The routines of a block: which points they are, what they give their names, and in which regions their blocks are read.
-use Rattle.std.proofs.Common.{◌≡◌, ℕ, zero, suc, ◌+◌, Bool, true, false, ◌&&◌, ◌||◌, if◌then◌else◌, List, [], ◌∷◌, ◌++◌, length, map, take, drop, nat_eq, Option, Some, None, slice_get, option_map, refl, sym, ap, ◌∙◌, subst, append_assoc, append-nil, eq-eqb, eqb-true, arith}
+use Rattle.std.proofs.Common.{◌≡◌, ℕ, zero, suc, ◌+◌, Bool, true, false, ◌&&◌, ◌||◌, if◌then◌else◌, cond, List, [], ◌∷◌, ◌++◌, length, map, take, drop, nat_eq, Option, Some, None, slice_get, option_map, refl, sym, ap, ◌∙◌, subst, append_assoc, append-nil, eq-eqb, eqb-true, arith}
+use Rattle.std.specs.List.{position_from}
 use Rattle.std.proofs.lemmas.List.{map-append}
 use Rattle.ps_syntax.specs.declared.program.Heading as syntax
 use Rattle.ps_syntax.specs.declared.program.Block as syntax_block
@@ -35,6 +36,16 @@ same_itself (x ∷ xs) = ap (λ b. b && same xs xs) (eq-eqb x x refl) ∙ same_i
 pub or_true : (b : Bool) → (b || true) ≡ true
 or_true true = refl
 or_true false = refl
+
+next_place : (s : List ℕ) (n : ℕ) (x : List ℕ) (xs : List (List ℕ)) (i : ℕ) (b : Bool) → same s x ≡ b → cond b (Some n) (position_from (same s) (n + 1) xs) ≡ Some i
+    → (position_from (same s) (n + 1) xs ≡ Some i → (m : ℕ) × (i ≡ (n + 1) + m) × (slice_get xs m ≡ Some s)) → (m : ℕ) × (i ≡ n + m) × (slice_get (x ∷ xs) m ≡ Some s)
+next_place s n x xs i true q e further = (0, sym (inside n i e) ∙ (let z : n ≡ n + 0 = omega arith in z), ap (λ y. Some y) (sym (same_equal s x q)))
+next_place s n x xs i false q e further = let r = further e in (suc r.0, (let z = r.1 in omega (arith, z)), r.2)
+
+-- the name at the place of a spelling is that spelling
+pub placed : (s : List ℕ) (n : ℕ) (xs : List (List ℕ)) (i : ℕ) → position_from (same s) n xs ≡ Some i → (m : ℕ) × (i ≡ n + m) × (slice_get xs m ≡ Some s)
+placed s n [] i e = absurd (none_some e)
+placed s n (x ∷ xs) i e = next_place s n x xs i (same s x) refl e (placed s (n + 1) xs i)
 
 -- ---- routines of the tree
 

@@ -1,7 +1,8 @@
 -- The routines that are gathered at a place of the text, told by the checked program: the first ones of it, but for those that are vacant there.
 use Rattle.std.proofs.Common.{◌≡◌, ℕ, zero, suc, ◌+◌, ◌<◌, ◌≤◌, Bool, true, false, if◌then◌else◌, List, [], ◌∷◌, ◌++◌, length, map, take, drop, nat_eq, Option, Some, None, slice_get, slice_set, refl, sym, ap, ◌∙◌, eqb-true, arith}
 use Rattle.ps_tree.specs.Tree as Tree
-use Rattle.ps_check_names.specs.Option.{◌>>=◌, traverse}
+use Rattle.ps_check_judgement.specs.declared.refusal.Rule.TheVariants.{Limit}
+use Rattle.ps_check_judgement.specs.Judged.{Yes, ◌>>=◌, some_or, traverse}
 use Rattle.ps_check_laws.proofs.Lists.{none_some, inside, take_next}
 
 -- ---- numbers
@@ -141,6 +142,6 @@ module _ (routines : List Tree.Routine) where
       ∙ ap (λ k. drop k (shown vacant n ++ shown_from vacant (0 + length (take n routines)) (take m (drop n routines)))) (sym many) ∙ drop_left (shown vacant n) (shown_from vacant (0 + length (take n routines)) (take m (drop n routines)))
       ∙ ap (λ k. shown_from vacant k (take m (drop n routines))) at ∙ shown_all vacant n (take m (drop n routines)) none
 
-pub all_some : (rs : List Tree.Routine) → traverse (λ (r : Option Tree.Routine). r) (map (λ r. Some r) rs) ≡ Some rs
-all_some [] = refl
-all_some (r ∷ rs) = ap (λ o. o >>= (λ ys. Some (r ∷ ys))) (all_some rs)
+pub all_some : (at : ℕ) (rs : List Tree.Routine) → traverse (some_or Limit at) (map (λ r. Some r) rs) ≡ Yes rs
+all_some at [] = refl
+all_some at (r ∷ rs) = ap (λ o. o >>= (λ ys. Yes (r ∷ ys))) (all_some at rs)

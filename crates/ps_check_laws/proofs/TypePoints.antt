@@ -12,14 +12,15 @@ use Rattle.ps_syntax.specs.declared.program.Structure.TheOpen.{Structure-F, Type
 use Rattle.ps_syntax.specs.declared.program.Structure.TheFolds.{fold-Structure, fold-Fields, fold-roll-Structure, fold-roll-TypeDenoter, fold-roll-Fields, ind-TypeDenoter}
 use Rattle.ps_tree.specs.Types.{DataType, OrdinalType, RecordType, field_list, listed}
 use Rattle.ps_tree.specs.declared.types.Ordinal.{Ordinal}
-use Rattle.ps_check_names.specs.Option.{steps}
+use Rattle.ps_check_judgement.specs.Judged.{Yes, steps}
+use Rattle.ps_check_judgement.proofs.Binds.{inside_yes, then_yes, provided_yes}
+use Rattle.ps_check_names.specs.Spelling.{spelled}
 use Rattle.ps_check_names.specs.Regions.{Meaning, ConstantMeaning, LeftOutMeaning}
-use Rattle.ps_check_names.specs.Constants.{constant}
-use Rattle.ps_check_declarations.specs.Points.{Points, all, ordinal_points, type_points, structure_points, fields_points, type_points_step, structure_points_step, fields_points_step}
+use Rattle.ps_check_declarations.specs.Points.{Points, all, new_points, ordinal_points, type_points, structure_points, fields_points, type_points_step, structure_points_step, fields_points_step}
 use Rattle.ps_check_declarations.specs.Denoters as denoters
-use Rattle.ps_check_declarations.specs.Denoters.{Frame, Declared, Hidden, Reading, StructureReading, FieldsReading, Indices, FieldTypes, regions, type_named, ordinal_at, enumerated, constants_from, subrange, begins, is_packed, index_begins, index_type, array_of, set_of, small, fields_of_type, ordinal, pointer, add_fields, record_names, array_type, record_type, set_type, simple_type, denoter, structure, fields}
+use Rattle.ps_check_declarations.specs.Denoters.{Frame, Declared, Hidden, Reading, StructureReading, FieldsReading, Indices, FieldTypes, regions, passes, type_named, ordinal_at, enumerated, constants_from, subrange_of, begins, is_packed, index_begins, index_type, array_of, set_of, small, fields_of_type, ordinal, pointer, add_fields, record_names, array_type, record_type, set_type, simple_type, denoter, structure, fields}
 use Rattle.ps_check_laws.specs.Definitions.{Declaration, Declarations, OfEnumeration, numbered, joined, ordinal_declarations, fields_step, structure_step, type_step, type_declarations, declared_name}
-use Rattle.ps_check_laws.proofs.Lists.{inside, then_some, provided_some, Each, each_append}
+use Rattle.ps_check_laws.proofs.Lists.{Each, each_append}
 
 abbrev pub constant_of : Declaration → Meaning
 constant_of (OfEnumeration at count number name) = ConstantMeaning (enumerated at count) (pos number)
@@ -43,8 +44,8 @@ adds_none : (d : Declared) → Adds d [] d
 adds_none d = (sym (append-nil d.known), refl)
 
 -- the last part makes nothing else known
-adds_at : {A : Type 0} (d : Declared) (ds : Declarations) (x y : A × Declared) → Some x ≡ Some y → Adds d ds x.1 → Adds d ds y.1
-adds_at d ds x y e a = subst (λ (z : _ × Declared). Adds d ds z.1) (inside x y e) a
+adds_at : {A : Type 0} (d : Declared) (ds : Declarations) (x y : A × Declared) → Yes x ≡ Yes y → Adds d ds x.1 → Adds d ds y.1
+adds_at d ds x y e a = subst (λ (z : _ × Declared). Adds d ds z.1) (inside_yes x y e) a
 
 adds_both : (d e g : Declared) (xs ys : Declarations) → Adds d xs e → Adds e ys g → Adds d (xs ++ ys) g
 adds_both d e g xs ys a b = (b.0 ∙ ap (λ l. l ++ map constant_of ys) a.0 ∙ append_assoc d.known (map constant_of xs) (map constant_of ys) ∙ ap (λ l. d.known ++ l) (sym (map-append constant_of xs ys)), b.1 ∙ a.1)
@@ -90,54 +91,53 @@ ordinals_there (x ∷ xs) = both_there (ordinal_declarations x) (joined (map ord
 -- ---- readings
 
 module _ (f : Frame) where
-  ordinal_adds : (hidden : Hidden) (d : Declared) (x : syntax.Ordinal) (r : Ordinal × Declared) → ordinal f hidden d x ≡ Some r → Adds d (ordinal_declarations x) r.1
+  ordinal_adds : (hidden : Hidden) (d : Declared) (x : syntax.Ordinal) (r : Ordinal × Declared) → ordinal f hidden d x ≡ Yes r → Adds d (ordinal_declarations x) r.1
   unfolding ordinal ordinal_declarations
   ordinal_adds hidden d (o.Name at) r e =
-      let t = then_some (type_named f.text (regions f hidden d.known) at) _ r e in
-      let q = then_some (ordinal_at t.0) _ r t.2 in
+      let t = then_yes (type_named f.text (regions f hidden d.known) at) _ r e in
+      let q = then_yes (ordinal_at at.from t.0) _ r t.2 in
       adds_at d [] (q.0, d) r q.2 (adds_none d)
   ordinal_adds hidden d (o.Enumeration at names) r e =
       let made : Ordinal × Declared = (enumerated at.from (length names), denoters.with_known d (d.known ++ constants_from (enumerated at.from (length names)) 0 names)) in
-      let q = provided_some (nat_lt (length names) 2147483648) made r e in
-      adds_at d (numbered (OfEnumeration at.from (length names)) 0 names) made r (ap (λ z. Some z) q.1) (ap (λ l. d.known ++ l) (numbered_meanings at.from (length names) 0 names), refl)
+      let n = then_yes (new_points f.text f.names f.begun (length d.known) names) _ r e in
+      let q = provided_yes (nat_lt (length names) 2147483648) _ _ made r n.2 in
+      adds_at d (numbered (OfEnumeration at.from (length names)) 0 names) made r (ap (λ z. Yes z) q.1) (ap (λ l. d.known ++ l) (numbered_meanings at.from (length names) 0 names), refl)
   ordinal_adds hidden d (o.Subrange low high) r e =
-      let a = then_some (constant f.text (regions f hidden d.known) low) _ r e in
-      let b = then_some (constant f.text (regions f hidden d.known) high) _ r a.2 in
-      let q = then_some (subrange (first_of_ordinal (o.Subrange low high)) a.0 b.0) _ r b.2 in
+      let q = then_yes (subrange_of f hidden d.known (first_of_ordinal (o.Subrange low high)) low high) _ r e in
       adds_at d [] (q.0, d) r q.2 (adds_none d)
 
-  indices_add : (hidden : Hidden) (at : ℕ) (xs : List syntax.Ordinal) (s t : Indices × Declared) → steps (index_type f hidden at) s xs ≡ Some t → Adds s.1 (joined (map ordinal_declarations xs)) t.1
+  indices_add : (hidden : Hidden) (at : ℕ) (xs : List syntax.Ordinal) (s t : Indices × Declared) → steps (index_type f hidden at) s xs ≡ Yes t → Adds s.1 (joined (map ordinal_declarations xs)) t.1
   indices_add hidden at [] s t e = adds_at s.1 [] s t e (adds_none s.1)
   indices_add hidden at (x ∷ xs) s t e =
-      let one = then_some (index_type f hidden at s x) _ t e in
-      let r = then_some (ordinal f hidden s.1 x) _ one.0 one.1 in
+      let one = then_yes (index_type f hidden at s x) _ t e in
+      let r = then_yes (ordinal f hidden s.1 x) _ one.0 one.1 in
       adds_both s.1 one.0.1 t.1 (ordinal_declarations x) (joined (map ordinal_declarations xs)) (adds_at s.1 (ordinal_declarations x) (s.0 ++ (index_begins at s.0 x, r.0.0) ∷ [], r.0.1) one.0 r.2 (ordinal_adds hidden s.1 x r.0 r.1)) (indices_add hidden at xs one.0 t one.2)
 
-  simple_adds : (hidden : Hidden) (d : Declared) (x : syntax.Ordinal) (r : DataType × Declared) → simple_type f hidden d x ≡ Some r → Adds d (ordinal_declarations x) r.1
+  simple_adds : (hidden : Hidden) (d : Declared) (x : syntax.Ordinal) (r : DataType × Declared) → simple_type f hidden d x ≡ Yes r → Adds d (ordinal_declarations x) r.1
   unfolding simple_type ordinal_declarations
   simple_adds hidden d (o.Name at) r e =
-      let t = then_some (type_named f.text (regions f hidden d.known) at) _ r e in
+      let t = then_yes (type_named f.text (regions f hidden d.known) at) _ r e in
       adds_at d [] (t.0, d) r t.2 (adds_none d)
   simple_adds hidden d (o.Enumeration at names) r e =
-      let t = then_some (ordinal f hidden d (o.Enumeration at names)) _ r e in
+      let t = then_yes (ordinal f hidden d (o.Enumeration at names)) _ r e in
       adds_at d (ordinal_declarations (o.Enumeration at names)) (OrdinalType t.0.0, t.0.1) r t.2 (ordinal_adds hidden d (o.Enumeration at names) t.0 t.1)
   simple_adds hidden d (o.Subrange low high) r e =
-      let t = then_some (ordinal f hidden d (o.Subrange low high)) _ r e in
+      let t = then_yes (ordinal f hidden d (o.Subrange low high)) _ r e in
       adds_at d (ordinal_declarations (o.Subrange low high)) (OrdinalType t.0.0, t.0.1) r t.2 (ordinal_adds hidden d (o.Subrange low high) t.0 t.1)
 
   -- ---- all parts of denoters
 
   pub record TypeTold (t : TypeDenoter) : Type 0 where
     pub there : Points' (type_declarations t) (type_points t)
-    pub adds : (hidden : Hidden) (d : Declared) (r : DataType × Declared) → denoter f t hidden d ≡ Some r → Adds d (type_declarations t) r.1
+    pub adds : (hidden : Hidden) (d : Declared) (r : DataType × Declared) → denoter f t hidden d ≡ Yes r → Adds d (type_declarations t) r.1
 
   record StructureTold (s : Structure) : Type 0 where
     there : Points' (structure_declarations s) (structure_points s)
-    adds : (packed : Option ℕ) (hidden : Hidden) (d : Declared) (r : DataType × Declared) → structure f s packed hidden d ≡ Some r → Adds d (structure_declarations s) r.1
+    adds : (packed : Option ℕ) (hidden : Hidden) (d : Declared) (r : DataType × Declared) → structure f s packed hidden d ≡ Yes r → Adds d (structure_declarations s) r.1
 
   record FieldsTold (x : Fields) : Type 0 where
     there : Points' (fields_declarations x) (fields_points x)
-    adds : (hidden : Hidden) (d : Declared) (r : DataType × Declared) → (fields f x).1 hidden d ≡ Some r → Adds d (fields_declarations x) r.1
+    adds : (hidden : Hidden) (d : Declared) (r : DataType × Declared) → (fields f x).1 hidden d ≡ Yes r → Adds d (fields_declarations x) r.1
 
   abbrev first_of : List ((x : Fields) × FieldsTold x) → List Fields
   first_of ys = map (λ y. y.0) ys
@@ -146,50 +146,51 @@ module _ (f : Frame) where
   all_there [] = none_there
   all_there (y ∷ ys) = both_there (fields_declarations y.0) (joined (map fields_declarations (first_of ys))) (fields_points y.0) (all (map fields_points (first_of ys))) y.1.there (all_there ys)
 
-  all_add : (hidden : Hidden) (ys : List ((x : Fields) × FieldsTold x)) (s t : FieldTypes × Declared) → steps (add_fields f hidden) s (map (fields f) (first_of ys)) ≡ Some t → Adds s.1 (joined (map fields_declarations (first_of ys))) t.1
-  all_add hidden [] s t e = adds_at s.1 [] s t e (adds_none s.1)
-  all_add hidden (y ∷ ys) s t e =
-      let one = then_some (add_fields f hidden s (fields f y.0)) _ t e in
-      let r = then_some ((fields f y.0).1 hidden s.1) _ one.0 one.1 in
-      adds_both s.1 one.0.1 t.1 (fields_declarations y.0) (joined (map fields_declarations (first_of ys))) (adds_at s.1 (fields_declarations y.0) (s.0 ++ fields_of_type r.0.0 (fields f y.0).0, r.0.1) one.0 r.2 (y.1.adds hidden s.1 r.0 r.1)) (all_add hidden ys one.0 t one.2)
+  all_add : (names : List (List ℕ)) (hidden : Hidden) (ys : List ((x : Fields) × FieldsTold x)) (s t : FieldTypes × Declared) → steps (add_fields f names hidden) s (map (fields f) (first_of ys)) ≡ Yes t → Adds s.1 (joined (map fields_declarations (first_of ys))) t.1
+  all_add names hidden [] s t e = adds_at s.1 [] s t e (adds_none s.1)
+  all_add names hidden (y ∷ ys) s t e =
+      let one = then_yes (add_fields f names hidden s (fields f y.0)) _ t e in
+      let n = then_yes (new_points f.text names [] (length s.0) (fields f y.0).0) _ one.0 one.1 in
+      let r = then_yes ((fields f y.0).1 ((names, n.0) ∷ hidden) s.1) _ one.0 n.2 in
+      adds_both s.1 one.0.1 t.1 (fields_declarations y.0) (joined (map fields_declarations (first_of ys))) (adds_at s.1 (fields_declarations y.0) (s.0 ++ fields_of_type r.0.0 (fields f y.0).0, r.0.1) one.0 r.2 (y.1.adds ((names, n.0) ∷ hidden) s.1 r.0 r.1)) (all_add names hidden ys one.0 t one.2)
 
   structure_told : (x : Structure) (ds : Declarations) (points : Points) (reading : StructureReading) → structure_declarations x ≡ ds → structure_points x ≡ points → structure f x ≡ reading
-      → Points' ds points → ((packed : Option ℕ) (hidden : Hidden) (d : Declared) (r : DataType × Declared) → reading packed hidden d ≡ Some r → Adds d ds r.1) → StructureTold x
+      → Points' ds points → ((packed : Option ℕ) (hidden : Hidden) (d : Declared) (r : DataType × Declared) → reading packed hidden d ≡ Yes r → Adds d ds r.1) → StructureTold x
   structure_told x ds points reading a b c there adds = record {
     there = subst (λ l. Points' l (structure_points x)) (sym a) (subst (Points' ds) (sym b) there);
     adds = λ packed hidden d r e. subst (λ l. Adds d l r.1) (sym a) (adds packed hidden d r (ap (λ (q : StructureReading). q packed hidden d) (sym c) ∙ e));
   }
 
   type_told_by : (x : TypeDenoter) (ds : Declarations) (points : Points) (reading : Reading) → type_declarations x ≡ ds → type_points x ≡ points → denoter f x ≡ reading
-      → Points' ds points → ((hidden : Hidden) (d : Declared) (r : DataType × Declared) → reading hidden d ≡ Some r → Adds d ds r.1) → TypeTold x
+      → Points' ds points → ((hidden : Hidden) (d : Declared) (r : DataType × Declared) → reading hidden d ≡ Yes r → Adds d ds r.1) → TypeTold x
   type_told_by x ds points reading a b c there adds = record {
     there = subst (λ l. Points' l (type_points x)) (sym a) (subst (Points' ds) (sym b) there);
     adds = λ hidden d r e. subst (λ l. Adds d l r.1) (sym a) (adds hidden d r (ap (λ (q : Reading). q hidden d) (sym c) ∙ e));
   }
 
-  array_adds : (packed : Option ℕ) (hidden : Hidden) (d : Declared) (at : ℕ) (xs : List syntax.Ordinal) (c : TypeDenoter) → TypeTold c → (r : DataType × Declared) → array_type f packed hidden d at xs (denoter f c) ≡ Some r
+  array_adds : (packed : Option ℕ) (hidden : Hidden) (d : Declared) (at : ℕ) (xs : List syntax.Ordinal) (c : TypeDenoter) → TypeTold c → (r : DataType × Declared) → array_type f packed hidden d at xs (denoter f c) ≡ Yes r
       → Adds d (joined (map ordinal_declarations xs) ++ type_declarations c) r.1
   unfolding array_type
   array_adds packed hidden d at xs c told r e =
-      let is = then_some (steps (index_type f hidden (begins packed at)) ([], d) xs) _ r e in
-      let q = then_some (denoter f c hidden is.0.1) _ r is.2 in
-      let t = then_some (array_of (is_packed packed) is.0.0 q.0.0) _ r q.2 in
+      let is = then_yes (steps (index_type f hidden (begins packed at)) ([], d) xs) _ r e in
+      let q = then_yes (denoter f c hidden is.0.1) _ r is.2 in
+      let t = then_yes (array_of (is_packed packed) is.0.0 q.0.0) _ r q.2 in
       adds_both d is.0.1 r.1 (joined (map ordinal_declarations xs)) (type_declarations c) (indices_add hidden (begins packed at) xs ([], d) is.0 is.1) (adds_at is.0.1 (type_declarations c) (t.0, q.0.1) r t.2 (told.adds hidden is.0.1 q.0 q.1))
 
-  record_adds : (packed : Option ℕ) (hidden : Hidden) (d : Declared) (at : ℕ) (ys : List ((x : Fields) × FieldsTold x)) (r : DataType × Declared) → record_type f packed hidden d at (map (fields f) (first_of ys)) ≡ Some r
+  record_adds : (packed : Option ℕ) (hidden : Hidden) (d : Declared) (at : ℕ) (ys : List ((x : Fields) × FieldsTold x)) (r : DataType × Declared) → record_type f packed hidden d at (map (fields f) (first_of ys)) ≡ Yes r
       → Adds d (joined (map fields_declarations (first_of ys))) r.1
   unfolding record_type
   record_adds packed hidden d at ys r e =
-      let names = then_some (record_names f (map (fields f) (first_of ys))) _ r e in
-      let types = then_some (steps (add_fields f (names.0 ∷ hidden)) ([], d) (map (fields f) (first_of ys))) _ r names.2 in
-      let t = then_some (small (RecordType (begins packed at) (is_packed packed) (field_list names.0 (listed types.0.0)))) _ r types.2 in
-      adds_at d (joined (map fields_declarations (first_of ys))) (t.0, types.0.1) r t.2 (all_add (names.0 ∷ hidden) ys ([], d) types.0 types.1)
+      let names = record_names f (map (fields f) (first_of ys)) in
+      let types = then_yes (steps (add_fields f names hidden) ([], d) (map (fields f) (first_of ys))) _ r e in
+      let t = then_yes (small (begins packed at) (RecordType (begins packed at) (is_packed packed) (field_list names (listed types.0.0)))) _ r types.2 in
+      adds_at d (joined (map fields_declarations (first_of ys))) (t.0, types.0.1) r t.2 (all_add names hidden ys ([], d) types.0 types.1)
 
-  set_adds : (packed : Option ℕ) (hidden : Hidden) (d : Declared) (at : ℕ) (x : syntax.Ordinal) (r : DataType × Declared) → set_type f packed hidden d at x ≡ Some r → Adds d (ordinal_declarations x) r.1
+  set_adds : (packed : Option ℕ) (hidden : Hidden) (d : Declared) (at : ℕ) (x : syntax.Ordinal) (r : DataType × Declared) → set_type f packed hidden d at x ≡ Yes r → Adds d (ordinal_declarations x) r.1
   unfolding set_type
   set_adds packed hidden d at x r e =
-      let q = then_some (ordinal f hidden d x) _ r e in
-      let t = then_some (set_of (begins packed at) (is_packed packed) q.0.0) _ r q.2 in
+      let q = then_yes (ordinal f hidden d x) _ r e in
+      let t = then_yes (set_of at (begins packed at) (is_packed packed) q.0.0) _ r q.2 in
       adds_at d (ordinal_declarations x) (t.0, q.0.1) r t.2 (ordinal_adds hidden d x q.0 q.1)
 
   abbrev AtStructure : Type 0
@@ -201,8 +202,11 @@ module _ (f : Frame) where
   abbrev AtFields : Type 0
   AtFields = (x : Fields) × FieldsTold x
 
-  pointer_adds : (hidden : Hidden) (d : Declared) (domain : Span) (r : DataType × Declared) → pointer f hidden d domain ≡ Some r → Adds d [] r.1
-  pointer_adds hidden d domain r e = let q = provided_some _ _ r e in adds_at d [] _ r (ap (λ z. Some z) q.1) (adds_none d)
+  pointer_adds : (hidden : Hidden) (d : Declared) (domain : Span) (r : DataType × Declared) → pointer f hidden d domain ≡ Yes r → Adds d [] r.1
+  pointer_adds hidden d domain r e =
+      let free = then_yes (passes hidden (spelled f.text domain) domain.from) _ r e in
+      let q = provided_yes _ _ _ _ r free.2 in
+      adds_at d [] _ r (ap (λ z. Yes z) q.1) (adds_none d)
 
   structure_layer : (y : Structure-F AtStructure AtType AtFields) → StructureTold (roll-Structure (map-Structure AtStructure AtType AtFields Structure TypeDenoter Fields (λ e. e.0) (λ e. e.0) (λ e. e.0) y))
   unfolding denoters.structure_step

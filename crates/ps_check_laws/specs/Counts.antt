@@ -5,7 +5,7 @@ use Rattle.ps_syntax.specs.declared.program.Routine.{Routine}
 use Rattle.ps_syntax.specs.declared.program.Routine.TheOpen.{Routine-F, Block-F}
 use Rattle.ps_syntax.specs.declared.program.Routine.TheFolds.{fold-Block, fold-Routine}
 use Rattle.ps_syntax.specs.declared.program.Program as syntax
-use Rattle.ps_check_names.specs.Option.{◌>>=◌}
+use Rattle.ps_check_laws.specs.Option.{◌>>=◌}
 use Rattle.ps_check.specs.Paths.{block_at}
 use Rattle.ps_check_laws.specs.Domains.{type_domains, variable_domains}
 

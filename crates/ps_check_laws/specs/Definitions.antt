@@ -15,7 +15,7 @@ use Rattle.ps_syntax.specs.declared.program.Heading.TheOpen.{Heading-F, Section-
 use Rattle.ps_syntax.specs.declared.program.Block.{Block, out-Block}
 use Rattle.ps_syntax.specs.declared.program.Routine.{Routine, out-Routine}
 use Rattle.ps_syntax.specs.declared.program.Routine.TheOpen.{Routine-F}
-use Rattle.ps_check_names.specs.Option.{◌>>=◌}
+use Rattle.ps_check_laws.specs.Option.{◌>>=◌}
 use Rattle.ps_check_names.specs.Spelling.{spelled, has, place}
 use Rattle.ps_check_declarations.specs.Points.{Points, all}
 use Rattle.ps_check.specs.Readings.{HeadingLayer, heading_name, heading_list}

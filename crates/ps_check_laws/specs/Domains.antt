@@ -7,6 +7,7 @@ use Rattle.ps_syntax.specs.declared.program.Structure.TheFolds.{fold-TypeDenoter
 use Rattle.ps_syntax.specs.declared.program.TypeDefinition.{TypeDefinition}
 use Rattle.ps_syntax.specs.declared.program.Variables.{Variables}
 use Rattle.ps_tree.specs.Types.{DataType}
+use Rattle.ps_check_judgement.specs.Judged.{Yes}
 use Rattle.ps_check_names.specs.Regions.{Meaning}
 use Rattle.ps_check_declarations.specs.Points.{Points, all}
 use Rattle.ps_check_declarations.specs.Denoters.{Frame, regions, type_named}
@@ -39,4 +40,4 @@ variable_domains vs = all (map (λ v. domain_names v.ty) vs)
 -- from a number on, the domain types are those that some names denote where some points of the block are known
 abbrev pub AreDomains : Frame → (known : List Meaning) → (base : ℕ) → (names : Points) → (domains : List DataType) → Type 0
 AreDomains f known base names domains =
-    (i : ℕ) (name : Span) → slice_get names i ≡ Some name → (type : DataType) × (type_named f.text (regions f [] known) name ≡ Some type) × (slice_get domains (base + i) ≡ Some type)
+    (i : ℕ) (name : Span) → slice_get names i ≡ Some name → (type : DataType) × (type_named f.text (regions f [] known) name ≡ Yes type) × (slice_get domains (base + i) ≡ Some type)

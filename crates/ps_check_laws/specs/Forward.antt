@@ -7,6 +7,7 @@ use Rattle.ps_syntax.specs.declared.program.Routine.{Routine, out-Routine}
 use Rattle.ps_syntax.specs.declared.program.Routine.TheOpen.{Routine-F}
 use Rattle.ps_syntax.specs.declared.program.Program as syntax
 use Rattle.ps_tree.specs.Tree as Tree
+use Rattle.ps_check_judgement.specs.Judged.{Yes}
 use Rattle.ps_check_names.specs.Spelling.{spelled}
 use Rattle.ps_check.specs.Readings.{HeadingLayer, is_bare}
 use Rattle.ps_check.specs.Paths.{block_at}
@@ -51,4 +52,4 @@ abbrev pub BlocksAreCompleted : List ℕ → syntax.Program → Type 0
 BlocksAreCompleted text p = (v : List ℕ) (b : Block) → block_at p.block v ≡ Some b → AreCompleted text (out-Block b).routines
 
 abbrev pub ForwardHeadingsHaveBlocks : Type 0
-ForwardHeadingsHaveBlocks = (text : List ℕ) (p : syntax.Program) (made : Tree.Program) → program text p ≡ Some made → BlocksAreCompleted text p
+ForwardHeadingsHaveBlocks = (text : List ℕ) (p : syntax.Program) (made : Tree.Program) → program text p ≡ Yes made → BlocksAreCompleted text p

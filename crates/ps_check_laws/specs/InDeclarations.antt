@@ -1,6 +1,6 @@
 -- The uses of names in the declarations and headings of a block, each with the regions within the block that enclose it: a record type has its fields' names (6.4.3.3), and a formal parameter list its
 -- parameters' (6.6.3.1). The names of domain types are apart (6.4.4).
-use Rattle.std.specs.Prelude.{◌≡◌, ℕ, ◌+◌, false, List, [], ◌∷◌, ◌++◌, length, map, Some}
+use Rattle.std.specs.Prelude.{◌≡◌, ℕ, ◌+◌, false, List, [], ◌∷◌, ◌++◌, length, map}
 use Rattle.ps_text.specs.declared.Span.{Span}
 use Rattle.ps_syntax.specs.declared.program.Ordinal.{Ordinal}
 use Rattle.ps_syntax.specs.declared.program.Ordinal.TheVariants as o
@@ -15,6 +15,7 @@ use Rattle.ps_syntax.specs.declared.program.Heading.TheOpen.{Heading-F, Section-
 use Rattle.ps_syntax.specs.declared.program.Heading.TheFolds.{fold-Heading}
 use Rattle.ps_syntax.specs.declared.program.Block.{Block, out-Block}
 use Rattle.ps_syntax.specs.declared.program.Program as syntax
+use Rattle.ps_check_judgement.specs.Judged.{Yes}
 use Rattle.ps_check_names.specs.Spelling.{spelled, has}
 use Rattle.ps_check_names.specs.Regions.{Region, Point, find}
 use Rattle.ps_check_declarations.specs.Points.{Points, all}
@@ -150,5 +151,5 @@ pub record IsDenotedBefore (text : List ℕ) (p : syntax.Program) (v : List ℕ)
   pub region : Region
   pub is_region : IsRegion text p v u.before regions region
   pub point : Point
-  pub found : find (region ∷ regions) (spelled text u.name) ≡ Some point
+  pub found : find (region ∷ regions) (spelled text u.name) u.name.from ≡ Yes point
   pub denotes : IsDenoted text p (spelled text u.name) v u.before (region ∷ regions) [] point

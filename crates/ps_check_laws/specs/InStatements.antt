@@ -1,7 +1,9 @@
 -- What the names in the statements of a block denote (6.2.2, 6.8.3.10): each use is told where it stands in the tree, with the records that are opened round it.
-use Rattle.std.specs.Prelude.{◌≡◌, ℕ, List, [], ◌∷◌, ◌++◌, Some}
+use Rattle.std.specs.Prelude.{◌≡◌, ℕ, List, [], ◌∷◌, ◌++◌}
 use Rattle.ps_syntax.specs.declared.expression.Variable as syntax
 use Rattle.ps_syntax.specs.declared.program.Program as syntax_program
+use Rattle.ps_check_judgement.specs.declared.change.Change.{Change}
+use Rattle.ps_check_judgement.specs.Judged.{Yes}
 use Rattle.ps_check_names.specs.Spelling.{spelled}
 use Rattle.ps_check_names.specs.Regions.{Region, RecordRegion, Point, Context, find}
 use Rattle.ps_tree.specs.Types.{DataType, FieldList}
@@ -11,13 +13,20 @@ use Rattle.ps_check_statements.specs.Structured.{record_region}
 use Rattle.ps_check_laws.specs.Uses.{opened_regions, IsDenoted}
 use Rattle.ps_check_laws.specs.Occurrences.{Use}
 
+-- the context within `for` statements with these control variables
+abbrev pub in_loops : Context → (controls : List ℕ) → Context
+in_loops c controls = record { text = c.text; domains = c.domains; has_input = c.has_input; has_output = c.has_output; controls = controls; inner = c.inner }
+
 module _ (c : Context) (Γ : List Region) where
-  -- the record variable is one of this record type, where some records are open already
+  -- The record variable is one of this record type, where some records are open already. It may stand within `for` statements with these control variables, behind some changes.
   pub record IsOpened (outer : List (DataType × FieldList)) (x : syntax.Variable) (type : DataType) (fields : FieldList) : Type 0 where
+    pub controls : List ℕ
+    pub before : List Change
+    pub behind : List Change
     pub variable : Variable
-    pub reading : (variable_operand c (opened_regions outer ++ Γ) x).variable ≡ Some variable
+    pub reading : (variable_operand (in_loops c controls) (opened_regions outer ++ Γ) x).variable before ≡ Yes (variable, behind)
     pub is_of : variable.type ≡ type
-    pub is_record : record_region type ≡ Some (RecordRegion type fields)
+    pub is_record : (at : ℕ) → record_region at type ≡ Yes (RecordRegion type fields)
 
   -- the records of some record variables, from the inside out, each opened within those further out
   pub data AreOpened : List syntax.Variable → List (DataType × FieldList) → Type 0 where
@@ -29,5 +38,5 @@ pub record IsDenotedThere (text : List ℕ) (p : syntax_program.Program) (v : Li
   pub opened : List (DataType × FieldList)
   pub are : AreOpened c Γ u.opened opened
   pub point : Point
-  pub found : find (opened_regions opened ++ Γ) (spelled text u.name) ≡ Some point
+  pub found : find (opened_regions opened ++ Γ) (spelled text u.name) u.name.from ≡ Yes point
   pub denotes : IsDenoted text p (spelled text u.name) v n Γ opened point

@@ -1,3 +1,4 @@
+pub mod Option
 pub mod Definitions
 pub mod Denoting
 pub mod Within
@@ -10,4 +11,7 @@ pub mod InDeclarations
 pub mod Read
 pub mod Forward
 pub mod Counts
+pub mod Controls
+pub mod Threats
 pub mod Rule
+pub mod Safe

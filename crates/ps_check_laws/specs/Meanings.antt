@@ -2,14 +2,17 @@
 use Rattle.std.specs.Prelude.{◌≡◌, ℕ, pos, ◌+◌, List, [], ◌∷◌, ◌++◌, length, map, take, Some, slice_get, is_none}
 use Rattle.ps_syntax.specs.declared.program.Heading as syntax
 use Rattle.ps_syntax.specs.declared.program.TypeDenoter.{TypeDenoter}
+use Rattle.ps_syntax.specs.declared.program.TypeDefinition.{TypeDefinition}
+use Rattle.ps_syntax.specs.declared.program.Variables.{Variables}
 use Rattle.ps_syntax.specs.declared.program.Block.{Block}
 use Rattle.ps_syntax.specs.declared.program.Program as syntax_program
 use Rattle.ps_tree.specs.Types.{DataType}
 use Rattle.ps_check_names.specs.declared.meaning.File.{File}
+use Rattle.ps_check_judgement.specs.Judged.{Yes}
 use Rattle.ps_check_names.specs.Spelling.{spelled}
 use Rattle.ps_check_names.specs.Regions.{Region, BlockRegion, BlockPoint, Meaning, ConstantMeaning, TypeMeaning, VariableMeaning, RoutineMeaning, FileMeaning, Heading, find}
 use Rattle.ps_check_names.specs.Constants.{ConstantValue, constant}
-use Rattle.ps_check_declarations.specs.Denoters.{Frame, Declared, regions, enumerated, denoter}
+use Rattle.ps_check_declarations.specs.Denoters.{Frame, within, Declared, Hidden, regions, enumerated, denoter}
 use Rattle.ps_check_declarations.specs.Declarations.{meaning_of_constant}
 use Rattle.ps_check_declarations.specs.Headings.{Signature, heading, section_list, formal_meanings}
 use Rattle.ps_check.specs.Readings.{heading_name}
@@ -21,26 +24,38 @@ use Rattle.ps_check_laws.specs.Denoting.{first_entry_at, definitions_at, points_
 
 -- ---- what a defining point gives its name, in the regions where the points before it are known
 
--- The type that a denoter makes: as it is read in the block, behind the enumeration constants within it.
-pub record IsTypeOf (f : Frame) (t : TypeDenoter) (known : List Meaning) (type : DataType) : Type 0 where
+-- The type that a denoter makes: as it is read in the block, where some names are hidden from it, behind the enumeration constants within it.
+pub record IsTypeOf (f : Frame) (hidden : Hidden) (t : TypeDenoter) (known : List Meaning) (type : DataType) : Type 0 where
   pub before : Declared
   pub behind : Declared
-  pub reading : denoter f t [] before ≡ Some (type, behind)
+  pub reading : denoter f t hidden before ≡ Yes (type, behind)
   pub there : behind.known ≡ known
+
+-- within the definition of a type
+abbrev pub in_definition : Frame → TypeDefinition → Frame
+in_definition f t = within f (spelled f.text t.name ∷ [])
+
+-- within a declaration of variables, whose names stand before their type
+abbrev pub variable_names : Frame → Variables → List (List ℕ)
+variable_names f v = map (spelled f.text) v.names
+
+abbrev pub hidden_by : Frame → Variables → Hidden
+hidden_by f v = (variable_names f v, length (variable_names f v)) ∷ []
 
 -- a declaration of a block whose first variable has the entry `first`
 abbrev pub Declares : Frame → (first : ℕ) → (before : List Meaning) → Declaration → Meaning → Type 0
-Declares f first before (OfFile name) m = (file : File) × (m ≡ FileMeaning file) × (file_named (spelled f.text name) ≡ Some m)
-Declares f first before (OfFormal x i name) m = (h : Heading) × (find f.outer (spelled f.text (heading_name x)) ≡ Some (BlockPoint 0 (RoutineMeaning h))) × (slice_get (formal_meanings (first_entry h.result) h.sections) i ≡ Some m)
-Declares f first before (OfConstant c) m = (v : ConstantValue) × (constant f.text (regions f [] before) c.value ≡ Some v) × (m ≡ meaning_of_constant v)
+Declares f first before (OfFile name) m = (file : File) × (m ≡ FileMeaning file) × (file_named name.from (spelled f.text name) ≡ Yes m)
+Declares f first before (OfFormal x i name) m = (h : Heading) × (find f.outer (spelled f.text (heading_name x)) (heading_name x).from ≡ Yes (BlockPoint 0 (RoutineMeaning h))) × (slice_get (formal_meanings (first_entry h.result) h.sections) i ≡ Some m)
+Declares f first before (OfConstant c) m = (v : ConstantValue) × (constant f.text (regions f [] before) c.value ≡ Yes v) × (m ≡ meaning_of_constant v)
 Declares f first before (OfEnumeration at count i name) m = m ≡ ConstantMeaning (enumerated at count) (pos i)
-Declares f first before (OfType t) m = (type : DataType) × IsTypeOf f t.ty before type × (m ≡ TypeMeaning type)
-Declares f first before (OfVariable v i name) m = (type : DataType) × (more : List Meaning) × (known : List Meaning) × IsTypeOf f v.ty known type × (before ≡ known ++ more) × (m ≡ VariableMeaning (first + i) type)
+Declares f first before (OfType t) m = (type : DataType) × IsTypeOf (in_definition f t) [] t.ty before type × (m ≡ TypeMeaning type)
+Declares f first before (OfVariable v i name) m = (type : DataType) × (more : List Meaning) × (known : List Meaning) × IsTypeOf (within f (variable_names f v)) (hidden_by f v) v.ty known type × (before ≡ known ++ more) × (m ≡ VariableMeaning (first + i) type)
 
 -- a heading, as it is read in the block
 pub record IsHeading (f : Frame) (before : List Meaning) (x : syntax.Heading) (h : Heading) : Type 0 where
   pub said : Signature
-  pub reading : (heading f before x).1 [] ≡ Some said
+  pub reading : (heading f before x).1 [] ≡ Yes said
+  pub at : h.at ≡ (heading_name x).from
   pub sections : h.sections ≡ section_list said.0
   pub result : h.result ≡ said.1
   pub names : h.names ≡ map (spelled f.text) (formal_points x)
@@ -72,7 +87,7 @@ module _ (text : List ℕ) (p : syntax_program.Program) where
     pub numbers : first_number text p v ≡ Some next
     pub is : r ≡ BlockRegion number (names_of text definitions) known
     pub before : length known ≡ n
-    pub meanings : AreMeanings (record { text = text; routine = number; names = names_of text definitions; outer = outer }) first (λ k. next + headings_before text block k) definitions known
+    pub meanings : AreMeanings (record { text = text; routine = number; names = names_of text definitions; begun = []; outer = outer }) first (λ k. next + headings_before text block k) definitions known
 
   -- the regions round the block at a path: the block around it as far as its routine, and so on; and the required names around the program
   pub data AreAround : List ℕ → List Region → Type 0 where

@@ -1,12 +1,13 @@
 -- What it is for a program to be read, told of its whole tree: block by block, where each defining point has one meaning and each block its checked routine.
-use Rattle.std.specs.Prelude.{◌≡◌, ℕ, suc, ◌+◌, true, List, [], ◌∷◌, length, map, take, drop, Option, Some, None, slice_get}
+use Rattle.std.specs.Prelude.{◌≡◌, ℕ, suc, ◌+◌, true, List, [], ◌∷◌, ◌++◌, length, map, take, Some, None, slice_get}
 use Rattle.ps_syntax.specs.declared.program.Heading as syntax
 use Rattle.ps_syntax.specs.declared.program.Block.{Block, out-Block}
 use Rattle.ps_syntax.specs.declared.program.Routine.{Routine}
 use Rattle.ps_syntax.specs.declared.program.Program as syntax_program
 use Rattle.ps_tree.specs.Tree as Tree
 use Rattle.ps_tree.specs.Counts.{is_within_limits}
-use Rattle.ps_check_names.specs.Option.{steps}
+use Rattle.ps_check_judgement.specs.declared.change.Change.{Change}
+use Rattle.ps_check_judgement.specs.Judged.{Yes, steps}
 use Rattle.ps_check_names.specs.Spelling.{spelled, line_in}
 use Rattle.ps_check_names.specs.Regions.{Region, BlockRegion, BlockPoint, Meaning, RoutineMeaning, Heading, formals_of, find}
 use Rattle.ps_check_declarations.specs.Declarations.{declarations}
@@ -14,15 +15,16 @@ use Rattle.ps_check_declarations.specs.Headings.{formal_meanings}
 use Rattle.ps_check_statements.specs.Statements.{statements}
 use Rattle.ps_check.specs.Readings.{Start, heading_name}
 use Rattle.ps_check.specs.Entries.{first_entry}
-use Rattle.ps_check.specs.Blocks.{own_number, with_domains}
+use Rattle.ps_check.specs.Blocks.{own_number, of_statements}
 use Rattle.ps_check.specs.Programs.{Files, no_files, list_file, program, program_start, program_context, required}
-use Rattle.ps_check.specs.Threats.{is_safe, assigns}
+use Rattle.ps_check.specs.Changes.{assigns}
 use Rattle.ps_check.specs.RegionNames.{AreApart}
 use Rattle.ps_check.specs.Paths.{routine_block}
 use Rattle.ps_check_laws.specs.Definitions.{Declarations, OfDeclaration, entries_before, definitions_of, names_of, points_before, points_before_routines}
 use Rattle.ps_check_laws.specs.Denoting.{first_declarations, heading_at, first_number, chain_at, headings_before, headings_within}
 use Rattle.ps_check_laws.specs.Counts.{own_domains, block_domains, first_domain_at}
 use Rattle.ps_check_laws.specs.Forward.{AreCompleted}
+use Rattle.ps_check_laws.specs.Controls.{changes_from}
 use Rattle.ps_check_laws.specs.Meanings.{AreMeanings}
 
 module _ (text : List ℕ) (p : syntax_program.Program) (files : Files) (made : Tree.Program) where
@@ -31,11 +33,7 @@ module _ (text : List ℕ) (p : syntax_program.Program) (files : Files) (made : 
   pub data IsBegun : List ℕ → List Region → Start → Tree.Routine → Type 0 where
     of_program : (Γ : List Region) (r : Tree.Routine) → r.formals ≡ Tree.no_formal → r.result ≡ None → IsBegun [] Γ (program_start files) r
     of_heading : (k : ℕ) (v : List ℕ) (Γ : List Region) (s : Start) (r : Tree.Routine) (x : syntax.Heading) (h : Heading) (chain : List ℕ) → heading_at text p k v ≡ Some x
-        → find Γ (spelled text (heading_name x)) ≡ Some (BlockPoint 0 (RoutineMeaning h)) → chain_at text p v ≡ Some chain → s.chain ≡ h.number ∷ chain → s.known ≡ formal_meanings (first_entry h.result) h.sections → s.first ≡ entries_before x → r.formals ≡ formals_of h.sections → r.result ≡ h.result → IsBegun (k ∷ v) Γ s r
-
-  -- the checked routines of the headings within a block, which are numbered from one on
-  unfoldable pub routines_within : ℕ → Block → List (Option Tree.Routine)
-  routines_within next b = map (λ r. Some r) (take (headings_within text b) (drop next made.routines))
+        → find Γ (spelled text (heading_name x)) (heading_name x).from ≡ Yes (BlockPoint 0 (RoutineMeaning h)) → chain_at text p v ≡ Some chain → s.chain ≡ h.number ∷ chain → s.known ≡ formal_meanings (first_entry h.result) h.sections → s.first ≡ entries_before x → r.formals ≡ formals_of h.sections → r.result ≡ h.result → IsBegun (k ∷ v) Γ s r
 
   -- The rules that the block at a path keeps by itself, where it stands within some regions.
   pub record KeepsRules (v : List ℕ) (b : Block) (regions : List Region) : Type 0 where
@@ -63,40 +61,45 @@ module _ (text : List ℕ) (p : syntax_program.Program) (files : Files) (made : 
     pub known : List Meaning
     pub many : length known ≡ length (definitions_of text first b)
     pub begun : start.known ≡ take (length first) known
-    pub means : AreMeanings (record { text = text; routine = own_number start.chain; names = names_of text (definitions_of text first b); outer = regions }) start.first (λ k. next + headings_before text b k) (definitions_of text first b) known
+    pub means : AreMeanings (record { text = text; routine = own_number start.chain; names = names_of text (definitions_of text first b); begun = []; outer = regions }) start.first (λ k. next + headings_before text b k) (definitions_of text first b) known
     -- its constants, types and variables (6.3, 6.4, 6.5.1)
-    pub declared : declarations (record { text = text; routine = own_number start.chain; names = names_of text (definitions_of text first b); outer = regions }) start.first (record { known = start.known; domains = take pointers made.domains; pending = []; variables = [] })
+    pub declared : declarations (record { text = text; routine = own_number start.chain; names = names_of text (definitions_of text first b); begun = []; outer = regions }) start.first (record { known = start.known; domains = take pointers made.domains; pending = []; variables = [] })
         (out-Block b).constants (out-Block b).types (out-Block b).variables
-        ≡ Some (record { known = take (points_before_routines first b) known; domains = take (pointers + own_domains b) made.domains; pending = []; variables = routine.variables })
-    -- its statements, where all its points are known (6.8)
-    pub body : statements (with_domains (program_context text files) (take (pointers + block_domains b) made.domains)) (BlockRegion (own_number start.chain) (names_of text (definitions_of text first b)) known ∷ regions) (out-Block b).statements ≡ Some routine.body
-    -- the routines within it threaten none of its control variables (6.8.3.9); a function's result is assigned (6.6.2)
-    pub safe : is_safe (length start.chain) (routines_within next b) routine.body ≡ true
-    pub assigned : assigns (length start.chain) routine.result routine.body (routines_within next b) ≡ true
+        ≡ Yes (record { known = take (points_before_routines first b) known; domains = take (pointers + own_domains b) made.domains; pending = []; variables = routine.variables })
+    -- what its routines change, as it sees it
+    pub inner : List Change
+    -- its statements, where all its points are known (6.8): the statement that a `for` statement repeats doesn't change the control variable, nor do the routines (6.8.3.9)
+    pub changes : List Change
+    pub body : statements (of_statements (program_context text files) (take (pointers + block_domains b) made.domains) inner) (BlockRegion (own_number start.chain) (names_of text (definitions_of text first b)) known ∷ regions) (out-Block b).statements [] ≡ Yes (routine.body, changes)
+    -- a function's result is assigned in its block (6.6.2)
+    pub assigned : assigns routine.result (inner ++ changes) ≡ true
 
   -- A block is read within some regions, where it keeps these rules, and each block of its routines is read within its region besides, as far as the points before it are known.
-  pub data BlockIsRead : List ℕ → Block → List Region → Type 0 where
-    is_read : (v : List ℕ) (b : Block) (regions : List Region) (own : KeepsRules v b regions)
+  -- It changes what its routines change of the variables round their blocks, and what its statements change.
+  pub data BlockIsRead : List ℕ → Block → List Region → List Change → Type 0 where
+    is_read : (v : List ℕ) (b : Block) (regions : List Region) (all : List Change) (own : KeepsRules v b regions) → all ≡ own.inner ++ own.changes
+        → (changes : ℕ → List Change) → own.inner ≡ changes_from changes 0 (out-Block b).routines
         → ((k : ℕ) (r : Routine) (inner : Block) → slice_get (out-Block b).routines k ≡ Some r → routine_block r ≡ Some inner
-        → BlockIsRead (k ∷ v) inner (BlockRegion (own_number own.start.chain) (names_of text (definitions_of text own.first b)) (take (points_before text own.first b k) own.known) ∷ regions))
-        → BlockIsRead v b regions
+        → BlockIsRead (k ∷ v) inner (BlockRegion (own_number own.start.chain) (names_of text (definitions_of text own.first b)) (take (points_before text own.first b k) own.known) ∷ regions) (changes k))
+        → BlockIsRead v b regions all
 
 -- A tree is read as a checked program, which has no other routines and domain types and keeps the limits (this project's).
 pub record ProgramIsRead (text : List ℕ) (p : syntax_program.Program) (made : Tree.Program) : Type 0 where
   pub files : Files
-  pub listed : steps (list_file text) no_files p.parameters ≡ Some files
-  pub block : BlockIsRead text p files made [] p.block (required ∷ [])
+  pub listed : steps (list_file text) no_files p.parameters ≡ Yes files
+  pub changes : List Change
+  pub block : BlockIsRead text p files made [] p.block (required ∷ []) changes
   pub routines : length made.routines ≡ suc (headings_within text p.block)
   pub domains : length made.domains ≡ block_domains p.block
   pub limits : is_within_limits made ≡ true
 
 -- a checked program is so read
 abbrev pub CheckedProgramsAreRead : Type 0
-CheckedProgramsAreRead = (text : List ℕ) (p : syntax_program.Program) (made : Tree.Program) → program text p ≡ Some made → ProgramIsRead text p made
+CheckedProgramsAreRead = (text : List ℕ) (p : syntax_program.Program) (made : Tree.Program) → program text p ≡ Yes made → ProgramIsRead text p made
 
 -- and no other is: where the checker has no tree, no program is so read
 abbrev pub ReadProgramsAreChecked : Type 0
-ReadProgramsAreChecked = (text : List ℕ) (p : syntax_program.Program) (made : Tree.Program) → ProgramIsRead text p made → program text p ≡ Some made
+ReadProgramsAreChecked = (text : List ℕ) (p : syntax_program.Program) (made : Tree.Program) → ProgramIsRead text p made → program text p ≡ Yes made
 
 -- so a tree is read as one program at most
 abbrev pub OneProgramIsRead : Type 0

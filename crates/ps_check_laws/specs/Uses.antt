@@ -2,6 +2,7 @@
 use Rattle.std.specs.Prelude.{◌≡◌, ◌<◌, ℕ, suc, true, false, List, [], ◌∷◌, ◌++◌, length, map, drop, Some, None, slice_get}
 use Rattle.ps_syntax.specs.declared.program.Program as syntax
 use Rattle.ps_tree.specs.Types.{DataType, FieldList, field_in}
+use Rattle.ps_check_judgement.specs.Judged.{Yes}
 use Rattle.ps_check_names.specs.Spelling.{has, place}
 use Rattle.ps_check_names.specs.Regions.{Region, RecordRegion, Point, BlockPoint, FieldPoint, Meaning, find}
 use Rattle.ps_check.specs.Programs.{required_names}
@@ -73,17 +74,17 @@ module _ (text : List ℕ) (p : syntax.Program) (s : List ℕ) where
 abbrev pub opened_regions : List (DataType × FieldList) → List Region
 opened_regions rs = map (λ r. RecordRegion r.0 r.1) rs
 
--- A use that finds a point in the regions of its place finds what its name denotes there.
+-- A use, which begins at an offset, that finds a point in the regions of its place finds what its name denotes there.
 abbrev pub UsesFindWhatTheyDenote : Type 0
 UsesFindWhatTheyDenote =
     (text : List ℕ) (p : syntax.Program) (v : List ℕ) (n : ℕ) (r : Region) (outer : List Region) → IsRegion text p v n outer r → AreAround text p v outer
-    → (opened : List (DataType × FieldList)) (s : List ℕ) (q : Point) → find (opened_regions opened ++ r ∷ outer) s ≡ Some q → IsDenoted text p s v n (r ∷ outer) opened q
+    → (opened : List (DataType × FieldList)) (s : List ℕ) (at : ℕ) (q : Point) → find (opened_regions opened ++ r ∷ outer) s at ≡ Yes q → IsDenoted text p s v n (r ∷ outer) opened q
 
 -- A use of a name that denotes something there finds it. Such counts go up to 4294967295 (this project's limit); blocks are at most 15 deep.
 abbrev pub WhatIsDenotedIsFound : Type 0
 WhatIsDenotedIsFound =
     (text : List ℕ) (p : syntax.Program) (v : List ℕ) (n : ℕ) (r : Region) (outer : List Region) → IsRegion text p v n outer r → AreAround text p v outer → length v < 4294967295
-    → (opened : List (DataType × FieldList)) → length opened < 4294967295 → (s : List ℕ) → HasPoint text p s v n opened → (q : Point) × (find (opened_regions opened ++ r ∷ outer) s ≡ Some q)
+    → (opened : List (DataType × FieldList)) → length opened < 4294967295 → (s : List ℕ) → HasPoint text p s v n opened → (q : Point) × ((at : ℕ) → find (opened_regions opened ++ r ∷ outer) s at ≡ Yes q)
 
 -- a name denotes at most one point of the blocks
 abbrev pub OnePointIsDenoted : Type 0

@@ -1,4 +1,5 @@
-//! Laws: what each name of a checked program denotes, told over paths in the whole tree (ISO 7185, 6.2.2).
+//! Laws: what each name of a checked program denotes, told over paths in the whole tree (ISO 7185, 6.2.2), and what its
+//! statements change (6.8.3.9).
 //!
 //! The functions do nothing when they run; each stands for its contract.
 #![tactic(auto)]
@@ -6,6 +7,8 @@
 ghost use Rattle.ps_check_laws.specs.Read.{NamesMeanTheirPoints};
 ghost use Rattle.ps_check_laws.specs.Rule.{CheckedProgramsAreRead, ReadProgramsAreChecked, OneProgramIsRead};
 ghost use Rattle.ps_check_laws.specs.Forward.{ForwardHeadingsHaveBlocks};
+ghost use Rattle.ps_check_laws.specs.Threats.{WhatIsThreatenedIsChanged};
+ghost use Rattle.ps_check_laws.specs.Safe.{ControlVariablesAreSafe};
 ghost use Rattle.ps_check_laws.specs.Uses.{UsesFindWhatTheyDenote, WhatIsDenotedIsFound, OnePointIsDenoted};
 
 /// In a program that has a checked tree each block is read in the regions that enclose it, where the names known are
@@ -49,4 +52,16 @@ pub fn read_programs_are_checked()
 /// A tree is read as one program at most.
 pub fn one_program_is_read()
     ensures { OneProgramIsRead }
+{}
+
+/// What the statements of a block are said to change is what the checked statements threaten (6.8.3.9), told of the
+/// finished tree alone.
+pub fn what_is_threatened_is_changed()
+    ensures { WhatIsThreatenedIsChanged }
+{}
+
+/// In an accepted program neither the statement that a `for` statement repeats nor a routine within its block threatens
+/// the control variable (6.8.3.9), told of the checked program alone.
+pub fn control_variables_are_safe()
+    ensures { ControlVariablesAreSafe }
 {}

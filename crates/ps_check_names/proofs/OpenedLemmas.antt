@@ -3,8 +3,8 @@ use Rattle.std.proofs.Common.{◌≡◌, arith, ℕ, List, [], ◌∷◌, ◌++�
 use Rattle.ps_tree.specs.declared.types.Ty.{Ty}
 use Rattle.ps_tree.specs.Types.{DataType, field_in}
 use Rattle.ps_tree.specs.View.{type_of}
-use Rattle.ps_check_names.specs.Option.{◌>>=◌}
-use Rattle.ps_check_names.specs.Regions.{Region, RecordRegion, FieldPoint, one_more, in_record, find_past}
+use Rattle.ps_check_judgement.specs.Judged.{Yes, No, ◌>>=◌, some_or}
+use Rattle.ps_check_names.specs.Regions.{Region, RecordRegion, FieldPoint, one_more, missing, in_record, find_past}
 use Rattle.ps_check_names.specs.Views.{fields_of, opened_in}
 
 -- the region of a record that a `with` opens
@@ -21,19 +21,19 @@ unfolding opened_in
 opened_none Γ [] e = refl
 opened_none Γ (t ∷ types) e = absurd (let k : ⊥ = omega (arith, e) in k)
 
-module _ (types rest : List Ty) (ty : Ty) (parts : types ≡ rest ++ ty ∷ []) (up which : ℕ) (s : List ℕ) (Γ : List Region) where
-  last_first : find_past up which (opened_in Γ types) s ≡ in_record which (type_of ty) (field_in (fields_of (type_of ty)) s) (one_more which >>= (λ n. find_past up n (opened_in Γ rest) s))
+module _ (types rest : List Ty) (ty : Ty) (parts : types ≡ rest ++ ty ∷ []) (up which : ℕ) (s : List ℕ) (at : ℕ) (Γ : List Region) where
+  last_first : find_past up which (opened_in Γ types) s at ≡ in_record which (type_of ty) (field_in (fields_of (type_of ty)) s) (some_or (missing s) at (one_more which) >>= (λ n. find_past up n (opened_in Γ rest) s at))
   unfolding find_past
-  last_first = ap (λ l. find_past up which l s) (ap (opened_in Γ) parts ∙ opened_push Γ rest ty)
+  last_first = ap (λ l. find_past up which l s at) (ap (opened_in Γ) parts ∙ opened_push Γ rest ty)
 
   -- the last has a field of the name
-  pub last_has : (f : ℕ × DataType) → field_in (fields_of (type_of ty)) s ≡ Some f → find_past up which (opened_in Γ types) s ≡ Some (FieldPoint which (type_of ty) f.0 f.1)
-  last_has f e = last_first ∙ ap (λ o. in_record which (type_of ty) o (one_more which >>= (λ n. find_past up n (opened_in Γ rest) s))) e
+  pub last_has : (f : ℕ × DataType) → field_in (fields_of (type_of ty)) s ≡ Some f → find_past up which (opened_in Γ types) s at ≡ Yes (FieldPoint which (type_of ty) f.0 f.1)
+  last_has f e = last_first ∙ ap (λ o. in_record which (type_of ty) o (some_or (missing s) at (one_more which) >>= (λ n. find_past up n (opened_in Γ rest) s at))) e
 
   -- it has none, and one more can't be counted
-  pub last_uncounted : field_in (fields_of (type_of ty)) s ≡ None → one_more which ≡ None → find_past up which (opened_in Γ types) s ≡ None
+  pub last_uncounted : field_in (fields_of (type_of ty)) s ≡ None → one_more which ≡ None → find_past up which (opened_in Γ types) s at ≡ No (missing s) at
   last_uncounted e n = last_first ∙ rw (e, n) refl
 
   -- it has none
-  pub last_passed : (next : ℕ) → field_in (fields_of (type_of ty)) s ≡ None → one_more which ≡ Some next → find_past up which (opened_in Γ types) s ≡ find_past up next (opened_in Γ rest) s
+  pub last_passed : (next : ℕ) → field_in (fields_of (type_of ty)) s ≡ None → one_more which ≡ Some next → find_past up which (opened_in Γ types) s at ≡ find_past up next (opened_in Γ rest) s at
   last_passed next e n = last_first ∙ rw (e, n) refl

@@ -9,9 +9,11 @@ use Rattle.ps_syntax.specs.declared.statement.Constant.TheVariants as c
 use Rattle.ps_tree.specs.declared.types.Host.TheVariants.{Integer, Char, Boolean}
 use Rattle.ps_tree.specs.declared.types.Ordinal.{Ordinal}
 use Rattle.ps_tree.specs.Types.{is_same_host}
-use Rattle.ps_check_names.specs.Option.{◌>>=◌, provided}
+use Rattle.ps_check_judgement.specs.declared.refusal.Rule.{Rule}
+use Rattle.ps_check_judgement.specs.declared.refusal.Rule.TheVariants.{NotInProfile, WrongKind, WrongType}
+use Rattle.ps_check_judgement.specs.Judged.{Judged, Yes, No, ◌>>=◌, provided}
 use Rattle.ps_check_names.specs.Spelling.{bytes_at, spelled}
-use Rattle.ps_check_names.specs.Regions.{Region, Point, BlockPoint, ConstantMeaning, TextMeaning, find}
+use Rattle.ps_check_names.specs.Regions.{Region, Point, BlockPoint, ConstantMeaning, TextMeaning, FileMeaning, LeftOutMeaning, find}
 
 abbrev pub integer : Ordinal
 integer = record { host = Integer; subrange = None; low = negsuc 2147483647; high = pos 2147483647 }
@@ -28,13 +30,28 @@ pub data ConstantValue : Type 0 where
   TextConstant : List ℕ → ConstantValue
 
 -- the point that a name denotes at a place
-abbrev pub denoted : List ℕ → List Region → Span → Option Point
-denoted text Γ name = find Γ (spelled text name)
+abbrev pub denoted : List ℕ → List Region → Span → Judged Point
+denoted text Γ name = find Γ (spelled text name) name.from
 
-unfoldable pub constant_at : Point → Option ConstantValue
-constant_at (BlockPoint up (ConstantMeaning o n)) = Some (OrdinalConstant o n)
-constant_at (BlockPoint up (TextMeaning w)) = Some (TextConstant w)
-constant_at _ = None
+-- The rule that a name breaks where its point can't stand. The profile leaves some names out, there or everywhere: the files stand as
+-- first parameters of some required routines alone.
+unfoldable pub misplacement : Point → Rule
+misplacement (BlockPoint up (FileMeaning file)) = NotInProfile
+misplacement (BlockPoint up LeftOutMeaning) = NotInProfile
+misplacement _ = WrongKind
+
+-- a point that can't stand there
+abbrev pub misplaced : {A : Type 0} → (at : ℕ) → Point → Judged A
+misplaced at p = No (misplacement p) at
+
+-- the constant that a name at an offset denotes
+unfoldable pub constant_at : (at : ℕ) → Point → Judged ConstantValue
+constant_at at (BlockPoint up (ConstantMeaning o n)) = Yes (OrdinalConstant o n)
+constant_at at (BlockPoint up (TextMeaning w)) = Yes (TextConstant w)
+constant_at at p = misplaced at p
+
+abbrev pub constant_named : List ℕ → List Region → Span → Judged ConstantValue
+constant_named text Γ name = denoted text Γ name >>= constant_at name.from
 
 -- a string of one character is of type char (6.1.7)
 abbrev pub text_constant : List ℕ → ConstantValue
@@ -43,19 +60,20 @@ text_constant (a ∷ []) = OrdinalConstant char (pos a)
 text_constant (a ∷ b ∷ rest) = TextConstant (a ∷ b ∷ rest)
 
 -- the least integer has no negative
-abbrev pub integer_with_sign : Sign → ℤ → Option ℤ
-integer_with_sign sign.Plus n = Some n
-integer_with_sign sign.Minus n = provided (int_le (negsuc 2147483646) n) (pos 0 -ℤ n)
+abbrev pub integer_with_sign : (at : ℕ) → Sign → ℤ → Judged ℤ
+integer_with_sign at sign.Plus n = Yes n
+integer_with_sign at sign.Minus n = provided (int_le (negsuc 2147483646) n) WrongType at (pos 0 -ℤ n)
 
-unfoldable pub signed_constant : Option (Sign × Span) → ConstantValue → Option ConstantValue
-signed_constant None v = Some v
-signed_constant (Some s) (OrdinalConstant o n) = if is_same_host o.host Integer then integer_with_sign s.0 n >>= (λ m. Some (OrdinalConstant integer m)) else None
-signed_constant (Some s) (TextConstant w) = None
+-- a sign, if there is one, before a constant at an offset
+unfoldable pub signed_constant : (at : ℕ) → Option (Sign × Span) → ConstantValue → Judged ConstantValue
+signed_constant at None v = Yes v
+signed_constant at (Some s) (OrdinalConstant o n) = if is_same_host o.host Integer then integer_with_sign at s.0 n >>= (λ m. Yes (OrdinalConstant integer m)) else No WrongType at
+signed_constant at (Some s) (TextConstant w) = No WrongType at
 
 abbrev pub number_at : List ℕ → Span → ℤ
 number_at text at = pos (number_of_digits (bytes_at text at))
 
-unfoldable pub constant : List ℕ → List Region → Constant → Option ConstantValue
-constant text Γ (c.Number s at) = signed_constant s (OrdinalConstant integer (number_at text at))
-constant text Γ (c.Name s at) = denoted text Γ at >>= constant_at >>= signed_constant s
-constant text Γ (c.Text at) = Some (text_constant (characters (bytes_at text at)))
+unfoldable pub constant : List ℕ → List Region → Constant → Judged ConstantValue
+constant text Γ (c.Number s at) = signed_constant at.from s (OrdinalConstant integer (number_at text at))
+constant text Γ (c.Name s at) = constant_named text Γ at >>= signed_constant at.from s
+constant text Γ (c.Text at) = Yes (text_constant (characters (bytes_at text at)))

@@ -1,7 +1,5 @@
-pub mod Option
 pub mod Spelling
 pub mod Regions
 pub mod Denotes
 pub mod Constants
 pub mod Views
-pub mod Refusal

@@ -1,12 +1,15 @@
 -- The regions that enclose a place in a program (ISO 7185, 6.2.2), and what a name is found to denote there.
-use Rattle.std.specs.Prelude.{ℕ, zero, suc, ◌+◌, ℤ, Bool, List, [], ◌∷◌, Option, Some, None, option_map, slice_get, nat_lt}
+use Rattle.std.specs.Prelude.{ℕ, zero, suc, ◌+◌, ℤ, Bool, ◌||◌, List, [], ◌∷◌, Option, Some, None, slice_get, nat_lt, codes, if◌then◌else◌}
 use Rattle.ps_tree.specs.declared.types.Ordinal.{Ordinal}
 use Rattle.ps_tree.specs.Types.{DataType, FieldList, field_in}
 use Rattle.ps_tree.specs.Tree.{Formals, no_formal, formal_before, ValueFormal, VariableFormal, RoutineFormal}
 use Rattle.ps_check_names.specs.declared.meaning.File.{File}
 use Rattle.ps_check_names.specs.declared.meaning.Required.{Required}
-use Rattle.ps_check_names.specs.Option.{◌>>=◌, provided}
-use Rattle.ps_check_names.specs.Spelling.{place}
+use Rattle.ps_check_judgement.specs.declared.refusal.Rule.{Rule}
+use Rattle.ps_check_judgement.specs.declared.refusal.Rule.TheVariants.{Unknown, UsedBefore, WrongKind, NoInputOutput}
+use Rattle.ps_check_judgement.specs.declared.change.Change.{Change}
+use Rattle.ps_check_judgement.specs.Judged.{Judged, Yes, No, ◌>>=◌, some_or}
+use Rattle.ps_check_names.specs.Spelling.{place, same}
 
 -- 6.6.3.1: the sections of a formal parameter list, each with how many names it has
 mutual
@@ -42,6 +45,8 @@ unfoldable mutual
 -- 6.6.1, 6.6.2: the heading of a routine
 pub record Heading : Type 0 where
   pub number : ℕ
+  -- the offset of the routine's name
+  pub at : ℕ
   pub sections : Sections
   pub result : Option DataType
   -- the formal parameters' names, in order
@@ -76,8 +81,9 @@ pub data Region : Type 0 where
   BlockRegion : (routine : ℕ) (names : List (List ℕ)) (known : List Meaning) → Region
   -- a record that a `with` opens
   RecordRegion : (record_type : DataType) (fields : FieldList) → Region
-  -- a record within its own denoter, or a formal parameter list: a name of it hides others of its spelling there, and stands for nothing
-  FieldNames : (names : List (List ℕ)) → Region
+  -- A record within its own denoter, a formal parameter list, or the variables of a declaration: a name of it hides others of its spelling there, and
+  -- can't be used. The first `defined` of them stand before the place.
+  OwnNames : (names : List (List ℕ)) (defined : ℕ) → Region
 
 -- a defining point that is denoted
 pub data Point : Type 0 where
@@ -88,34 +94,46 @@ pub data Point : Type 0 where
 
 -- One more. Such counts go up to 4294967295 (this project's limit; no text of 1,048,576 bytes comes near).
 abbrev pub one_more : ℕ → Option ℕ
-one_more n = provided (nat_lt n 4294967295) (n + 1)
+one_more n = if nat_lt n 4294967295 then Some (n + 1) else None
 
--- the point at an index of the block, where it stands before the place, or else what is found outside the block
-abbrev pub in_block : ℕ → List Meaning → Option ℕ → Option Point → Option Point
-in_block up known None outside = outside
-in_block up known (Some i) outside = option_map (BlockPoint up) (slice_get known i)
+-- ---- the search: the point of a name, or the rule that its use breaks
+
+-- The name has no defining point. The files have one where the program heading lists them.
+abbrev pub missing : List ℕ → Rule
+missing s = if same s (codes "input") || same s (codes "output") then NoInputOutput else Unknown
+
+-- the point at an index of the block, which has to stand before the place
+abbrev pub of_block : (at up : ℕ) → Option Meaning → Judged Point
+of_block at up None = No UsedBefore at
+of_block at up (Some m) = Yes (BlockPoint up m)
+
+-- or else what is found outside the block
+abbrev pub in_block : (at up : ℕ) → List Meaning → Option ℕ → Judged Point → Judged Point
+in_block at up known None outside = outside
+in_block at up known (Some i) outside = of_block at up (slice_get known i)
 
 -- the point of a field, or else what is found outside the record
-abbrev pub in_record : ℕ → DataType → Option (ℕ × DataType) → Option Point → Option Point
+abbrev pub in_record : ℕ → DataType → Option (ℕ × DataType) → Judged Point → Judged Point
 in_record which type None outside = outside
-in_record which type (Some f) outside = Some (FieldPoint which type f.0 f.1)
+in_record which type (Some f) outside = Yes (FieldPoint which type f.0 f.1)
 
--- a field within its own record stands for nothing
-abbrev pub in_fields : Option ℕ → Option Point → Option Point
-in_fields None outside = outside
-in_fields (Some i) outside = None
+-- a name within its own definition: one that stands before the place is of another kind
+abbrev pub in_own : {A : Type 0} → (at defined : ℕ) → Option ℕ → Judged A → Judged A
+in_own at defined None outside = outside
+in_own at defined (Some i) outside = No (if nat_lt i defined then WrongKind else UsedBefore) at
 
 -- the point of a name, where the regions stand from the inside out, behind some blocks and opened records
-unfoldable pub find_past : (up which : ℕ) → List Region → List ℕ → Option Point
-find_past up which [] s = None
-find_past up which (BlockRegion routine names known ∷ Γ) s = in_block up known (place names s) (one_more up >>= (λ n. find_past n which Γ s))
-find_past up which (RecordRegion type fields ∷ Γ) s = in_record which type (field_in fields s) (one_more which >>= (λ n. find_past up n Γ s))
-find_past up which (FieldNames names ∷ Γ) s = in_fields (place names s) (find_past up which Γ s)
+unfoldable pub find_past : (up which : ℕ) → List Region → List ℕ → (at : ℕ) → Judged Point
+find_past up which [] s at = No (missing s) at
+find_past up which (BlockRegion routine names known ∷ Γ) s at = in_block at up known (place names s) (some_or (missing s) at (one_more up) >>= (λ n. find_past n which Γ s at))
+find_past up which (RecordRegion type fields ∷ Γ) s at = in_record which type (field_in fields s) (some_or (missing s) at (one_more which) >>= (λ n. find_past up n Γ s at))
+find_past up which (OwnNames names defined ∷ Γ) s at = in_own at defined (place names s) (find_past up which Γ s at)
 
-abbrev pub find : List Region → List ℕ → Option Point
-find Γ s = find_past 0 0 Γ s
+-- of a name whose use begins at an offset
+abbrev pub find : List Region → List ℕ → (at : ℕ) → Judged Point
+find Γ s at = find_past 0 0 Γ s at
 
--- what does not change while the statements of a block are read
+-- what does not change while a statement of a block is read
 pub record Context : Type 0 where
   pub text : List ℕ
   -- the domain types of the pointer types so far, by their numbers
@@ -123,3 +141,7 @@ pub record Context : Type 0 where
   -- the program heading lists input, and output
   pub has_input : Bool
   pub has_output : Bool
+  -- the control variables of the `for` statements round the statement, which are entries of its own routine (6.8.3.9)
+  pub controls : List ℕ
+  -- what the routines of the block change, as the block sees it
+  pub inner : List Change

@@ -1,5 +1,5 @@
 -- What the values of the program stand for in the definitions.
-use Rattle.std.specs.Prelude.{List, [], ◌∷◌, Option, Some, None, option_map, map}
+use Rattle.std.specs.Prelude.{ℕ, List, [], ◌∷◌, option_map, map}
 use Rattle.ps_tree.specs.declared.types.Ty.{Ty}
 use Rattle.ps_tree.specs.Types.{DataType, RecordType, FieldList, field_list, no_type}
 use Rattle.ps_tree.specs.View.{type_of}
@@ -8,7 +8,7 @@ use Rattle.ps_check_names.specs.declared.meaning.Section.{Value, Variable, Routi
 use Rattle.ps_check_names.specs.declared.meaning.Heading as RustHeading
 use Rattle.ps_check_names.specs.declared.meaning.Meaning as RustMeaning
 use Rattle.ps_check_names.specs.declared.meaning.Meaning.TheVariants as m
-use Rattle.ps_check_names.specs.declared.scope.Scope.{Scope, Outside, Block', Opened', Fields'}
+use Rattle.ps_check_names.specs.declared.scope.Scope.{Scope, Outside, Block', Opened', Own'}
 use Rattle.ps_check_names.specs.declared.scope.Lookup.{Lookup}
 use Rattle.ps_check_names.specs.declared.scope.Lookup.TheVariants as l
 use Rattle.ps_check_names.specs.declared.scope.Found.{Found}
@@ -16,8 +16,9 @@ use Rattle.ps_check_names.specs.declared.scope.Found.TheVariants as f
 use Rattle.ps_check_names.specs.declared.reading.Reading.{Reading}
 use Rattle.ps_check_names.specs.declared.constants.ConstantValue as RustConstant
 use Rattle.ps_check_names.specs.declared.constants.ConstantValue.TheVariants as c
+use Rattle.ps_check_judgement.specs.Judged.{Judged, Yes, No}
 use Rattle.ps_check_names.specs.Constants.{ConstantValue, OrdinalConstant, TextConstant}
-use Rattle.ps_check_names.specs.Regions.{Section, ValueSection, VariableSection, RoutineSection, Sections, no_section, section_before, Heading, Meaning, ConstantMeaning, TextMeaning, TypeMeaning, VariableMeaning, ParameterMeaning, RoutineParameterMeaning, RoutineMeaning, FileMeaning, RequiredMeaning, LeftOutMeaning, Region, BlockRegion, RecordRegion, FieldNames, Point, BlockPoint, FieldPoint, Context}
+use Rattle.ps_check_names.specs.Regions.{Section, ValueSection, VariableSection, RoutineSection, Sections, no_section, section_before, Heading, Meaning, ConstantMeaning, TextMeaning, TypeMeaning, VariableMeaning, ParameterMeaning, RoutineParameterMeaning, RoutineMeaning, FileMeaning, RequiredMeaning, LeftOutMeaning, Region, BlockRegion, RecordRegion, OwnNames, Point, BlockPoint, FieldPoint, Context}
 
 unfoldable mutual
   pub section_of : Rust.Section → Section
@@ -37,6 +38,7 @@ sections_of (s ∷ rest) = section_before (section_of s) (sections_of rest)
 abbrev pub heading_of : RustHeading.Heading → Heading
 heading_of h = record {
   number = h.number;
+  at = h.at;
   sections = sections_of h.sections.value.items;
   result = option_map type_of h.result;
   names = map (λ name. name.items) h.names.items;
@@ -69,21 +71,20 @@ unfoldable pub scope_of : Scope → List Region
 scope_of Outside = []
 scope_of (Block' routine names known p outer) = BlockRegion routine names.now (map meaning_of known.now) ∷ scope_of outer
 scope_of (Opened' records p outer) = opened_in (scope_of outer) records.now
-scope_of (Fields' names defined p outer) = FieldNames names.now ∷ scope_of outer
+scope_of (Own' names defined p outer) = OwnNames names.now defined ∷ scope_of outer
 
 abbrev pub point_of : Found → Point
 point_of (f.Name up meaning) = BlockPoint up (meaning_of meaning.now)
 point_of (f.Field which record_type number ty) = FieldPoint which (type_of record_type.now) number (type_of ty.now)
 
--- the point that a search found
-abbrev pub found : Lookup → Option Point
-found (l.Found point) = Some (point_of point)
-found l.Later = None
-found l.OwnField = None
-found l.Missing = None
+-- what a search found of a name whose use begins at an offset
+abbrev pub found : (at : ℕ) → Lookup → Judged Point
+found at (l.Found point) = Yes (point_of point)
+found at (l.Broken rule) = No rule at
 
+-- outside all statements
 abbrev pub context_of : Reading → Context
-context_of r = record { text = r.source.now; domains = map type_of r.domains.now; has_input = r.has_input; has_output = r.has_output }
+context_of r = record { text = r.source.now; domains = map type_of r.domains.now; has_input = r.has_input; has_output = r.has_output; controls = []; inner = [] }
 
 unfoldable pub constant_of : RustConstant.ConstantValue → ConstantValue
 constant_of (c.Ordinal ordinal value) = OrdinalConstant ordinal value

@@ -1,14 +1,15 @@
 //! Constants.
 
-ghost use Rattle.std.specs.Prelude.{◌≡◌, IfOk, IfErr, None, Some, ℤ, option_map, option_and_then};
-ghost use Rattle.ps_check_names.specs.Constants.{denoted, integer, char, boolean, constant_at, text_constant, integer_with_sign, signed_constant, number_at, constant};
-ghost use Rattle.ps_check_names.specs.Refusal.{IsFault};
+ghost use Rattle.std.specs.Prelude.{◌≡◌, ℕ, IfOk};
+ghost use Rattle.ps_check_judgement.specs.Judged.{Answers};
+ghost use Rattle.ps_check_names.specs.Constants.{integer, char, boolean, misplacement, constant_at, constant_named, text_constant, integer_with_sign, signed_constant, number_at, constant};
 ghost use Rattle.ps_check_names.specs.Views.{scope_of, point_of, constant_of};
 
 use crate::meaning::Meaning;
 use crate::reading::Reading;
-use crate::refusal::{Fault, Rule};
 use crate::scope::{Found, Scope};
+use ps_check_judgement::answer::broken;
+use ps_check_judgement::refusal::{Fault, Rule};
 use ps_scan::{number_value, string_value};
 use ps_syntax::{Constant, Sign};
 use ps_text::Span;
@@ -66,16 +67,32 @@ pub fn number_at(reading: &Reading, at: Span) -> i32
     number_value(reading.bytes(at)) as i32
 }
 
+/// What is told of a point that can't stand there.
+#[tactic(auto, unfolding(crate::specs::Views::meaning_of, crate::specs::Constants::misplacement))]
+pub fn misplacement(found: &Found) -> Rule
+    ensures { result ≡ misplacement (point_of found.now) }
+{
+    match found {
+        Found::Name { meaning, .. } => match meaning {
+            Meaning::File(_) | Meaning::LeftOut => Rule::NotInProfile,
+            Meaning::Constant { .. }
+            | Meaning::Text(_)
+            | Meaning::Type(_)
+            | Meaning::Variable { .. }
+            | Meaning::Parameter { .. }
+            | Meaning::RoutineParameter { .. }
+            | Meaning::Routine(_)
+            | Meaning::Required(_) => Rule::WrongKind,
+        },
+        Found::Field { .. } => Rule::WrongKind,
+    }
+}
+
 /// The value of a name that denotes a constant.
 #[tactic(auto, unfolding(crate::specs::Views::constant_of, crate::specs::Views::meaning_of, crate::specs::Constants::constant_at))]
 fn constant_at(found: &Found, at: u32) -> Result<ConstantValue, Fault>
-    ensures ok { IfOk result (λ value. constant_at (point_of found.now) ≡ Some (constant_of value)) }
-    ensures err { IfErr result (λ fault. IsFault fault → constant_at (point_of found.now) ≡ None) }
+    ensures { Answers result (λ value. constant_of value) (constant_at at (point_of found.now)) }
 {
-    let fault = Fault::Broken {
-        rule: Rule::WrongKind,
-        at,
-    };
     match found {
         Found::Name { meaning, .. } => match meaning {
             Meaning::Constant { ordinal, value } => Ok(ConstantValue::Ordinal(*ordinal, *value)),
@@ -85,26 +102,25 @@ fn constant_at(found: &Found, at: u32) -> Result<ConstantValue, Fault>
             | Meaning::Parameter { .. }
             | Meaning::RoutineParameter { .. }
             | Meaning::Routine(_)
-            | Meaning::Required(_) => Err(fault),
-            Meaning::File(_) | Meaning::LeftOut => Err(Fault::Broken {
-                rule: Rule::NotInProfile,
-                at,
-            }),
+            | Meaning::Required(_)
+            | Meaning::File(_)
+            | Meaning::LeftOut => Err(broken(misplacement(found), at)),
         },
-        Found::Field { .. } => Err(fault),
+        Found::Field { .. } => Err(broken(misplacement(found), at)),
     }
 }
 
-fn integer_with_sign(sign: Sign, value: i32) -> Option<i32>
-    ensures { result ≡ integer_with_sign sign value }
+/// A number behind a sign.
+fn integer_with_sign(sign: Sign, value: i32, at: u32) -> Result<i32, Fault>
+    ensures { Answers result (λ n. n) (integer_with_sign at sign value) }
 {
     match sign {
-        Sign::Plus => Some(value),
+        Sign::Plus => Ok(value),
         Sign::Minus => {
             if -i32::MAX <= value {
-                Some(-value)
+                Ok(-value)
             } else {
-                None
+                Err(broken(Rule::WrongType, at))
             }
         }
     }
@@ -117,25 +133,18 @@ fn signed_constant(
     value: ConstantValue,
     at: u32,
 ) -> Result<ConstantValue, Fault>
-    ensures ok { IfOk result (λ signed. signed_constant sign (constant_of value) ≡ Some (constant_of signed)) }
-    ensures err { IfErr result (λ fault. IsFault fault → signed_constant sign (constant_of value) ≡ None) }
+    ensures { Answers result (λ signed. constant_of signed) (signed_constant at sign (constant_of value)) }
 {
-    let fault = Fault::Broken {
-        rule: Rule::WrongType,
-        at,
-    };
     match (sign, value) {
         (None, value) => Ok(value),
         (Some((sign, _)), ConstantValue::Ordinal(ordinal, number)) => {
             if !same_host(ordinal.host, Host::Integer) {
-                return Err(fault);
+                return Err(broken(Rule::WrongType, at));
             }
-            match integer_with_sign(sign, number) {
-                None => Err(fault),
-                Some(number) => Ok(ConstantValue::Ordinal(INTEGER, number)),
-            }
+            let number = integer_with_sign(sign, number, at)?;
+            Ok(ConstantValue::Ordinal(INTEGER, number))
         }
-        (Some(_), ConstantValue::Text(_)) => Err(fault),
+        (Some(_), ConstantValue::Text(_)) => Err(broken(Rule::WrongType, at)),
     }
 }
 
@@ -146,13 +155,10 @@ fn constant_named(
     scope: &Scope,
     name: Span,
 ) -> Result<ConstantValue, Fault>
-    ensures ok { IfOk result (λ value. option_and_then constant_at (denoted reading.now.source.now (scope_of scope.now) name) ≡ Some (constant_of value)) }
-    ensures err { IfErr result (λ fault. IsFault fault → option_and_then constant_at (denoted reading.now.source.now (scope_of scope.now) name) ≡ None) }
+    ensures { Answers result (λ value. constant_of value) (constant_named reading.now.source.now (scope_of scope.now) name) }
 {
-    match reading.denoted(alloc, scope, name) {
-        Ok(found) => constant_at(&found, name.from),
-        Err(fault) => Err(fault),
-    }
+    let found = reading.denoted(alloc, scope, name)?;
+    constant_at(&found, name.from)
 }
 
 /// The value of a constant.
@@ -163,8 +169,7 @@ pub fn constant(
     scope: &Scope,
     written: Constant,
 ) -> Result<ConstantValue, Fault>
-    ensures ok { IfOk result (λ value. constant reading.now.source.now (scope_of scope.now) written ≡ Some (constant_of value)) }
-    ensures err { IfErr result (λ fault. IsFault fault → constant reading.now.source.now (scope_of scope.now) written ≡ None) }
+    ensures { Answers result (λ value. constant_of value) (constant reading.now.source.now (scope_of scope.now) written) }
 {
     match written {
         Constant::Number(sign, at) => {

@@ -1,9 +1,7 @@
 //! Code: what a name denotes at a place in a program, and the regions that enclose the place.
 #![tactic(auto)]
 
-pub mod answer;
 pub mod constants;
 pub mod meaning;
 pub mod reading;
-pub mod refusal;
 pub mod scope;

@@ -50,11 +50,12 @@ pub enum Section {
     },
 }
 
-/// A routine's heading. `names` has the formal parameters' names in small letters, in order; a forward heading's block
+/// A routine's heading. `at` is the offset of the routine's name; `names` has the formal parameters' names in small letters, in order; a forward heading's block
 /// comes later.
 #[derive(Drop)]
 pub struct Heading {
     pub number: u32,
+    pub at: u32,
     pub sections: Rc<Vec<Section>>,
     pub result: Option<Ty>,
     pub names: Vec<Vec<u8>>,

@@ -2,8 +2,8 @@
 
 ghost use Rattle.std.specs.Prelude.{◌≡◌};
 
-use crate::refusal::Fault;
 use crate::scope::{Found, Scope, denoted_at};
+use ps_check_judgement::refusal::Fault;
 use ps_scan::name_spelling;
 use ps_text::{LineTable, Source, Span};
 use ps_tree::line::Line;
@@ -27,11 +27,11 @@ pub struct Reading<'a> {
 pub type Spelling = SmallVec<u8, 32>;
 
 impl<'a> Reading<'a> {
-    ghost use Rattle.std.specs.Prelude.{IfOk, IfErr, None, Some};
+    ghost use Rattle.std.specs.Prelude.{IfOk};
+    ghost use Rattle.ps_check_judgement.specs.Judged.{Answers};
     ghost use Rattle.ps_check_names.specs.Spelling.{bytes_at, spelled, line_in};
-    ghost use Rattle.ps_check_names.specs.Regions.{find};
+    ghost use Rattle.ps_check_names.specs.Constants.{denoted};
     ghost use Rattle.ps_check_names.specs.Views.{scope_of, point_of};
-    ghost use Rattle.ps_check_names.specs.Refusal.{IsFault};
 
     /// The bytes of a span, none where it isn't within the text.
     pub fn bytes(&self, at: Span) -> &'a [u8]
@@ -80,8 +80,7 @@ impl<'a> Reading<'a> {
         scope: &'s Scope<'s>,
         name: Span,
     ) -> Result<Found<'s>, Fault>
-        ensures ok { IfOk result (λ found. find (scope_of scope.now) (spelled self.now.source.now name) ≡ Some (point_of found)) }
-        ensures err { IfErr result (λ fault. IsFault fault → find (scope_of scope.now) (spelled self.now.source.now name) ≡ None) }
+        ensures { Answers result (λ found. point_of found) (denoted self.now.source.now (scope_of scope.now) name) }
     {
         let spelling = self.spelling(alloc, name)?;
         denoted_at(scope, spelling.as_slice(), name.from)

@@ -1,14 +1,18 @@
 //! The regions that enclose a place, and the search through them.
 
 ghost use Rattle.std.specs.Prelude.{◌≡◌, ℕ, List, ◌∷◌, map, option_map, IfOk, IfErr, None, Some};
+ghost use Rattle.std.specs.Prelude.{if◌then◌else◌, nat_lt};
+ghost use Rattle.ps_check_judgement.specs.Judged.{Answers};
+ghost use Rattle.ps_check_judgement.specs.declared.refusal.Rule.TheVariants.{WrongKind, UsedBefore};
 ghost use Rattle.ps_tree.specs.Types.{field_in};
 ghost use Rattle.ps_tree.specs.View.{type_of};
-ghost use Rattle.ps_check_names.specs.Regions.{Region, BlockRegion, one_more, find_past, find};
+ghost use Rattle.ps_check_names.specs.Regions.{Region, BlockRegion, one_more, missing, find_past, find};
 ghost use Rattle.ps_check_names.specs.Views.{meaning_of, fields_of, opened_in, scope_of, point_of, found};
 ghost use Rattle.ps_check_names.specs.Denotes.{FindsWhatIsDenoted};
 
 use crate::meaning::Meaning;
-use crate::refusal::{Fault, Rule};
+use ps_check_judgement::answer::broken;
+use ps_check_judgement::refusal::{Fault, Rule};
 use ps_tree::names::Names;
 use ps_tree::types::Ty;
 
@@ -30,8 +34,9 @@ pub enum Scope<'a> {
         records: &'a [Ty],
         outer: &'a Scope<'a>,
     },
-    /// A record within its own denoter: the names of its fields, of which the first `defined` stand before the place.
-    Fields {
+    /// A record within its own denoter, a list of formal parameters, or the variables of a declaration: their names, of
+    /// which the first `defined` stand before the place.
+    Own {
         names: &'a Names,
         defined: usize,
         outer: &'a Scope<'a>,
@@ -55,16 +60,11 @@ pub enum Found<'a> {
     },
 }
 
-/// What a search through regions found.
+/// What a search through regions found: the defining point, or the rule that the use of the name breaks.
 #[derive(Clone, Copy)]
 pub enum Lookup<'a> {
     Found(Found<'a>),
-    /// The name's defining point in the closest region that has one stands after the place.
-    Later,
-    /// It is a field's of a record within its own denoter.
-    OwnField,
-    /// No region has one.
-    Missing,
+    Broken(Rule),
 }
 
 /// One more, where a count can tell it.
@@ -87,13 +87,13 @@ fn past_block<'a>(
     up: u32,
     name: &[u8],
 ) -> Result<u32, Lookup<'a>>
-    ensures ok { IfOk result (λ n. (which routine : ℕ) (Γ : List Region) → find_past up which (BlockRegion routine names.now (map meaning_of known.now) ∷ Γ) name.now ≡ find_past n which Γ name.now) }
-    ensures err { IfErr result (λ end. (which routine : ℕ) (Γ : List Region) → find_past up which (BlockRegion routine names.now (map meaning_of known.now) ∷ Γ) name.now ≡ found end) }
+    ensures ok { IfOk result (λ n. (which routine at : ℕ) (Γ : List Region) → find_past up which (BlockRegion routine names.now (map meaning_of known.now) ∷ Γ) name.now at ≡ find_past n which Γ name.now at) }
+    ensures err { IfErr result (λ end. (which routine at : ℕ) (Γ : List Region) → find_past up which (BlockRegion routine names.now (map meaning_of known.now) ∷ Γ) name.now at ≡ found at end) }
 {
     match names.find(name) {
-        None => one_more(up).ok_or(Lookup::Missing),
+        None => one_more(up).ok_or(Lookup::Broken(missing(name))),
         Some(index) => match known.get(index) {
-            None => Err(Lookup::Later),
+            None => Err(Lookup::Broken(Rule::UsedBefore)),
             Some(meaning) => Err(Lookup::Found(Found::Name { up, meaning })),
         },
     }
@@ -113,8 +113,8 @@ fn field_of<'a>(ty: &'a Ty, name: &[u8]) -> Option<(u32, &'a Ty)>
 /// How many opened records lie before what encloses these, the last of which is the innermost, where none of them has a
 /// field of this name; or else what ends the search.
 fn past_records<'a>(records: &'a [Ty], which: u32, name: &[u8]) -> Result<u32, Lookup<'a>>
-    ensures ok { IfOk result (λ n. (up : ℕ) (Γ : List Region) → find_past up which (opened_in Γ records.now) name.now ≡ find_past up n Γ name.now) }
-    ensures err { IfErr result (λ end. (up : ℕ) (Γ : List Region) → find_past up which (opened_in Γ records.now) name.now ≡ found end) }
+    ensures ok { IfOk result (λ n. (up at : ℕ) (Γ : List Region) → find_past up which (opened_in Γ records.now) name.now at ≡ find_past up n Γ name.now at) }
+    ensures err { IfErr result (λ end. (up at : ℕ) (Γ : List Region) → find_past up which (opened_in Γ records.now) name.now at ≡ found at end) }
 {
     let mut left = records;
     let mut passed = which;
@@ -128,7 +128,7 @@ fn past_records<'a>(records: &'a [Ty], which: u32, name: &[u8]) -> Result<u32, L
             }));
         }
         let Some(next) = one_more(passed) else {
-            return Err(Lookup::Missing);
+            return Err(Lookup::Broken(missing(name)));
         };
         passed = next;
         left = rest;
@@ -139,14 +139,14 @@ fn past_records<'a>(records: &'a [Ty], which: u32, name: &[u8]) -> Result<u32, L
 /// The defining point that a name denotes at a place that these regions enclose.
 #[tactic(auto, unfolding(crate::specs::Regions::find_past, crate::specs::Views::scope_of))]
 pub fn find<'a>(scope: &'a Scope<'a>, name: &[u8]) -> Lookup<'a>
-    ensures { found result ≡ find (scope_of scope.now) name.now }
+    ensures { (at : ℕ) → found at result ≡ find (scope_of scope.now) name.now at }
 {
     let mut here = scope;
     let mut up = 0;
     let mut which = 0;
     loop {
         match here {
-            Scope::Outside => return Lookup::Missing,
+            Scope::Outside => return Lookup::Broken(missing(name)),
             Scope::Block {
                 names,
                 known,
@@ -166,13 +166,13 @@ pub fn find<'a>(scope: &'a Scope<'a>, name: &[u8]) -> Lookup<'a>
                 }
                 here = outer;
             }
-            Scope::Fields {
+            Scope::Own {
                 names,
                 defined,
                 outer,
             } => {
                 if let Some(index) = names.find(name) {
-                    return hidden_by(index, *defined);
+                    return Lookup::Broken(within_own(index, *defined));
                 }
                 here = outer;
             }
@@ -180,42 +180,32 @@ pub fn find<'a>(scope: &'a Scope<'a>, name: &[u8]) -> Lookup<'a>
     }
 }
 
-/// What the name of a field stands for within the denoter of its own record.
-fn hidden_by<'a>(index: usize, defined: usize) -> Lookup<'a>
-    ensures { found result ≡ None }
+/// The rule that the use of a name within its own definition breaks.
+pub fn within_own(index: usize, defined: usize) -> Rule
+    ensures { result ≡ (if nat_lt index defined then WrongKind else UsedBefore) }
 {
     if index < defined {
-        Lookup::OwnField
+        Rule::WrongKind
     } else {
-        Lookup::Later
+        Rule::UsedBefore
     }
 }
 
 /// The defining point that a name denotes whose use begins at an offset.
 pub(crate) fn denoted_at<'s>(scope: &'s Scope<'s>, name: &[u8], at: u32) -> Result<Found<'s>, Fault>
-    ensures ok { IfOk result (λ found. find (scope_of scope.now) name.now ≡ Some (point_of found)) }
-    ensures err { IfErr result (λ _. find (scope_of scope.now) name.now ≡ None) }
+    ensures { Answers result (λ found. point_of found) (find (scope_of scope.now) name.now at) }
 {
     match find(scope, name) {
         Lookup::Found(point) => Ok(point),
-        Lookup::Later => Err(Fault::Broken {
-            rule: Rule::UsedBefore,
-            at,
-        }),
-        Lookup::OwnField => Err(Fault::Broken {
-            rule: Rule::WrongKind,
-            at,
-        }),
-        Lookup::Missing => Err(Fault::Broken {
-            rule: missing(name),
-            at,
-        }),
+        Lookup::Broken(rule) => Err(broken(rule, at)),
     }
 }
 
 /// The rule that the use of a name without a defining point breaks: input and output have one where the program
 /// heading lists them.
-fn missing(name: &[u8]) -> Rule {
+fn missing(name: &[u8]) -> Rule
+    ensures { result ≡ missing name.now }
+{
     if name == b"input".as_slice() || name == b"output".as_slice() {
         Rule::NoInputOutput
     } else {

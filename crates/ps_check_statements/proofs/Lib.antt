@@ -1,7 +1,6 @@
 pub mod Equations
-pub mod CaseConstants
 pub mod Opening
-pub mod Judgement
 pub mod Loops
-pub mod Paired
 pub mod Lists
+pub mod Paired
+pub mod Packs

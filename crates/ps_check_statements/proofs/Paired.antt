@@ -1,65 +1,86 @@
--- Answers put together, of which each may be a fault.
-use Rattle.std.proofs.Common.{◌≡◌, ◌⊎◌, inl, inr, Bool, true, false, Option, Some, None, refl, ap, rules}
-use Rattle.std.specs.Prelude.{if◌then◌else◌, is_some, option_map, Ok, Err, Result, IfOk, IfErr}
-use Rattle.std.specs.Result.{result_and}
-use Rattle.std.proofs.lemmas.Result.{IfOk-at_ok, IfErr-at_err}
-use Rattle.ps_check_names.specs.declared.refusal.Fault.{Fault}
-use Rattle.ps_check_names.specs.Refusal.{IsFault}
-use Rattle.ps_check_names.specs.Option.{◌>>=◌}
-use Rattle.ps_check_names.proofs.Refused.{Refuses, told_by, either_refused}
+-- Two answers as one where the first is there, and three answers as one.
+use Rattle.std.proofs.Common.{◌≡◌, Ok, Err, Result, sym, ap, ◌∙◌, subst}
+use Rattle.std.specs.Prelude.{IfOk, IfErr}
+use Rattle.ps_check_judgement.specs.declared.refusal.Fault.{Fault}
+use Rattle.ps_check_judgement.specs.declared.refusal.Fault.TheVariants.{OutOfMemory, Broken}
+use Rattle.ps_check_judgement.specs.Refusal.{IsFault}
+use Rattle.ps_check_judgement.specs.Judged.{Judged, Yes, ◌>>=◌, Told, Answers, both}
+use Rattle.ps_check_judgement.proofs.Lists.{told_bind}
 
--- an answer whose value is put elsewhere, as on the heap
-pub put_is : {A B C : Type 0} (o : Option B) (h : A → B) (v : C → A) (answer : Result A Fault) (result : Result C Fault) → IfOk result (λ x. answer ≡ Ok (v x)) → IfOk answer (λ a. o ≡ Some (h a)) → IfOk result (λ x. o ≡ Some (h (v x)))
-put_is o h v answer (Ok x) e is = IfOk-at_ok (λ a. o ≡ Some (h a)) e is
-put_is o h v answer (Err fault) e is = e
+abbrev ok_or : {X : Type 0} → X → Result X Fault → X
+ok_or d (Ok x) = x
+ok_or d (Err e) = d
 
-pub put_none : {A B C : Type 0} (o : Option B) (answer : Result A Fault) (result : Result C Fault) → IfErr result (λ fault. IsFault fault → answer ≡ Err fault) → Refuses o answer → Refuses o result
-put_none o answer (Ok x) e is = e
-put_none o answer (Err fault) e is = λ told. told_by o answer fault is (e told) told
+inside_err : {X : Type 0} (d e : Fault) → (let r : Result X Fault = Err e in r) ≡ Err d → d ≡ e
+inside_err d e q = cc
 
--- a part of two answers put together
-pub part_is : {A B P : Type 0} (o : Option B) (h : A → B) (part : P → A) (answer : Result A Fault) (result : Result P Fault) → IfOk result (λ p. answer ≡ Ok (part p)) → IfOk answer (λ a. o ≡ Some (h a)) → IfOk result (λ p. o ≡ Some (h (part p)))
-part_is o h part answer (Ok p) e is = IfOk-at_ok (λ a. o ≡ Some (h a)) e is
-part_is o h part answer (Err fault) e is = e
+no_err : {X : Type 0} (x : X) (e : Fault) → (let r : Result X Fault = Err e in r) ≡ Ok x → ⊥
+no_err x e q = cc
 
--- two of them as one, whatever is made of both
-pub both_none : {A B X Y P : Type 0} (C : Type 0) (o : Option A) (p : Option B) (x : Result X Fault) (y : Result Y Fault) (result : Result P Fault) → IfErr result (λ fault. (x ≡ Err fault) ⊎ (y ≡ Err fault)) → Refuses o x → Refuses p y → IfErr result (λ fault. IsFault fault → (k : A → B → Option C) → (o >>= (λ a. p >>= k a)) ≡ None)
-both_none C o p x y (Ok part) e f g = e
-both_none C o p x y (Err fault) e f g = λ told k. either_refused o p k x y fault e f g told
+no_ok : {X : Type 0} (x : X) (e : Fault) → (let r : Result X Fault = Ok x in r) ≡ Err e → ⊥
+no_ok x e q = cc
 
--- ---- a procedure, which has no result
+-- a refusal of the first part, and of what is behind a part that is there
+told_by : {A C : Type 0} (d e : Fault) (j : Judged A) (h : A → Judged C) → d ≡ e → Told d j → Told e (j >>= h)
+told_by d e j h q t = told_bind e j h (subst (λ f. Told f j) q t)
 
-pub is_some_map : {A B : Type 0} (f : A → B) (o : Option A) → is_some (option_map f o) ≡ is_some o
-is_some_map f None = refl
-is_some_map f (Some x) = refl
+told_behind : {A C : Type 0} (e : Fault) (j : Judged A) (a : A) (h : A → Judged C) → j ≡ Yes a → Told e (h a) → Told e (j >>= h)
+told_behind e j a h q t = subst (λ z. Told e (z >>= h)) (sym q) t
 
-pub none_through : {A B : Type 0} (b : Bool) (o : Option A) (k : A → Option B) → (if b then None else o) ≡ None → (if b then None else (o >>= k)) ≡ None
-none_through true o k e = refl
-none_through false o k e = ap (λ o. o >>= k) e
+-- ---- the first is there
 
--- ---- an answer that another one comes behind
+pub second_told : {B C X Y : Type 0} (a : X) (y : Result Y Fault) (g : Y → B) (k : Judged B) (h : B → Judged C) (e : Fault) → Answers y g k → Err e ≡ both (Ok a) y → Told e (k >>= h)
+second_told a (Ok b) g k h e hy q = absurd (no_err (a, b) e q)
+second_told a (Err d) g k h e hy q = told_by d e k h (inside_err d e q) hy
 
--- what holds of a part of two answers put together
-pub within : {A P E : Type 0} (answer : Result A E) (pairs : Result P E) (part : P → A) (Q : A → Type 0) → IfOk pairs (λ p. answer ≡ Ok (part p)) → IfOk answer Q → IfOk pairs (λ p. Q (part p))
-within answer (Ok p) part Q e q = IfOk-at_ok Q e q
-within answer (Err fault) part Q e q = e
+pub second_yes : {B X Y : Type 0} (a : X) (y : Result Y Fault) (g : Y → B) (k : Judged B) (c : X) (b : Y) → Answers y g k → Ok (c, b) ≡ both (Ok a) y → (a ≡ c) × (k ≡ Yes (g b))
+second_yes a (Ok z) g k c b hy q =
+    let p : (a, z) ≡ (c, b) = ap (ok_or (a, z)) (sym q) in (ap (λ p. p.0) p, hy ∙ ap (λ p. Yes (g p.1)) p)
+second_yes a (Err d) g k c b hy q = absurd (no_ok (c, b) d q)
 
-pub behind : {A P E : Type 0} (first : Result A E) (answer : Result P E) (Q : P → Type 0) → IfOk answer Q → IfOk (result_and first answer) Q
-behind (Ok a) answer Q h = h
-behind (Err fault) answer Q h = search rules
+-- ---- three, each of which begins where the one before has ended
 
-pub before : {A P E : Type 0} (first : Result A E) (answer : Result P E) (Q : Type 0) → IfOk first (λ a. Q) → IfOk (result_and first answer) (λ p. Q)
-before (Ok a) (Ok p) Q h = h
-before (Ok a) (Err fault) Q h = search rules
-before (Err fault) answer Q h = h
+module _ {A B C D E X Y Z : Type 0} where
+  pub three_told : (x : Result X Fault) (y : Result Y Fault) (z : Result Z Fault) (f : X → A) (g : Y → B) (k : Z → C) (d1 d2 : D) (m : Judged (A × D)) (l : D → Judged (B × D)) (n : D → Judged C) (h : A × D → B × D → C → Judged E) (e : Fault) → Answers x (λ v. (f v, d1)) m → Answers y (λ v. (g v, d2)) (l d1) → Answers z k (n d2) → Err e ≡ both x (both y z) → Told e (m >>= (λ p. l p.1 >>= (λ q. n q.1 >>= h p q)))
+  three_told (Err u) y z f g k d1 d2 m l n h e hx hy hz q = told_by u e m (λ p. l p.1 >>= (λ q. n q.1 >>= h p q)) (inside_err u e q) hx
+  three_told (Ok a) (Err u) z f g k d1 d2 m l n h e hx hy hz q =
+      told_behind e m (f a, d1) (λ p. l p.1 >>= (λ q. n q.1 >>= h p q)) hx (told_by u e (l d1) (λ q. n q.1 >>= h (f a, d1) q) (inside_err u e q) hy)
+  three_told (Ok a) (Ok b) (Err u) f g k d1 d2 m l n h e hx hy hz q =
+      told_behind e m (f a, d1) (λ p. l p.1 >>= (λ q. n q.1 >>= h p q)) hx (told_behind e (l d1) (g b, d2) (λ q. n q.1 >>= h (f a, d1) q) hy (told_by u e (n d2) (h (f a, d1) (g b, d2)) (inside_err u e q) hz))
+  three_told (Ok a) (Ok b) (Ok c) f g k d1 d2 m l n h e hx hy hz q = absurd (no_err (a, (b, c)) e q)
 
--- where the second one is no refusal
-pub told_before : {A P : Type 0} (first : Result A Fault) (answer : Result P Fault) (Q : Type 0) → IfErr first (λ fault. IsFault fault → Q) → IfErr answer (λ fault. IsFault fault → ⊥) → IfErr (result_and first answer) (λ fault. IsFault fault → Q)
-told_before (Ok a) (Ok p) Q e f = f
-told_before (Ok a) (Err fault) Q e f = λ told. absurd (f told)
-told_before (Err fault) answer Q e f = e
+  pub three_yes : (x : Result X Fault) (y : Result Y Fault) (z : Result Z Fault) (f : X → A) (g : Y → B) (k : Z → C) (d1 d2 : D) (m : Judged (A × D)) (l : D → Judged (B × D)) (n : D → Judged C) (h : A × D → B × D → C → Judged E) (a : X) (b : Y) (c : Z) → Answers x (λ v. (f v, d1)) m → Answers y (λ v. (g v, d2)) (l d1) → Answers z k (n d2) → Ok (a, (b, c)) ≡ both x (both y z) → (m >>= (λ p. l p.1 >>= (λ q. n q.1 >>= h p q))) ≡ h (f a, d1) (g b, d2) (k c)
+  three_yes (Err u) y z f g k d1 d2 m l n h a b c hx hy hz q = absurd (no_ok (a, (b, c)) u q)
+  three_yes (Ok x) (Err u) z f g k d1 d2 m l n h a b c hx hy hz q = absurd (no_ok (a, (b, c)) u q)
+  three_yes (Ok x) (Ok y) (Err u) f g k d1 d2 m l n h a b c hx hy hz q = absurd (no_ok (a, (b, c)) u q)
+  three_yes (Ok x) (Ok y) (Ok z) f g k d1 d2 m l n h a b c hx hy hz q =
+      let p : (x, (y, z)) ≡ (a, (b, c)) = ap (ok_or (x, (y, z))) (sym q) in
+      ap (λ w. w >>= (λ p. l p.1 >>= (λ q. n q.1 >>= h p q))) hx
+      ∙ ap (λ w. w >>= (λ q. n q.1 >>= h (f x, d1) q)) hy
+      ∙ ap (λ w. w >>= h (f x, d1) (g y, d2)) hz
+      ∙ ap (λ p. h (f p.0, d1) (g p.1.0, d2) (k p.1.1)) p
 
-pub neither_told : {A B P : Type 0} (x : Result A Fault) (y : Result B Fault) (pairs : Result P Fault) → IfErr pairs (λ fault. (x ≡ Err fault) ⊎ (y ≡ Err fault)) → IfErr x (λ fault. IsFault fault → ⊥) → IfErr y (λ fault. IsFault fault → ⊥) → IfErr pairs (λ fault. IsFault fault → ⊥)
-neither_told x y (Ok p) e f g = e
-neither_told x y (Err fault) (inl e) f g = IfErr-at_err (λ fault. IsFault fault → ⊥) e f
-neither_told x y (Err fault) (inr e) f g = IfErr-at_err (λ fault. IsFault fault → ⊥) e g
+-- ---- two as they are handed on
+
+module _ {A B D X Y : Type 0} (f : X → A) (g : Y → B) (d1 d2 : D) (m : Judged (A × D)) (k : D → Judged (B × D)) where
+  abbrev Joint : Result (X × Y) Fault → Type 0
+  Joint r = Answers {A = (A × B) × D} r (λ p. ((f p.0, g p.1), d2)) (m >>= (λ p. k p.1 >>= (λ q. Yes ((p.0, q.0), q.1))))
+
+  joint : (x : Result X Fault) (y : Result Y Fault) → Answers {A = A × D} x (λ v. (f v, d1)) m → Answers {A = B × D} y (λ v. (g v, d2)) (k d1) → Joint (both x y)
+  joint (Err u) y hx hy = told_bind u m (λ p. k p.1 >>= (λ q. Yes ((p.0, q.0), q.1))) hx
+  joint (Ok a) (Err u) hx hy = told_behind u m (f a, d1) (λ p. k p.1 >>= (λ q. Yes ((p.0, q.0), q.1))) hx (told_bind u (k d1) (λ q. Yes ((f a, q.0), q.1)) hy)
+  joint (Ok a) (Ok b) hx hy = ap (λ w. w >>= (λ p. k p.1 >>= (λ q. Yes ((p.0, q.0), q.1)))) hx ∙ ap (λ w. w >>= (λ q. Yes ((f a, q.0), q.1))) hy
+
+  pub next_both : (result : Result (X × Y) Fault) (x : Result X Fault) (y : Result Y Fault) → Answers {A = A × D} x (λ v. (f v, d1)) m → Answers {A = B × D} y (λ v. (g v, d2)) (k d1) → result ≡ both x y → Joint result
+  next_both result x y hx hy q = subst Joint (sym q) (joint x y hx hy)
+
+pub both_parts : {X Y : Type 0} (x : Result X Fault) (y : Result Y Fault) (a : X) (b : Y) → Ok (a, b) ≡ both x y → (x ≡ Ok a) × (y ≡ Ok b)
+both_parts (Ok x) (Ok y) a b q = let p : (x, y) ≡ (a, b) = ap (ok_or (x, y)) (sym q) in (ap (λ p. Ok p.0) p, ap (λ p. Ok p.1) p)
+both_parts (Ok x) (Err e) a b q = absurd (no_ok (a, b) e q)
+both_parts (Err e) y a b q = absurd (no_ok (a, b) e q)
+
+-- an answer that is put on the heap
+pub boxed_answers : {A B P : Type 0} (result : Result P Fault) (x : Result A Fault) (v : P → A) (f : A → B) (j : Judged B) → Answers x f j → IfOk result (λ p. x ≡ Ok (v p)) → IfErr result (λ e. IsFault e → x ≡ Err e) → Answers result (λ p. f (v p)) j
+boxed_answers (Ok p) x v f j h ok err = subst (λ x. Answers x f j) ok h
+boxed_answers (Err OutOfMemory) x v f j h ok err = tt
+boxed_answers (Err (Broken rule at)) x v f j h ok err = subst (λ x. Answers x f j) (err tt) h

@@ -1,5 +1,5 @@
 -- The typing of statements (6.8): the checked statement for each, by those of the statements in it.
-use Rattle.std.specs.Prelude.{ℕ, List, [], ◌∷◌, Option, Some}
+use Rattle.std.specs.Prelude.{ℕ, ℤ, List, [], ◌∷◌, ◌++◌}
 use Rattle.ps_text.specs.declared.Span.{Span}
 use Rattle.ps_syntax.specs.First.{first_of_expr}
 use Rattle.ps_syntax.specs.declared.expression.Expr.{Expr}
@@ -10,16 +10,16 @@ use Rattle.ps_syntax.specs.declared.statement.Element as syntax_element
 use Rattle.ps_syntax.specs.declared.statement.Statement.TheOpen.{Statement-F, Element-F}
 use Rattle.ps_syntax.specs.declared.statement.Statement.TheFolds.{fold-Statement, fold-Element}
 use Rattle.ps_tree.specs.declared.types.Ordinal.{Ordinal}
-use Rattle.ps_tree.specs.Types.{DataType}
 use Rattle.ps_tree.specs.Tree as Tree
-use Rattle.ps_check_names.specs.Option.{◌>>=◌, provided, traverse, steps}
+use Rattle.ps_check_judgement.specs.Changing.{Changing, ◌>>=◌, same, still, each, through}
 use Rattle.ps_check_names.specs.Spelling.{line_in}
 use Rattle.ps_check_names.specs.Regions.{Context, Region}
 use Rattle.ps_check_expressions.specs.Values.{ordinal_of}
 use Rattle.ps_check_expressions.specs.Names.{denoted}
+use Rattle.ps_check_expressions.specs.Changed.{changed}
 use Rattle.ps_check_expressions.specs.Expressions.{operand}
 use Rattle.ps_check_statements.specs.Assignments.{assignment}
-use Rattle.ps_check_statements.specs.Structured.{TypedElement, condition, case_label, are_distinct, control_at, bound_at, direction_of, Head, Opening, repeated, record_region, open_next}
+use Rattle.ps_check_statements.specs.Structured.{TypedElement, condition, labels, control_at, unthreatened, bound_at, direction_of, Head, Opening, repeated, with_control, open_next}
 use Rattle.ps_check_statements.specs.Procedures.{procedure_statement}
 
 -- ---- lists of the checked tree
@@ -32,115 +32,130 @@ abbrev pub element_list : List TypedElement → Tree.Elements
 element_list [] = Tree.no_element
 element_list (e ∷ rest) = Tree.element_before e.0 e.1 (element_list rest)
 
--- ---- what the parts are taken as: a statement in some regions, and a case element, of an index of some type, too
+-- ---- what the parts are taken as: a statement in some context and regions, and a case element too, by the type of the index and the constants before
 
 abbrev pub Reading : Type 0
-Reading = List Region → Option Tree.Statement
+Reading = Context → List Region → Changing Tree.Statement
 
 abbrev pub ElementReading : Type 0
-ElementReading = List Region → Ordinal → Option TypedElement
+ElementReading = Context → List Region → Ordinal → (seen : List ℤ) → Changing TypedElement
 
-abbrev pub sequence_in : List Region → List Reading → Option Tree.Statements
-sequence_in Γ ss = traverse (λ s. s Γ) ss >>= (λ ts. Some (statement_list ts))
+abbrev pub sequence_in : Context → List Region → List Reading → Changing Tree.Statements
+sequence_in c Γ ss = each (λ s. s c Γ) ss >>= (λ ts. same (statement_list ts))
 
 -- 6.8.3.2
-abbrev pub compound_statement : Option Tree.Statements → Option Tree.Statement
-compound_statement ss = ss >>= (λ body. Some (Tree.Compound body))
+abbrev pub compound_statement : Changing Tree.Statements → Changing Tree.Statement
+compound_statement ss = ss >>= (λ body. same (Tree.Compound body))
 
-module _ (c : Context) where
-  abbrev pub condition_at : List Region → Expr → Option Tree.Expr
-  condition_at Γ x = (operand c Γ x).value >>= condition
+abbrev pub condition_at : Context → List Region → Expr → Changing Tree.Expr
+condition_at c Γ x = (operand c Γ x).value >>= (λ v. still (condition (first_of_expr x) v))
 
-  -- the line of the first token
-  abbrev pub line_of : Expr → ℕ
-  line_of x = line_in c.text (first_of_expr x)
+-- the line of the first token
+abbrev pub line_of : Context → Expr → ℕ
+line_of c x = line_in c.text (first_of_expr x)
 
-  -- 6.8.3.4
-  abbrev pub if_statement : List Region → Expr → Reading → Option Tree.Statement
-  if_statement Γ x s = do
-    e ← condition_at Γ x
-    body ← s Γ
-    Some (Tree.If e body)
+-- a condition, and the statement that it governs
+abbrev pub governed : Context → List Region → Expr → Reading → Changing (Tree.Expr × Tree.Statement)
+governed c Γ x s = do
+  e ← condition_at c Γ x
+  body ← s c Γ
+  same (e, body)
 
-  abbrev pub if_else_statement : List Region → Expr → Reading → Reading → Option Tree.Statement
-  if_else_statement Γ x s t = do
-    e ← condition_at Γ x
-    body ← s Γ
-    otherwise ← t Γ
-    Some (Tree.IfElse e body otherwise)
+-- 6.8.3.4
+abbrev pub if_statement : Context → List Region → Expr → Reading → Changing Tree.Statement
+if_statement c Γ x s = governed c Γ x s >>= (λ p. same (Tree.If p.0 p.1))
 
-  -- 6.8.3.5: the index is of an ordinal type
-  abbrev pub index_at : List Region → Expr → Option (Tree.Expr × Ordinal)
-  index_at Γ x = (operand c Γ x).value >>= ordinal_of
+abbrev pub if_else_statement : Context → List Region → Expr → Reading → Reading → Changing Tree.Statement
+if_else_statement c Γ x s t = do
+  p ← governed c Γ x s
+  otherwise ← t c Γ
+  same (Tree.IfElse p.0 p.1 otherwise)
 
-  abbrev pub case_behind : Tree.Expr → List TypedElement → Span → Option Tree.Statement
-  case_behind index elements at = provided (are_distinct elements) (Tree.Case index (element_list elements) (line_in c.text at.from))
+-- 6.8.3.5: the index is of an ordinal type
+abbrev pub index_at : Context → List Region → Expr → Changing (Tree.Expr × Ordinal)
+index_at c Γ x = (operand c Γ x).value >>= (λ v. still (ordinal_of (first_of_expr x) v))
 
-  abbrev pub case_statement : List Region → Span → Expr → List ElementReading → Option Tree.Statement
-  case_statement Γ at x es = do
-    index ← index_at Γ x
-    elements ← traverse (λ e. e Γ index.1) es
-    case_behind index.0 elements at
+-- one more element, behind the constants that are seen and the elements
+abbrev pub one_element : Context → List Region → Ordinal → List ℤ × List TypedElement → ElementReading → Changing (List ℤ × List TypedElement)
+one_element c Γ o done e = e c Γ o done.0 >>= (λ t. same (done.0 ++ t.0, done.1 ++ t ∷ []))
 
-  -- 6.8.3.7
-  abbrev pub repeat_statement : List Region → Option Tree.Statements → Expr → Option Tree.Statement
-  repeat_statement Γ ss x = do
-    body ← ss
-    e ← condition_at Γ x
-    Some (Tree.Repeat body e)
+abbrev pub elements : Context → List Region → Ordinal → List ElementReading → Changing (List TypedElement)
+elements c Γ o es = through (one_element c Γ o) ([], []) es >>= (λ done. same done.1)
 
-  -- 6.8.3.8
-  abbrev pub while_statement : List Region → Expr → Reading → Option Tree.Statement
-  while_statement Γ x s = do
-    e ← condition_at Γ x
-    body ← s Γ
-    Some (Tree.While e body)
+abbrev pub case_statement : Context → List Region → Span → Expr → List ElementReading → Changing Tree.Statement
+case_statement c Γ at x es = do
+  index ← index_at c Γ x
+  typed ← elements c Γ index.1 es
+  same (Tree.Case index.0 (element_list typed) (line_in c.text at.from))
 
-  -- 6.8.3.9
-  abbrev pub for_head : List Region → Span → Expr → Direction → Expr → Option Head
-  for_head Γ name x direction y = do
-    control ← denoted c Γ name >>= control_at
-    first ← bound_at c Γ control.1 x
-    last ← bound_at c Γ control.1 y
-    Some (record { variable = control.0; type = control.1; first = first; first_line = line_of x; direction = direction_of direction; last = last; last_line = line_of y })
+-- 6.8.3.7
+abbrev pub repeat_statement : Context → List Region → Changing Tree.Statements → Expr → Changing Tree.Statement
+repeat_statement c Γ ss x = do
+  body ← ss
+  e ← condition_at c Γ x
+  same (Tree.Repeat body e)
 
-  abbrev pub for_behind : List Region → Reading → Head → Option Tree.Statement
-  for_behind Γ s h = s Γ >>= repeated h
+-- 6.8.3.8
+abbrev pub while_statement : Context → List Region → Expr → Reading → Changing Tree.Statement
+while_statement c Γ x s = governed c Γ x s >>= (λ p. same (Tree.While p.0 p.1))
 
-  -- 6.8.3.10: where some records are open already
-  abbrev pub with_behind : Opening → List Variable → Reading → Option Tree.Statement
-  with_behind opening xs s = do
-    o ← steps (open_next c) opening xs
-    body ← s o.1
-    Some (Tree.With o.0 body)
+-- 6.8.3.9: the control variable, which the statement changes: that is told for a `for` statement round it; and no routine of the block changes it
+abbrev pub control_of : Context → List Region → Span → Changing (ℕ × Ordinal)
+control_of c Γ name = do
+  p ← still (denoted c Γ name)
+  control ← still (control_at name.from p)
+  _ ← changed c (Tree.Variable (Tree.Entry 0 control.0) Tree.no_selector) name.from
+  _ ← still (unthreatened c control.0)
+  same control
 
-  unfoldable pub statement_step : Statement-F Reading ElementReading → Reading
-  statement_step Statement-F.Empty Γ = Some Tree.Empty
-  statement_step (Statement-F.Assign x at y) Γ = assignment c Γ x at y
-  statement_step (Statement-F.Call name ps) Γ = procedure_statement c Γ name ps
-  statement_step (Statement-F.Compound ss) Γ = compound_statement (sequence_in Γ ss)
-  statement_step (Statement-F.If x s) Γ = if_statement Γ x s
-  statement_step (Statement-F.IfElse x s t) Γ = if_else_statement Γ x s t
-  statement_step (Statement-F.Case at x es) Γ = case_statement Γ at x es
-  statement_step (Statement-F.While x s) Γ = while_statement Γ x s
-  statement_step (Statement-F.Repeat ss x) Γ = repeat_statement Γ (sequence_in Γ ss) x
-  statement_step (Statement-F.For name x direction y s) Γ = for_head Γ name x direction y >>= for_behind Γ s
-  statement_step (Statement-F.With xs s) Γ = with_behind ([], Γ) xs s
+abbrev pub for_head : Context → List Region → Span → Expr → Direction → Expr → Changing Head
+for_head c Γ name x direction y = do
+  control ← control_of c Γ name
+  first ← bound_at c Γ control.1 x
+  last ← bound_at c Γ control.1 y
+  same (record { variable = control.0; type = control.1; first = first; first_line = line_of c x; direction = direction_of direction; last = last; last_line = line_of c y })
 
-  unfoldable pub element_step : Element-F Reading ElementReading → ElementReading
-  element_step x Γ o = do
-    labels ← traverse (case_label c Γ o) x.constants
-    body ← x.statement Γ
-    Some (labels, body)
+abbrev pub for_behind : Context → List Region → Reading → Head → Changing Tree.Statement
+for_behind c Γ s h = s (with_control c h.variable) Γ >>= (λ body. same (repeated h body))
 
-  -- ---- the judgement
+abbrev pub for_statement : Context → List Region → Span → Expr → Direction → Expr → Reading → Changing Tree.Statement
+for_statement c Γ name x direction y s = for_head c Γ name x direction y >>= for_behind c Γ s
 
-  unfoldable pub statement : syntax.Statement → Reading
-  statement = fold-Statement Reading ElementReading statement_step element_step
+-- 6.8.3.10: where some records are open already
+abbrev pub with_behind : Context → Opening → List Variable → Reading → Changing Tree.Statement
+with_behind c opening xs s = do
+  o ← through (open_next c) opening xs
+  body ← s c o.1
+  same (Tree.With o.0 body)
 
-  unfoldable pub element : syntax_element.Element → ElementReading
-  element = fold-Element Reading ElementReading statement_step element_step
+unfoldable pub statement_step : Statement-F Reading ElementReading → Reading
+statement_step Statement-F.Empty c Γ = same Tree.Empty
+statement_step (Statement-F.Assign x at y) c Γ = assignment c Γ x at y
+statement_step (Statement-F.Call name ps) c Γ = procedure_statement c Γ name ps
+statement_step (Statement-F.Compound ss) c Γ = compound_statement (sequence_in c Γ ss)
+statement_step (Statement-F.If x s) c Γ = if_statement c Γ x s
+statement_step (Statement-F.IfElse x s t) c Γ = if_else_statement c Γ x s t
+statement_step (Statement-F.Case at x es) c Γ = case_statement c Γ at x es
+statement_step (Statement-F.While x s) c Γ = while_statement c Γ x s
+statement_step (Statement-F.Repeat ss x) c Γ = repeat_statement c Γ (sequence_in c Γ ss) x
+statement_step (Statement-F.For name x direction y s) c Γ = for_statement c Γ name x direction y s
+statement_step (Statement-F.With xs s) c Γ = with_behind c ([], Γ) xs s
+
+-- the constants come before the statement
+unfoldable pub element_step : Element-F Reading ElementReading → ElementReading
+element_step x c Γ o seen = do
+  own ← still (labels c Γ o seen x.constants)
+  body ← x.statement c Γ
+  same (own, body)
+
+-- ---- the judgement
+
+unfoldable pub statement : syntax.Statement → Reading
+statement = fold-Statement Reading ElementReading statement_step element_step
+
+unfoldable pub element : syntax_element.Element → ElementReading
+element = fold-Element Reading ElementReading statement_step element_step
 
 -- 6.8.3.2: a sequence of statements
-unfoldable pub statements : Context → List Region → List syntax.Statement → Option Tree.Statements
-statements c Γ list = traverse (λ s. statement c s Γ) list >>= (λ ts. Some (statement_list ts))
+unfoldable pub statements : Context → List Region → List syntax.Statement → Changing Tree.Statements
+statements c Γ list = each (λ s. statement s c Γ) list >>= (λ ts. same (statement_list ts))

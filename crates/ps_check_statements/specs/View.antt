@@ -2,6 +2,8 @@
 use Rattle.ps_tree.specs.declared.tree.CaseElement.{CaseElement, out-CaseElement}
 use Rattle.ps_tree.specs.View.{expr_of, statement_of}
 use Rattle.ps_check_statements.specs.declared.for_statements.Head as Rust
+use Rattle.ps_check_statements.specs.declared.heap.Places as RustPlaces
+use Rattle.ps_check_statements.specs.Procedures.{Places}
 use Rattle.ps_check_statements.specs.Structured.{Head, TypedElement}
 
 abbrev pub head_of : Rust.Head → Head
@@ -17,3 +19,6 @@ head_of h = record {
 
 abbrev pub element_of : CaseElement → TypedElement
 element_of e = ((out-CaseElement e).constants.items, statement_of (out-CaseElement e).body)
+
+abbrev pub places_of : RustPlaces.Places → Places
+places_of p = record { unpacked = p.unpacked; packed = p.packed; index = p.index }

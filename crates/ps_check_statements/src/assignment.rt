@@ -1,21 +1,23 @@
 // Assignment statements (6.8.2.2).
 
-ghost use Rattle.std.specs.Prelude.{◌≡◌, ◌==◌, ℕ, if◌then◌else◌, IfOk, IfErr, IfSome, Some, None};
+ghost use Rattle.std.specs.Prelude.{◌≡◌, ◌==◌, ℕ, if◌then◌else◌, IfOk, IfSome, Some, None};
 ghost use Rattle.ps_tree.specs.View.{place_of, type_of, set_of, statement_of};
-ghost use Rattle.ps_check_names.specs.Option.{provided};
-ghost use Rattle.ps_check_names.specs.Refusal.{IsFault};
+ghost use Rattle.ps_check_judgement.specs.Judged.{Answers, provided, some_or};
+ghost use Rattle.ps_check_judgement.specs.declared.refusal.Rule.TheVariants.{WrongKind, NotAssignable};
 ghost use Rattle.ps_check_names.specs.Regions as Regions;
 ghost use Rattle.ps_check_names.specs.Views.{scope_of, heading_of, point_of};
 ghost use Rattle.ps_check_expressions.specs.View.{context_at, regions_at, value_of, variable_of};
 ghost use Rattle.ps_check_statements.specs.Assignments.{result_of, result_in, target_at, target, set_assigned, assigned, assignment};
 
+use ps_check_expressions::changed::changed;
 use ps_check_expressions::expression::{expr_value, variable_place};
-use ps_check_expressions::place::{variable_found, wrong_kind};
+use ps_check_expressions::place::variable_found;
 use ps_check_expressions::site::Site;
 use ps_check_expressions::value::{TypedPlace, TypedValue, range_of};
-use ps_check_names::answer::paired;
+use ps_check_judgement::answer::broken;
+use ps_check_judgement::change::Change;
+use ps_check_judgement::refusal::{Fault, Rule};
 use ps_check_names::meaning::{Heading, Meaning};
-use ps_check_names::refusal::{Fault, Rule};
 use ps_check_names::scope::{Found, Scope};
 use ps_syntax::{Expr, Variable};
 use ps_text::Span;
@@ -27,12 +29,10 @@ use std::alloc::Global;
 /// The result of a function as a variable of the block that is `levels` blocks out. Its name is at `at`.
 #[tactic(auto, unfolding(ps_tree::specs::View::selectors_of))]
 fn result_of(alloc: Global, heading: &Heading, levels: u32, at: u32) -> Result<TypedPlace, Fault>
-    ensures ok { IfOk result (λ v. result_of (heading_of heading.now) levels ≡ Some (variable_of v)) }
-    ensures err { IfErr result (λ fault. IsFault fault → result_of (heading_of heading.now) levels ≡ None) }
-    ensures named { IfOk result (λ v. v.place.at ≡ at) }
+    ensures { Answers result (λ v. variable_of v) (some_or WrongKind at (result_of (heading_of heading.now) levels)) }
 {
     match &heading.result {
-        None => Err(wrong_kind(at)),
+        None => Err(broken(Rule::WrongKind, at)),
         Some(ty) => {
             let ty = ty.copy()?;
             let place = Place {
@@ -70,7 +70,7 @@ fn routine_out(scope: &Scope<'_>, further: u32) -> Option<u32>
                 left -= 1;
                 here = outer;
             }
-            Scope::Opened { outer, .. } | Scope::Fields { outer, .. } => here = outer,
+            Scope::Opened { outer, .. } | Scope::Own { outer, .. } => here = outer,
         }
     }
 }
@@ -84,14 +84,13 @@ fn result_in(
     levels: u32,
     at: u32,
 ) -> Result<TypedPlace, Fault>
-    ensures ok { IfOk result (λ v. result_in (scope_of scope.now) further (heading_of heading.now) levels ≡ Some (variable_of v)) }
-    ensures err { IfErr result (λ fault. IsFault fault → result_in (scope_of scope.now) further (heading_of heading.now) levels ≡ None) }
+    ensures { Answers result (λ v. variable_of v) (some_or WrongKind at (result_in (scope_of scope.now) further (heading_of heading.now) levels)) }
 {
     match routine_out(scope, further) {
-        None => Err(wrong_kind(at)),
+        None => Err(broken(Rule::WrongKind, at)),
         Some(routine) => {
             if routine != heading.number {
-                return Err(wrong_kind(at));
+                return Err(broken(Rule::WrongKind, at));
             }
             result_of(alloc, heading, levels, at)
         }
@@ -101,58 +100,43 @@ fn result_in(
 /// What a name alone stands for on the left of `:=`. A function is declared in the block around its own.
 #[tactic(auto, unfolding(crate::specs::Assignments::target_at, ps_check_expressions::specs::Places::variable_at, ps_check_names::specs::Views::meaning_of))]
 fn target_found(site: Site<'_>, found: Found<'_>, at: u32) -> Result<TypedPlace, Fault>
-    ensures ok { IfOk result (λ v. target_at (regions_at site.entry) (point_of found.entry) ≡ Some (variable_of v)) }
-    ensures err { IfErr result (λ fault. IsFault fault → target_at (regions_at site.entry) (point_of found.entry) ≡ None) }
+    ensures { Answers result (λ v. variable_of v) (target_at (regions_at site.entry) at (point_of found.entry)) }
 {
     match found {
         Found::Field { .. } => variable_found(site.alloc, found, at),
         Found::Name { up, meaning } => match meaning {
             Meaning::Routine(heading) => {
                 if up == 0 {
-                    return Err(wrong_kind(at));
+                    return Err(broken(Rule::WrongKind, at));
                 }
                 result_in(site.alloc, site.scope, up - 1, heading, up - 1, at)
             }
-            Meaning::File(_) | Meaning::LeftOut => Err(Fault::Broken {
-                rule: Rule::NotInProfile,
-                at,
-            }),
             _ => variable_found(site.alloc, found, at),
         },
     }
 }
 
+/// The variable or the function's result that is assigned to.
 #[tactic(auto, using(ps_check_expressions::proofs::Judgement::name_alone, ps_check_expressions::proofs::Judgement::name_selected))]
-fn target(x: &Variable, site: Site<'_>) -> Result<TypedPlace, Fault>
-    ensures ok { IfOk result (λ v. target (context_at site.entry) (regions_at site.entry) x.now ≡ Some (variable_of v)) }
-    ensures err { IfErr result (λ fault. IsFault fault → target (context_at site.entry) (regions_at site.entry) x.now ≡ None) }
+fn target(x: &Variable, site: Site<'_>, changes: &mut Vec<Change>) -> Result<TypedPlace, Fault>
+    ensures { Answers result (λ v. (variable_of v, changes.new.items)) (target (context_at site.entry) (regions_at site.entry) x.now changes.old.items) }
 {
     if x.selectors.is_empty() {
         let found = site.denoted(x.name)?;
         target_found(site, found, x.name.from)
     } else {
-        variable_place(x, site)
-    }
-}
-
-fn not_assignable(at: u32) -> Fault
-    ensures { IsFault result }
-{
-    Fault::Broken {
-        rule: Rule::NotAssignable,
-        at,
+        variable_place(x, site, changes)
     }
 }
 
 /// An assignment, whose `:=` is at `at`, provided that the value fits the variable's type.
 fn fitting(fits: bool, statement: Statement, at: u32) -> Result<Statement, Fault>
-    ensures ok { IfOk result (λ s. provided fits (statement_of statement) ≡ Some (statement_of s)) }
-    ensures err { IfErr result (λ fault. IsFault fault → provided fits (statement_of statement) ≡ None) }
+    ensures { Answers result (λ s. statement_of s) (provided fits NotAssignable at (statement_of statement)) }
 {
     if fits {
         Ok(statement)
     } else {
-        Err(not_assignable(at))
+        Err(broken(Rule::NotAssignable, at))
     }
 }
 
@@ -164,8 +148,7 @@ fn set_assigned(
     line: Line,
     at: u32,
 ) -> Result<Statement, Fault>
-    ensures ok { IfOk result (λ s. set_assigned (place_of target.entry.0) (type_of target.entry.1.now) (set_of value.entry.0) (type_of value.entry.1.now) line.number ≡ Some (statement_of s)) }
-    ensures err { IfErr result (λ fault. IsFault fault → set_assigned (place_of target.entry.0) (type_of target.entry.1.now) (set_of value.entry.0) (type_of value.entry.1.now) line.number ≡ None) }
+    ensures { Answers result (λ s. statement_of s) (set_assigned at (place_of target.entry.0) (type_of target.entry.1.now) (set_of value.entry.0) (type_of value.entry.1.now) line.number) }
 {
     let ((target, ty), (value, from)) = (target, value);
     match ty {
@@ -176,7 +159,7 @@ fn set_assigned(
             value,
             line,
         }),
-        _ => Err(not_assignable(at)),
+        _ => Err(broken(Rule::NotAssignable, at)),
     }
 }
 
@@ -188,8 +171,7 @@ fn assigned(
     line: Line,
     at: u32,
 ) -> Result<Statement, Fault>
-    ensures ok { IfOk result (λ s. assigned (variable_of variable) (value_of value) line.number ≡ Some (statement_of s)) }
-    ensures err { IfErr result (λ fault. IsFault fault → assigned (variable_of variable) (value_of value) line.number ≡ None) }
+    ensures { Answers result (λ s. statement_of s) (assigned at (variable_of variable) (value_of value) line.number) }
 {
     let TypedPlace {
         place: target,
@@ -220,12 +202,14 @@ fn assigned(
 pub(crate) fn assignment(
     x: &Variable,
     site: Site<'_>,
+    changes: &mut Vec<Change>,
     at: Span,
     y: &Expr,
 ) -> Result<Statement, Fault>
-    ensures ok { IfOk result (λ s. assignment (context_at site.entry) (regions_at site.entry) x.now at y.now ≡ Some (statement_of s)) }
-    ensures err { IfErr result (λ fault. IsFault fault → assignment (context_at site.entry) (regions_at site.entry) x.now at y.now ≡ None) }
+    ensures { Answers result (λ s. (statement_of s, changes.new.items)) (assignment (context_at site.entry) (regions_at site.entry) x.now at y.now changes.old.items) }
 {
-    let (variable, value) = paired(target(x, site), expr_value(y, site))?;
+    let variable = target(x, site, changes)?;
+    changed(site, changes, &variable.place, x.name.from)?;
+    let value = expr_value(y, site, changes)?;
     assigned(variable, value, site.reading.line(at.from), at.from)
 }

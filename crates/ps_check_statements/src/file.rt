@@ -1,17 +1,20 @@
 // The file of read, readln, write and writeln (6.9): the input or the output, which may be left out.
 
-ghost use Rattle.std.specs.Prelude.{◌≡◌, IfOk, IfErr, Some, None};
-ghost use Rattle.ps_check_names.specs.Refusal.{IsFault};
+ghost use Rattle.std.specs.Prelude.{◌≡◌, List, IfOk};
+ghost use Rattle.ps_check_judgement.specs.Judged.{Answers};
+ghost use Rattle.ps_check_names.specs.Regions.{Context, Region};
 ghost use Rattle.ps_check_names.specs.Views.{point_of};
 ghost use Rattle.ps_check_expressions.specs.View.{context_at, regions_at};
-ghost use Rattle.ps_check_statements.specs.Procedures.{is_file, names_file, behind_file};
+ghost use Rattle.ps_check_statements.specs.Procedures.{is_file, name_of_parameter, names_file, told_unlisted_by, unlisted_name, behind_file};
 
 use ps_check_expressions::expression::name_alone;
 use ps_check_expressions::site::Site;
+use ps_check_judgement::answer::broken;
+use ps_check_judgement::refusal::{Fault, Rule};
 use ps_check_names::meaning::{File, Meaning};
-use ps_check_names::refusal::{Fault, Rule};
 use ps_check_names::scope::Found;
 use ps_syntax::Parameter;
+use ps_text::Span;
 use std::alloc::AllocError;
 
 /// The name of the file.
@@ -37,56 +40,61 @@ fn is_file(file: File, found: Found<'_>) -> bool
     }
 }
 
+/// The name that a parameter is, if it is one alone.
+fn name_of(parameter: &Parameter) -> Option<Span>
+    ensures { (c : Context) (Γ : List Region) → name_of_parameter c Γ parameter.now ≡ result }
+{
+    match parameter {
+        Parameter::Plain(x) => name_alone(x),
+        Parameter::Width(..) => None,
+    }
+}
+
 /// Whether a parameter is the name of the file.
 #[tactic(auto, unfolding(crate::specs::Procedures::names_file))]
 fn names_file(site: Site<'_>, file: File, parameter: &Parameter) -> Result<bool, AllocError>
     ensures { IfOk result (λ b. b ≡ names_file (context_at site.entry) (regions_at site.entry) file parameter.now) }
 {
-    match parameter {
-        Parameter::Width(..) => Ok(false),
-        Parameter::Plain(x) => match name_alone(x) {
-            None => Ok(false),
-            Some(name) => match site.denoted(name) {
-                Ok(found) => Ok(is_file(file, found)),
-                Err(fault) => match fault {
-                    Fault::OutOfMemory => Err(AllocError),
-                    Fault::Broken { .. } => Ok(false),
-                },
+    match name_of(parameter) {
+        None => Ok(false),
+        Some(name) => match site.denoted(name) {
+            Ok(found) => Ok(is_file(file, found)),
+            Err(fault) => match fault {
+                Fault::OutOfMemory => Err(AllocError),
+                Fault::Broken { .. } => Ok(false),
             },
         },
     }
 }
 
-/// The refusal of a file that the program heading doesn't list: told at its name, or where it is implied at `at`.
-fn unlisted(site: Site<'_>, parameters: &[Parameter], at: u32) -> Fault
-    ensures { IsFault result }
+/// Where it is told that the program heading doesn't list a file: at its name, or where that is left out at `at`.
+fn unlisted_name(site: Site<'_>, name: Option<Span>, at: u32) -> Result<u32, AllocError>
+    ensures { IfOk result (λ place. place ≡ unlisted_name (context_at site.entry) (regions_at site.entry) at name) }
 {
-    let name = match parameters {
-        [Parameter::Plain(first), ..] => name_alone(first),
-        _ => None,
-    };
-    if let Some(name) = name {
-        if let Err(
-            Fault::Broken {
-                rule: Rule::NoInputOutput,
-                at,
+    match name {
+        None => Ok(at),
+        Some(name) => match site.denoted(name) {
+            Ok(_) => Ok(at),
+            Err(fault) => match fault {
+                Fault::OutOfMemory => Err(AllocError),
+                Fault::Broken { rule, at: place } => Ok(told_unlisted(rule, place, at)),
             },
-        ) = site.denoted(name)
-        {
-            return Fault::Broken {
-                rule: Rule::NoInputOutput,
-                at,
-            };
-        }
+        },
     }
-    Fault::Broken {
-        rule: Rule::NoInputOutput,
-        at,
+}
+
+/// The place of a name that is no defining point, where it is that of a file; or else another place.
+fn told_unlisted(rule: Rule, place: u32, at: u32) -> u32
+    ensures { result ≡ told_unlisted_by at rule place }
+{
+    match rule {
+        Rule::NoInputOutput => place,
+        _ => at,
     }
 }
 
 /// The parameters behind the file. Where it is implied, the program heading has to list it. The routine's name is at `at`.
-#[tactic(auto, unfolding(crate::specs::Procedures::behind_file))]
+#[tactic(auto, unfolding(crate::specs::Procedures::behind_file, crate::specs::Procedures::unlisted_at))]
 pub(crate) fn behind_file<'p>(
     site: Site<'_>,
     file: File,
@@ -94,16 +102,20 @@ pub(crate) fn behind_file<'p>(
     parameters: &'p [Parameter],
     at: u32,
 ) -> Result<&'p [Parameter], Fault>
-    ensures ok { IfOk result (λ rest. behind_file (context_at site.entry) (regions_at site.entry) file is_listed parameters.entry.now ≡ Some rest.now) }
-    ensures err { IfErr result (λ fault. IsFault fault → behind_file (context_at site.entry) (regions_at site.entry) file is_listed parameters.entry.now ≡ None) }
+    ensures { Answers result (λ rest. rest.now) (behind_file (context_at site.entry) (regions_at site.entry) at file is_listed parameters.entry.now) }
 {
-    if let [first, rest @ ..] = parameters {
-        if names_file(site, file, first)? {
-            return Ok(rest);
+    let [first, rest @ ..] = parameters else {
+        if is_listed {
+            return Ok(parameters);
         }
+        return Err(broken(Rule::NoInputOutput, at));
+    };
+    if names_file(site, file, first)? {
+        return Ok(rest);
     }
-    if !is_listed {
-        return Err(unlisted(site, parameters, at));
+    if is_listed {
+        return Ok(parameters);
     }
-    Ok(parameters)
+    let place = unlisted_name(site, name_of(first), at)?;
+    Err(broken(Rule::NoInputOutput, place))
 }

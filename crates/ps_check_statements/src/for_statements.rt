@@ -1,26 +1,23 @@
 // What stands before `do` in a `for` statement (6.8.3.9).
 
-ghost use Rattle.std.specs.Prelude.{◌≡◌, IfOk, IfErr, Some, None};
+ghost use Rattle.std.specs.Prelude.{◌≡◌};
 ghost use Rattle.ps_tree.specs.View.{type_of, expr_of, statement_of};
-ghost use Rattle.ps_check_names.specs.Refusal.{IsFault};
-ghost use Rattle.ps_check_names.specs.declared.refusal.Fault.TheVariants.{Broken};
-ghost use Rattle.ps_check_names.specs.declared.refusal.Rule.TheVariants.{ControlVariable};
+ghost use Rattle.ps_check_judgement.specs.Judged.{Answers};
 ghost use Rattle.ps_check_names.specs.Views.{point_of};
 ghost use Rattle.ps_check_expressions.specs.View.{context_at, regions_at};
-ghost use Rattle.ps_check_statements.specs.Structured.{control_at, bound_at, direction_of, repeated};
-ghost use Rattle.ps_check_statements.specs.Statements.{for_head};
+ghost use Rattle.ps_check_statements.specs.Structured.{control_at, unthreatened, bound_at, direction_of, repeated};
+ghost use Rattle.ps_check_statements.specs.Statements.{control_of, for_head};
 ghost use Rattle.ps_check_statements.specs.View.{head_of};
 
-use ps_check_changes::place::Entries;
-use ps_check_changes::threat::threat_of;
+use ps_check_expressions::changed::changed_entry;
 use ps_check_expressions::expression::expr_value;
-use ps_check_expressions::operators::wrong_type;
-use ps_check_expressions::place::wrong_kind;
 use ps_check_expressions::site::Site;
 use ps_check_expressions::value::TypedValue;
-use ps_check_names::answer::paired;
+use ps_check_judgement::answer::{broken, paired};
+use ps_check_judgement::change::Change;
+use ps_check_judgement::refusal::{Fault, Rule};
+use ps_check_names::constants::misplacement;
 use ps_check_names::meaning::Meaning;
-use ps_check_names::refusal::{Fault, Rule};
 use ps_check_names::scope::Found;
 use ps_syntax::{Direction as Way, Expr as Syntax};
 use ps_text::Span;
@@ -40,61 +37,60 @@ pub struct Head {
     pub last_line: Line,
 }
 
-/// The refusal of a control variable; the name is at `at`.
-fn wrong_control(at: u32) -> Fault
-    ensures fault { IsFault result }
-    ensures told { result ≡ Broken ControlVariable at }
-{
-    Fault::Broken {
-        rule: Rule::ControlVariable,
-        at,
-    }
-}
-
 /// The control variable that a name denotes; the name is at `at`.
 #[tactic(auto, unfolding(crate::specs::Structured::control_at, ps_check_names::specs::Views::meaning_of, ps_tree::specs::View::type_of))]
 fn control_found(found: Found<'_>, at: u32) -> Result<(u32, Ordinal), Fault>
-    ensures ok { IfOk result (λ control. control_at (point_of found.entry) ≡ Some control) }
-    ensures err { IfErr result (λ fault. IsFault fault → control_at (point_of found.entry) ≡ None) }
+    ensures { Answers result (λ control. control) (control_at at (point_of found.entry)) }
 {
     match found {
-        Found::Field { .. } => Err(wrong_control(at)),
+        Found::Field { .. } => Err(broken(Rule::ControlVariable, at)),
         Found::Name { up, meaning } => match meaning {
             Meaning::Variable { entry, ty } => {
                 let Ty::Simple(ordinal) = ty else {
-                    return Err(wrong_type(at));
+                    return Err(broken(Rule::WrongType, at));
                 };
                 if up != 0 {
-                    return Err(wrong_control(at));
+                    return Err(broken(Rule::ControlVariable, at));
                 }
                 Ok((*entry, *ordinal))
             }
-            Meaning::Parameter { .. } => Err(wrong_control(at)),
-            Meaning::File(_) | Meaning::LeftOut => Err(Fault::Broken {
-                rule: Rule::NotInProfile,
-                at,
-            }),
-            _ => Err(wrong_kind(at)),
+            Meaning::Parameter { .. } => Err(broken(Rule::ControlVariable, at)),
+            Meaning::Constant { .. }
+            | Meaning::Text(_)
+            | Meaning::Type(_)
+            | Meaning::RoutineParameter { .. }
+            | Meaning::Routine(_)
+            | Meaning::Required(_)
+            | Meaning::File(_)
+            | Meaning::LeftOut => Err(broken(misplacement(&found), at)),
         },
     }
 }
 
 /// A bound, which is of the type of the control variable.
 #[tactic(auto, unfolding(crate::specs::Structured::bound, ps_check_expressions::specs::View::value_of, ps_tree::specs::View::type_of))]
-fn bound_at(x: &Syntax, site: Site<'_>, ordinal: Ordinal) -> Result<Expr, Fault>
-    ensures ok { IfOk result (λ e. bound_at (context_at site.entry) (regions_at site.entry) ordinal x.now ≡ Some (expr_of e)) }
-    ensures err { IfErr result (λ fault. IsFault fault → bound_at (context_at site.entry) (regions_at site.entry) ordinal x.now ≡ None) }
+fn bound_at(
+    x: &Syntax,
+    site: Site<'_>,
+    changes: &mut Vec<Change>,
+    ordinal: Ordinal,
+) -> Result<Expr, Fault>
+    ensures { Answers result (λ e. (expr_of e, changes.new.items)) (bound_at (context_at site.entry) (regions_at site.entry) ordinal x.now changes.old.items) }
 {
     let at = x.first_token();
-    match expr_value(x, site)? {
+    match expr_value(x, site, changes)? {
         TypedValue::Simple(value, ty) => {
             let fits = compatible(&ty, &Ty::Simple(ordinal));
             drop(ty);
-            if fits { Ok(value) } else { Err(wrong_type(at)) }
+            if fits {
+                Ok(value)
+            } else {
+                Err(broken(Rule::WrongType, at))
+            }
         }
         value @ (TypedValue::Set(..) | TypedValue::Structure(..)) => {
             drop(value);
-            Err(wrong_type(at))
+            Err(broken(Rule::WrongType, at))
         }
     }
 }
@@ -108,46 +104,69 @@ fn direction_of(way: Way) -> Direction
     }
 }
 
+/// The control variable of a `for` statement, by the name of it. The statement changes it, and no routine of the block does.
+#[tactic(auto, unfolding(ps_check_expressions::specs::Changed::changed))]
+fn control_of(
+    site: Site<'_>,
+    changes: &mut Vec<Change>,
+    name: Span,
+) -> Result<(u32, Ordinal), Fault>
+    ensures { Answers result (λ control. (control, changes.new.items)) (control_of (context_at site.entry) (regions_at site.entry) name changes.old.items) }
+{
+    let found = site.denoted(name)?;
+    let (variable, ordinal) = control_found(found, name.from)?;
+    let change = Change {
+        up: 0,
+        entry: variable,
+        at: name.from,
+    };
+    changed_entry(site, changes, change)?;
+    unthreatened(site, variable)?;
+    Ok((variable, ordinal))
+}
+
+/// No routine of the block changes the control variable; the first change is told.
+#[tactic(auto, unfolding(crate::specs::Structured::unthreatened))]
+fn unthreatened(site: Site<'_>, variable: u32) -> Result<(), Fault>
+    ensures { Answers result (λ _. tt) (unthreatened (context_at site.entry) variable) }
+{
+    match site.inner.first_of(variable) {
+        None => Ok(()),
+        Some(at) => Err(broken(Rule::ControlVariable, at)),
+    }
+}
+
 /// The head of a `for` statement: the name of the control variable, and the bounds.
 pub(crate) fn for_head(
     site: Site<'_>,
+    changes: &mut Vec<Change>,
     name: Span,
     x: &Syntax,
     way: Way,
     y: &Syntax,
 ) -> Result<Head, Fault>
-    ensures ok { IfOk result (λ h. for_head (context_at site.entry) (regions_at site.entry) name x.now way y.now ≡ Some (head_of h)) }
-    ensures err { IfErr result (λ fault. IsFault fault → for_head (context_at site.entry) (regions_at site.entry) name x.now way y.now ≡ None) }
+    ensures { Answers result (λ h. (head_of h, changes.new.items)) (for_head (context_at site.entry) (regions_at site.entry) name x.now way y.now changes.old.items) }
 {
-    let found = site.denoted(name)?;
-    let (variable, ordinal) = control_found(found, name.from)?;
-    let first_line = site.reading.line(x.first_token());
-    let last_line = site.reading.line(y.first_token());
-    let direction = direction_of(way);
-    let (first, last) = paired(bound_at(x, site, ordinal), bound_at(y, site, ordinal))?;
+    let (variable, ordinal) = control_of(site, changes, name)?;
+    let first = bound_at(x, site, changes, ordinal);
+    let (first, last) = paired(first, bound_at(y, site, changes, ordinal))?;
     Ok(Head {
         variable,
         ordinal,
         first,
-        first_line,
-        direction,
+        first_line: site.reading.line(x.first_token()),
+        direction: direction_of(way),
         last,
-        last_line,
+        last_line: site.reading.line(y.first_token()),
     })
 }
 
-/// The `for` statement that repeats a statement; the name of its control variable is at `at`. The statement doesn't
-/// threaten it: a threat is told at the name that threatens.
-#[tactic(auto, unfolding(crate::specs::Structured::repeated, ps_tree::specs::View::statement_of))]
-pub(crate) fn repeated(head: Head, body: Box<Statement>, at: u32) -> Result<Statement, Fault>
-    ensures ok { IfOk result (λ s. repeated (head_of head) (statement_of body.value) ≡ Some (statement_of s)) }
-    ensures err { IfErr result (λ fault. IsFault fault → repeated (head_of head) (statement_of body.value) ≡ None) }
+/// The `for` statement that repeats a statement; the name of its control variable is at `at`.
+#[tactic(auto, unfolding(ps_tree::specs::View::statement_of))]
+pub(crate) fn repeated(head: Head, body: Box<Statement>, at: u32) -> Statement
+    ensures { statement_of result ≡ repeated (head_of head) (statement_of body.value) }
 {
-    if let Some(threat) = threat_of(&body, 0, Entries::One(head.variable)) {
-        drop(head);
-        return Err(wrong_control(threat));
-    }
-    Ok(Statement::For {
+    Statement::For {
         variable: head.variable,
         at,
         low: head.ordinal.low,
@@ -158,5 +177,5 @@ pub(crate) fn repeated(head: Head, body: Box<Statement>, at: u32) -> Result<Stat
         to: head.last,
         to_line: head.last_line,
         body,
-    })
+    }
 }

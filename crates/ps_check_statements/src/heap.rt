@@ -1,19 +1,20 @@
 // new (6.6.5.3), pack and unpack (6.6.5.4).
 
-ghost use Rattle.std.specs.Prelude.{◌≡◌, true, false, IfOk, IfErr, Some, None};
+ghost use Rattle.std.specs.Prelude.{◌≡◌, IfOk, IfErr};
 ghost use Rattle.ps_tree.specs.View.{expr_of, type_of, statement_of};
-ghost use Rattle.ps_check_names.specs.Refusal.{IsFault};
-ghost use Rattle.ps_check_names.specs.Spelling.{line_in};
+ghost use Rattle.ps_check_judgement.specs.Judged.{Answers, Told, Yes};
+ghost use Rattle.ps_check_statements.specs.View.{places_of};
+ghost use Rattle.ps_check_judgement.specs.Refusal.{IsFault};
 ghost use Rattle.ps_check_expressions.specs.View.{context_at, regions_at};
 ghost use Rattle.ps_check_statements.specs.Procedures as spec;
 
-use crate::argument::{first_token, parameter_variable, wrong_number};
+use crate::argument::{first_token, parameter_variable};
 use crate::statement::index_at;
-use ps_check_expressions::operators::wrong_type;
 use ps_check_expressions::site::Site;
 use ps_check_expressions::value::TypedPlace;
-use ps_check_names::answer::{boxed_answer, paired};
-use ps_check_names::refusal::Fault;
+use ps_check_judgement::answer::{boxed_answer, broken, paired};
+use ps_check_judgement::change::Change;
+use ps_check_judgement::refusal::{Fault, Rule};
 use ps_syntax::Parameter;
 use ps_text::Span;
 use ps_tree::tree::{Expr, Place, Statement};
@@ -25,17 +26,17 @@ use std::alloc::Global;
 pub(crate) fn new_statement(
     parameters: &[Parameter],
     site: Site<'_>,
+    changes: &mut Vec<Change>,
     name: Span,
 ) -> Result<Statement, Fault>
-    ensures ok { IfOk result (λ s. spec.new_statement (context_at site.entry) (regions_at site.entry) (line_in (context_at site.entry).text name.from) parameters.now ≡ Some (statement_of s)) }
-    ensures err { IfErr result (λ fault. IsFault fault → spec.new_statement (context_at site.entry) (regions_at site.entry) (line_in (context_at site.entry).text name.from) parameters.now ≡ None) }
+    ensures { Answers result (λ s. (statement_of s, changes.new.items)) (spec.new_statement (context_at site.entry) (regions_at site.entry) name.from parameters.now changes.old.items) }
 {
     let [only] = parameters else {
-        return Err(wrong_number(name.from));
+        return Err(broken(Rule::NotCongruous, name.from));
     };
-    let TypedPlace { place, ty, .. } = parameter_variable(only, site)?;
+    let TypedPlace { place, ty, .. } = parameter_variable(only, site, changes)?;
     let Ty::Pointer { number } = &ty else {
-        return Err(wrong_type(first_token(only)));
+        return Err(broken(Rule::WrongType, first_token(only)));
     };
     Ok(Statement::New {
         place,
@@ -56,8 +57,7 @@ struct Places {
 /// Tells that an array that is not packed, a packed one and an index go together.
 #[tactic(auto, unfolding(crate::specs::Procedures::goes_with_pack, ps_tree::specs::View::type_of))]
 fn goes_with_pack(unpacked: &Ty, packed: &Ty, index: Ordinal, at: Places) -> Result<(), Fault>
-    ensures ok { IfOk result (λ _. spec.goes_with_pack (type_of unpacked.now) (type_of packed.now) index ≡ true) }
-    ensures err { IfErr result (λ fault. IsFault fault → spec.goes_with_pack (type_of unpacked.now) (type_of packed.now) index ≡ false) }
+    ensures { Answers result (λ _. tt) (spec.goes_with_pack (places_of at) (type_of unpacked.now) (type_of packed.now) index) }
 {
     let Ty::Array {
         packed: is_packed,
@@ -66,7 +66,7 @@ fn goes_with_pack(unpacked: &Ty, packed: &Ty, index: Ordinal, at: Places) -> Res
         ..
     } = unpacked
     else {
-        return Err(wrong_type(at.unpacked));
+        return Err(broken(Rule::WrongType, at.unpacked));
     };
     let Ty::Array {
         packed: is_other_packed,
@@ -74,29 +74,32 @@ fn goes_with_pack(unpacked: &Ty, packed: &Ty, index: Ordinal, at: Places) -> Res
         ..
     } = packed
     else {
-        return Err(wrong_type(at.packed));
+        return Err(broken(Rule::WrongType, at.packed));
     };
     if *is_packed {
-        return Err(wrong_type(at.unpacked));
+        return Err(broken(Rule::WrongType, at.unpacked));
     }
     if !*is_other_packed || !same_type(component.ty(), other.ty()) {
-        return Err(wrong_type(at.packed));
+        return Err(broken(Rule::WrongType, at.packed));
     }
     if !same_host(index.host, bounds.host) {
-        return Err(wrong_type(at.index));
+        return Err(broken(Rule::WrongType, at.index));
     }
     Ok(())
 }
 
 /// A parameter that is an index.
-#[tactic(auto, unfolding(crate::specs::Procedures::parameter_value))]
-fn parameter_index(parameter: &Parameter, site: Site<'_>) -> Result<(Expr, Ordinal), Fault>
-    ensures ok { IfOk result (λ v. spec.parameter_index (context_at site.entry) (regions_at site.entry) parameter.now ≡ Some (expr_of v.0, v.1)) }
-    ensures err { IfErr result (λ fault. IsFault fault → spec.parameter_index (context_at site.entry) (regions_at site.entry) parameter.now ≡ None) }
+#[tactic(auto, unfolding(crate::specs::Procedures::parameter_value, crate::specs::Procedures::first_of_parameter))]
+fn parameter_index(
+    parameter: &Parameter,
+    site: Site<'_>,
+    changes: &mut Vec<Change>,
+) -> Result<(Expr, Ordinal), Fault>
+    ensures { Answers result (λ v. ((expr_of v.0, v.1), changes.new.items)) (spec.parameter_index (context_at site.entry) (regions_at site.entry) parameter.now changes.old.items) }
 {
     match parameter {
-        Parameter::Plain(x) => index_at(x, site),
-        Parameter::Width(_, width) => Err(wrong_type(width.get().first_token())),
+        Parameter::Plain(x) => index_at(x, site, changes),
+        Parameter::Width(_, width) => Err(broken(Rule::WrongType, width.get().first_token())),
     }
 }
 
@@ -118,12 +121,8 @@ fn transferred(
     index: Ordinal,
     at: Places,
 ) -> Result<((Box<Place>, Ty), (Box<Place>, Ty)), Fault>
-    ensures fit { IfOk result (λ _. spec.goes_with_pack (type_of unpacked.ty) (type_of packed.ty) index ≡ true) }
-    ensures unpacked { IfOk result (λ pair. unpacked.place ≡ pair.0.0.value) }
-    ensures unpacked_ty { IfOk result (λ pair. unpacked.ty ≡ pair.0.1) }
-    ensures packed { IfOk result (λ pair. packed.place ≡ pair.1.0.value) }
-    ensures packed_ty { IfOk result (λ pair. packed.ty ≡ pair.1.1) }
-    ensures err { IfErr result (λ fault. IsFault fault → spec.goes_with_pack (type_of unpacked.ty) (type_of packed.ty) index ≡ false) }
+    ensures ok { IfOk result (λ pair. (spec.goes_with_pack (places_of at) (type_of unpacked.ty) (type_of packed.ty) index ≡ Yes tt) × (unpacked.place ≡ pair.0.0.value) × (unpacked.ty ≡ pair.0.1) × (packed.place ≡ pair.1.0.value) × (packed.ty ≡ pair.1.1)) }
+    ensures err { IfErr result (λ fault. Told fault (spec.goes_with_pack (places_of at) (type_of unpacked.ty) (type_of packed.ty) index)) }
 {
     let fit = goes_with_pack(&unpacked.ty, &packed.ty, index, at);
     fit.and(paired(boxed_place(alloc, unpacked), boxed_place(alloc, packed)))
@@ -134,13 +133,13 @@ fn transferred(
 pub(crate) fn pack_statement(
     parameters: &[Parameter],
     site: Site<'_>,
+    changes: &mut Vec<Change>,
     name: u32,
 ) -> Result<Statement, Fault>
-    ensures ok { IfOk result (λ s. spec.pack_statement (context_at site.entry) (regions_at site.entry) parameters.now ≡ Some (statement_of s)) }
-    ensures err { IfErr result (λ fault. IsFault fault → spec.pack_statement (context_at site.entry) (regions_at site.entry) parameters.now ≡ None) }
+    ensures { Answers result (λ s. (statement_of s, changes.new.items)) (spec.pack_statement (context_at site.entry) (regions_at site.entry) name parameters.now changes.old.items) }
 {
     let [a, i, z] = parameters else {
-        return Err(wrong_number(name));
+        return Err(broken(Rule::NotCongruous, name));
     };
     let at = Places {
         unpacked: first_token(a),
@@ -148,8 +147,11 @@ pub(crate) fn pack_statement(
         index: first_token(i),
     };
     let line = site.reading.line(at.index);
-    let from = parameter_variable(a, site);
-    let rest = paired(parameter_index(i, site), parameter_variable(z, site));
+    let from = parameter_variable(a, site, changes);
+    let rest = paired(
+        parameter_index(i, site, changes),
+        parameter_variable(z, site, changes),
+    );
     let (unpacked, ((index, ordinal), packed)) = paired(from, rest)?;
     let ((from, from_ty), (to, to_ty)) = transferred(site.alloc, unpacked, packed, ordinal, at)?;
     Ok(Statement::Pack {
@@ -167,13 +169,13 @@ pub(crate) fn pack_statement(
 pub(crate) fn unpack_statement(
     parameters: &[Parameter],
     site: Site<'_>,
+    changes: &mut Vec<Change>,
     name: u32,
 ) -> Result<Statement, Fault>
-    ensures ok { IfOk result (λ s. spec.unpack_statement (context_at site.entry) (regions_at site.entry) parameters.now ≡ Some (statement_of s)) }
-    ensures err { IfErr result (λ fault. IsFault fault → spec.unpack_statement (context_at site.entry) (regions_at site.entry) parameters.now ≡ None) }
+    ensures { Answers result (λ s. (statement_of s, changes.new.items)) (spec.unpack_statement (context_at site.entry) (regions_at site.entry) name parameters.now changes.old.items) }
 {
     let [z, a, i] = parameters else {
-        return Err(wrong_number(name));
+        return Err(broken(Rule::NotCongruous, name));
     };
     let at = Places {
         unpacked: first_token(a),
@@ -181,8 +183,11 @@ pub(crate) fn unpack_statement(
         index: first_token(i),
     };
     let line = site.reading.line(at.index);
-    let from = parameter_variable(z, site);
-    let rest = paired(parameter_variable(a, site), parameter_index(i, site));
+    let from = parameter_variable(z, site, changes);
+    let rest = paired(
+        parameter_variable(a, site, changes),
+        parameter_index(i, site, changes),
+    );
     let (packed, (unpacked, (index, ordinal))) = paired(from, rest)?;
     let ((to, to_ty), (from, from_ty)) = transferred(site.alloc, unpacked, packed, ordinal, at)?;
     Ok(Statement::Unpack {

@@ -1,19 +1,19 @@
 // Procedure statements (6.8.2.3).
 
-ghost use Rattle.std.specs.Prelude.{◌≡◌, IfOk, IfErr, Some, None};
 ghost use Rattle.ps_tree.specs.View.{statement_of};
-ghost use Rattle.ps_check_names.specs.Refusal.{IsFault};
-ghost use Rattle.ps_check_names.specs.Spelling.{line_in};
+ghost use Rattle.ps_check_judgement.specs.Judged.{Answers};
 ghost use Rattle.ps_check_expressions.specs.View.{context_at, regions_at};
 ghost use Rattle.ps_check_statements.specs.Procedures as spec;
 
 use crate::argument::actual_parameters;
 use crate::heap::{new_statement, pack_statement, unpack_statement};
 use crate::text::{read, read_parameters, write, write_parameters};
-use ps_check_expressions::place::wrong_kind;
 use ps_check_expressions::site::Site;
+use ps_check_judgement::answer::broken;
+use ps_check_judgement::change::Change;
+use ps_check_judgement::refusal::{Fault, Rule};
+use ps_check_names::constants::misplacement;
 use ps_check_names::meaning::{Meaning, Required};
-use ps_check_names::refusal::{Fault, Rule};
 use ps_check_names::scope::Found;
 use ps_syntax::Parameter;
 use ps_text::Span;
@@ -24,33 +24,33 @@ use ps_tree::tree::Statement;
 fn required_procedure(
     parameters: &[Parameter],
     site: Site<'_>,
+    changes: &mut Vec<Change>,
     required: Required,
     name: Span,
 ) -> Result<Statement, Fault>
-    ensures ok { IfOk result (λ s. spec.required_procedure (context_at site.entry) (regions_at site.entry) (line_in (context_at site.entry).text name.from) required parameters.now ≡ Some (statement_of s)) }
-    ensures err { IfErr result (λ fault. IsFault fault → spec.required_procedure (context_at site.entry) (regions_at site.entry) (line_in (context_at site.entry).text name.from) required parameters.now ≡ None) }
+    ensures { Answers result (λ s. (statement_of s, changes.new.items)) (spec.required_procedure (context_at site.entry) (regions_at site.entry) name.from required parameters.now changes.old.items) }
 {
     match required {
         Required::Read => {
-            let variables = read_parameters(parameters, site, name.from)?;
+            let variables = read_parameters(parameters, site, changes, name.from)?;
             read(variables, name.from)
         }
         Required::Readln => {
-            let variables = read_parameters(parameters, site, name.from)?;
+            let variables = read_parameters(parameters, site, changes, name.from)?;
             let line = site.reading.line(name.from);
             Ok(Statement::Readln { variables, line })
         }
         Required::Write => {
-            let parameters = write_parameters(parameters, site, name.from)?;
+            let parameters = write_parameters(parameters, site, changes, name.from)?;
             write(parameters, name.from)
         }
         Required::Writeln => {
-            let parameters = write_parameters(parameters, site, name.from)?;
+            let parameters = write_parameters(parameters, site, changes, name.from)?;
             Ok(Statement::Writeln { parameters })
         }
-        Required::New => new_statement(parameters, site, name),
-        Required::Pack => pack_statement(parameters, site, name.from),
-        Required::Unpack => unpack_statement(parameters, site, name.from),
+        Required::New => new_statement(parameters, site, changes, name),
+        Required::Pack => pack_statement(parameters, site, changes, name.from),
+        Required::Unpack => unpack_statement(parameters, site, changes, name.from),
         Required::Abs
         | Required::Sqr
         | Required::Odd
@@ -59,7 +59,7 @@ fn required_procedure(
         | Required::Succ
         | Required::Pred
         | Required::Eof
-        | Required::Eoln => Err(wrong_kind(name.from)),
+        | Required::Eoln => Err(broken(Rule::WrongKind, name.from)),
     }
 }
 
@@ -68,19 +68,26 @@ fn required_procedure(
 pub(crate) fn procedure_statement(
     list: &[Parameter],
     site: Site<'_>,
+    changes: &mut Vec<Change>,
     name: Span,
 ) -> Result<Statement, Fault>
-    ensures ok { IfOk result (λ s. spec.procedure_statement (context_at site.entry) (regions_at site.entry) name list.now ≡ Some (statement_of s)) }
-    ensures err { IfErr result (λ fault. IsFault fault → spec.procedure_statement (context_at site.entry) (regions_at site.entry) name list.now ≡ None) }
+    ensures { Answers result (λ s. (statement_of s, changes.new.items)) (spec.procedure_statement (context_at site.entry) (regions_at site.entry) name list.now changes.old.items) }
 {
     let at = name.from;
     let found = site.denoted(name)?;
     match found {
-        Found::Field { .. } => Err(wrong_kind(at)),
+        Found::Field { .. } => Err(broken(misplacement(&found), at)),
         Found::Name { up, meaning } => match meaning {
             Meaning::Routine(heading) => {
                 let outcome = &heading.result;
-                let arguments = actual_parameters(list, site, &heading.sections, outcome, at)?;
+                let arguments = actual_parameters(
+                    list,
+                    site,
+                    changes,
+                    &heading.sections,
+                    outcome,
+                    at,
+                )?;
                 Ok(Statement::Call {
                     routine: heading.number,
                     up,
@@ -93,7 +100,7 @@ pub(crate) fn procedure_statement(
                 sections,
                 result: outcome,
             } => {
-                let arguments = actual_parameters(list, site, sections, outcome, at)?;
+                let arguments = actual_parameters(list, site, changes, sections, outcome, at)?;
                 Ok(Statement::CallFormal {
                     up,
                     index: *entry,
@@ -101,12 +108,8 @@ pub(crate) fn procedure_statement(
                     line: site.reading.line(at),
                 })
             }
-            Meaning::Required(required) => required_procedure(list, site, *required, name),
-            Meaning::File(_) | Meaning::LeftOut => Err(Fault::Broken {
-                rule: Rule::NotInProfile,
-                at,
-            }),
-            _ => Err(wrong_kind(at)),
+            Meaning::Required(required) => required_procedure(list, site, changes, *required, name),
+            _ => Err(broken(misplacement(&found), at)),
         },
     }
 }

@@ -2,19 +2,20 @@
 
 ghost use Rattle.std.specs.Prelude.{◌≡◌, map, IfOk, IfErr, Some, None};
 ghost use Rattle.ps_tree.specs.View.{expr_of, type_of, place_of, read_of, write_of, width_of, statement_of};
-ghost use Rattle.ps_check_names.specs.Refusal.{IsFault};
+ghost use Rattle.ps_check_judgement.specs.Judged.{Answers};
 ghost use Rattle.ps_check_expressions.specs.View.{context_at, regions_at, value_of};
 ghost use Rattle.ps_check_statements.specs.Procedures as spec;
 
-use crate::argument::{first_token, parameter_variable, wrong_number};
+use crate::argument::{first_token, parameter_variable};
 use crate::file::behind_file;
+use ps_check_expressions::changed::changed;
 use ps_check_expressions::expression::expr_value;
-use ps_check_expressions::operators::wrong_type;
 use ps_check_expressions::site::Site;
 use ps_check_expressions::value::{TypedPlace, TypedValue, is_integer};
-use ps_check_names::answer::{paired, push_answer};
+use ps_check_judgement::answer::{broken, paired, push_answer};
+use ps_check_judgement::change::Change;
+use ps_check_judgement::refusal::{Fault, Rule};
 use ps_check_names::meaning::File;
-use ps_check_names::refusal::Fault;
 use ps_syntax::{Expr as Syntax, Parameter};
 use ps_tree::line::Line;
 use ps_tree::tree::{Expr, ReadVariable, Statement, Width, WriteParameter};
@@ -23,12 +24,11 @@ use ps_tree::types::{Host, Ordinal, Ty};
 /// A variable that is read, which begins at `at`.
 #[tactic(auto, unfolding(crate::specs::Procedures::read_variable, ps_tree::specs::View::type_of, ps_tree::specs::View::read_of))]
 fn read_variable(variable: TypedPlace, line: Line, at: u32) -> Result<ReadVariable, Fault>
-    ensures ok { IfOk result (λ v. spec.read_variable (place_of variable.place) (type_of variable.ty) line.number ≡ Some (read_of v)) }
-    ensures err { IfErr result (λ fault. IsFault fault → spec.read_variable (place_of variable.place) (type_of variable.ty) line.number ≡ None) }
+    ensures { Answers result (λ v. read_of v) (spec.read_variable at (place_of variable.place) (type_of variable.ty) line.number) }
 {
     let TypedPlace { place, ty, .. } = variable;
     let Ty::Simple(ordinal) = &ty else {
-        return Err(wrong_type(at));
+        return Err(broken(Rule::WrongType, at));
     };
     let Ordinal {
         host,
@@ -49,17 +49,22 @@ fn read_variable(variable: TypedPlace, line: Line, at: u32) -> Result<ReadVariab
             high,
             line,
         }),
-        Host::Boolean | Host::Enumeration { .. } => Err(wrong_type(at)),
+        Host::Boolean | Host::Enumeration { .. } => Err(broken(Rule::WrongType, at)),
     }
 }
 
 /// A parameter of read or readln.
-fn read_parameter(parameter: &Parameter, site: Site<'_>) -> Result<ReadVariable, Fault>
-    ensures ok { IfOk result (λ v. spec.read_parameter (context_at site.entry) (regions_at site.entry) parameter.now ≡ Some (read_of v)) }
-    ensures err { IfErr result (λ fault. IsFault fault → spec.read_parameter (context_at site.entry) (regions_at site.entry) parameter.now ≡ None) }
+#[tactic(auto, unfolding(crate::specs::Procedures::read_parameter))]
+fn read_parameter(
+    parameter: &Parameter,
+    site: Site<'_>,
+    changes: &mut Vec<Change>,
+) -> Result<ReadVariable, Fault>
+    ensures { Answers result (λ v. (read_of v, changes.new.items)) (spec.read_parameter (context_at site.entry) (regions_at site.entry) parameter.now changes.old.items) }
 {
     let at = first_token(parameter);
-    let variable = parameter_variable(parameter, site)?;
+    let variable = parameter_variable(parameter, site, changes)?;
+    changed(site, changes, &variable.place, at)?;
     read_variable(variable, site.reading.line(at), at)
 }
 
@@ -67,15 +72,15 @@ fn read_parameter(parameter: &Parameter, site: Site<'_>) -> Result<ReadVariable,
 pub(crate) fn read_parameters(
     parameters: &[Parameter],
     site: Site<'_>,
+    changes: &mut Vec<Change>,
     at: u32,
 ) -> Result<Vec<ReadVariable>, Fault>
-    ensures ok { IfOk result (λ list. spec.read_parameters (context_at site.entry) (regions_at site.entry) parameters.now ≡ Some (map read_of list.items)) }
-    ensures err { IfErr result (λ fault. IsFault fault → spec.read_parameters (context_at site.entry) (regions_at site.entry) parameters.now ≡ None) }
+    ensures { Answers result (λ list. (map read_of list.items, changes.new.items)) (spec.read_parameters (context_at site.entry) (regions_at site.entry) at parameters.now changes.old.items) }
 {
     let rest = behind_file(site, File::Input, site.reading.has_input, parameters, at)?;
     let mut list = Vec::new(site.alloc);
     for parameter in rest {
-        push_answer(&mut list, read_parameter(parameter, site))?;
+        push_answer(&mut list, read_parameter(parameter, site, changes))?;
     }
     Ok(list)
 }
@@ -83,11 +88,10 @@ pub(crate) fn read_parameters(
 /// read, which has at least one variable. Its name is at `at`.
 #[tactic(auto, unfolding(crate::specs::Procedures::read_of, ps_tree::specs::View::statement_of))]
 pub(crate) fn read(variables: Vec<ReadVariable>, at: u32) -> Result<Statement, Fault>
-    ensures ok { IfOk result (λ s. spec.read_of (map read_of variables.items) ≡ Some (statement_of s)) }
-    ensures err { IfErr result (λ fault. IsFault fault → spec.read_of (map read_of variables.items) ≡ None) }
+    ensures { Answers result (λ s. statement_of s) (spec.read_of at (map read_of variables.items)) }
 {
     if variables.is_empty() {
-        return Err(wrong_number(at));
+        return Err(broken(Rule::NotCongruous, at));
     }
     Ok(Statement::Read { variables })
 }
@@ -100,27 +104,25 @@ fn ordinal_written(
     width: Width,
     at: u32,
 ) -> Result<WriteParameter, Fault>
-    ensures ok { IfOk result (λ p. spec.ordinal_written (expr_of value) ordinal (width_of width) ≡ Some (write_of p)) }
-    ensures err { IfErr result (λ fault. IsFault fault → spec.ordinal_written (expr_of value) ordinal (width_of width) ≡ None) }
+    ensures { Answers result (λ p. write_of p) (spec.ordinal_written at (expr_of value) ordinal (width_of width)) }
 {
     match ordinal.host {
         Host::Integer => Ok(WriteParameter::Integer { value, width }),
         Host::Char => Ok(WriteParameter::Char { value, width }),
         Host::Boolean => Ok(WriteParameter::Boolean { value, width }),
-        Host::Enumeration { .. } => Err(wrong_type(at)),
+        Host::Enumeration { .. } => Err(broken(Rule::WrongType, at)),
     }
 }
 
 /// A value that is written, which begins at `at`.
 #[tactic(auto, unfolding(crate::specs::Procedures::written, ps_check_expressions::specs::View::value_of, ps_tree::specs::View::type_of, ps_tree::specs::View::write_of))]
 fn written(value: TypedValue, width: Width, at: u32) -> Result<WriteParameter, Fault>
-    ensures ok { IfOk result (λ p. spec.written (value_of value) (width_of width) ≡ Some (write_of p)) }
-    ensures err { IfErr result (λ fault. IsFault fault → spec.written (value_of value) (width_of width) ≡ None) }
+    ensures { Answers result (λ p. write_of p) (spec.written at (value_of value) (width_of width)) }
 {
     match value {
         TypedValue::Simple(value, ty) => match &ty {
             Ty::Simple(ordinal) => ordinal_written(value, *ordinal, width, at),
-            _ => Err(wrong_type(at)),
+            _ => Err(broken(Rule::WrongType, at)),
         },
         TypedValue::Structure(value, ty) => {
             let is_string = ty.string_length().is_some();
@@ -128,24 +130,23 @@ fn written(value: TypedValue, width: Width, at: u32) -> Result<WriteParameter, F
             if is_string {
                 Ok(WriteParameter::Text { value, width })
             } else {
-                Err(wrong_type(at))
+                Err(broken(Rule::WrongType, at))
             }
         }
         value @ TypedValue::Set(..) => {
             drop(value);
-            Err(wrong_type(at))
+            Err(broken(Rule::WrongType, at))
         }
     }
 }
 
 /// A width, which is an integer.
 #[tactic(auto, unfolding(crate::specs::Procedures::width_of, ps_check_expressions::specs::View::value_of, ps_tree::specs::View::width_of))]
-fn width_at(x: &Syntax, site: Site<'_>) -> Result<Width, Fault>
-    ensures ok { IfOk result (λ w. spec.width_at (context_at site.entry) (regions_at site.entry) x.now ≡ Some (width_of w)) }
-    ensures err { IfErr result (λ fault. IsFault fault → spec.width_at (context_at site.entry) (regions_at site.entry) x.now ≡ None) }
+fn width_at(x: &Syntax, site: Site<'_>, changes: &mut Vec<Change>) -> Result<Width, Fault>
+    ensures { Answers result (λ w. (width_of w, changes.new.items)) (spec.width_at (context_at site.entry) (regions_at site.entry) x.now changes.old.items) }
 {
     let at = x.first_token();
-    match expr_value(x, site)? {
+    match expr_value(x, site, changes)? {
         TypedValue::Simple(value, ty) => {
             let is_right = is_integer(&ty);
             drop(ty);
@@ -153,30 +154,33 @@ fn width_at(x: &Syntax, site: Site<'_>) -> Result<Width, Fault>
                 let line = site.reading.line(at);
                 Ok(Width::Given { value, line })
             } else {
-                Err(wrong_type(at))
+                Err(broken(Rule::WrongType, at))
             }
         }
         value @ (TypedValue::Set(..) | TypedValue::Structure(..)) => {
             drop(value);
-            Err(wrong_type(at))
+            Err(broken(Rule::WrongType, at))
         }
     }
 }
 
 /// A parameter of write or writeln.
 #[tactic(auto, unfolding(crate::specs::Procedures::write_parameter, ps_tree::specs::View::width_of))]
-fn write_parameter(parameter: &Parameter, site: Site<'_>) -> Result<WriteParameter, Fault>
-    ensures ok { IfOk result (λ p. spec.write_parameter (context_at site.entry) (regions_at site.entry) parameter.now ≡ Some (write_of p)) }
-    ensures err { IfErr result (λ fault. IsFault fault → spec.write_parameter (context_at site.entry) (regions_at site.entry) parameter.now ≡ None) }
+fn write_parameter(
+    parameter: &Parameter,
+    site: Site<'_>,
+    changes: &mut Vec<Change>,
+) -> Result<WriteParameter, Fault>
+    ensures { Answers result (λ p. (write_of p, changes.new.items)) (spec.write_parameter (context_at site.entry) (regions_at site.entry) parameter.now changes.old.items) }
 {
     match parameter {
         Parameter::Plain(x) => {
-            let value = expr_value(x, site)?;
+            let value = expr_value(x, site, changes)?;
             written(value, Width::Default, x.first_token())
         }
         Parameter::Width(x, width) => {
-            let value = expr_value(x, site);
-            let (value, width) = paired(value, width_at(width.get(), site))?;
+            let value = expr_value(x, site, changes);
+            let (value, width) = paired(value, width_at(width.get(), site, changes))?;
             written(value, width, x.first_token())
         }
     }
@@ -186,15 +190,15 @@ fn write_parameter(parameter: &Parameter, site: Site<'_>) -> Result<WriteParamet
 pub(crate) fn write_parameters(
     parameters: &[Parameter],
     site: Site<'_>,
+    changes: &mut Vec<Change>,
     at: u32,
 ) -> Result<Vec<WriteParameter>, Fault>
-    ensures ok { IfOk result (λ list. spec.write_parameters (context_at site.entry) (regions_at site.entry) parameters.now ≡ Some (map write_of list.items)) }
-    ensures err { IfErr result (λ fault. IsFault fault → spec.write_parameters (context_at site.entry) (regions_at site.entry) parameters.now ≡ None) }
+    ensures { Answers result (λ list. (map write_of list.items, changes.new.items)) (spec.write_parameters (context_at site.entry) (regions_at site.entry) at parameters.now changes.old.items) }
 {
     let rest = behind_file(site, File::Output, site.reading.has_output, parameters, at)?;
     let mut list = Vec::new(site.alloc);
     for parameter in rest {
-        push_answer(&mut list, write_parameter(parameter, site))?;
+        push_answer(&mut list, write_parameter(parameter, site, changes))?;
     }
     Ok(list)
 }
@@ -202,11 +206,10 @@ pub(crate) fn write_parameters(
 /// write, which has at least one parameter. Its name is at `at`.
 #[tactic(auto, unfolding(crate::specs::Procedures::write_of, ps_tree::specs::View::statement_of))]
 pub(crate) fn write(parameters: Vec<WriteParameter>, at: u32) -> Result<Statement, Fault>
-    ensures ok { IfOk result (λ s. spec.write_of (map write_of parameters.items) ≡ Some (statement_of s)) }
-    ensures err { IfErr result (λ fault. IsFault fault → spec.write_of (map write_of parameters.items) ≡ None) }
+    ensures { Answers result (λ s. statement_of s) (spec.write_of at (map write_of parameters.items)) }
 {
     if parameters.is_empty() {
-        return Err(wrong_number(at));
+        return Err(broken(Rule::NotCongruous, at));
     }
     Ok(Statement::Write { parameters })
 }

@@ -3,34 +3,39 @@
 ghost use Rattle.std.specs.Prelude.{◌≡◌, ◌++◌, [], ◌∷◌, List, map, IfOk, IfErr, Some, None};
 ghost use Rattle.ps_tree.specs.View.{type_of, place_of};
 ghost use Rattle.ps_tree.specs.Tree as Tree;
-ghost use Rattle.ps_check_names.specs.Option.{steps};
 ghost use Rattle.ps_check_names.specs.Regions.{RecordRegion};
-ghost use Rattle.ps_check_names.specs.Refusal.{IsFault};
+ghost use Rattle.ps_check_judgement.specs.declared.change.Change.{Change};
+ghost use Rattle.ps_check_judgement.specs.Judged.{Answers};
+ghost use Rattle.ps_check_judgement.specs.Changing.{through};
 ghost use Rattle.ps_check_names.specs.Views.{fields_of, opened_in};
 ghost use Rattle.ps_check_expressions.specs.View.{context_at, regions_at};
-ghost use Rattle.ps_check_statements.specs.Structured.{open_next};
+ghost use Rattle.ps_check_statements.specs.Structured.{Opening, open_next};
 
 use ps_check_expressions::expression::variable_place;
-use ps_check_expressions::operators::wrong_type;
 use ps_check_expressions::site::Site;
 use ps_check_expressions::value::TypedPlace;
-use ps_check_names::refusal::Fault;
+use ps_check_judgement::answer::broken;
+use ps_check_judgement::change::Change;
+use ps_check_judgement::refusal::{Fault, Rule};
 use ps_check_names::scope::Scope;
 use ps_syntax::Variable;
 use ps_tree::tree::Place;
 use ps_tree::types::Ty;
 
 /// A record that is to be opened, and its type.
-#[tactic(auto, unfolding(crate::specs::Structured::open_next, crate::specs::Structured::record_region, ps_check_names::specs::Views::fields_of, ps_tree::specs::View::type_of))]
-fn opened_record(x: &Variable, site: Site<'_>) -> Result<(Place, Ty), Fault>
-    ensures ok { IfOk result (λ p. (places : List Tree.Place) → open_next (context_at site.entry) (places, regions_at site.entry) x.now ≡ Some (places ++ place_of p.0 ∷ [], RecordRegion (type_of p.1) (fields_of (type_of p.1)) ∷ regions_at site.entry)) }
-    ensures err { IfErr result (λ fault. IsFault fault → (places : List Tree.Place) → open_next (context_at site.entry) (places, regions_at site.entry) x.now ≡ None) }
+#[tactic(auto, using(ps_check_expressions::proofs::Judgement::variable_first), unfolding(crate::specs::Structured::open_next, crate::specs::Structured::record_region, ps_check_names::specs::Views::fields_of, ps_tree::specs::View::type_of))]
+fn opened_record(
+    x: &Variable,
+    site: Site<'_>,
+    changes: &mut Vec<Change>,
+) -> Result<(Place, Ty), Fault>
+    ensures { (places : List Tree.Place) → Answers {A = Opening × List Change} result (λ p. ((places ++ place_of p.0 ∷ [], RecordRegion (type_of p.1) (fields_of (type_of p.1)) ∷ regions_at site.entry), changes.new.items)) (open_next (context_at site.entry) (places, regions_at site.entry) x.now changes.old.items) }
 {
-    let TypedPlace { place, ty, .. } = variable_place(x, site)?;
-    match &ty {
-        Ty::Record { .. } => Ok((place, ty)),
-        _ => Err(wrong_type(x.name.from)),
-    }
+    let TypedPlace { place, ty, .. } = variable_place(x, site, changes)?;
+    let Ty::Record { .. } = &ty else {
+        return Err(broken(Rule::WrongType, x.name.from));
+    };
+    Ok((place, ty))
 }
 
 /// Opens a record within those before it, whose places and types these are.
@@ -38,36 +43,34 @@ fn opened_record(x: &Variable, site: Site<'_>) -> Result<(Place, Ty), Fault>
 fn open_next(
     x: &Variable,
     site: Site<'_>,
+    changes: &mut Vec<Change>,
     places: &mut Vec<Place>,
     types: &mut Vec<Ty>,
 ) -> Result<(), Fault>
-    ensures ok { IfOk result (λ _. open_next (context_at site.entry) (map place_of places.old.items, opened_in (regions_at site.entry) types.old.items) x.now ≡ Some (map place_of places.new.items, opened_in (regions_at site.entry) types.new.items)) }
-    ensures err { IfErr result (λ fault. IsFault fault → open_next (context_at site.entry) (map place_of places.old.items, opened_in (regions_at site.entry) types.old.items) x.now ≡ None) }
+    ensures { Answers result (λ _. ((map place_of places.new.items, opened_in (regions_at site.entry) types.new.items), changes.new.items)) (open_next (context_at site.entry) (map place_of places.old.items, opened_in (regions_at site.entry) types.old.items) x.now changes.old.items) }
 {
     let scope = Scope::Opened {
         records: types.as_slice(),
         outer: site.scope,
     };
-    let inner = Site {
-        alloc: site.alloc,
-        reading: site.reading,
-        scope: &scope,
-    };
-    let (place, ty) = opened_record(x, inner)?;
+    let (place, ty) = opened_record(x, site.within(&scope), changes)?;
     places.push(place)?;
     types.push(ty)?;
     Ok(())
 }
 
 /// Opens records one after the other, each within those before it: their places, and their types.
-pub(crate) fn open_all(records: &[Variable], site: Site<'_>) -> Result<(Vec<Place>, Vec<Ty>), Fault>
-    ensures ok { IfOk result (λ p. steps (open_next (context_at site.entry)) ([], regions_at site.entry) records.now ≡ Some (map place_of p.0.items, opened_in (regions_at site.entry) p.1.items)) }
-    ensures err { IfErr result (λ fault. IsFault fault → steps (open_next (context_at site.entry)) ([], regions_at site.entry) records.now ≡ None) }
+pub(crate) fn open_all(
+    records: &[Variable],
+    site: Site<'_>,
+    changes: &mut Vec<Change>,
+) -> Result<(Vec<Place>, Vec<Ty>), Fault>
+    ensures { Answers result (λ p. ((map place_of p.0.items, opened_in (regions_at site.entry) p.1.items), changes.new.items)) (through (open_next (context_at site.entry)) ([], regions_at site.entry) records.now changes.old.items) }
 {
     let mut places = Vec::with_capacity(site.alloc, records.len())?;
     let mut types = Vec::with_capacity(site.alloc, records.len())?;
     for x in records {
-        open_next(x, site, &mut places, &mut types)?;
+        open_next(x, site, changes, &mut places, &mut types)?;
     }
     Ok((places, types))
 }

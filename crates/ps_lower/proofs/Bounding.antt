@@ -2,6 +2,7 @@
 use Rattle.std.proofs.Common.{◌≡◌, ℕ, zero, suc, ◌+◌, ◌-◌, ◌*◌, ◌^◌, ◌<◌, ◌≤◌, ℤ, pos, negsuc, int_le, Bool, true, false, not, ◌&&◌, nat_le, nat_lt, if◌then◌else◌, List, [], ◌∷◌, ◌++◌, Result, OnOk, refl, sym, ap, subst, ◌∙◌, arith, leb-true, leb-false, le-leb, ltb-true, ltb-false, le-ltb, append_assoc}
 use Rattle.std.proofs.Math.Nat.{pow-suc}
 use Rattle.std.proofs.lemmas.Bool.{lt-leb}
+use Rattle.tac_code.specs.declared.code.Base.{Base}
 use Rattle.tac_code.specs.declared.code.Base.TheVariants as base
 use Rattle.tac_code.specs.declared.code.Operand.TheVariants as operand
 use Rattle.tac_code.specs.declared.code.Relation.TheVariants.{Equal}
@@ -9,7 +10,7 @@ use Rattle.tac_code.specs.declared.code.Instruction.{Instruction}
 use Rattle.tac_code.specs.declared.code.Instruction.TheVariants as i
 use Rattle.ps_meaning.specs.Operators.{is_between}
 use Rattle.ps_lower_layout.specs.Words.{bits_from}
-use Rattle.ps_lower_code.specs.Scopes.{even_from}
+use Rattle.ps_lower_code.specs.Scopes.{even_from, words_code}
 use Rattle.ps_lower_code.specs.Values.{holds_all, outside_bits, joined_word, outside_code, set_check}
 use Rattle.ps_lower.specs.Sets.{filled_code, cleared_code, numbers_below, numbers_to, lowest_bits}
 use Rattle.ps_lower.proofs.Appends.{and_then, unchanged}
@@ -145,6 +146,35 @@ outside_start low high t x old = unchanged old
 
 pub outside_end : (low high : ℤ) (t x n : ℕ) (old now : List Instruction) → n ≡ 8 → now ≡ old ++ outside_code low high t x n → now ≡ old ++ outside_code low high t x 8
 outside_end low high t x n old now e h = h ∙ ap (λ y. old ++ outside_code low high t x y) e
+
+-- ---- words from one place to another, one by one
+
+words_further : (to : Base) (o : ℕ) (from : Base) (p v n : ℕ) → words_code to o from p v (suc n) ≡ words_code to o from p v n ++ i.Load v from (p + 4 * n) ∷ i.Store to (o + 4 * n) v ∷ []
+unfolding words_code
+words_further to o from p v zero =
+    let e : p ≡ p + 4 * 0 = omega arith in
+    let f : o ≡ o + 4 * 0 = omega arith in
+    ap (λ y. i.Load v from y ∷ i.Store to o v ∷ []) e ∙ ap (λ y. i.Load v from (p + 4 * 0) ∷ i.Store to y v ∷ []) f
+words_further to o from p v (suc n) =
+    let e : p + 4 + 4 * n ≡ p + 4 * suc n = omega arith in
+    let f : o + 4 + 4 * n ≡ o + 4 * suc n = omega arith in
+    ap (λ l. i.Load v from p ∷ i.Store to o v ∷ l)
+    (words_further to (o + 4) from (p + 4) v n
+    ∙ ap (λ y. words_code to (o + 4) from (p + 4) v n ++ i.Load v from y ∷ i.Store to (o + 4 + 4 * n) v ∷ []) e
+    ∙ ap (λ y. words_code to (o + 4) from (p + 4) v n ++ i.Load v from (p + 4 * suc n) ∷ i.Store to y v ∷ []) f)
+
+pub words_start : (to : Base) (o : ℕ) (from : Base) (p v : ℕ) (old : List Instruction) → old ≡ old ++ words_code to o from p v 0
+unfolding words_code
+words_start to o from p v old = unchanged old
+
+pub words_next : (to : Base) (o : ℕ) (from : Base) (p v n m a b : ℕ) (old now middle new : List Instruction) → m ≡ suc n → a ≡ p + 4 * n → b ≡ o + 4 * n → now ≡ old ++ words_code to o from p v n → middle ≡ now ++ i.Load v from a ∷ [] → new ≡ middle ++ i.Store to b v ∷ [] → new ≡ old ++ words_code to o from p v m
+words_next to o from p v n m a b old now middle new is at there h l s =
+    and_then old now new (words_code to o from p v n) (i.Load v from (p + 4 * n) ∷ i.Store to (o + 4 * n) v ∷ []) h
+    (and_then now middle new (i.Load v from (p + 4 * n) ∷ []) (i.Store to (o + 4 * n) v ∷ []) (l ∙ ap (λ y. now ++ i.Load v from y ∷ []) at) (s ∙ ap (λ y. middle ++ i.Store to y v ∷ []) there))
+    ∙ ap (λ l. old ++ l) (sym (words_further to o from p v n)) ∙ ap (λ y. old ++ words_code to o from p v y) (sym is)
+
+pub words_end : (to : Base) (o : ℕ) (from : Base) (p v n : ℕ) (old now : List Instruction) → n ≡ 8 → now ≡ old ++ words_code to o from p v n → now ≡ old ++ words_code to o from p v 8
+words_end to o from p v n old now e h = h ∙ ap (λ y. old ++ words_code to o from p v y) e
 
 -- ---- a set without members, word by word
 

@@ -83,5 +83,5 @@ pub fn assign_set(
     let site = place(out, k, target, at, 0)?;
     set(out, k, e, next(at), 0)?;
     check_set(out, t, 0, low, high, line)?;
-    keep_set(out, k, site, t)
+    keep_set(out, site, t)
 }

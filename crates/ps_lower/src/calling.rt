@@ -1,11 +1,11 @@
 // Whether the code of a part of the tree calls a routine, be it of the program or of the run-time ones.
 
 ghost use Rattle.std.specs.Prelude.{◌≡◌, ◌||◌, map};
-ghost use Rattle.ps_lower_code.specs.Calling.{place_calls, selectors_call, selector_calls, expr_calls, steps_call, operands_call, structure_calls, argument_calls, arguments_call, width_calls, places_call, statement_calls, statements_call, elements_call};
-ghost use Rattle.ps_tree.specs.View.{place_of, selector_of, selectors_of, expr_of, arithmetic_of, operands_of, structure_of, argument_of, arguments_of, width_of, statement_of, statements_of, elements_of};
+ghost use Rattle.ps_lower_code.specs.Calling.{place_calls, selectors_call, selector_calls, expr_calls, steps_call, operands_call, asked_calls, structure_calls, argument_calls, arguments_call, width_calls, places_call, statement_calls, statements_call, elements_call};
+ghost use Rattle.ps_tree.specs.View.{place_of, selector_of, selectors_of, expr_of, arithmetic_of, operands_of, set_of, structure_of, argument_of, arguments_of, width_of, statement_of, statements_of, elements_of};
 
 use ps_tree::tree::{
-    ArithmeticStep, CaseElement, Expr, Place, Selector, Statement, Structure, Width,
+    ArithmeticStep, CaseElement, Expr, Place, Selector, SetExpr, Statement, Structure, Width,
 };
 
 /// Whether the code of a variable calls.
@@ -58,9 +58,9 @@ pub fn expr_calls(e: &Expr) -> bool
         Expr::Compare { left, right, .. } | Expr::ComparePointers { left, right, .. } => {
             expr_calls(left) || expr_calls(right)
         }
+        Expr::In { left, right } => expr_calls(left) || asked_calls(right),
         Expr::CompareSets { .. }
         | Expr::CompareStrings { .. }
-        | Expr::In { .. }
         | Expr::Eof
         | Expr::Eoln { .. }
         | Expr::Call { .. }
@@ -92,6 +92,18 @@ pub fn operands_call(operands: &[Expr]) -> bool
         }
     }
     false
+}
+
+/// Whether the code that gives the address of a set calls: a variable's stays where it is.
+#[cycle(calling)]
+#[tactic(auto, using(ps_tree::proofs::TreeLemmas::set_of_Load), unfolding(ps_tree::specs::View::set_of))]
+pub fn asked_calls(set: &SetExpr) -> bool
+    ensures { result ≡ asked_calls (set_of set.now) }
+{
+    match set {
+        SetExpr::Load(place) => place_calls(place),
+        SetExpr::Constructor(_) | SetExpr::Combine { .. } => true,
+    }
 }
 
 /// Whether the code of a width calls.

@@ -2,7 +2,7 @@
 
 ghost use Rattle.std.specs.Prelude.{◌≡◌, ◌+◌, ◌≤◌, suc};
 ghost use Rattle.ps_lower_code.specs.Scopes.{is_any, has_bytes, operand_of};
-ghost use Rattle.ps_lower_code.specs.Values.{negated, literal_of, operator_of, bit_operator_of, relation_of, pointer_relation_of, opposite, is_relation, is_truth, relation_in, left_in, right_in, gives_byte};
+ghost use Rattle.ps_lower_code.specs.Values.{known_member, negated, literal_of, operator_of, bit_operator_of, relation_of, pointer_relation_of, opposite, is_relation, is_truth, relation_in, left_in, right_in, gives_byte};
 ghost use Rattle.ps_meaning.specs.Operators.{is_between};
 ghost use Rattle.ps_tree.specs.View.{expr_of};
 
@@ -36,6 +36,27 @@ pub fn literal(e: &Expr) -> Option<i32>
         Expr::Nil => Some(0),
         Expr::Minus { operand, .. } => negated(operand),
         _ => None,
+    }
+}
+
+/// The member that an expression is known to be.
+pub fn known_member(e: &Expr) -> Option<u32>
+    ensures { result ≡ known_member (literal_of (expr_of e.now)) }
+{
+    match literal(e) {
+        None => None,
+        Some(number) => member_of(number),
+    }
+}
+
+/// A number as a member, if it can be one.
+fn member_of(number: i32) -> Option<u32>
+    ensures { result ≡ known_member (Some number) }
+{
+    if 0 <= number && number <= 255 {
+        Some(number as u32)
+    } else {
+        None
     }
 }
 

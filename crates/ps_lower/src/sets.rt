@@ -1,25 +1,26 @@
 // Sets, each of which stands in the scratch block from a byte on, and what is made of them there.
 
-ghost use Rattle.std.specs.Prelude.{◌≡◌, ◌++◌, ◌+◌, ◌≤◌, ◌∷◌, [], pos, suc, OnOk};
-ghost use Rattle.ps_lower_code.specs.Scopes.{even_from, moved, helper, AddRange, IsMember, run_time_number};
-ghost use Rattle.ps_lower_code.specs.Values.{set_routine, holds_all, outside_bits, masked, joined_word, outside_code, set_check, included_code, same_sets_code, sets_code, range_members};
+ghost use Rattle.std.specs.Prelude.{◌≡◌, ◌++◌, ◌+◌, ◌%◌, ◌^◌, ◌≤◌, ◌∷◌, [], pos, suc, OnOk};
+ghost use Rattle.ps_lower_code.specs.Scopes.{even_from, moved, words_code, helper, AddRange, run_time_number};
+ghost use Rattle.ps_lower_code.specs.Values.{set_routine, bit_code, is_union, adds, joining_code, membership_code, holds_all, outside_bits, masked, joined_word, outside_code, set_check, included_code, same_sets_code, sets_code, range_members};
 ghost use Rattle.ps_lower.specs.Levels.{scope_of, site_of};
-ghost use Rattle.ps_lower.specs.Sets.{cleared_code, offsets_code, combined_code, includes_code, numbers_below, numbers_to, lowest_bits, one_member, copied_code, kept_code};
+ghost use Rattle.ps_tree.specs.View.{set_of};
+ghost use Rattle.ps_lower.specs.Sets.{cleared_code, offsets_code, includes_code, numbers_below, numbers_to, lowest_bits, member_word, member_bit, one_member, copied_code, kept_code};
 ghost use Rattle.tac_code.specs.declared.code.Base.TheVariants as base;
 ghost use Rattle.tac_code.specs.declared.code.Instruction.TheVariants as i;
 ghost use Rattle.tac_code.specs.declared.code.Operand.TheVariants as operand;
 ghost use Rattle.tac_code.specs.declared.code.Relation.TheVariants.{Equal};
 
 use crate::depth::{DEEPEST, beside, even_above, even_from, next};
-use crate::helpers::{copy, help};
+use crate::helpers::help;
 use crate::level::Level;
 use crate::out::Code;
 use crate::pieces::moved;
 use crate::places::address;
 use crate::site::Site;
-use ps_tree::tree::{SetOperator, SetRelation};
+use ps_tree::tree::{SetExpr, SetOperator, SetRelation};
 use std::alloc::AllocError;
-use tac_code::code::{Base, BitOperator, Operand, Relation};
+use tac_code::code::{Base, BitOperator, Instruction, Operand, Operator, Relation};
 
 const ADD_RANGE: u32 = 1;
 
@@ -30,8 +31,6 @@ const SUBTRACT_SET: u32 = 3;
 const INTERSECT_SETS: u32 = 4;
 
 const IS_INCLUDED: u32 = 5;
-
-const IS_MEMBER: u32 = 6;
 
 /// What lies behind the set from x on.
 pub fn above(x: u32) -> u32
@@ -53,16 +52,42 @@ pub fn clear(out: &mut Code, t: u32, x: u32) -> Result<(), AllocError>
     Ok(())
 }
 
+/// The words of a set from one place to another, one by one.
+fn copy_words(
+    out: &mut Code,
+    to: Base,
+    offset: u32,
+    from: Base,
+    start: u32,
+    spare: u32,
+) -> Result<(), AllocError>
+    requires to { offset ≤ DEEPEST }
+    requires from { start ≤ DEEPEST }
+    ensures { OnOk result (out.new ≡ out.old ++ words_code to offset from start spare 8) }
+{
+    for word in 0..8 {
+        out.load(spare, from, start + 4 * word)?;
+        out.store(to, offset + 4 * word, spare)?;
+    }
+    Ok(())
+}
+
 /// The words of a set at a site, as the set from x on.
-pub fn copied_set(out: &mut Code, k: &Level, site: Site, d: u32, x: u32) -> Result<(), AllocError>
-    requires { d ≤ DEEPEST }
-    ensures { OnOk result (out.new ≡ out.old ++ copied_code (scope_of k.now) (site_of site) (even_from (suc d)) x) }
+pub fn copied_set(out: &mut Code, site: Site, d: u32, x: u32) -> Result<(), AllocError>
+    requires depth { d ≤ DEEPEST }
+    requires place { x ≤ DEEPEST }
+    ensures { OnOk result (out.new ≡ out.old ++ copied_code (site_of site) (even_from (suc d)) x) }
 {
     let from = even_above(d);
-    let to = beside(from);
     address(out, from, site, 32)?;
-    out.offset(to, Base::Scratch, x, 32)?;
-    copy(out, k, to, from, beside(to), 32)
+    copy_words(
+        out,
+        Base::Scratch,
+        x,
+        Base::Temporary(from),
+        0,
+        beside(from),
+    )
 }
 
 /// The addresses of the set from x on and of the one behind it.
@@ -85,22 +110,40 @@ fn set_routine(operator: SetOperator) -> u32
     }
 }
 
-/// An operator on the set from x on and the one behind it.
+/// An operator on the set from x on and the one whose address stands beside t.
 pub fn combined(
     out: &mut Code,
     k: &Level,
     operator: SetOperator,
-    d: u32,
+    t: u32,
     x: u32,
 ) -> Result<(), AllocError>
-    requires depth { d ≤ DEEPEST }
-    requires place { x ≤ DEEPEST }
-    ensures { OnOk result (out.new ≡ out.old ++ combined_code (scope_of k.now) operator (even_from d) x) }
+    requires { t ≤ 4294960000 }
+    ensures { OnOk result (out.new ≡ out.old ++ joining_code (scope_of k.now) operator t x) }
 {
-    let t = even_from(d);
     let second = beside(t);
-    offsets(out, t, second, x)?;
+    out.offset(t, Base::Scratch, x, 32)?;
     help(out, k, set_routine(operator), &[t, second], t)
+}
+
+fn is_union(operator: SetOperator) -> bool
+    ensures { result ≡ is_union operator }
+{
+    match operator {
+        SetOperator::Union => true,
+        SetOperator::Difference | SetOperator::Intersection => false,
+    }
+}
+
+/// Whether a set joins another as the members of a constructor, one by one.
+#[tactic(auto, using(ps_tree::proofs::TreeLemmas::set_of_Load, ps_tree::proofs::TreeLemmas::set_of_Constructor, ps_tree::proofs::TreeLemmas::set_of_Combine), unfolding(ps_tree::specs::View::set_of))]
+pub fn adds(operator: SetOperator, e: &SetExpr) -> bool
+    ensures { result ≡ adds operator (set_of e.now) }
+{
+    match e {
+        SetExpr::Constructor(_) => is_union(operator),
+        SetExpr::Load(_) | SetExpr::Combine { .. } => false,
+    }
 }
 
 /// Whether the set from x on lies in the one behind it.
@@ -182,19 +225,51 @@ pub fn compare_sets(
     moved(out, t, d)
 }
 
-/// Whether what `member` holds is a member of the set from x on.
-pub fn is_member(
-    out: &mut Code,
-    k: &Level,
-    member: u32,
-    t: u32,
-    x: u32,
-    to: u32,
-) -> Result<(), AllocError>
-    ensures { OnOk result (out.new ≡ out.old ++ i.Offset t base.Scratch x 32 ∷ helper (scope_of k.now) IsMember (member ∷ t ∷ []) to ∷ []) }
+/// The word of a set in which a number is looked for. One outside of 0..255 is no member: the branch goes past the search.
+fn member_word(out: &mut Code, member: u32, set: u32, spare: u32) -> Result<(), AllocError>
+    ensures { OnOk result (out.new ≡ out.old ++ member_word member set spare) }
 {
-    out.offset(t, Base::Scratch, x, 32)?;
-    help(out, k, IS_MEMBER, &[member, t], to)
+    out.bits(BitOperator::And, spare, member, Operand::Number(255))?;
+    out.branch(Relation::NotEqual, spare, Operand::Temporary(member), 8)?;
+    out.arithmetic(Operator::Divide, spare, member, Operand::Number(32), 1, 1)?;
+    out.push(Instruction::Index {
+        to: set,
+        base: Base::Temporary(set),
+        index: spare,
+        low: 0,
+        high: 7,
+        width: 4,
+        error: 1,
+        line: 1,
+    })?;
+    out.load(set, Base::Temporary(set), 0)
+}
+
+/// Whether the bit of a number is set in the word.
+fn member_bit(out: &mut Code, member: u32, word: u32, spare: u32, to: u32) -> Result<(), AllocError>
+    ensures { OnOk result (out.new ≡ out.old ++ member_bit member word spare to) }
+{
+    out.literal(spare, 1)?;
+    out.bits(
+        BitOperator::ShiftLeft,
+        spare,
+        spare,
+        Operand::Temporary(member),
+    )?;
+    out.bits(BitOperator::And, to, word, Operand::Temporary(spare))?;
+    out.compare(Relation::NotEqual, to, to, Operand::Number(0))
+}
+
+/// Whether what `member` holds is a member of the set at the address in `set`. That temporary and the one beside it are used.
+pub fn is_member(out: &mut Code, member: u32, set: u32, to: u32) -> Result<(), AllocError>
+    requires { set ≤ 4294960000 }
+    ensures { OnOk result (out.new ≡ out.old ++ membership_code member set to) }
+{
+    let spare = beside(set);
+    member_word(out, member, set, spare)?;
+    member_bit(out, member, set, spare, to)?;
+    out.jump(1)?;
+    out.literal(to, 0)
 }
 
 /// The members from what `first` holds to what `last` holds go into a set.
@@ -226,6 +301,30 @@ pub fn add_member(
     out.check_range(member, 0, 255, 8, line)?;
     out.offset(set, Base::Scratch, x, 32)?;
     add_range(out, k, set, member, member, member)
+}
+
+/// A word in which the bit of a member is set.
+fn bit(number: u32) -> u32
+    ensures { result ≡ 2 ^ (number % 32) }
+{
+    1 << (number % 32)
+}
+
+/// A member that is known goes into the set from x on.
+pub fn add_bit(out: &mut Code, number: u32, t: u32, x: u32) -> Result<(), AllocError>
+    requires number { number ≤ 255 }
+    requires place { x ≤ DEEPEST }
+    ensures { OnOk result (out.new ≡ out.old ++ bit_code number t x) }
+{
+    let offset = x + 4 * (number / 32);
+    out.load(t, Base::Scratch, offset)?;
+    out.bits(
+        BitOperator::Or,
+        t,
+        t,
+        Operand::Number(bit(number).cast_signed()),
+    )?;
+    out.store(Base::Scratch, offset, t)
 }
 
 /// The members from a first to a last go into the set from x on.
@@ -367,12 +466,10 @@ pub fn hand_set(
 }
 
 /// The set at the beginning of the scratch block goes to a site.
-pub fn keep_set(out: &mut Code, k: &Level, site: Site, t: u32) -> Result<(), AllocError>
+pub fn keep_set(out: &mut Code, site: Site, t: u32) -> Result<(), AllocError>
     requires { t ≤ 4294960000 }
-    ensures { OnOk result (out.new ≡ out.old ++ kept_code (scope_of k.now) (site_of site) t) }
+    ensures { OnOk result (out.new ≡ out.old ++ kept_code (site_of site) t) }
 {
-    let from = beside(t);
     address(out, t, site, 32)?;
-    out.offset(from, Base::Scratch, 0, 32)?;
-    copy(out, k, t, from, beside(from), 32)
+    copy_words(out, Base::Temporary(t), 0, Base::Scratch, 0, beside(t))
 }

@@ -5,39 +5,41 @@ ghost use Rattle.std.specs.Prelude.{◌≡◌, ◌++◌, ◌+◌, ◌≤◌, suc
 ghost use Rattle.ps_lower_bounds.specs.Weights.{steps_reach, selectors_reach, place_weight, selectors_weight, expr_weight, steps_weight, operands_weight, set_weight, set_steps_weight, member_weight, members_weight, structure_weight, argument_weight, arguments_weight};
 ghost use Rattle.ps_lower_code.specs.Scopes.{even_from, unless_known};
 ghost use Rattle.ps_lower_layout.specs.Shapes.{shape_of, component_bytes};
-ghost use Rattle.ps_lower_code.specs.Values.{literal_of, negated, known_steps, minus_code, front_code, steps_code, operands_code, place_code, place_site, selectors_code, selectors_site, structure_code, argument_code, arguments_code, set_code, set_steps_code, members_code, member_code};
+ghost use Rattle.ps_lower_code.specs.Values.{literal_of, negated, known_steps, minus_code, front_code, steps_code, operands_code, place_code, place_site, selectors_code, selectors_site, structure_code, argument_code, arguments_code, asked_code, adding_code, set_code, set_steps_code, members_code, member_code};
 ghost use Rattle.ps_lower_code.specs.Statements.{expr_code};
 ghost use Rattle.ps_lower.specs.Levels.{scope_of, site_of};
+ghost use Rattle.ps_lower.specs.Sets.{step_code};
 ghost use Rattle.ps_lower.specs.Sites.{selector_code, selector_site};
 ghost use Rattle.ps_tree.specs.Tree as tree;
 ghost use Rattle.ps_tree.specs.View.{expr_of, arithmetic_of, operands_of, place_of, selector_of, selectors_of, structure_of, argument_of, arguments_of, set_of, set_steps_of, members_of, member_of, type_of};
 
-use crate::calling::{expr_calls, operands_call, steps_call, structure_calls};
+use crate::calling::{asked_calls, expr_calls, operands_call, steps_call, structure_calls};
 use crate::calls::{
     argument_end, arguments_call, call, call_formal, copied, routine_value, scratch_end, tail,
 };
-use crate::depth::{DEEPEST, even_above, even_from, held, kept};
+use crate::depth::{DEEPEST, beside, even_above, even_from, held, kept};
 use crate::helpers::compare_strings;
 use crate::input::{look_ahead, look_on};
-use crate::known::{bit_operator, gives_byte, literal, negated, operand, operator};
+use crate::known::{bit_operator, gives_byte, known_member, literal, negated, operand, operator};
 use crate::level::Level;
 use crate::levels::formal;
 use crate::out::Code;
 use crate::pieces::{finish, fitting, function, moved, number, truth_finish};
 use crate::places::{address, behind, fetch, indexed, is_byte, name, place_temporary, pointed};
 use crate::sets::{
-    above, add_member, add_members, clear, combined, compare_sets, copied_set, hand_set, is_member,
+    above, add_bit, add_member, add_members, adds, clear, combined, compare_sets, copied_set,
+    hand_set, is_member,
 };
 use crate::shapes::{byte_count, field_offset, known_steps};
 use crate::site::Site;
 use crate::texts::text;
 use ps_tree::tree::{
-    Argument, ArithmeticStep, BooleanOperator, Expr, Member, Place, Selector, SetExpr, SetStep,
-    Structure,
+    Argument, ArithmeticStep, BooleanOperator, Expr, Member, Place, Selector, SetExpr, SetOperator,
+    SetStep, Structure,
 };
 use ps_tree::types::Ty;
 use std::alloc::AllocError;
-use tac_code::code::{Operand, Operator};
+use tac_code::code::{Base, Operand, Operator};
 
 /// The front code of an expression.
 #[cycle(values)]
@@ -125,11 +127,11 @@ pub fn front(out: &mut Code, k: &Level, e: &Expr, d: u32, x: u32) -> Result<(), 
             compare_sets(out, k, *relation, t, x, d)
         }
         Expr::In { left, right } => {
-            let member = held(true, d);
+            let member = kept(asked_calls(right), d);
             let t = even_above(member);
             value(out, k, left, member, x)?;
-            set(out, k, right, t, x)?;
-            is_member(out, k, member, t, x, d)
+            asked(out, k, right, t, x)?;
+            is_member(out, member, t, d)
         }
     }
 }
@@ -315,6 +317,25 @@ fn element(
     }
 }
 
+/// The address of a set: a variable's own, and that of the set from x on for any other.
+#[cycle(values)]
+#[tactic(auto, using(ps_tree::proofs::TreeLemmas::set_of_Load, ps_tree::proofs::TreeLemmas::set_of_Constructor), unfolding(ps_tree::specs::View::set_of))]
+fn asked(out: &mut Code, k: &Level, e: &SetExpr, t: u32, x: u32) -> Result<(), AllocError>
+    requires { t + x + set_weight (scope_of k.now) (set_of e.now) ≤ DEEPEST }
+    ensures { OnOk result (out.new ≡ out.old ++ asked_code (scope_of k.now) (set_of e.now) t x) }
+{
+    match e {
+        SetExpr::Load(variable) => {
+            let site = place(out, k, variable, t, x)?;
+            address(out, t, site, 32)
+        }
+        SetExpr::Constructor(_) | SetExpr::Combine { .. } => {
+            set(out, k, e, t, x)?;
+            out.offset(t, Base::Scratch, x, 32)
+        }
+    }
+}
+
 /// A set, which stands in the scratch block from x on.
 #[cycle(values)]
 #[tactic(auto, using(ps_tree::proofs::TreeLemmas::set_of_Load, ps_tree::proofs::TreeLemmas::set_of_Constructor), unfolding(ps_tree::specs::View::set_of))]
@@ -325,7 +346,7 @@ pub fn set(out: &mut Code, k: &Level, e: &SetExpr, d: u32, x: u32) -> Result<(),
     match e {
         SetExpr::Load(variable) => {
             let site = place(out, k, variable, d, x)?;
-            copied_set(out, k, site, d, x)
+            copied_set(out, site, d, x)
         }
         SetExpr::Constructor(list) => {
             clear(out, even_from(d), x)?;
@@ -344,12 +365,46 @@ fn combine(out: &mut Code, k: &Level, steps: &[SetStep], d: u32, x: u32) -> Resu
     requires { d + x + set_steps_weight (scope_of k.now) (set_steps_of steps.now) ≤ DEEPEST }
     ensures { OnOk result (out.new ≡ out.old ++ set_steps_code (scope_of k.now) (set_steps_of steps.now) d x) }
 {
-    let behind = above(x);
     for step in steps {
-        set(out, k, &step.operand, d, behind)?;
-        combined(out, k, step.operator, d, x)?;
+        join(out, k, step.operator, &step.operand, d, x)?;
     }
     Ok(())
+}
+
+/// A set joins the one from x on: some one member after another, others from where they stand.
+#[cycle(values)]
+fn join(
+    out: &mut Code,
+    k: &Level,
+    operator: SetOperator,
+    e: &SetExpr,
+    d: u32,
+    x: u32,
+) -> Result<(), AllocError>
+    requires { d + x + 64 + set_weight (scope_of k.now) (set_of e.now) ≤ DEEPEST }
+    ensures { OnOk result (out.new ≡ out.old ++ step_code (scope_of k.now) operator (set_of e.now) d x) }
+{
+    if adds(operator, e) {
+        return adding(out, k, e, d, x);
+    }
+    let t = even_from(d);
+    let second = beside(t);
+    let behind = above(x);
+    asked(out, k, e, second, behind)?;
+    combined(out, k, operator, t, x)
+}
+
+/// The members of a constructor, if it is one, go into the set from x on.
+#[cycle(values)]
+#[tactic(auto, using(ps_tree::proofs::TreeLemmas::set_of_Load, ps_tree::proofs::TreeLemmas::set_of_Constructor, ps_tree::proofs::TreeLemmas::set_of_Combine), unfolding(ps_tree::specs::View::set_of))]
+fn adding(out: &mut Code, k: &Level, e: &SetExpr, d: u32, x: u32) -> Result<(), AllocError>
+    requires { d + x + set_weight (scope_of k.now) (set_of e.now) ≤ DEEPEST }
+    ensures { OnOk result (out.new ≡ out.old ++ adding_code (scope_of k.now) (set_of e.now) d x) }
+{
+    match e {
+        SetExpr::Constructor(list) => members(out, k, list, d, x),
+        SetExpr::Load(_) | SetExpr::Combine { .. } => Ok(()),
+    }
 }
 
 /// The members of a constructor go into the set from x on.
@@ -373,17 +428,37 @@ fn member(out: &mut Code, k: &Level, one: &Member, d: u32, x: u32) -> Result<(),
 {
     let behind = above(x);
     match one {
-        Member::One { value: e, line } => {
-            let t = even_from(d);
-            value(out, k, e, t, behind)?;
-            add_member(out, k, t, x, line.number)
-        }
+        Member::One { value: e, line } => one_member(out, k, e, line.number, d, x),
         Member::Range { from, to, line } => {
             let first = held(expr_calls(to), d);
             let last = even_above(first);
             value(out, k, from, first, behind)?;
             value(out, k, to, last, behind)?;
             add_members(out, k, first, last, x, line.number)
+        }
+    }
+}
+
+/// A member: one that is known, or one that is worked out behind the set.
+#[cycle(values)]
+fn one_member(
+    out: &mut Code,
+    k: &Level,
+    e: &Expr,
+    line: u16,
+    d: u32,
+    x: u32,
+) -> Result<(), AllocError>
+    requires { d + x + member_weight (scope_of k.now) (tree.One (expr_of e.now) line) ≤ DEEPEST }
+    ensures { OnOk result (out.new ≡ out.old ++ member_code (scope_of k.now) (tree.One (expr_of e.now) line) d x) }
+{
+    let t = even_from(d);
+    match known_member(e) {
+        Some(number) => add_bit(out, number, t, x),
+        None => {
+            let behind = above(x);
+            value(out, k, e, t, behind)?;
+            add_member(out, k, t, x, line)
         }
     }
 }

@@ -17,12 +17,13 @@ use Rattle.ps_tree.specs.Tree as Tree
 use Rattle.ps_lower_layout.specs.Shapes.{Shape}
 use Rattle.ps_lower_code.specs.Scopes.{Scope}
 use Rattle.ps_lower_accepted.proofs.Tidy.{StatementsSound}
+use Rattle.ps_check_judgement.specs.Judged.{Yes}
 use Rattle.ps_check_names.specs.Regions.{Context, Region, Meaning, ConstantMeaning, TextMeaning, TypeMeaning, VariableMeaning}
 use Rattle.ps_check_declarations.specs.Denoters.{Frame, Declared}
 use Rattle.ps_check_declarations.specs.Declarations.{declarations}
 use Rattle.ps_check_expressions.specs.Expressions.{operand, variable_operand}
 use Rattle.ps_check_statements.specs.Statements.{statements}
-use Rattle.ps_lower_accepted.proofs.Lists.{Each}
+use Rattle.ps_lower_accepted.proofs.Lists.{Each, Gives}
 use Rattle.ps_lower_accepted.proofs.Tables.{Table, Extends, EndsBefore, TypeKnown}
 use Rattle.ps_lower_accepted.proofs.Standing.{MeaningKnown, RegionsKnown, Here}
 use Rattle.ps_lower_accepted.proofs.Told.{OperandTold}
@@ -45,7 +46,7 @@ abbrev pub StatementsTell : Type 0
 StatementsTell =
     (c : Context) (Γ : List Region) (D : Table) (k : Scope) (os : List Shape) → Here c Γ D k os
     → (n : ℕ) (xs : List Statement) (ts r : Tokens) → IsSequence (statement_within n) xs ts r
-    → (ss : Tree.Statements) → statements c Γ xs ≡ Some ss → StatementsSound k os ss
+    → (ss : Tree.Statements) → Gives (statements c Γ xs) ss → StatementsSound k os ss
 
 -- ---- constants, types and variables of a block
 
@@ -91,4 +92,4 @@ DeclarationsTell =
     → Each (λ x. x < 256) f.text → length f.text ≤ 1048576
     → AreOrdered low high ts → EndsBefore low D
     → RegionsKnown D (length d.domains) f.outer → DeclaredKnown D d → d.pending ≡ [] → d.variables ≡ []
-    → declarations f first d cs types vs ≡ Some e → Declares first D low high r d e
+    → declarations f first d cs types vs ≡ Yes e → Declares first D low high r d e

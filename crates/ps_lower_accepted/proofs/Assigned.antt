@@ -13,12 +13,15 @@ use Rattle.ps_lower_code.specs.Scopes.{Scope}
 use Rattle.ps_lower_code.specs.Fits.{RangeFits, IsStructure, shape_in}
 use Rattle.tac_code.specs.Sound.{IsLine}
 use Rattle.ps_lower_accepted.proofs.Tidy.{ExprSound, PlaceSound, StatementSound}
-use Rattle.ps_check_names.specs.Regions.{Context, Region, BlockRegion, RecordRegion, FieldNames, Point, BlockPoint, FieldPoint, Heading, ConstantMeaning, TextMeaning, TypeMeaning, VariableMeaning, ParameterMeaning, RoutineMeaning, RoutineParameterMeaning, RequiredMeaning, FileMeaning, LeftOutMeaning}
+use Rattle.ps_check_judgement.specs.declared.refusal.Rule.TheVariants.{WrongKind}
+use Rattle.ps_check_judgement.specs.Judged.{Yes}
+use Rattle.ps_check_judgement.proofs.Binds.{provided_yes, some_or_yes, no_yes}
+use Rattle.ps_check_names.specs.Regions.{Context, Region, BlockRegion, RecordRegion, OwnNames, Point, BlockPoint, FieldPoint, Heading, ConstantMeaning, TextMeaning, TypeMeaning, VariableMeaning, ParameterMeaning, RoutineMeaning, RoutineParameterMeaning, RequiredMeaning, FileMeaning, LeftOutMeaning}
 use Rattle.ps_check_expressions.specs.Names.{denoted}
 use Rattle.ps_check_expressions.specs.Values.{Value, SimpleValue, SetValue, StructureValue, Variable, Operand, range_of}
 use Rattle.ps_check_statements.specs.Assignments.{result_of, result_in, target_at, name_or_component, set_assigned, assigned}
 use Rattle.ps_lower_accepted.proofs.Calls.{not_or, pointer_of_same}
-use Rattle.ps_lower_accepted.proofs.Lists.{right, never, inside, none_some, then_some, provided_some}
+use Rattle.ps_lower_accepted.proofs.Lists.{right, never, none_some, map_some, Gives, still_gives, still_then}
 use Rattle.ps_lower_accepted.proofs.Names.{denoted_stands, drop_none}
 use Rattle.ps_lower_accepted.proofs.Operators.{set_fits}
 use Rattle.ps_lower_accepted.proofs.Reach.{reached}
@@ -60,7 +63,7 @@ result_of_block P D (BlockRegion routine names known ∷ Γ) (c ∷ chain) (suc 
     go true f g further = let z = zero_is (suc n) true f refl in absurd (omega (arith, z))
     go false f g further = further (suc n - 1) (one_less n) g
 result_of_block P D (RecordRegion type fields ∷ Γ) chain n h levels v r rest st e q = absurd st
-result_of_block P D (FieldNames names ∷ Γ) chain n h levels v r rest st e q = absurd st
+result_of_block P D (OwnNames names defined ∷ Γ) chain n h levels v r rest st e q = absurd st
 
 result_behind : (P : Program) (D : Table) (Γ : List Region) (chain : List ℕ) (os : List Shape) (n : ℕ) (h : Heading) (levels : ℕ) (v : Variable) (r : ℕ) (rest : List ℕ) → RegionsStand P D Γ chain os → drop n chain ≡ r ∷ rest → result_in Γ n h levels ≡ Some v → ResultThere h levels r v
 unfolding result_in
@@ -68,10 +71,10 @@ result_behind P D (RecordRegion type fields ∷ Γ) chain [] n h levels v r rest
 result_behind P D (RecordRegion type fields ∷ Γ) chain (o ∷ os) n h levels v r rest st e q = result_behind P D Γ chain os n h levels v r rest st.3 e q
 result_behind P D [] chain [] n h levels v r rest st e q = result_of_block P D [] chain n h levels v r rest st e q
 result_behind P D (BlockRegion routine names known ∷ Γ) chain [] n h levels v r rest st e q = result_of_block P D (BlockRegion routine names known ∷ Γ) chain n h levels v r rest st e q
-result_behind P D (FieldNames names ∷ Γ) chain [] n h levels v r rest st e q = result_of_block P D (FieldNames names ∷ Γ) chain n h levels v r rest st e q
+result_behind P D (OwnNames names defined ∷ Γ) chain [] n h levels v r rest st e q = result_of_block P D (OwnNames names defined ∷ Γ) chain n h levels v r rest st e q
 result_behind P D [] chain (o ∷ os) n h levels v r rest st e q = absurd st
 result_behind P D (BlockRegion routine names known ∷ Γ) chain (o ∷ os) n h levels v r rest st e q = absurd st
-result_behind P D (FieldNames names ∷ Γ) chain (o ∷ os) n h levels v r rest st e q = absurd st
+result_behind P D (OwnNames names defined ∷ Γ) chain (o ∷ os) n h levels v r rest st e q = absurd st
 
 -- one block further in
 drop_before : (n : ℕ) (chain : List ℕ) (q : ℕ) (rest : List ℕ) → drop (suc n) chain ≡ q ∷ rest → (r : ℕ) × (drop n chain ≡ r ∷ q ∷ rest)
@@ -90,15 +93,15 @@ module _ (D : Table) (k : Scope) (os : List Shape) where
         let before = drop_before n k.chain q rest e in
         let there = result_behind k.program D Γ k.chain os n h n v before.0 (q ∷ rest) here.stands before.1 g in
         let reach = reached k.chain n before.0 (q ∷ rest) before.1 in
-        let type = then_some h.result _ v there.is in
+        let type = map_some _ h.result v there.is in
         let declared = subst (λ l. MeaningStands k.program l (RoutineMeaning h)) e st.1 in
         let known = (subst (ResultKnown D (bound_of k)) type.1 st.0.1).1 in
-        subst (VariableTold D k os) (inside _ v type.2)
+        subst (VariableTold D k os) type.2
         (named D k os n 0 type.0 known (reach.within, ap (λ r. shape_in (slice_get (entries (routine_at k.program r)) 0)) (reach.number ∙ there.number) ∙ ap shape_in (result_kind h type.0 (q ∷ rest) declared type.1)))
 
-    target_told : (p : Point) (v : Variable) → PointStands D k os p → target_at Γ p ≡ Some v → VariableTold D k os v
+    target_told : (at : ℕ) (p : Point) (v : Variable) → PointStands D k os p → target_at Γ at p ≡ Yes v → VariableTold D k os v
     unfolding target_at
-    target_told (BlockPoint up (RoutineMeaning h)) v st q = go up st q
+    target_told at (BlockPoint up (RoutineMeaning h)) v st q = go up st (some_or_yes WrongKind at _ v q)
       where
         there : (n : ℕ) (chain : List ℕ) → drop (suc n) k.chain ≡ chain → PointStands D k os (BlockPoint (suc n) (RoutineMeaning h)) → result_in Γ n h n ≡ Some v → VariableTold D k os v
         there n [] e s f = absurd (subst (λ l. MeaningStands k.program l (RoutineMeaning h)) e s.1)
@@ -115,23 +118,23 @@ module _ (D : Table) (k : Scope) (os : List Shape) where
             later : (b : Bool) → (suc n == 0) ≡ b → (if b then None else result_in Γ (suc n - 1) h (suc n - 1)) ≡ Some v → VariableTold D k os v
             later true e g = absurd (none_some g)
             later false e g = there n (drop (suc n) k.chain) refl s (subst (λ m. result_in Γ m h m ≡ Some v) (one_less n) g)
-    target_told (BlockPoint up (VariableMeaning entry type)) v st q = point_told D k os (BlockPoint up (VariableMeaning entry type)) v st q
-    target_told (BlockPoint up (ParameterMeaning entry type)) v st q = point_told D k os (BlockPoint up (ParameterMeaning entry type)) v st q
-    target_told (FieldPoint which record_type number type) v st q = point_told D k os (FieldPoint which record_type number type) v st q
-    target_told (BlockPoint up (ConstantMeaning o n)) v st q = point_told D k os (BlockPoint up (ConstantMeaning o n)) v st q
-    target_told (BlockPoint up (TextMeaning w)) v st q = point_told D k os (BlockPoint up (TextMeaning w)) v st q
-    target_told (BlockPoint up (TypeMeaning type)) v st q = point_told D k os (BlockPoint up (TypeMeaning type)) v st q
-    target_told (BlockPoint up (RoutineParameterMeaning entry sections result)) v st q = point_told D k os (BlockPoint up (RoutineParameterMeaning entry sections result)) v st q
-    target_told (BlockPoint up (FileMeaning file)) v st q = point_told D k os (BlockPoint up (FileMeaning file)) v st q
-    target_told (BlockPoint up (RequiredMeaning r)) v st q = point_told D k os (BlockPoint up (RequiredMeaning r)) v st q
-    target_told (BlockPoint up LeftOutMeaning) v st q = point_told D k os (BlockPoint up LeftOutMeaning) v st q
+    target_told at (BlockPoint up (VariableMeaning entry type)) v st q = point_told D k os at (BlockPoint up (VariableMeaning entry type)) v st q
+    target_told at (BlockPoint up (ParameterMeaning entry type)) v st q = point_told D k os at (BlockPoint up (ParameterMeaning entry type)) v st q
+    target_told at (FieldPoint which record_type number type) v st q = point_told D k os at (FieldPoint which record_type number type) v st q
+    target_told at (BlockPoint up (ConstantMeaning o n)) v st q = point_told D k os at (BlockPoint up (ConstantMeaning o n)) v st q
+    target_told at (BlockPoint up (TextMeaning w)) v st q = point_told D k os at (BlockPoint up (TextMeaning w)) v st q
+    target_told at (BlockPoint up (TypeMeaning type)) v st q = point_told D k os at (BlockPoint up (TypeMeaning type)) v st q
+    target_told at (BlockPoint up (RoutineParameterMeaning entry sections result)) v st q = point_told D k os at (BlockPoint up (RoutineParameterMeaning entry sections result)) v st q
+    target_told at (BlockPoint up (FileMeaning file)) v st q = point_told D k os at (BlockPoint up (FileMeaning file)) v st q
+    target_told at (BlockPoint up (RequiredMeaning r)) v st q = point_told D k os at (BlockPoint up (RequiredMeaning r)) v st q
+    target_told at (BlockPoint up LeftOutMeaning) v st q = point_told D k os at (BlockPoint up LeftOutMeaning) v st q
 
-    pub left_told : (x : Operand) (v : Variable) → OperandTold D k os x → name_or_component c Γ x.name x.variable ≡ Some v → VariableTold D k os v
+    pub left_told : (x : Operand) (v : Variable) → OperandTold D k os x → Gives (name_or_component c Γ x.name x.variable) v → VariableTold D k os v
     left_told x v told q = go x.name q
       where
-        go : (o : Option Span) → name_or_component c Γ o x.variable ≡ Some v → VariableTold D k os v
+        go : (o : Option Span) → Gives (name_or_component c Γ o x.variable) v → VariableTold D k os v
         go None f = told.variable v f
-        go (Some name) f = let p = then_some (denoted c Γ name) (target_at Γ) v f in target_told p.0 v (denoted_stands c Γ D k os here name p.0 p.1) p.2
+        go (Some name) f = let p = still_then (denoted c Γ name) _ v f in target_told name.from p.0 v (denoted_stands c Γ D k os here name p.0 p.1) (still_gives (target_at Γ name.from p.0) v p.2)
 
   -- ---- what goes into the variable
 
@@ -178,28 +181,28 @@ module _ (D : Table) (k : Scope) (os : List Shape) where
   structure_whole (ArrayType at l i t) b st small = no_byte b small
   structure_whole (RecordType at l fs) b st small = no_byte b small
 
-  set_into : (v : Variable) (e : _) (from : DataType) (line : ℕ) → IsLine line → (s : Statement) → VariableTold D k os v → SetTold D k os e from → set_assigned v.place v.type e from line ≡ Some s → StatementSound k os s
+  set_into : (at : ℕ) (v : Variable) (e : _) (from : DataType) (line : ℕ) → IsLine line → (s : Statement) → VariableTold D k os v → SetTold D k os e from → set_assigned at v.place v.type e from line ≡ Yes s → StatementSound k os s
   unfolding set_assigned
-  set_into v e from line ln s told h q = go v.type told.known (λ b. told.small b) told.fits q
+  set_into at v e from line ln s told h q = go v.type told.known (λ b. told.small b) told.fits q
     where
-      go : (type : DataType) → TypeKnown D (bound_of k) type → (told.byte ≡ true → fits_byte type ≡ true) → PlaceSound k os v.place (part_of told.byte type) → set_assigned v.place type e from line ≡ Some s → StatementSound k os s
-      go (SetType d l o) known small fits f = subst (StatementSound k os) (provided_some _ _ s f).1 (let w = whole_fits D k os v.place (SetType d l o) told.byte fits (no_byte told.byte small) in let x = set_fits D k os e from h in ((w.0, x.0), (w.1, x.1, known, ln)))
-      go (OrdinalType o) known small fits f = absurd (none_some f)
-      go (PointerType n) known small fits f = absurd (none_some f)
-      go NilType known small fits f = absurd (none_some f)
-      go EmptySetType known small fits f = absurd (none_some f)
-      go (TextType n) known small fits f = absurd (none_some f)
-      go (ArrayType at l i t) known small fits f = absurd (none_some f)
-      go (RecordType at l fs) known small fits f = absurd (none_some f)
+      go : (type : DataType) → TypeKnown D (bound_of k) type → (told.byte ≡ true → fits_byte type ≡ true) → PlaceSound k os v.place (part_of told.byte type) → set_assigned at v.place type e from line ≡ Yes s → StatementSound k os s
+      go (SetType d l o) known small fits f = subst (StatementSound k os) (provided_yes _ _ _ _ s f).1 (let w = whole_fits D k os v.place (SetType d l o) told.byte fits (no_byte told.byte small) in let x = set_fits D k os e from h in ((w.0, x.0), (w.1, x.1, known, ln)))
+      go (OrdinalType o) known small fits f = absurd (no_yes f)
+      go (PointerType n) known small fits f = absurd (no_yes f)
+      go NilType known small fits f = absurd (no_yes f)
+      go EmptySetType known small fits f = absurd (no_yes f)
+      go (TextType n) known small fits f = absurd (no_yes f)
+      go (ArrayType at l i t) known small fits f = absurd (no_yes f)
+      go (RecordType at l fs) known small fits f = absurd (no_yes f)
 
-  pub assigned_fits : (v : Variable) (x : Value) (line : ℕ) → IsLine line → (s : Statement) → VariableTold D k os v → ValueTold D k os x → assigned v x line ≡ Some s → StatementSound k os s
+  pub assigned_fits : (at : ℕ) (v : Variable) (x : Value) (line : ℕ) → IsLine line → (s : Statement) → VariableTold D k os v → ValueTold D k os x → assigned at v x line ≡ Yes s → StatementSound k os s
   unfolding assigned
-  assigned_fits v (SimpleValue e from) line ln s told h q =
-      let p = provided_some (is_assignable from v.type) (Assign v.place (range_of v.type) e line) s q in
+  assigned_fits at v (SimpleValue e from) line ln s told h q =
+      let p = provided_yes (is_assignable from v.type) _ _ (Assign v.place (range_of v.type) e line) s q in
       subst (StatementSound k os) p.1 (simple_assigned v.place told.byte v.type from e line ln told.known (λ b. told.small b) told.fits h (right (has_variables v.type) (is_compatible from v.type) p.0))
-  assigned_fits v (SetValue e from) line ln s told h q = set_into v e from line ln s told h q
-  assigned_fits v (StructureValue e from) line ln s told h q =
-      let p = provided_some (is_assignable from v.type) (AssignStructure v.place e) s q in
+  assigned_fits at v (SetValue e from) line ln s told h q = set_into at v e from line ln s told h q
+  assigned_fits at v (StructureValue e from) line ln s told h q =
+      let p = provided_yes (is_assignable from v.type) _ _ (AssignStructure v.place e) s q in
       let goes = structure_goes D k os e from v.type h told.known (right (has_variables v.type) (is_compatible from v.type) p.0) in
       let w = whole_fits D k os v.place v.type told.byte told.fits (structure_whole v.type told.byte goes.structure (λ b. told.small b)) in
       subst (StatementSound k os) p.1 ((shape_of v.type, w.0, goes.fits.0, goes.structure), (w.1, goes.fits.1))

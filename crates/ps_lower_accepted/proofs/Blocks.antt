@@ -1,5 +1,5 @@
 -- Blocks: what is known behind each, and that its statements and its routines fit in the program that is made at the end.
-use Rattle.std.proofs.Common.{◌≡◌, ℕ, zero, suc, ◌<◌, ◌≤◌, Bool, true, false, ◌==◌, if◌then◌else◌, nat_lt, List, [], ◌∷◌, ◌++◌, length, map, drop, Option, Some, None, is_none, slice_get, slice_set, refl, sym, ap, ◌∙◌, subst, arith, append-nil, length-append, eqb-true, eq-eqb, ltb-true, ltb-false, ne_eqb}
+use Rattle.std.proofs.Common.{◌≡◌, ℕ, zero, suc, ◌<◌, ◌≤◌, Bool, true, false, ◌&&◌, ◌==◌, if◌then◌else◌, nat_lt, List, [], ◌∷◌, ◌++◌, length, map, Option, Some, None, is_none, option_and_then, slice_get, slice_set, refl, sym, ap, ◌∙◌, subst, arith, append-nil, length-append, eqb-true, eq-eqb, ltb-true, ltb-false, ne_eqb}
 use Rattle.ps_text.specs.declared.Span.{Span}
 use Rattle.ps_scan.specs.Spans.{AreOrdered}
 use Rattle.ps_scan.specs.declared.token.Token.{Token}
@@ -16,18 +16,21 @@ use Rattle.ps_lower_layout.specs.Frames.{Kind, variable_kinds, entries}
 use Rattle.ps_lower_code.specs.Fits.{outermost_of}
 use Rattle.ps_lower_accepted.proofs.Tidy.{StatementsSound, RoutineSound}
 use Rattle.tac_code.specs.Sound.{IsLine}
-use Rattle.ps_check_names.specs.Option.{◌>>=◌, provided, steps}
+use Rattle.ps_check_judgement.specs.declared.change.Change.{Change}
+use Rattle.ps_check_judgement.specs.declared.refusal.Rule.TheVariants.{NoResultAssigned, Limit}
+use Rattle.ps_check_judgement.specs.Judged.{Yes, provided, steps}
+use Rattle.ps_check_judgement.proofs.Binds.{then_yes, provided_yes, no_yes, inside_yes}
 use Rattle.ps_check_names.specs.Spelling.{place, spelled}
 use Rattle.ps_check_names.specs.Regions.{Region, BlockRegion, Meaning, ParameterMeaning, RoutineParameterMeaning, RoutineMeaning, Heading, Context}
 use Rattle.ps_check_declarations.specs.Denoters.{Frame}
 use Rattle.ps_check_declarations.specs.Headings.{Signature, heading, section_list}
 use Rattle.ps_check.specs.Readings.{Gathered, Start, Done, Routines, RoutineReading, heading_name}
-use Rattle.ps_check.specs.Forwards.{is_vacant, is_open, is_same_kind, is_waiting}
+use Rattle.ps_check.specs.Forwards.{is_vacant, is_open, is_same_kind, may_complete, is_waiting}
 use Rattle.ps_check.specs.Entries.{start}
-use Rattle.ps_check.specs.Blocks.{routine_tree, is_small_routine, finished, heading_at, new_heading, introduce, read_block, one_routine, block, routine}
-use Rattle.ps_check.specs.Threats.{assigns}
+use Rattle.ps_check.specs.Blocks.{routine_tree, is_small_routine, finished, heading_at, new_heading, headed, introduce, read_block, one_routine, block, routine}
+use Rattle.ps_check.specs.Changes.{assigns, outward}
 use Rattle.ps_check.proofs.Equations.{routine_Whole, routine_Forward, routine_Completion}
-use Rattle.ps_lower_accepted.proofs.Lists.{Each, each_at, each_append, each_left, each_right, each_map, then_some, provided_some, none_some, inside, left, never, get_left}
+use Rattle.ps_lower_accepted.proofs.Lists.{Each, each_at, each_append, each_left, each_right, each_map, none_some, inside, left, right, never, get_left}
 use Rattle.ps_lower_accepted.proofs.Tables.{Table, Extends, extends_self, extends_both, EndsBefore, TypeKnown}
 use Rattle.ps_lower_accepted.proofs.Standing.{ResultKnown, SectionsKnown, MeaningKnown, RegionsKnown, IsDeclared, MeaningStands, BlocksStand}
 use Rattle.ps_lower_accepted.proofs.Aims.{IsOwn}
@@ -112,12 +115,26 @@ unmade (r ∷ rs) zero x e = e
 unmade (r ∷ rs) (suc i) x e = unmade rs i x e
 
 abbrev with_heading : Routines → Heading → Routines
-with_heading r h = record { known = r.known ++ RoutineMeaning h ∷ []; gathered = record { domains = r.gathered.domains; routines = r.gathered.routines ++ None ∷ [] } }
+with_heading r h = record { known = r.known ++ RoutineMeaning h ∷ []; changes = r.changes; gathered = record { domains = r.gathered.domains; routines = r.gathered.routines ++ None ∷ [] } }
 
-heading_there : (o : Option Meaning) (h : Heading) → heading_at o ≡ Some h → o ≡ Some (RoutineMeaning h)
+heading_there : (at : ℕ) (o : Option Meaning) (h : Heading) → heading_at at o ≡ Yes h → o ≡ Some (RoutineMeaning h)
 unfolding heading_at
-heading_there (Some (RoutineMeaning x)) h e = ap (λ y. Some (RoutineMeaning y)) (inside x h e)
-heading_there o h e = absurd (none_some e)
+heading_there at (Some (RoutineMeaning x)) h e = ap (λ y. Some (RoutineMeaning y)) (inside_yes x h e)
+heading_there at o h e = absurd (no_yes e)
+
+-- ---- the meaning of a name that may have a place in its region
+
+abbrev at_place : Option ℕ → List Meaning → Option Meaning
+at_place i known = option_and_then (slice_get known) i
+
+place_each : (P : Meaning → Type 0) (known : List Meaning) (i : Option ℕ) (m : Meaning) → Each P known → at_place i known ≡ Some m → P m
+place_each P known None m k e = absurd (none_some e)
+place_each P known (Some i) m k e = each_at P known i m k e
+
+-- where there was nothing, there is the last one
+place_last : (known : List Meaning) (y m : Meaning) (i : Option ℕ) → at_place i known ≡ None → at_place i (known ++ y ∷ []) ≡ Some m → y ≡ m
+place_last known y m None n e = absurd (none_some e)
+place_last known y m (Some i) n e = (get_last known y m i n e).1
 
 vacant_is : (o : Option (Option Tree.Routine)) → is_vacant o ≡ true → o ≡ Some None
 vacant_is (Some None) e = refl
@@ -172,7 +189,7 @@ module _ (c : Context) where
       (own : ℕ) (rest : List ℕ) → outermost_of (own ∷ rest) ≡ 0
       → (outer : List Region) (names : List (List ℕ)) (known : List Meaning) (first : ℕ) (g : Gathered) (D : Table) (low high : ℕ)
       → (x : syntax_block.Block) (ts r : Tokens) → symbol x ts r → Ready D outer known g → AreOrdered low high ts → EndsBefore low D
-      → (done : Done) → block c x outer (start_of (own ∷ rest) names known first) g ≡ Some done → BlockTold own rest outer known first D low high r g done
+      → (done : Done) → block c x outer (start_of (own ∷ rest) names known first) g ≡ Yes done → BlockTold own rest outer known first D low high r g done
 
 -- ---- the routines of a block
 
@@ -191,11 +208,11 @@ module _ (own : ℕ) (rest : List ℕ) (f : Frame) (base : ℕ) (begun : List Me
     pub fits : (P : Program) (F : Table) → Final P F D r.gathered → Targets P F → Each (MeaningStands P (own ∷ rest)) r.known → BlocksStand P F f.outer rest → AllFit P base r.gathered
 
   -- a heading is there, and its routine has no block
-  pub record Introduced (i : ℕ) (r s : Routines) (D : Table) : Type 0 where
+  pub record Introduced (i : Option ℕ) (r s : Routines) (D : Table) : Type 0 where
     pub reading : Reading s D
     pub grows : Grows r.gathered s.gathered
     pub kept : (n : ℕ) → n < base → slice_get s.gathered.routines n ≡ slice_get r.gathered.routines n
-    pub vacant : (h : Heading) → slice_get s.known i ≡ Some (RoutineMeaning h) → IsVacant s.gathered h.number
+    pub vacant : (h : Heading) → at_place i s.known ≡ Some (RoutineMeaning h) → IsVacant s.gathered h.number
     pub know : (ms : List Meaning) × (s.known ≡ r.known ++ ms)
 
   heading_grows : (r : Routines) (h : Heading) → Grows r.gathered (with_heading r h).gathered
@@ -219,12 +236,12 @@ module _ (own : ℕ) (rest : List ℕ) (f : Frame) (base : ℕ) (begun : List Me
         fits = λ P F final targets stand blocks i x le m. reading.fits P F (final_before P F D D r.gathered (with_heading r h).gathered (extends_self D) (heading_grows r h) final) targets (each_left (MeaningStands P (own ∷ rest)) r.known (RoutineMeaning h ∷ []) stand) blocks i x le (unmade r.gathered.routines i x m);
       }
 
-  heading_introduced : (i : ℕ) (r : Routines) (D : Table) (h : Heading) → slice_get r.known i ≡ None → h.number ≡ length r.gathered.routines → SectionsKnown D (length r.gathered.domains) h.sections × ResultKnown D (length r.gathered.domains) h.result → Reading r D → Introduced i r (with_heading r h) D
+  heading_introduced : (i : Option ℕ) (r : Routines) (D : Table) (h : Heading) → at_place i r.known ≡ None → h.number ≡ length r.gathered.routines → SectionsKnown D (length r.gathered.domains) h.sections × ResultKnown D (length r.gathered.domains) h.result → Reading r D → Introduced i r (with_heading r h) D
   heading_introduced i r D h nothing number told reading = record {
     reading = heading_read r D h number told reading;
     grows = heading_grows r h;
     kept = λ n l. get_first r.gathered.routines (None ∷ []) n (let a = reading.count in omega (arith, l, a));
-    vacant = λ x e. vacant_new x (get_last r.known (RoutineMeaning h) (RoutineMeaning x) i nothing e).1;
+    vacant = λ x e. vacant_new x (place_last r.known (RoutineMeaning h) (RoutineMeaning x) i nothing e);
     know = (RoutineMeaning h ∷ [], refl);
   }
     where
@@ -233,38 +250,38 @@ module _ (own : ℕ) (rest : List ℕ) (f : Frame) (base : ℕ) (begun : List Me
 
   -- ---- what introduces a routine
 
-  heading_new : (i : ℕ) (r s : Routines) (D : Table) (is_forward : Bool) (x : syntax.Heading) → f.text ≡ f.text
-      → ((q : Signature) → (heading f r.known x).1 [] ≡ Some q → SectionsKnown D (length r.gathered.domains) (section_list q.0) × ResultKnown D (length r.gathered.domains) q.1)
-      → slice_get r.known i ≡ None → Reading r D → new_heading f is_forward r x ≡ Some s → Introduced i r s D
+  heading_new : (i : Option ℕ) (r s : Routines) (D : Table) (is_forward : Bool) (x : syntax.Heading) → f.text ≡ f.text
+      → ((q : Signature) → (heading f r.known x).1 [] ≡ Yes q → SectionsKnown D (length r.gathered.domains) (section_list q.0) × ResultKnown D (length r.gathered.domains) q.1)
+      → at_place i r.known ≡ None → Reading r D → new_heading f is_forward r x ≡ Yes s → Introduced i r s D
   unfolding new_heading
   heading_new i r s D is_forward x same tells nothing reading e =
-      let n = then_some (provided (nat_lt (length r.gathered.routines) 1048576) (length r.gathered.routines)) _ s e in
-      let number = provided_some (nat_lt (length r.gathered.routines) 1048576) (length r.gathered.routines) n.0 n.1 in
-      let q = then_some ((heading f r.known x).1 []) _ s n.2 in
-      subst (λ t. Introduced i r t D) (inside _ s q.2) (heading_introduced i r D _ nothing (sym number.1) (tells q.0 q.1) reading)
+      let n = then_yes (provided (nat_lt (length r.gathered.routines) 1048576) Limit (heading_name x).from (length r.gathered.routines)) _ s e in
+      let number = provided_yes (nat_lt (length r.gathered.routines) 1048576) _ _ (length r.gathered.routines) n.0 n.1 in
+      let q = then_yes ((heading f r.known x).1 []) _ s n.2 in
+      subst (λ t. Introduced i r t D) (inside_yes _ s q.2) (heading_introduced i r D _ nothing (sym number.1) (tells q.0 q.1) reading)
 
-  same_introduced : (i : ℕ) (r : Routines) (D : Table) → ((h : Heading) → slice_get r.known i ≡ Some (RoutineMeaning h) → IsVacant r.gathered h.number) → Reading r D → Introduced i r r D
+  same_introduced : (i : Option ℕ) (r : Routines) (D : Table) → ((h : Heading) → at_place i r.known ≡ Some (RoutineMeaning h) → IsVacant r.gathered h.number) → Reading r D → Introduced i r r D
   same_introduced i r D vacant reading = record { reading = reading; grows = record { more = []; domains = sym (append-nil r.gathered.domains); made = λ n x m. m }; kept = λ n l. refl; vacant = vacant; know = ([], sym (append-nil r.known)) }
 
   waiting_vacant : (g : Gathered) (x : RoutineReading) (m : Meaning) (h : Heading) → m ≡ RoutineMeaning h → is_waiting g x m ≡ true → IsVacant g h.number
   unfolding is_waiting
-  waiting_vacant g x m h e w = let t = ap (is_waiting g x) (sym e) ∙ w in vacant_is (slice_get g.routines h.number) (left (is_open g h) (is_same_kind x h) t)
+  waiting_vacant g x m h e w = let t = ap (is_waiting g x) (sym e) ∙ w in vacant_is (slice_get g.routines h.number) (left (is_open g h) (is_same_kind x h) (right (may_complete x) (is_open g h && is_same_kind x h) t))
 
   abbrev HeadingTold : Routines → Table → Option syntax.Heading → Type 0
   HeadingTold r D None = Unit {0}
-  HeadingTold r D (Some x) = (q : Signature) → (heading f r.known x).1 [] ≡ Some q → SectionsKnown D (length r.gathered.domains) (section_list q.0) × ResultKnown D (length r.gathered.domains) q.1
+  HeadingTold r D (Some x) = (q : Signature) → (heading f r.known x).1 [] ≡ Yes q → SectionsKnown D (length r.gathered.domains) (section_list q.0) × ResultKnown D (length r.gathered.domains) q.1
 
-  introduced : (i : ℕ) (r s : Routines) (D : Table) (x : RoutineReading) → HeadingTold r D x.heading → Reading r D → introduce f x r (slice_get r.known i) ≡ Some s → Introduced i r s D
+  introduced : (i : Option ℕ) (r s : Routines) (D : Table) (x : RoutineReading) → HeadingTold r D x.heading → Reading r D → introduce f x r (at_place i r.known) ≡ Yes s → Introduced i r s D
   unfolding introduce
-  introduced i r s D x told reading e = go (slice_get r.known i) refl e
+  introduced i r s D x told reading e = go (at_place i r.known) refl e
     where
-      new : (o : Option syntax.Heading) → HeadingTold r D o → slice_get r.known i ≡ None → (o >>= new_heading f (is_none x.block) r) ≡ Some s → Introduced i r s D
-      new None told nothing q = absurd (none_some q)
+      new : (o : Option syntax.Heading) → HeadingTold r D o → at_place i r.known ≡ None → headed f x r o ≡ Yes s → Introduced i r s D
+      new None told nothing q = absurd (no_yes q)
       new (Some h) told nothing q = heading_new i r s D (is_none x.block) h refl told nothing reading q
 
-      go : (o : Option Meaning) → slice_get r.known i ≡ o → introduce f x r o ≡ Some s → Introduced i r s D
+      go : (o : Option Meaning) → at_place i r.known ≡ o → introduce f x r o ≡ Yes s → Introduced i r s D
       go (Some m) at q =
-          let w = provided_some (is_waiting r.gathered x m) r s q in
+          let w = provided_yes (is_waiting r.gathered x m) _ _ r s q in
           subst (λ t. Introduced i r t D) w.1 (same_introduced i r D (λ h g. waiting_vacant r.gathered x m h (inside m (RoutineMeaning h) (sym at ∙ g)) w.0) reading)
       go None at q = new x.heading told at q
 
@@ -373,8 +390,8 @@ module _ (own : ℕ) (rest : List ℕ) (f : Frame) (base : ℕ) (begun : List Me
           other : (i ≡ h.number → ⊥) → RoutineSound P x
           other q = below_or i (length s.gathered.routines) (RoutineSound P x) (λ l. reading.fits P F before targets stand blocks i x le (made_before i x l (made_other i x q m))) (λ l. inner_fits.0 i x l (made_other i x q m))
 
-    closed_reading : Reading (record { known = s.known; gathered = closed h done }) told.table
-    closed_reading =
+    closed_reading : (cs : List Change) → Reading (record { known = s.known; changes = cs; gathered = closed h done }) told.table
+    closed_reading cs =
         let le = more_domains s.gathered done.gathered told.grows in
         record {
           outer = regions_more D told.table told.extends (length s.gathered.domains) (length done.gathered.domains) le f.outer reading.outer;
@@ -389,22 +406,22 @@ module _ (own : ℕ) (rest : List ℕ) (f : Frame) (base : ℕ) (begun : List Me
           fits = closed_fits;
         }
 
-    pub block_closed : Step s (record { known = s.known; gathered = closed h done }) D low high r
-    block_closed = record {
+    pub block_closed : (cs : List Change) → Step s (record { known = s.known; changes = cs; gathered = closed h done }) D low high r
+    block_closed cs = record {
       table = told.table;
       next = told.next;
       later = told.later;
       ordered = told.ordered;
       extends = told.extends;
       ends = told.ends;
-      reading = closed_reading;
+      reading = closed_reading cs;
       grows = all_grow;
       kept = λ n l. set_other done.gathered.routines n h.number (Some tree) (λ e. let a = number.1 in omega (arith, l, a, e)) ∙ told.kept n (let a = reading.count in omega (arith, l, a));
     }
 
   -- ---- steps one after another
 
-  introduced_step : (i : ℕ) (r s t : Routines) (D : Table) (low next high : ℕ) (ts : Tokens) → Introduced i r s D → low ≤ next → Step s t D next high ts → Step r t D low high ts
+  introduced_step : (i : Option ℕ) (r s t : Routines) (D : Table) (low next high : ℕ) (ts : Tokens) → Introduced i r s D → low ≤ next → Step s t D next high ts → Step r t D low high ts
   introduced_step i r s t D low next high ts new le step = record {
     table = step.table;
     next = step.next;
@@ -417,7 +434,7 @@ module _ (own : ℕ) (rest : List ℕ) (f : Frame) (base : ℕ) (begun : List Me
     kept = λ n l. step.kept n l ∙ new.kept n l;
   }
 
-  forward_step : (i : ℕ) (r s : Routines) (D : Table) (low next high : ℕ) (ts : Tokens) → Introduced i r s D → low ≤ next → AreOrdered next high ts → EndsBefore low D → Step r s D low high ts
+  forward_step : (i : Option ℕ) (r s : Routines) (D : Table) (low next high : ℕ) (ts : Tokens) → Introduced i r s D → low ≤ next → AreOrdered next high ts → EndsBefore low D → Step r s D low high ts
   forward_step i r s D low next high ts new le ordered ends = record {
     table = D;
     next = next;
@@ -471,71 +488,77 @@ module _ (own : ℕ) (rest : List ℕ) (f : Frame) (base : ℕ) (begun : List Me
 
   -- ---- what is read of routines
 
-  finished_is : (h : Heading) (chain : List ℕ) (before : ℕ) (b : Done) (g : Gathered) → finished h chain before b ≡ Some g → record { domains = b.gathered.domains; routines = slice_set b.gathered.routines h.number (Some (routine_tree chain h b)) } ≡ g
+  finished_is : (at : ℕ) (h : Heading) (chain : List ℕ) (b : Done) (g : Gathered) → finished at h chain b ≡ Yes g → record { domains = b.gathered.domains; routines = slice_set b.gathered.routines h.number (Some (routine_tree chain h b)) } ≡ g
   unfolding finished
-  finished_is h chain before b g e =
-      let t = then_some (provided (assigns (length chain) h.result b.body (drop before b.gathered.routines)) (routine_tree chain h b)) _ g e in
-      let a = provided_some (assigns (length chain) h.result b.body (drop before b.gathered.routines)) (routine_tree chain h b) t.0 t.1 in
-      let u = then_some (provided (is_small_routine t.0) t.0) _ g t.2 in
-      let d = provided_some (is_small_routine t.0) t.0 u.0 u.1 in
+  finished_is at h chain b g e =
+      let t = then_yes (provided (assigns h.result b.changes) NoResultAssigned at (routine_tree chain h b)) _ g e in
+      let a = provided_yes (assigns h.result b.changes) NoResultAssigned at (routine_tree chain h b) t.0 t.1 in
+      let u = then_yes (provided (is_small_routine t.0) Limit at t.0) _ g t.2 in
+      let d = provided_yes (is_small_routine t.0) Limit at t.0 u.0 u.1 in
       let with_tree : Tree.Routine → Gathered = λ y. record { domains = b.gathered.domains; routines = slice_set b.gathered.routines h.number (Some y) } in
-      ap with_tree (a.1 ∙ d.1) ∙ inside (with_tree u.0) g u.2
+      ap with_tree (a.1 ∙ d.1) ∙ inside_yes (with_tree u.0) g u.2
 
-  one_parts : (r t : Routines) (x : RoutineReading) → one_routine f (own ∷ rest) r x ≡ Some t → (i : ℕ) × ((s : Routines) × (introduce f x r (slice_get r.known i) ≡ Some s) × (read_block f (own ∷ rest) i s x.block ≡ Some t))
+  abbrev place_of : RoutineReading → Option ℕ
+  place_of x = place f.names (spelled f.text x.name)
+
+  one_parts : (r t : Routines) (x : RoutineReading) → one_routine f (own ∷ rest) r x ≡ Yes t → (s : Routines) × (introduce f x r (at_place (place_of x) r.known) ≡ Yes s) × (read_block f (own ∷ rest) x s x.block ≡ Yes t)
   unfolding one_routine
-  one_parts r t x e =
-      let i = then_some (place f.names (spelled f.text x.name)) _ t e in
-      let s = then_some (introduce f x r (slice_get r.known i.0)) _ t i.2 in
-      (i.0, (s.0, s.1, s.2))
+  one_parts r t x e = then_yes (introduce f x r (at_place (place_of x) r.known)) (λ s. read_block f (own ∷ rest) x s x.block) t e
 
   module _ (c : Context) (routine_own : f.routine ≡ own) (outermost : outermost_of (own ∷ rest) ≡ 0) (symbol : Symbol syntax_block.Block) (tells : BlockTells c symbol) where
-    block_read : (i : ℕ) (s t : Routines) (D : Table) → Reading s D → ((h : Heading) → slice_get s.known i ≡ Some (RoutineMeaning h) → IsVacant s.gathered h.number)
-        → (low high : ℕ) (x : syntax_block.Block) (ts r : Tokens) → symbol x ts r → AreOrdered low high ts → EndsBefore low D → read_block f (own ∷ rest) i s (Some (block c x)) ≡ Some t → Step s t D low high r
+    block_read : (y : RoutineReading) (s t : Routines) (D : Table) → Reading s D → ((h : Heading) → at_place (place_of y) s.known ≡ Some (RoutineMeaning h) → IsVacant s.gathered h.number)
+        → (low high : ℕ) (x : syntax_block.Block) (ts r : Tokens) → symbol x ts r → AreOrdered low high ts → EndsBefore low D → read_block f (own ∷ rest) y s (Some (block c x)) ≡ Yes t → Step s t D low high r
     unfolding read_block
-    block_read i s t D reading vacant low high x ts r derived ordered ends e =
+    block_read y s t D reading vacant low high x ts r derived ordered ends e =
+        let i = place_of y in
+        let from = y.name.from in
         let b = length s.gathered.domains in
         let Γ = BlockRegion f.routine f.names s.known ∷ f.outer in
-        let h = then_some (heading_at (slice_get s.known i)) _ t e in
-        let at = heading_there (slice_get s.known i) h.0 h.1 in
-        let st = then_some (start (own ∷ rest) h.0) _ t h.2 in
-        let d = then_some (block c x Γ st.0 s.gathered) _ t st.2 in
-        let g = then_some (finished h.0 st.0.chain (length s.gathered.routines) d.0) _ t d.2 in
-        let heading_known = each_at (MeaningKnown D b) s.known i (RoutineMeaning h.0) reading.known at in
-        let number = each_at (IsNumbered reading.headings base (length s.gathered.routines)) s.known i (RoutineMeaning h.0) reading.numbered at in
-        let begins = start_told D b (own ∷ rest) h.0 st.0 heading_known.0 st.1 in
+        let h = then_yes (heading_at from (at_place i s.known)) _ t e in
+        let at = heading_there from (at_place i s.known) h.0 h.1 in
+        let st = then_yes (start from (own ∷ rest) h.0) _ t h.2 in
+        let d = then_yes (block c x Γ st.0 s.gathered) _ t st.2 in
+        let g = then_yes (finished from h.0 st.0.chain d.0) _ t d.2 in
+        let heading_known = place_each (MeaningKnown D b) s.known i (RoutineMeaning h.0) reading.known at in
+        let number = place_each (IsNumbered reading.headings base (length s.gathered.routines)) s.known i (RoutineMeaning h.0) reading.numbered at in
+        let begins = start_told D b from (own ∷ rest) h.0 st.0 heading_known.0 st.1 in
         let told = tells h.0.number (own ∷ rest) outermost Γ st.0.names st.0.known st.0.first s.gathered D low high x ts r derived
         (record { regions = (reading.known, reading.outer); known_there = begins.known; plain = each_map (IsAmong (first_kinds h.0)) IsPlain (among_plain (first_kinds h.0)) st.0.known begins.among; domains = reading.domains })
         ordered ends d.0 (ap (λ l. block c x Γ (start_of l st.0.names st.0.known st.0.first) s.gathered) (sym begins.chain_is) ∙ d.1) in
-        let step = block_closed routine_own s D reading low high r h.0 st.0.known st.0.first d.0 number heading_known (vacant h.0 at) begins.first begins.among told in
-        let tree_in : List ℕ → Routines = λ l. record { known = s.known; gathered = record { domains = d.0.gathered.domains; routines = slice_set d.0.gathered.routines h.0.number (Some (routine_tree l h.0 d.0)) } } in
-        let with : Gathered → Routines = λ q. record { known = s.known; gathered = q } in
-        subst (λ q. Step s q D low high r) (ap tree_in (sym begins.chain_is) ∙ ap with (finished_is h.0 st.0.chain (length s.gathered.routines) d.0 g.0 g.1) ∙ inside (with g.0) t g.2) step
+        let changes = s.changes ++ outward d.0.changes in
+        let step = block_closed routine_own s D reading low high r h.0 st.0.known st.0.first d.0 number heading_known (vacant h.0 at) begins.first begins.among told changes in
+        let tree_in : List ℕ → Routines = λ l. record { known = s.known; changes = changes; gathered = record { domains = d.0.gathered.domains; routines = slice_set d.0.gathered.routines h.0.number (Some (routine_tree l h.0 d.0)) } } in
+        let with : Gathered → Routines = λ q. record { known = s.known; changes = changes; gathered = q } in
+        subst (λ q. Step s q D low high r) (ap tree_in (sym begins.chain_is) ∙ ap with (finished_is from h.0 st.0.chain d.0 g.0 g.1) ∙ inside_yes (with g.0) t g.2) step
 
     module _ (n : ℕ) (is_forward : Span → Bool) where
-      routine_told : (y : syntax_routine.Routine) (ts r : Tokens) → p.IsRoutine is_forward (heading_within n) symbol y ts r → (s t : Routines) (D : Table) (low high : ℕ) → Reading s D → AreOrdered low high ts → EndsBefore low D → one_routine f (own ∷ rest) s (routine c y) ≡ Some t → Step s t D low high r
+      routine_told : (y : syntax_routine.Routine) (ts r : Tokens) → p.IsRoutine is_forward (heading_within n) symbol y ts r → (s t : Routines) (D : Table) (low high : ℕ) → Reading s D → AreOrdered low high ts → EndsBefore low D → one_routine f (own ∷ rest) s (routine c y) ≡ Yes t → Step s t D low high r
       unfolding read_block
       routine_told y ts r (p.whole {x = h} {b = b} {m = m} heads inner) s t D low high reading ordered ends e =
-          let parts = one_parts s t (record { name = heading_name h; heading = Some h; block = Some (block c b) }) (ap (one_routine f (own ∷ rest) s) (sym (routine_Whole c h b)) ∙ e) in
-          let new = introduced parts.0 s parts.1.0 D (record { name = heading_name h; heading = Some h; block = Some (block c b) }) (headings_told D (length s.gathered.domains) f s.known reading.outer reading.known n h ts _ heads []) reading parts.1.1 in
+          let reading_of : RoutineReading = record { name = heading_name h; heading = Some h; block = Some (block c b) } in
+          let parts = one_parts s t reading_of (ap (one_routine f (own ∷ rest) s) (sym (routine_Whole c h b)) ∙ e) in
+          let new = introduced (place_of reading_of) s parts.0 D reading_of (headings_told D (length s.gathered.domains) f s.known reading.outer reading.known n h ts _ heads []) reading parts.1 in
           let at = (then_later ts _ m (headings_go n h ts _ heads) (behind _ m m (same_place m))).on low high ordered in
-          let step = block_read parts.0 parts.1.0 t D new.reading new.vacant at.0 high b m _ inner at.2 (ends_later D low at.0 at.1 ends) parts.1.2 in
-          introduced_step parts.0 s parts.1.0 t D low at.0 high r new at.1 (past_token parts.1.0 t D at.0 high _ r step)
+          let step = block_read reading_of parts.0 t D new.reading new.vacant at.0 high b m _ inner at.2 (ends_later D low at.0 at.1 ends) parts.2 in
+          introduced_step (place_of reading_of) s parts.0 t D low at.0 high r new at.1 (past_token parts.0 t D at.0 high _ r step)
       routine_told y ts r (p.forward {x = h} heads is) s t D low high reading ordered ends e =
-          let parts = one_parts s t (record { name = heading_name h; heading = Some h; block = None }) (ap (one_routine f (own ∷ rest) s) (sym (routine_Forward c h)) ∙ e) in
-          let new = introduced parts.0 s parts.1.0 D (record { name = heading_name h; heading = Some h; block = None }) (headings_told D (length s.gathered.domains) f s.known reading.outer reading.known n h ts _ heads []) reading parts.1.1 in
+          let reading_of : RoutineReading = record { name = heading_name h; heading = Some h; block = None } in
+          let parts = one_parts s t reading_of (ap (one_routine f (own ∷ rest) s) (sym (routine_Forward c h)) ∙ e) in
+          let new = introduced (place_of reading_of) s parts.0 D reading_of (headings_told D (length s.gathered.domains) f s.known reading.outer reading.known n h ts _ heads []) reading parts.1 in
           let at = (then_later ts _ r (headings_go n h ts _ heads) (behind _ _ r (behind _ _ r (behind _ r r (same_place r))))).on low high ordered in
-          subst (λ q. Step s q D low high r) (inside parts.1.0 t parts.1.2) (forward_step parts.0 s parts.1.0 D low at.0 high r new at.1 at.2 ends)
+          subst (λ q. Step s q D low high r) (inside_yes parts.0 t parts.2) (forward_step (place_of reading_of) s parts.0 D low at.0 high r new at.1 at.2 ends)
       routine_told y ts r (p.completion {at = name} {b = b} {ts = us} inner) s t D low high reading ordered ends e =
-          let parts = one_parts s t (record { name = name; heading = None; block = Some (block c b) }) (ap (one_routine f (own ∷ rest) s) (sym (routine_Completion c name b)) ∙ e) in
-          let new = introduced parts.0 s parts.1.0 D (record { name = name; heading = None; block = Some (block c b) }) tt reading parts.1.1 in
+          let reading_of : RoutineReading = record { name = name; heading = None; block = Some (block c b) } in
+          let parts = one_parts s t reading_of (ap (one_routine f (own ∷ rest) s) (sym (routine_Completion c name b)) ∙ e) in
+          let new = introduced (place_of reading_of) s parts.0 D reading_of tt reading parts.1 in
           let later : Later ts us = behind _ _ us (behind _ _ us (behind _ us us (same_place us))) in
           let at = later.on low high ordered in
-          let step = block_read parts.0 parts.1.0 t D new.reading new.vacant at.0 high b us _ inner at.2 (ends_later D low at.0 at.1 ends) parts.1.2 in
-          introduced_step parts.0 s parts.1.0 t D low at.0 high r new at.1 (past_token parts.1.0 t D at.0 high _ r step)
+          let step = block_read reading_of parts.0 t D new.reading new.vacant at.0 high b us _ inner at.2 (ends_later D low at.0 at.1 ends) parts.2 in
+          introduced_step (place_of reading_of) s parts.0 t D low at.0 high r new at.1 (past_token parts.0 t D at.0 high _ r step)
 
-      pub routines_told : (ys : List syntax_routine.Routine) (ts r : Tokens) → Many (p.IsRoutine is_forward (heading_within n) symbol) ys ts r → (s t : Routines) (D : Table) (low high : ℕ) → Reading s D → AreOrdered low high ts → EndsBefore low D → steps (one_routine f (own ∷ rest)) s (map (routine c) ys) ≡ Some t → Step s t D low high r
-      routines_told ys ts r none s t D low high reading ordered ends e = subst (λ q. Step s q D low high r) (inside s t e) (no_step s D low high r reading ordered ends)
+      pub routines_told : (ys : List syntax_routine.Routine) (ts r : Tokens) → Many (p.IsRoutine is_forward (heading_within n) symbol) ys ts r → (s t : Routines) (D : Table) (low high : ℕ) → Reading s D → AreOrdered low high ts → EndsBefore low D → steps (one_routine f (own ∷ rest)) s (map (routine c) ys) ≡ Yes t → Step s t D low high r
+      routines_told ys ts r none s t D low high reading ordered ends e = subst (λ q. Step s q D low high r) (inside_yes s t e) (no_step s D low high r reading ordered ends)
       routines_told ys ts r (more {x = y} {xs = zs} {m = m} one many) s t D low high reading ordered ends e =
-          let u = then_some (one_routine f (own ∷ rest) s (routine c y)) (λ q. steps (one_routine f (own ∷ rest)) q (map (routine c) zs)) t e in
+          let u = then_yes (one_routine f (own ∷ rest) s (routine c y)) (λ q. steps (one_routine f (own ∷ rest)) q (map (routine c) zs)) t e in
           let a = routine_told y ts m one s u.0 D low high reading ordered ends u.1 in
           two_steps s u.0 t D low high m r a (routines_told zs m r many u.0 t a.table a.next high a.reading a.ordered a.ends u.2)

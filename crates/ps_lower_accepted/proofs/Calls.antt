@@ -1,5 +1,6 @@
 -- Calls (6.6.3, 6.6.6, 6.7.3): actual parameters for the kinds that formal ones are.
-use Rattle.std.proofs.Common.{◌≡◌, ℕ, zero, suc, Bool, true, false, not, ◌&&◌, ◌||◌, ◌==◌, if◌then◌else◌, List, [], ◌∷◌, Option, Some, None, refl, sym, ap, ◌∙◌, subst, eqb-true}
+use Rattle.std.proofs.Common.{◌≡◌, ℕ, zero, suc, Bool, true, false, not, ◌&&◌, ◌||◌, ◌==◌, if◌then◌else◌, List, [], ◌∷◌, length, Option, Some, None, refl, sym, ap, ◌∙◌, subst, eqb-true}
+use Rattle.ps_text.specs.declared.Span.{Span}
 use Rattle.ps_tree.specs.declared.types.Host.{Host}
 use Rattle.ps_tree.specs.declared.types.Host.TheVariants.{Integer, Char, Boolean, Enumeration}
 use Rattle.ps_tree.specs.declared.types.Ordinal.{Ordinal}
@@ -17,13 +18,17 @@ use Rattle.tac_code.specs.Sound.{IsLine}
 use Rattle.ps_check_names.specs.declared.meaning.Required.{Required}
 use Rattle.ps_check_names.specs.declared.meaning.Required.TheVariants as required
 use Rattle.ps_check_names.specs.Constants.{char}
-use Rattle.ps_check_names.specs.Option.{◌>>=◌, traverse_both}
+use Rattle.ps_check_judgement.specs.declared.refusal.Rule.TheVariants.{NotInProfile, WrongKind, WrongType, NotCongruous}
+use Rattle.ps_check_judgement.specs.Judged.{Yes, No, holds, some_or}
+use Rattle.ps_check_judgement.specs.Changing.{Changing, ◌>>=◌, still}
+use Rattle.ps_check_judgement.proofs.Binds.{then_yes, provided_yes, holds_yes, if_yes, some_or_yes, inside_yes, no_yes}
 use Rattle.ps_check_names.specs.Regions.{Context, Region, Point, BlockPoint, FieldPoint, Section, ValueSection, VariableSection, RoutineSection, Sections, no_section, section_before, values_before, variables_before, formals_before, formals_of, RoutineMeaning, RoutineParameterMeaning, RequiredMeaning}
 use Rattle.ps_check_names.specs.Spelling.{line_in}
 use Rattle.ps_check_expressions.specs.Names.{denoted}
 use Rattle.ps_check_expressions.specs.Values.{Value, SimpleValue, SetValue, StructureValue, Variable, Operand, host_type, ordinal_of, range_of, argument_list}
-use Rattle.ps_check_expressions.specs.Calls.{are_one_type, congruous, are_alike, times, parameters, by_value, by_variable, by_routine, actual, actuals, ordinal_value, needs_integer, function_of, applied, required_value, look, names_input, required_call, called}
-use Rattle.ps_lower_accepted.proofs.Lists.{Each, left, right, never, inside, none_some, then_some, provided_some, if_some}
+use Rattle.ps_check_expressions.specs.Changed.{changed}
+use Rattle.ps_check_expressions.specs.Calls.{are_one_type, congruous, are_alike, times, parameters, by_value, by_variable, by_routine, congruent, named_routine, actual, actuals, ordinal_value, needs_integer, function_of, applied, required_value, look, is_procedure, standing_alone, names_input, function_call, required_call, called}
+use Rattle.ps_lower_accepted.proofs.Lists.{Each, left, right, never, inside, none_some, Gives, then_gives, still_gives, still_then, then_still, then_same, ImagesBoth, both_give}
 use Rattle.ps_lower_accepted.proofs.Names.{denoted_stands}
 use Rattle.ps_lower_accepted.proofs.Operators.{integer_known, boolean_known, set_fits}
 use Rattle.ps_lower_accepted.proofs.Reach.{entry_there, declared_there}
@@ -69,6 +74,12 @@ parameters_known D b no_section h = tt
 parameters_known D b (section_before (ValueSection n type) rest) h = each_times (SectionKnown D b) n (ValueSection n type) (parameters rest) h.0 (parameters_known D b rest h.1)
 parameters_known D b (section_before (VariableSection n type) rest) h = each_times (SectionKnown D b) n (VariableSection n type) (parameters rest) h.0 (parameters_known D b rest h.1)
 parameters_known D b (section_before (RoutineSection sections result) rest) h = (h.0, parameters_known D b rest h.1)
+
+-- each actual parameter for its formal one
+pub congruent_gives : {A B C : Type 0} (at : ℕ) (f : A → B → Changing C) (xs : List A) (ys : List B) (zs : List C) → Gives (congruent at f xs ys) zs → ImagesBoth f xs ys zs
+congruent_gives at f xs ys zs g =
+    let t = still_then (holds (length xs == length ys) NotCongruous at) _ zs g in
+    both_give f xs ys zs (holds_yes (length xs == length ys) NotCongruous at t.0 t.1) t.2
 
 -- ---- congruous lists have equal kinds (6.6.3.6)
 
@@ -166,35 +177,37 @@ module _ (D : Table) (k : Scope) (os : List Shape) where
   simple_passed (TextType n) from e line l t h q = absurd t
   simple_passed type from e line l t h q = absurd h
 
-  value_passed : (type : DataType) (v : Value) (line : ℕ) → IsLine line → (a : Argument) → TypeKnown D (bound_of k) type → ValueTold D k os v → by_value type v line ≡ Some a → ArgumentSound k os a (Own (shape_of type))
+  value_passed : (at : ℕ) (type : DataType) (v : Value) (line : ℕ) → IsLine line → (a : Argument) → TypeKnown D (bound_of k) type → ValueTold D k os v → by_value at type v line ≡ Yes a → ArgumentSound k os a (Own (shape_of type))
   unfolding by_value
-  value_passed type (SimpleValue e from) line l a t h q =
-      let p = provided_some (is_assignable from type) (ByValue e (range_of type) line) a q in
+  value_passed at type (SimpleValue e from) line l a t h q =
+      let p = provided_yes (is_assignable from type) _ _ (ByValue e (range_of type) line) a q in
       subst (λ x. ArgumentSound k os x (Own (shape_of type))) p.1 (simple_passed type from e line l t h (right (has_variables type) (is_compatible from type) p.0))
-  value_passed (SetType d i o) (SetValue e from) line l a t h q =
-      let p = provided_some (is_assignable from (SetType d i o)) (BySet e o.low o.high line) a q in
+  value_passed at (SetType d i o) (SetValue e from) line l a t h q =
+      let p = provided_yes (is_assignable from (SetType d i o)) _ _ (BySet e o.low o.high line) a q in
       subst (λ x. ArgumentSound k os x (Own (shape_of (SetType d i o)))) p.1 (let x = set_fits D k os e from h in ((refl, x.0), (x.1, t, l)))
-  value_passed type (StructureValue e from) line l a t h q =
-      let p = provided_some (is_assignable from type) (ByCopy e type) a q in
+  value_passed at type (StructureValue e from) line l a t h q =
+      let p = provided_yes (is_assignable from type) _ _ (ByCopy e type) a q in
       let goes = structure_goes D k os e from type h t (right (has_variables type) (is_compatible from type) p.0) in
       subst (λ x. ArgumentSound k os x (Own (shape_of type))) p.1 ((refl, goes.structure, goes.fits.0), goes.fits.1)
-  value_passed type (SetValue e from) line l a t h q = absurd (none_some q)
+  value_passed at type (SetValue e from) line l a t h q = absurd (no_yes q)
 
-  variable_passed : (type : DataType) (v : Variable) (a : Argument) → TypeKnown D (bound_of k) type → VariableTold D k os v → by_variable type v ≡ Some a → ArgumentSound k os a (Reference (shape_of type))
-  variable_passed type v a t told q =
-      let p = provided_some (is_same_type v.type type && not v.in_packed) (ByVariable v.place) a q in
-      let whole = go told.byte refl (not_true v.in_packed (right (is_same_type v.type type) (not v.in_packed) p.0)) in
-      let same = same_shape D (bound_of k) (bound_of k) v.type type told.known t (left (is_same_type v.type type) (not v.in_packed) p.0) in
+  variable_passed : (at : ℕ) (type : DataType) (v : Variable) (a : Argument) → TypeKnown D (bound_of k) type → VariableTold D k os v → by_variable at type v ≡ Yes a → ArgumentSound k os a (Reference (shape_of type))
+  unfolding by_variable
+  variable_passed at type v a t told q =
+      let o = if_yes (is_same_type v.type type) _ _ _ a q in
+      let p = provided_yes (not v.in_packed) _ _ (ByVariable v.place) a o.1 in
+      let whole = go told.byte refl (not_true v.in_packed p.0) in
+      let same = same_shape D (bound_of k) (bound_of k) v.type type told.known t o.0 in
       subst (λ x. ArgumentSound k os x (Reference (shape_of type))) p.1 (let x = subst (λ s. PlaceSound k os v.place (Whole s)) same (subst (λ b. PlaceSound k os v.place (part_of b v.type)) whole told.fits) in ((shape_of type, refl, x.0), x.1))
     where
       go : (b : Bool) → told.byte ≡ b → v.in_packed ≡ false → told.byte ≡ false
       go false e f = e
       go true e f = never (sym f ∙ told.packed e)
 
-  routine_passed : (sections : Sections) (result : Option DataType) (p : Point) (a : Argument) → SectionKnown D (bound_of k) (RoutineSection sections result) → PointStands D k os p → by_routine sections result p ≡ Some a → ArgumentSound k os a (Closure (kinds_of (formals_of sections)) (result_shape result))
+  routine_passed : (at : ℕ) (sections : Sections) (result : Option DataType) (p : Point) (a : Argument) → SectionKnown D (bound_of k) (RoutineSection sections result) → PointStands D k os p → by_routine at sections result p ≡ Yes a → ArgumentSound k os a (Closure (kinds_of (formals_of sections)) (result_shape result))
   unfolding by_routine
-  routine_passed sections result (BlockPoint up (RoutineMeaning h)) a s st q =
-      let p = provided_some (congruous sections h.sections && are_one_type result h.result) (ByRoutine h.number up) a q in
+  routine_passed at sections result (BlockPoint up (RoutineMeaning h)) a s st q =
+      let p = provided_yes (congruous sections h.sections && are_one_type result h.result) _ _ (ByRoutine h.number up) a q in
       let there = declared_there k up h st.1 in
       let kinds = same_kinds D (bound_of k) sections h.sections s.0 st.0.0 (left (congruous sections h.sections) (are_one_type result h.result) p.0) in
       let results = same_results D (bound_of k) result h.result s.1 st.0.1 (right (congruous sections h.sections) (are_one_type result h.result) p.0) in
@@ -205,8 +218,8 @@ module _ (D : Table) (k : Scope) (os : List Shape) where
         ),
         tt,
       )
-  routine_passed sections result (BlockPoint up (RoutineParameterMeaning entry x r)) a s st q =
-      let p = provided_some (congruous sections x && are_one_type result r) (ByFormal up entry) a q in
+  routine_passed at sections result (BlockPoint up (RoutineParameterMeaning entry x r)) a s st q =
+      let p = provided_yes (congruous sections x && are_one_type result r) _ _ (ByFormal up entry) a q in
       let there = entry_there k up entry (Closure (kinds_of (formals_of x)) (result_shape r)) st.1 in
       let kinds = same_kinds D (bound_of k) sections x s.0 st.0.0 (left (congruous sections x) (are_one_type result r) p.0) in
       let results = same_results D (bound_of k) result r s.1 st.0.1 (right (congruous sections x) (are_one_type result r) p.0) in
@@ -217,46 +230,49 @@ module _ (D : Table) (k : Scope) (os : List Shape) where
         ),
         tt,
       )
-  routine_passed sections result (FieldPoint which record_type number type) a s st q = absurd (none_some q)
-  routine_passed sections result (BlockPoint up m) a s st q = absurd (none_some q)
+  routine_passed at sections result (FieldPoint which record_type number type) a s st q = absurd (no_yes q)
+  routine_passed at sections result (BlockPoint up m) a s st q = absurd (no_yes q)
 
-  pub ordinal_told : (v : Value) (x : Expr × Ordinal) → ValueTold D k os v → ordinal_of v ≡ Some x → OrdinalKnown D x.1 × ExprSound k os x.0 NumberSort
+  pub ordinal_told : (at : ℕ) (v : Value) (x : Expr × Ordinal) → ValueTold D k os v → ordinal_of at v ≡ Yes x → OrdinalKnown D x.1 × ExprSound k os x.0 NumberSort
   unfolding ordinal_of
-  ordinal_told (SimpleValue e (OrdinalType o)) x h q = subst (λ y. OrdinalKnown D y.1 × ExprSound k os y.0 NumberSort) (inside _ x q) h
-  ordinal_told (SimpleValue e (PointerType n)) x h q = absurd (none_some q)
-  ordinal_told (SimpleValue e NilType) x h q = absurd (none_some q)
-  ordinal_told (SimpleValue e type) x h q = absurd h
-  ordinal_told (SetValue e type) x h q = absurd (none_some q)
-  ordinal_told (StructureValue e type) x h q = absurd (none_some q)
+  ordinal_told at (SimpleValue e (OrdinalType o)) x h q = subst (λ y. OrdinalKnown D y.1 × ExprSound k os y.0 NumberSort) (inside_yes _ x q) h
+  ordinal_told at (SimpleValue e (PointerType n)) x h q = absurd (no_yes q)
+  ordinal_told at (SimpleValue e NilType) x h q = absurd (no_yes q)
+  ordinal_told at (SimpleValue e type) x h q = absurd h
+  ordinal_told at (SetValue e type) x h q = absurd (no_yes q)
+  ordinal_told at (StructureValue e type) x h q = absurd (no_yes q)
 
   module _ (c : Context) (Γ : List Region) (here : Here c Γ D k os) where
-    pub actual_told : (s : Section) (x : Operand) (a : Argument) → SectionKnown D (bound_of k) s → OperandTold D k os x → actual c Γ s x ≡ Some a → ArgumentSound k os a (kind_of_section s)
+    pub actual_told : (s : Section) (x : Operand) (a : Argument) → SectionKnown D (bound_of k) s → OperandTold D k os x → Gives (actual c Γ s x) a → ArgumentSound k os a (kind_of_section s)
     unfolding actual
     actual_told (ValueSection n type) x a t told q =
-        let v = then_some x.value _ a q in
-        value_passed type v.0 (line_in c.text x.first) (line_there c.text x.first here.lines) a t (told.value v.0 v.1) v.2
+        let v = then_still x.value _ a q in
+        value_passed x.first type v.0 (line_in c.text x.first) (line_there c.text x.first here.lines) a t (told.value v.0 v.1) v.2
     actual_told (VariableSection n type) x a t told q =
-        let v = then_some x.variable _ a q in
-        variable_passed type v.0 a t (told.variable v.0 v.1) v.2
-    actual_told (RoutineSection sections result) x a t told q =
-        let name = then_some x.name _ a q in
-        let p = then_some (denoted c Γ name.0) _ a name.2 in
-        routine_passed sections result p.0 a t (denoted_stands c Γ D k os here name.0 p.0 p.1) p.2
+        let v = then_gives x.variable _ a q in
+        let p = then_still (changed c v.0.place x.first) _ a v.2 in
+        variable_passed x.first type v.0 a t (told.variable v.0 v.1) p.2
+    actual_told (RoutineSection sections result) x a t told q = named x.name (still_gives (named_routine c Γ sections result x.first x.name) a q)
+      where
+        named : (name : Option Span) → named_routine c Γ sections result x.first name ≡ Yes a → ArgumentSound k os a (Closure (kinds_of (formals_of sections)) (result_shape result))
+        named None e = absurd (no_yes e)
+        named (Some name) e =
+            let p = then_yes (denoted c Γ name) _ a e in
+            routine_passed name.from sections result p.0 a t (denoted_stands c Γ D k os here name p.0 p.1) p.2
 
-    arguments_listed : (ss : List Section) (xs : List Operand) (args : List Argument) → Each (SectionKnown D (bound_of k)) ss → Each (OperandTold D k os) xs → traverse_both (actual c Γ) ss xs ≡ Some args → ArgumentsSound k os (argument_list args) (kinds_listed ss)
-    arguments_listed [] [] args t told q = subst (λ l. ArgumentsSound k os (argument_list l) no_kind) (inside [] args q) (refl, tt)
-    arguments_listed [] (x ∷ xs) args t told q = absurd (none_some q)
-    arguments_listed (s ∷ ss) [] args t told q = absurd (none_some q)
-    arguments_listed (s ∷ ss) (x ∷ xs) args t told q =
-        let a = then_some (actual c Γ s x) _ args q in
-        let rest = then_some (traverse_both (actual c Γ) ss xs) _ args a.2 in
-        let one = actual_told s x a.0 t.0 told.0 a.1 in
-        let others = arguments_listed ss xs rest.0 t.1 told.1 rest.1 in
-        subst (λ l. ArgumentsSound k os (argument_list l) (kinds_listed (s ∷ ss))) (inside (a.0 ∷ rest.0) args rest.2)
+    arguments_listed : (ss : List Section) (xs : List Operand) (args : List Argument) → Each (SectionKnown D (bound_of k)) ss → Each (OperandTold D k os) xs → ImagesBoth (actual c Γ) ss xs args → ArgumentsSound k os (argument_list args) (kinds_listed ss)
+    arguments_listed [] [] [] t told q = (refl, tt)
+    arguments_listed (s ∷ ss) (x ∷ xs) (a ∷ args) t told q =
+        let one = actual_told s x a t.0 told.0 q.0 in
+        let others = arguments_listed ss xs args t.1 told.1 q.1 in
         ((kind_of_section s, (kinds_listed ss, refl, one.0, others.0)), (one.1, others.1))
+    arguments_listed [] [] (a ∷ args) t told q = absurd q
+    arguments_listed [] (x ∷ xs) args t told q = absurd q
+    arguments_listed (s ∷ ss) [] args t told q = absurd q
+    arguments_listed (s ∷ ss) (x ∷ xs) [] t told q = absurd q
 
-    pub arguments_told : (sections : Sections) (xs : List Operand) (args : List Argument) → SectionsKnown D (bound_of k) sections → Each (OperandTold D k os) xs → actuals c Γ sections xs ≡ Some args → ArgumentsSound k os (argument_list args) (kinds_of (formals_of sections))
-    arguments_told sections xs args t told q = subst (ArgumentsSound k os (argument_list args)) (sym (kinds_are sections)) (arguments_listed (parameters sections) xs args (parameters_known D (bound_of k) sections t) told q)
+    pub arguments_told : (at : ℕ) (sections : Sections) (xs : List Operand) (args : List Argument) → SectionsKnown D (bound_of k) sections → Each (OperandTold D k os) xs → Gives (actuals c Γ at sections xs) args → ArgumentsSound k os (argument_list args) (kinds_of (formals_of sections))
+    arguments_told at sections xs args t told q = subst (ArgumentsSound k os (argument_list args)) (sym (kinds_are sections)) (arguments_listed (parameters sections) xs args (parameters_known D (bound_of k) sections t) told (congruent_gives at (actual c Γ) (parameters sections) xs args q))
 
     -- ---- required functions
 
@@ -270,20 +286,20 @@ module _ (D : Table) (k : Scope) (os : List Shape) where
     function_told required.Pred o g h q = let t = host_ordinal D o.host h.host in subst (λ x. FunctionFits x.0 × OrdinalKnown D x.1) (inside _ g q) (t.low, t)
     function_told r o g h q = absurd (none_some q)
 
-    applied_told : (r : Required) (line : ℕ) → IsLine line → (x : Expr × Ordinal) (g : RequiredFunction × Ordinal) (v : Value) → ExprSound k os x.0 NumberSort → FunctionFits g.0 × OrdinalKnown D g.1 → applied r line x g ≡ Some v → ValueTold D k os v
-    applied_told r line l x g v h t q = go (needs_integer r && not (is_same_host x.1.host Integer)) q
+    applied_told : (at : ℕ) (r : Required) (line : ℕ) → IsLine line → (x : Expr × Ordinal) (o : Option (RequiredFunction × Ordinal)) (v : Value) → ExprSound k os x.0 NumberSort → ((g : RequiredFunction × Ordinal) → o ≡ Some g → FunctionFits g.0 × OrdinalKnown D g.1) → applied at r line x o ≡ Yes v → ValueTold D k os v
+    applied_told at r line l x None v h t q = absurd (no_yes q)
+    applied_told at r line l x (Some g) v h t q = go (needs_integer r && not (is_same_host x.1.host Integer)) q
       where
-        go : (b : Bool) → (if b then None else Some (ordinal_value (Apply g.0 x.0 line) g.1)) ≡ Some v → ValueTold D k os v
-        go true e = absurd (none_some e)
-        go false e = subst (ValueTold D k os) (inside _ v e) (t.1, ((refl, t.0, h.0), (h.1, l)))
+        go : (b : Bool) → (if b then No WrongType at else Yes (ordinal_value (Apply g.0 x.0 line) g.1)) ≡ Yes v → ValueTold D k os v
+        go true e = absurd (no_yes e)
+        go false e = let told = t g refl in subst (ValueTold D k os) (inside_yes _ v e) (told.1, ((refl, told.0, h.0), (h.1, l)))
 
-    required_told : (r : Required) (line : ℕ) → IsLine line → (v w : Value) → ValueTold D k os v → required_value r line v ≡ Some w → ValueTold D k os w
+    required_told : (at : ℕ) (r : Required) (line : ℕ) → IsLine line → (v w : Value) → ValueTold D k os v → required_value at r line v ≡ Yes w → ValueTold D k os w
     unfolding required_value
-    required_told r line l v w h q =
-        let x = then_some (ordinal_of v) _ w q in
-        let g = then_some (function_of r x.0.1) _ w x.2 in
-        let told = ordinal_told v x.0 h x.1 in
-        applied_told r line l x.0 g.0 w told.1 (function_told r x.0.1 g.0 told.0 g.1) g.2
+    required_told at r line l v w h q =
+        let x = then_yes (ordinal_of at v) _ w q in
+        let told = ordinal_told at v x.0 h x.1 in
+        applied_told at r line l x.0 (function_of r x.0.1) w told.1 (λ g e. function_told r x.0.1 g told.0 e) x.2
 
     look_told : (r : Required) (line : ℕ) → IsLine line → (v : Value) → look r line ≡ Some v → ValueTold D k os v
     unfolding look
@@ -291,15 +307,23 @@ module _ (D : Table) (k : Scope) (os : List Shape) where
     look_told required.Eoln line l v q = subst (ValueTold D k os) (inside _ v q) (boolean_known D, ((refl, here.outermost), l))
     look_told r line l v q = absurd (none_some q)
 
-    required_called : (r : Required) (line : ℕ) → IsLine line → (xs : List Operand) (v : Value) → Each (OperandTold D k os) xs → required_call c Γ r line xs ≡ Some v → ValueTold D k os v
-    unfolding required_call
-    required_called r line l [] v told q = look_told r line l v (if_some c.has_input (look r line) v q).1
-    required_called r line l (x ∷ []) v told q = go (names_input c Γ x) q
+    alone_told : (at : ℕ) (r : Required) (line : ℕ) → IsLine line → (o : Option Value) → look r line ≡ o → (v : Value) → standing_alone at c.has_input o ≡ Yes v → ValueTold D k os v
+    alone_told at r line l None e v q = absurd (no_yes q)
+    alone_told at r line l (Some w) e v q = look_told r line l v (e ∙ ap Some (provided_yes c.has_input _ _ w v q).1)
+
+    function_called : (at : ℕ) (r : Required) (xs : List Operand) (v : Value) → Each (OperandTold D k os) xs → Gives (function_call c Γ at r xs) v → ValueTold D k os v
+    unfolding function_call
+    function_called at r [] v told q = alone_told at r (line_in c.text at) (line_there c.text at here.lines) (look r (line_in c.text at)) refl v (still_gives _ v q)
+    function_called at r (x ∷ []) v told q = go (names_input c Γ x) q
       where
-        go : (b : Bool) → (if b then look r line else x.value >>= required_value r line) ≡ Some v → ValueTold D k os v
-        go true e = look_told r line l v e
-        go false e = let w = then_some x.value _ v e in required_told r line l w.0 v (told.0.value w.0 w.1) w.2
-    required_called r line l (x ∷ y ∷ rest) v told q = absurd (none_some q)
+        go : (b : Bool) → Gives (if b then still (some_or NotInProfile x.first (look r (line_in c.text at))) else (x.value >>= (λ v. still (required_value x.first r (line_in c.text at) v)))) v → ValueTold D k os v
+        go true e = look_told r (line_in c.text at) (line_there c.text at here.lines) v (some_or_yes NotInProfile x.first (look r (line_in c.text at)) v (still_gives _ v e))
+        go false e = let w = then_still x.value _ v e in required_told x.first r (line_in c.text at) (line_there c.text at here.lines) w.0 v (told.0.value w.0 w.1) w.2
+    function_called at r (x ∷ y ∷ rest) v told q = absurd (no_yes q.given)
+
+    required_called : (at : ℕ) (r : Required) (xs : List Operand) (v : Value) → Each (OperandTold D k os) xs → Gives (required_call c Γ at r xs) v → ValueTold D k os v
+    unfolding required_call
+    required_called at r xs v told q = function_called at r xs v told (still_then (holds (not (is_procedure r)) WrongKind at) _ v q).2
 
     -- ---- calls of functions
 
@@ -308,23 +332,25 @@ module _ (D : Table) (k : Scope) (os : List Shape) where
     result_told (PointerType n) e h g = (h.1, g (PointerSort n) refl)
     result_told type e h g = absurd h.0
 
-    pub called_told : (line : ℕ) → IsLine line → (p : Point) (xs : List Operand) (v : Value) → PointStands D k os p → Each (OperandTold D k os) xs → called c Γ line p xs ≡ Some v → ValueTold D k os v
+    pub called_told : (at : ℕ) (p : Point) (xs : List Operand) (v : Value) → PointStands D k os p → Each (OperandTold D k os) xs → Gives (called c Γ at p xs) v → ValueTold D k os v
     unfolding called
-    called_told line l (BlockPoint up (RoutineMeaning h)) xs v st told q =
-        let type = then_some h.result _ v q in
-        let args = then_some (actuals c Γ h.sections xs) _ v type.2 in
+    called_told at (BlockPoint up (RoutineMeaning h)) xs v st told q =
+        let type = still_then (some_or WrongKind at h.result) _ v q in
+        let is = some_or_yes WrongKind at h.result type.0 type.1 in
+        let args = then_same (actuals c Γ at h.sections xs) _ v type.2 in
         let there = declared_there k up h st.1 in
-        let result = ap result_shape (there.is.result ∙ type.1) in
-        let arguments = arguments_told h.sections xs args.0 st.0.0 told args.1 in
-        subst (ValueTold D k os) (inside _ v args.2) (result_told type.0 (Call h.number up (argument_list args.0) line) (subst (ResultKnown D (bound_of k)) type.1 st.0.1)
-        (λ sort s. ((there.at, (shape_of type.0, result, s), (subst (λ fs. ArgumentsSound k os (argument_list args.0) (kinds_of fs)) (sym there.is.formals) arguments).0), (arguments.1, l))))
-    called_told line l (BlockPoint up (RoutineParameterMeaning entry sections result)) xs v st told q =
-        let type = then_some result _ v q in
-        let args = then_some (actuals c Γ sections xs) _ v type.2 in
+        let result = ap result_shape (there.is.result ∙ is) in
+        let arguments = arguments_told at h.sections xs args.0 st.0.0 told args.1 in
+        subst (ValueTold D k os) args.2 (result_told type.0 (Call h.number up (argument_list args.0) (line_in c.text at)) (subst (ResultKnown D (bound_of k)) is st.0.1)
+        (λ sort s. ((there.at, (shape_of type.0, result, s), (subst (λ fs. ArgumentsSound k os (argument_list args.0) (kinds_of fs)) (sym there.is.formals) arguments).0), (arguments.1, line_there c.text at here.lines))))
+    called_told at (BlockPoint up (RoutineParameterMeaning entry sections result)) xs v st told q =
+        let type = still_then (some_or WrongKind at result) _ v q in
+        let is = some_or_yes WrongKind at result type.0 type.1 in
+        let args = then_same (actuals c Γ at sections xs) _ v type.2 in
         let there = entry_there k up entry (Closure (kinds_of (formals_of sections)) (result_shape result)) st.1 in
-        let arguments = arguments_told sections xs args.0 st.0.0 told args.1 in
-        subst (ValueTold D k os) (inside _ v args.2) (result_told type.0 (CallFormal up entry (argument_list args.0) line) (subst (ResultKnown D (bound_of k)) type.1 st.0.1)
-        (λ sort s. ((there.0, (kinds_of (formals_of sections), (shape_of type.0, there.1 ∙ ap (λ r. Some (Closure (kinds_of (formals_of sections)) (result_shape r))) type.1, s), arguments.0)), (arguments.1, l))))
-    called_told line l (BlockPoint up (RequiredMeaning r)) xs v st told q = required_called r line l xs v told q
-    called_told line l (BlockPoint up m) xs v st told q = absurd (none_some q)
-    called_told line l (FieldPoint which record_type number type) xs v st told q = absurd (none_some q)
+        let arguments = arguments_told at sections xs args.0 st.0.0 told args.1 in
+        subst (ValueTold D k os) args.2 (result_told type.0 (CallFormal up entry (argument_list args.0) (line_in c.text at)) (subst (ResultKnown D (bound_of k)) is st.0.1)
+        (λ sort s. ((there.0, (kinds_of (formals_of sections), (shape_of type.0, there.1 ∙ ap (λ r. Some (Closure (kinds_of (formals_of sections)) (result_shape r))) is, s), arguments.0)), (arguments.1, line_there c.text at here.lines))))
+    called_told at (BlockPoint up (RequiredMeaning r)) xs v st told q = required_called at r xs v told q
+    called_told at (BlockPoint up m) xs v st told q = absurd (no_yes q.given)
+    called_told at (FieldPoint which record_type number type) xs v st told q = absurd (no_yes q.given)

@@ -5,12 +5,13 @@ use Rattle.ps_tree.specs.Tree.{Formals, Routine, Program, routine_at}
 use Rattle.ps_lower_layout.specs.Shapes.{Shape, shape_of}
 use Rattle.ps_lower_layout.specs.Frames.{Kind, Own, Reference, Closure, kinds_of, listed_kinds, result_kinds, variable_kinds, result_shape, entries}
 use Rattle.ps_lower_code.specs.Fits.{shape_in}
-use Rattle.ps_check_names.specs.Option.{provided, steps}
+use Rattle.ps_check_judgement.specs.Judged.{Yes, provided, some_or}
+use Rattle.ps_check_judgement.specs.declared.refusal.Rule.TheVariants.{Limit}
+use Rattle.ps_check_judgement.proofs.Binds.{then_yes, provided_yes, some_or_yes, inside_yes}
 use Rattle.ps_check_names.specs.Regions.{Section, ValueSection, VariableSection, RoutineSection, Sections, no_section, section_before, values_before, variables_before, formals_before, formals_of, Heading, Meaning, ConstantMeaning, TextMeaning, TypeMeaning, VariableMeaning, ParameterMeaning, RoutineParameterMeaning, one_more}
-use Rattle.ps_check_declarations.specs.Points.{add_name}
 use Rattle.ps_check.specs.Readings.{Start}
 use Rattle.ps_check.specs.Entries.{Entries, add_entry, add_parameters, add_section, add_sections, first_entry, start}
-use Rattle.ps_lower_accepted.proofs.Lists.{Each, each_append, each_map, then_some, provided_some, none_some, inside, get_left}
+use Rattle.ps_lower_accepted.proofs.Lists.{Each, each_append, each_map, none_some, inside, if_some, get_left}
 use Rattle.ps_lower_accepted.proofs.Tables.{Table, TypeKnown}
 use Rattle.ps_lower_accepted.proofs.Standing.{SectionKnown, SectionsKnown, MeaningKnown, MeaningStands}
 use Rattle.ps_lower_accepted.proofs.Aims.{IsOwn}
@@ -83,11 +84,12 @@ module _ (D : Table) (b : ℕ) where
     pub among : Each (IsAmong kinds) e.known
 
   -- one more
-  entry_added : (meaning : ℕ → Meaning) (kinds : List Kind) (kind : Kind) (e e' : Entries) → AreEntries kinds e → MeaningKnown D b (meaning e.next) → IsAmong (kinds ++ kind ∷ []) (meaning e.next) → add_entry meaning e ≡ Some e' → AreEntries (kinds ++ kind ∷ []) e'
-  entry_added meaning kinds kind e e' are known among h =
-      let n = then_some (one_more e.next) _ e' h in
-      let is = (provided_some (nat_lt e.next 4294967295) (e.next + 1) n.0 n.1).1 in
-      subst (AreEntries (kinds ++ kind ∷ [])) (inside _ e' n.2) (record {
+  entry_added : (at : ℕ) (meaning : ℕ → Meaning) (kinds : List Kind) (kind : Kind) (e e' : Entries) → AreEntries kinds e → MeaningKnown D b (meaning e.next) → IsAmong (kinds ++ kind ∷ []) (meaning e.next) → add_entry at meaning e ≡ Yes e' → AreEntries (kinds ++ kind ∷ []) e'
+  entry_added at meaning kinds kind e e' are known among h =
+      let n = then_yes (some_or Limit at (one_more e.next)) _ e' h in
+      let more = if_some (nat_lt e.next 4294967295) (Some (e.next + 1)) n.0 (some_or_yes Limit at (one_more e.next) n.0 n.1) in
+      let is = inside (e.next + 1) n.0 more.1 in
+      subst (AreEntries (kinds ++ kind ∷ [])) (inside_yes _ e' n.2) (record {
         next = sym is ∙ (let q = are.next in let l = length-append kinds (kind ∷ []) in omega (arith, q, l));
         known = each_append (MeaningKnown D b) e.known (meaning e.next ∷ []) are.known (known, tt);
         among = each_append (IsAmong (kinds ++ kind ∷ [])) e.known (meaning e.next ∷ []) (each_map (IsAmong kinds) (IsAmong (kinds ++ kind ∷ [])) (among_left kinds (kind ∷ [])) e.known are.among) (among, tt);
@@ -96,29 +98,29 @@ module _ (D : Table) (b : ℕ) where
   last_is : (kinds : List Kind) (kind : Kind) (e : Entries) → AreEntries kinds e → slice_get (kinds ++ kind ∷ []) e.next ≡ Some kind
   last_is kinds kind e are = ap (slice_get (kinds ++ kind ∷ [])) are.next ∙ get_end kinds kind []
 
-  parameters_added : (type : DataType) (kind : Kind) → shape_in (Some kind) ≡ Some (shape_of type) → TypeKnown D b type → (n : ℕ) (kinds : List Kind) (e e' : Entries) → AreEntries kinds e → add_parameters type n e ≡ Some e' → AreEntries (kinds ++ copies n kind) e'
+  parameters_added : (at : ℕ) (type : DataType) (kind : Kind) → shape_in (Some kind) ≡ Some (shape_of type) → TypeKnown D b type → (n : ℕ) (kinds : List Kind) (e e' : Entries) → AreEntries kinds e → add_parameters at type n e ≡ Yes e' → AreEntries (kinds ++ copies n kind) e'
   unfolding add_parameters
-  parameters_added type kind shape known zero kinds e e' are h = subst (λ l. AreEntries l e') (sym (append-nil kinds)) (subst (AreEntries kinds) (inside e e' h) are)
-  parameters_added type kind shape known (suc n) kinds e e' are h =
-      let t = then_some (add_entry (λ i. ParameterMeaning i type) e) (add_parameters type n) e' h in
-      let one = entry_added (λ i. ParameterMeaning i type) kinds kind e t.0 are known (ap shape_in (last_is kinds kind e are) ∙ shape) t.1 in
-      subst (λ l. AreEntries l e') (append_assoc kinds (kind ∷ []) (copies n kind)) (parameters_added type kind shape known n (kinds ++ kind ∷ []) t.0 e' one t.2)
+  parameters_added at type kind shape known zero kinds e e' are h = subst (λ l. AreEntries l e') (sym (append-nil kinds)) (subst (AreEntries kinds) (inside_yes e e' h) are)
+  parameters_added at type kind shape known (suc n) kinds e e' are h =
+      let t = then_yes (add_entry at (λ i. ParameterMeaning i type) e) (add_parameters at type n) e' h in
+      let one = entry_added at (λ i. ParameterMeaning i type) kinds kind e t.0 are known (ap shape_in (last_is kinds kind e are) ∙ shape) t.1 in
+      subst (λ l. AreEntries l e') (append_assoc kinds (kind ∷ []) (copies n kind)) (parameters_added at type kind shape known n (kinds ++ kind ∷ []) t.0 e' one t.2)
 
-  section_added : (s : Section) → SectionKnown D b s → (kinds : List Kind) (e e' : Entries) → AreEntries kinds e → add_section e s ≡ Some e' → AreEntries (kinds ++ section_kinds s) e'
+  section_added : (at : ℕ) (s : Section) → SectionKnown D b s → (kinds : List Kind) (e e' : Entries) → AreEntries kinds e → add_section at e s ≡ Yes e' → AreEntries (kinds ++ section_kinds s) e'
   unfolding add_section
-  section_added (ValueSection count type) known kinds e e' are h = parameters_added type (Own (shape_of type)) refl known count kinds e e' are h
-  section_added (VariableSection count type) known kinds e e' are h = parameters_added type (Reference (shape_of type)) refl known count kinds e e' are h
-  section_added (RoutineSection sections result) known kinds e e' are h =
+  section_added at (ValueSection count type) known kinds e e' are h = parameters_added at type (Own (shape_of type)) refl known count kinds e e' are h
+  section_added at (VariableSection count type) known kinds e e' are h = parameters_added at type (Reference (shape_of type)) refl known count kinds e e' are h
+  section_added at (RoutineSection sections result) known kinds e e' are h =
       let kind = Closure (kinds_of (formals_of sections)) (result_shape result) in
-      entry_added (λ i. RoutineParameterMeaning i sections result) kinds kind e e' are known (last_is kinds kind e are) h
+      entry_added at (λ i. RoutineParameterMeaning i sections result) kinds kind e e' are known (last_is kinds kind e are) h
 
-  sections_added : (ss : Sections) → SectionsKnown D b ss → (kinds : List Kind) (e e' : Entries) → AreEntries kinds e → add_sections e ss ≡ Some e' → AreEntries (kinds ++ formal_kinds ss) e'
+  sections_added : (at : ℕ) (ss : Sections) → SectionsKnown D b ss → (kinds : List Kind) (e e' : Entries) → AreEntries kinds e → add_sections at e ss ≡ Yes e' → AreEntries (kinds ++ formal_kinds ss) e'
   unfolding add_sections formals_of
-  sections_added no_section known kinds e e' are h = subst (λ l. AreEntries l e') (sym (append-nil kinds)) (subst (AreEntries kinds) (inside e e' h) are)
-  sections_added (section_before s rest) known kinds e e' are h =
-      let t = then_some (add_section e s) (λ d. add_sections d rest) e' h in
-      let one = section_added s known.0 kinds e t.0 are t.1 in
-      subst (λ l. AreEntries l e') (append_assoc kinds (section_kinds s) (formal_kinds rest) ∙ ap (λ l. kinds ++ l) (sym (section_listed s (formals_of rest)))) (sections_added rest known.1 (kinds ++ section_kinds s) t.0 e' one t.2)
+  sections_added at no_section known kinds e e' are h = subst (λ l. AreEntries l e') (sym (append-nil kinds)) (subst (AreEntries kinds) (inside_yes e e' h) are)
+  sections_added at (section_before s rest) known kinds e e' are h =
+      let t = then_yes (add_section at e s) (λ d. add_sections at d rest) e' h in
+      let one = section_added at s known.0 kinds e t.0 are t.1 in
+      subst (λ l. AreEntries l e') (append_assoc kinds (section_kinds s) (formal_kinds rest) ∙ ap (λ l. kinds ++ l) (sym (section_listed s (formals_of rest)))) (sections_added at rest known.1 (kinds ++ section_kinds s) t.0 e' one t.2)
 
   -- ---- what the block of a routine begins with
   pub record Begins (chain : List ℕ) (h : Heading) (s : Start) : Type 0 where
@@ -131,15 +133,14 @@ module _ (D : Table) (b : ℕ) where
   none_yet h None e = refl
   none_yet h (Some type) e = refl
 
-  pub start_told : (chain : List ℕ) (h : Heading) (s : Start) → SectionsKnown D b h.sections → start chain h ≡ Some s → Begins chain h s
+  pub start_told : (at : ℕ) (chain : List ℕ) (h : Heading) (s : Start) → SectionsKnown D b h.sections → start at chain h ≡ Yes s → Begins chain h s
   unfolding start
-  start_told chain h s known e =
-      let inner = then_some (provided (nat_lt (length chain) 16) (h.number ∷ chain)) _ s e in
-      let chained = provided_some (nat_lt (length chain) 16) (h.number ∷ chain) inner.0 inner.1 in
-      let names = then_some (steps add_name [] h.names) _ s inner.2 in
-      let made = then_some (add_sections (record { next = first_entry h.result; known = [] }) h.sections) _ s names.2 in
-      let are = sections_added h.sections known (result_kinds h.result) (record { next = first_entry h.result; known = [] }) made.0 (record { next = none_yet h h.result refl; known = tt; among = tt }) made.1 in
-      subst (Begins chain h) (inside _ s made.2) (record { chain_is = sym chained.1; first = are.next; known = are.known; among = are.among })
+  start_told at chain h s known e =
+      let inner = then_yes (provided (nat_lt (length chain) 16) Limit at (h.number ∷ chain)) _ s e in
+      let chained = provided_yes (nat_lt (length chain) 16) _ _ (h.number ∷ chain) inner.0 inner.1 in
+      let made = then_yes (add_sections at (record { next = first_entry h.result; known = [] }) h.sections) _ s inner.2 in
+      let are = sections_added at h.sections known (result_kinds h.result) (record { next = first_entry h.result; known = [] }) made.0 (record { next = none_yet h h.result refl; known = tt; among = tt }) made.1 in
+      subst (Begins chain h) (inside_yes _ s made.2) (record { chain_is = sym chained.1; first = are.next; known = are.known; among = are.among })
 
 -- ---- in the program
 

@@ -1,9 +1,9 @@
 -- What is told of an expression in parentheses, whose number the tree has.
-use Rattle.std.proofs.Common.{◌≡◌, ℕ, suc, List, [], Option, Some, None, refl, sym, ap, ◌∙◌}
+use Rattle.std.proofs.Common.{◌≡◌, ℕ, List, [], Option, Some, None, refl, sym, ap, ◌∙◌}
 use Rattle.ps_text.specs.declared.Span.{Span}
 use Rattle.ps_syntax.specs.declared.expression.Expr.{Expr}
-use Rattle.ps_syntax.specs.declared.expression.Simple.{Simple, roll-Simple, out-Simple, out-roll-Simple}
-use Rattle.ps_syntax.specs.declared.expression.Term.{Term, roll-Term, out-Term, out-roll-Term}
+use Rattle.ps_syntax.specs.declared.expression.Simple.{out-roll-Simple}
+use Rattle.ps_syntax.specs.declared.expression.Term.{roll-Term, out-Term, out-roll-Term}
 use Rattle.ps_syntax.specs.declared.expression.Factor.{Factor}
 use Rattle.ps_syntax.specs.declared.expression.Factor.TheVariants as f
 use Rattle.ps_parse_grammar.specs.Groups.{inside, stripped, grouped}

@@ -5,16 +5,17 @@ use Rattle.ps_tree.specs.Types.{DataType, RecordType, FieldList, DataTypes, no_t
 use Rattle.ps_tree.specs.Tree.{Program}
 use Rattle.ps_lower_layout.specs.Shapes.{Shape, shape_of, shapes_of, field_shape, field_part}
 use Rattle.ps_lower_code.specs.Scopes.{Scope}
-use Rattle.ps_check_names.specs.Option.{◌>>=◌}
+use Rattle.ps_check_judgement.specs.Judged.{Yes, ◌>>=◌, some_or}
+use Rattle.ps_check_judgement.proofs.Binds.{then_yes, some_or_yes, inside_yes, no_yes}
 use Rattle.ps_check_names.specs.Spelling.{place, spelled}
-use Rattle.ps_check_names.specs.Regions.{Region, BlockRegion, RecordRegion, FieldNames, Point, BlockPoint, FieldPoint, Meaning, one_more, find_past, in_block, in_record, in_fields, Context}
+use Rattle.ps_check_names.specs.Regions.{Region, BlockRegion, RecordRegion, OwnNames, Point, BlockPoint, FieldPoint, Meaning, one_more, missing, find_past, of_block, in_block, in_record, in_own, Context}
 use Rattle.ps_check_expressions.specs.Names.{denoted}
-use Rattle.ps_lower_accepted.proofs.Lists.{Each, each_at, then_some, map_some, none_some, inside, provided_some, if_some}
+use Rattle.ps_lower_accepted.proofs.Lists.{Each, each_at, then_some, map_some, none_some, inside, if_some}
 use Rattle.ps_lower_accepted.proofs.Tables.{Table, TypeKnown, TypesKnown, FieldsKnown}
 use Rattle.ps_lower_accepted.proofs.Standing.{MeaningKnown, MeaningStands, RegionsKnown, BlocksStand, RegionsStand, HasFields, Here, PointStands}
 
 more_is : (n m : ℕ) → one_more n ≡ Some m → suc n ≡ m
-more_is n m e = let h = (provided_some _ (n + 1) m e).1 in omega (arith, h)
+more_is n m e = let h = inside (n + 1) m (if_some _ (Some (n + 1)) m e).1 in omega (arith, h)
 
 pub drop_none : (n : ℕ) → drop n (let l : List ℕ = [] in l) ≡ []
 drop_none zero = refl
@@ -27,24 +28,28 @@ abbrev pub PointKnown : Table → ℕ → Point → Type 0
 PointKnown D b (BlockPoint up m) = MeaningKnown D b m
 PointKnown D b (FieldPoint which type n field) = Unit {0}
 
-pub find_known : (D : Table) (b : ℕ) (Γ : List Region) (up which : ℕ) (s : List ℕ) (p : Point) → RegionsKnown D b Γ → find_past up which Γ s ≡ Some p → PointKnown D b p
+block_is : (at up : ℕ) (o : Option Meaning) (p : Point) → of_block at up o ≡ Yes p → (m : Meaning) × (o ≡ Some m) × (BlockPoint up m ≡ p)
+block_is at up None p e = absurd (no_yes e)
+block_is at up (Some m) p e = (m, refl, inside_yes (BlockPoint up m) p e)
+
+pub find_known : (D : Table) (b : ℕ) (Γ : List Region) (up which : ℕ) (s : List ℕ) (at : ℕ) (p : Point) → RegionsKnown D b Γ → find_past up which Γ s at ≡ Yes p → PointKnown D b p
 unfolding find_past
-find_known D b [] up which s p k e = absurd (none_some e)
-find_known D b (BlockRegion routine names known ∷ Γ) up which s p k e = go (λ n. find_known D b Γ n which s p k.1) (place names s) e
+find_known D b [] up which s at p k e = absurd (no_yes e)
+find_known D b (BlockRegion routine names known ∷ Γ) up which s at p k e = go (λ n. find_known D b Γ n which s at p k.1) (place names s) e
   where
-    go : ((n : ℕ) → find_past n which Γ s ≡ Some p → PointKnown D b p) → (o : Option ℕ) → in_block up known o (one_more up >>= (λ n. find_past n which Γ s)) ≡ Some p → PointKnown D b p
-    go further None h = let t = then_some (one_more up) (λ n. find_past n which Γ s) p h in further t.0 t.2
-    go further (Some i) h = let m = map_some (BlockPoint up) (slice_get known i) p h in subst (PointKnown D b) m.2 (each_at (MeaningKnown D b) known i m.0 k.0 m.1)
-find_known D b (RecordRegion type fields ∷ Γ) up which s p k e = go (λ n. find_known D b Γ up n s p k.1) (field_in fields s) e
+    go : ((n : ℕ) → find_past n which Γ s at ≡ Yes p → PointKnown D b p) → (o : Option ℕ) → in_block at up known o (some_or (missing s) at (one_more up) >>= (λ n. find_past n which Γ s at)) ≡ Yes p → PointKnown D b p
+    go further None h = let t = then_yes (some_or (missing s) at (one_more up)) (λ n. find_past n which Γ s at) p h in further t.0 t.2
+    go further (Some i) h = let m = block_is at up (slice_get known i) p h in subst (PointKnown D b) m.2 (each_at (MeaningKnown D b) known i m.0 k.0 m.1)
+find_known D b (RecordRegion type fields ∷ Γ) up which s at p k e = go (λ n. find_known D b Γ up n s at p k.1) (field_in fields s) e
   where
-    go : ((n : ℕ) → find_past up n Γ s ≡ Some p → PointKnown D b p) → (o : Option (ℕ × DataType)) → in_record which type o (one_more which >>= (λ n. find_past up n Γ s)) ≡ Some p → PointKnown D b p
-    go further None h = let t = then_some (one_more which) (λ n. find_past up n Γ s) p h in further t.0 t.2
-    go further (Some f) h = subst (PointKnown D b) (inside (FieldPoint which type f.0 f.1) p h) tt
-find_known D b (FieldNames names ∷ Γ) up which s p k e = go (find_known D b Γ up which s p k.1) (place names s) e
+    go : ((n : ℕ) → find_past up n Γ s at ≡ Yes p → PointKnown D b p) → (o : Option (ℕ × DataType)) → in_record which type o (some_or (missing s) at (one_more which) >>= (λ n. find_past up n Γ s at)) ≡ Yes p → PointKnown D b p
+    go further None h = let t = then_yes (some_or (missing s) at (one_more which)) (λ n. find_past up n Γ s at) p h in further t.0 t.2
+    go further (Some f) h = subst (PointKnown D b) (inside_yes (FieldPoint which type f.0 f.1) p h) tt
+find_known D b (OwnNames names defined ∷ Γ) up which s at p k e = go (find_known D b Γ up which s at p k.1) (place names s) e
   where
-    go : (find_past up which Γ s ≡ Some p → PointKnown D b p) → (o : Option ℕ) → in_fields o (find_past up which Γ s) ≡ Some p → PointKnown D b p
+    go : (find_past up which Γ s at ≡ Yes p → PointKnown D b p) → (o : Option ℕ) → in_own at defined o (find_past up which Γ s at) ≡ Yes p → PointKnown D b p
     go further None h = further h
-    go further (Some i) h = absurd (none_some h)
+    go further (Some i) h = absurd (no_yes h)
 
 -- ---- meanings that stand in the program
 
@@ -62,30 +67,30 @@ module _ (P : Program) (D : Table) where
   further_out up (BlockPoint n m) h = (h.0, (suc h.1.0, let e = h.1.1 in omega (arith, e), subst (λ l. MeaningStands P l m) (drop_none h.1.0) h.1.2))
   further_out up (FieldPoint which type n field) h = h
 
-  here_stands : (up : ℕ) (chain : List ℕ) (known : List Meaning) (i : ℕ) (p : Point) → Each (MeaningKnown D (length P.domains)) known → Each (MeaningStands P chain) known → option_map (BlockPoint up) (slice_get known i) ≡ Some p → BlockStands up chain p
-  here_stands up chain known i p k st e =
-      let m = map_some (BlockPoint up) (slice_get known i) p e in
+  here_stands : (at up : ℕ) (chain : List ℕ) (known : List Meaning) (i : ℕ) (p : Point) → Each (MeaningKnown D (length P.domains)) known → Each (MeaningStands P chain) known → of_block at up (slice_get known i) ≡ Yes p → BlockStands up chain p
+  here_stands at up chain known i p k st e =
+      let m = block_is at up (slice_get known i) p e in
       subst (BlockStands up chain) m.2 (each_at (MeaningKnown D (length P.domains)) known i m.0 k m.1, (0, omega arith, each_at (MeaningStands P chain) known i m.0 st m.1))
 
-  blocks_stand : (Γ : List Region) (chain : List ℕ) (up which : ℕ) (s : List ℕ) (p : Point) → BlocksStand P D Γ chain → find_past up which Γ s ≡ Some p → BlockStands up chain p
+  blocks_stand : (Γ : List Region) (chain : List ℕ) (up which : ℕ) (s : List ℕ) (at : ℕ) (p : Point) → BlocksStand P D Γ chain → find_past up which Γ s at ≡ Yes p → BlockStands up chain p
   unfolding find_past
-  blocks_stand [] chain up which s p k e = absurd (none_some e)
-  blocks_stand (BlockRegion routine names known ∷ Γ) [] up which s p k e = go (λ n. blocks_stand Γ [] n which s p k.2) (place names s) e
+  blocks_stand [] chain up which s at p k e = absurd (no_yes e)
+  blocks_stand (BlockRegion routine names known ∷ Γ) [] up which s at p k e = go (λ n. blocks_stand Γ [] n which s at p k.2) (place names s) e
     where
-      go : ((n : ℕ) → find_past n which Γ s ≡ Some p → BlockStands n [] p) → (o : Option ℕ) → in_block up known o (one_more up >>= (λ n. find_past n which Γ s)) ≡ Some p → BlockStands up [] p
+      go : ((n : ℕ) → find_past n which Γ s at ≡ Yes p → BlockStands n [] p) → (o : Option ℕ) → in_block at up known o (some_or (missing s) at (one_more up) >>= (λ n. find_past n which Γ s at)) ≡ Yes p → BlockStands up [] p
       go rest None h =
-          let t = then_some (one_more up) (λ n. find_past n which Γ s) p h in
-          further_out up p (subst (λ n. BlockStands n [] p) (sym (more_is up t.0 t.1)) (rest t.0 t.2))
-      go rest (Some i) h = here_stands up [] known i p k.0 k.1 h
-  blocks_stand (BlockRegion routine names known ∷ Γ) (r ∷ chain) up which s p k e = go (λ n. blocks_stand Γ chain n which s p k.3) (place names s) e
+          let t = then_yes (some_or (missing s) at (one_more up)) (λ n. find_past n which Γ s at) p h in
+          further_out up p (subst (λ n. BlockStands n [] p) (sym (more_is up t.0 (some_or_yes (missing s) at (one_more up) t.0 t.1))) (rest t.0 t.2))
+      go rest (Some i) h = here_stands at up [] known i p k.0 k.1 h
+  blocks_stand (BlockRegion routine names known ∷ Γ) (r ∷ chain) up which s at p k e = go (λ n. blocks_stand Γ chain n which s at p k.3) (place names s) e
     where
-      go : ((n : ℕ) → find_past n which Γ s ≡ Some p → BlockStands n chain p) → (o : Option ℕ) → in_block up known o (one_more up >>= (λ n. find_past n which Γ s)) ≡ Some p → BlockStands up (r ∷ chain) p
+      go : ((n : ℕ) → find_past n which Γ s at ≡ Yes p → BlockStands n chain p) → (o : Option ℕ) → in_block at up known o (some_or (missing s) at (one_more up) >>= (λ n. find_past n which Γ s at)) ≡ Yes p → BlockStands up (r ∷ chain) p
       go rest None h =
-          let t = then_some (one_more up) (λ n. find_past n which Γ s) p h in
-          further up r chain p (subst (λ n. BlockStands n chain p) (sym (more_is up t.0 t.1)) (rest t.0 t.2))
-      go rest (Some i) h = here_stands up (r ∷ chain) known i p k.1 k.2 h
-  blocks_stand (RecordRegion type fields ∷ Γ) chain up which s p k e = absurd k
-  blocks_stand (FieldNames names ∷ Γ) chain up which s p k e = absurd k
+          let t = then_yes (some_or (missing s) at (one_more up)) (λ n. find_past n which Γ s at) p h in
+          further up r chain p (subst (λ n. BlockStands n chain p) (sym (more_is up t.0 (some_or_yes (missing s) at (one_more up) t.0 t.1))) (rest t.0 t.2))
+      go rest (Some i) h = here_stands at up (r ∷ chain) known i p k.1 k.2 h
+  blocks_stand (RecordRegion type fields ∷ Γ) chain up which s at p k e = absurd k
+  blocks_stand (OwnNames names defined ∷ Γ) chain up which s at p k e = absurd k
 
 -- ---- fields
 
@@ -134,28 +139,28 @@ only_blocks : (D : Table) (P : Program) (os : List Shape) (chain : List ℕ) (wh
 only_blocks D P os chain which (BlockPoint n m) h = (h.0, subst (λ d. MeaningStands P (drop d chain) m) (let e = h.1.1 in omega (arith, e)) h.1.2)
 only_blocks D P os chain which (FieldPoint w type n field) h = absurd h
 
-records_stand : (D : Table) (P : Program) (Γ : List Region) (chain : List ℕ) (os : List Shape) (which : ℕ) (s : List ℕ) (p : Point) → RegionsStand P D Γ chain os → find_past 0 which Γ s ≡ Some p → RecordStands D P os chain which p
+records_stand : (D : Table) (P : Program) (Γ : List Region) (chain : List ℕ) (os : List Shape) (which : ℕ) (s : List ℕ) (at : ℕ) (p : Point) → RegionsStand P D Γ chain os → find_past 0 which Γ s at ≡ Yes p → RecordStands D P os chain which p
 unfolding find_past
-records_stand D P (RecordRegion type fields ∷ Γ) chain [] which s p k e = absurd k
-records_stand D P (RecordRegion type fields ∷ Γ) chain (o ∷ os) which s p k e = go (λ n. records_stand D P Γ chain os n s p k.3) (field_in fields s) refl e
+records_stand D P (RecordRegion type fields ∷ Γ) chain [] which s at p k e = absurd k
+records_stand D P (RecordRegion type fields ∷ Γ) chain (o ∷ os) which s at p k e = go (λ n. records_stand D P Γ chain os n s at p k.3) (field_in fields s) refl e
   where
-    go : ((n : ℕ) → find_past 0 n Γ s ≡ Some p → RecordStands D P os chain n p) → (x : Option (ℕ × DataType)) → field_in fields s ≡ x → in_record which type x (one_more which >>= (λ n. find_past 0 n Γ s)) ≡ Some p → RecordStands D P (o ∷ os) chain which p
+    go : ((n : ℕ) → find_past 0 n Γ s at ≡ Yes p → RecordStands D P os chain n p) → (x : Option (ℕ × DataType)) → field_in fields s ≡ x → in_record which type x (some_or (missing s) at (one_more which) >>= (λ n. find_past 0 n Γ s at)) ≡ Yes p → RecordStands D P (o ∷ os) chain which p
     go rest None g h =
-        let t = then_some (one_more which) (λ n. find_past 0 n Γ s) p h in
-        further_in D P o os chain which p (subst (λ n. RecordStands D P os chain n p) (sym (more_is which t.0 t.1)) (rest t.0 t.2))
+        let t = then_yes (some_or (missing s) at (one_more which)) (λ n. find_past 0 n Γ s at) p h in
+        further_in D P o os chain which p (subst (λ n. RecordStands D P os chain n p) (sym (more_is which t.0 (some_or_yes (missing s) at (one_more which) t.0 t.1))) (rest t.0 t.2))
     go rest (Some f) g h =
         let told = field_of_record D (length P.domains) type fields s f k.1 k.2 g in
-        subst (RecordStands D P (o ∷ os) chain which) (inside (FieldPoint which type f.0 f.1) p h) (0, omega arith, ap Some k.0, told.part, told.known)
-records_stand D P [] chain [] which s p k e = only_blocks D P [] chain which p (blocks_stand P D [] chain 0 which s p k e)
-records_stand D P (BlockRegion routine names known ∷ Γ) chain [] which s p k e = only_blocks D P [] chain which p (blocks_stand P D (BlockRegion routine names known ∷ Γ) chain 0 which s p k e)
-records_stand D P (FieldNames names ∷ Γ) chain [] which s p k e = only_blocks D P [] chain which p (blocks_stand P D (FieldNames names ∷ Γ) chain 0 which s p k e)
-records_stand D P [] chain (o ∷ os) which s p k e = absurd k
-records_stand D P (BlockRegion routine names known ∷ Γ) chain (o ∷ os) which s p k e = absurd k
-records_stand D P (FieldNames names ∷ Γ) chain (o ∷ os) which s p k e = absurd k
+        subst (RecordStands D P (o ∷ os) chain which) (inside_yes (FieldPoint which type f.0 f.1) p h) (0, omega arith, ap Some k.0, told.part, told.known)
+records_stand D P [] chain [] which s at p k e = only_blocks D P [] chain which p (blocks_stand P D [] chain 0 which s at p k e)
+records_stand D P (BlockRegion routine names known ∷ Γ) chain [] which s at p k e = only_blocks D P [] chain which p (blocks_stand P D (BlockRegion routine names known ∷ Γ) chain 0 which s at p k e)
+records_stand D P (OwnNames names defined ∷ Γ) chain [] which s at p k e = only_blocks D P [] chain which p (blocks_stand P D (OwnNames names defined ∷ Γ) chain 0 which s at p k e)
+records_stand D P [] chain (o ∷ os) which s at p k e = absurd k
+records_stand D P (BlockRegion routine names known ∷ Γ) chain (o ∷ os) which s at p k e = absurd k
+records_stand D P (OwnNames names defined ∷ Γ) chain (o ∷ os) which s at p k e = absurd k
 
 as_point : (D : Table) (k : Scope) (os : List Shape) (p : Point) → RecordStands D k.program os k.chain 0 p → PointStands D k os p
 as_point D k os (BlockPoint n m) h = h
 as_point D k os (FieldPoint w type n field) h = (subst (λ i. slice_get os i ≡ Some (shape_of type)) (let e = h.1 in omega (arith, e)) h.2, h.3, h.4)
 
-pub denoted_stands : (c : Context) (Γ : List Region) (D : Table) (k : Scope) (os : List Shape) → Here c Γ D k os → (name : Span) (p : Point) → denoted c Γ name ≡ Some p → PointStands D k os p
-denoted_stands c Γ D k os here name p e = as_point D k os p (records_stand D k.program Γ k.chain os 0 (spelled c.text name) p here.stands e)
+pub denoted_stands : (c : Context) (Γ : List Region) (D : Table) (k : Scope) (os : List Shape) → Here c Γ D k os → (name : Span) (p : Point) → denoted c Γ name ≡ Yes p → PointStands D k os p
+denoted_stands c Γ D k os here name p e = as_point D k os p (records_stand D k.program Γ k.chain os 0 (spelled c.text name) name.from p here.stands e)

@@ -1,5 +1,5 @@
 -- What ordinal types define, and where they stand.
-use Rattle.std.proofs.Common.{◌≡◌, ℕ, ◌+◌, ◌-◌, ◌<◌, ◌≤◌, ◌&&◌, nat_lt, pos, int_le, IsTrue, List, [], ◌∷◌, ◌++◌, length, Some, refl, sym, ap, ◌∙◌, subst, arith, append-nil, lt-ltb, ltb-true, le-leb}
+use Rattle.std.proofs.Common.{◌≡◌, ℕ, ◌+◌, ◌-◌, ◌<◌, ◌≤◌, nat_lt, pos, int_le, IsTrue, List, [], ◌∷◌, ◌++◌, length, Some, refl, sym, ap, ◌∙◌, subst, arith, append-nil, lt-ltb, ltb-true, le-leb}
 use Rattle.ps_scan.specs.Spans.{AreOrdered}
 use Rattle.ps_syntax.specs.First.{first_of_constant, first_of_ordinal}
 use Rattle.ps_syntax.specs.declared.statement.Constant.{Constant}
@@ -13,11 +13,13 @@ use Rattle.ps_parse_grammar.specs.Programs.{IsOrdinal}
 use Rattle.ps_tree.specs.declared.types.Ordinal.{Ordinal}
 use Rattle.ps_tree.specs.Types.{DataType, OrdinalType, is_same_host}
 use Rattle.tac_code.specs.Numbers.{is_integer}
+use Rattle.ps_check_judgement.specs.Judged.{Yes}
+use Rattle.ps_check_judgement.proofs.Binds.{then_yes, provided_yes, if_yes, no_yes, inside_yes}
 use Rattle.ps_check_names.specs.Constants.{ConstantValue, OrdinalConstant, TextConstant, constant}
 use Rattle.ps_check_names.specs.Regions.{Meaning, ConstantMeaning}
-use Rattle.ps_check_declarations.specs.Points.{Points}
-use Rattle.ps_check_declarations.specs.Denoters.{Frame, Declared, Hidden, with_known, regions, type_named, ordinal_at, enumerated, constants_from, enumeration, subrange, ordinal}
-use Rattle.ps_lower_accepted.proofs.Lists.{Each, each_append, then_some, provided_some, none_some, inside, right}
+use Rattle.ps_check_declarations.specs.Points.{Points, new_points}
+use Rattle.ps_check_declarations.specs.Denoters.{Frame, Declared, Hidden, with_known, regions, type_named, ordinal_at, enumerated, constants_from, enumeration, subrange, subrange_of, ordinal}
+use Rattle.ps_lower_accepted.proofs.Lists.{Each, each_append}
 use Rattle.ps_lower_accepted.proofs.Tables.{Table, Extends, EndsBefore, OrdinalKnown, TypeKnown, host_more}
 use Rattle.ps_lower_accepted.proofs.Standing.{MeaningKnown, RegionsKnown}
 use Rattle.ps_lower_accepted.proofs.Aims.{pointers, DeclaredKnown}
@@ -97,10 +99,10 @@ module _ (f : Frame) where
     pub all_known : e.known ≡ d.known ++ new
     pub constants : Each IsConstantMeaning new
 
-  is_ordinal : (D : Table) (b : ℕ) (type : DataType) (o : Ordinal) → TypeKnown D b type → ordinal_at type ≡ Some o → OrdinalKnown D o
+  is_ordinal : (D : Table) (b at : ℕ) (type : DataType) (o : Ordinal) → TypeKnown D b type → ordinal_at at type ≡ Yes o → OrdinalKnown D o
   unfolding ordinal_at
-  is_ordinal D b (OrdinalType q) o k e = subst (OrdinalKnown D) (inside q o e) k
-  is_ordinal D b type o k e = absurd (none_some e)
+  is_ordinal D b at (OrdinalType q) o k e = subst (OrdinalKnown D) (inside_yes q o e) k
+  is_ordinal D b at type o k e = absurd (no_yes e)
 
   -- ---- enumerations
   enumerated_known : (D : Table) (at count : ℕ) → count < 2147483648 → OrdinalKnown (with_enumeration D at (pos (count - 1))) (enumerated at count)
@@ -118,23 +120,25 @@ module _ (f : Frame) where
   only_constants o n (x ∷ names) = (tt, only_constants o (n + 1) names)
 
   -- ---- subranges
-  subrange_known : (D : Table) (at : ℕ) (a b : ConstantValue) (o : Ordinal) → ConstantKnown D a → ConstantKnown D b → Extends D (with_subrange D at o) → subrange at a b ≡ Some o → OrdinalKnown (with_subrange D at o) o
+  subrange_known : (D : Table) (at : ℕ) (a b : ConstantValue) (o : Ordinal) → ConstantKnown D a → ConstantKnown D b → Extends D (with_subrange D at o) → subrange at a b ≡ Yes o → OrdinalKnown (with_subrange D at o) o
   unfolding subrange
   subrange_known D at (OrdinalConstant q m) (OrdinalConstant t n) o a b x e =
-      let is = provided_some (is_same_host q.host t.host && int_le m n) (record { host = q.host; subrange = Some at; low = m; high = n }) o e in
       let made : Ordinal = record { host = q.host; subrange = Some at; low = m; high = n } in
+      let alike = if_yes (is_same_host q.host t.host) _ _ _ o e in
+      let is = provided_yes (int_le m n) _ _ made o alike.1 in
       let there : (with_subrange D at o).subranges at ≡ Some made = put_there at o D.subranges ∙ ap Some (sym is.1) in
-      let known : OrdinalKnown (with_subrange D at o) made = record { low = a.1; high = b.1; rises = right (is_same_host q.host t.host) (int_le m n) is.0; host = host_more D (with_subrange D at o) x q.host a.0.host; subrange = there } in
+      let known : OrdinalKnown (with_subrange D at o) made = record { low = a.1; high = b.1; rises = is.0; host = host_more D (with_subrange D at o) x q.host a.0.host; subrange = there } in
       subst (OrdinalKnown (with_subrange D at o)) is.1 known
-  subrange_known D at (OrdinalConstant q m) (TextConstant w) o a b x e = absurd (none_some e)
-  subrange_known D at (TextConstant w) b o a k x e = absurd (none_some e)
+  subrange_known D at (OrdinalConstant q m) (TextConstant w) o a b x e = absurd (no_yes e)
+  subrange_known D at (TextConstant w) b o a k x e = absurd (no_yes e)
 
   module _ (bytes : Each (λ x. x < 256) f.text) (short : length f.text ≤ 1048576) where
-    enumeration_read : (low high : ℕ) (from to next : ℕ) (names : Points) (x : syntax.Ordinal) (r : Tokens) (D : Table) (d e : Declared) (o : Ordinal) → first_of_ordinal x ≡ from → low ≤ from → from < next → AreOrdered next high r → EndsBefore low D → Known D d → enumeration from names d ≡ Some (o, e) → OrdinalRead low high x r D d e o
+    enumeration_read : (low high : ℕ) (from to next : ℕ) (names : Points) (x : syntax.Ordinal) (r : Tokens) (D : Table) (d e : Declared) (o : Ordinal) → first_of_ordinal x ≡ from → low ≤ from → from < next → AreOrdered next high r → EndsBefore low D → Known D d → enumeration f from names d ≡ Yes (o, e) → OrdinalRead low high x r D d e o
     enumeration_read low high from to next names x r D d e o is le lt ordered ends k q =
         let n = length names in
         let made = with_known d (d.known ++ constants_from (enumerated from n) 0 names) in
-        let few = provided_some (nat_lt n 2147483648) (enumerated from n, made) (o, e) q in
+        let new = then_yes (new_points f.text f.names f.begun (length d.known) names) _ (o, e) q in
+        let few = provided_yes (nat_lt n 2147483648) _ _ (enumerated from n, made) (o, e) new.2 in
         let below = ltb-true n 2147483648 few.0 in
         let table = with_enumeration D from (pos (n - 1)) in
         let agrees = enumeration_agrees low D from (pos (n - 1)) le in
@@ -180,13 +184,13 @@ module _ (f : Frame) where
       constants = tt;
     }
 
-    pub ordinal_read : (x : syntax.Ordinal) (ts r : Tokens) → IsOrdinal x ts r → (hidden : Hidden) (D : Table) (d e : Declared) (o : Ordinal) (low high : ℕ) → AreOrdered low high ts → EndsBefore low D → Known D d → ordinal f hidden d x ≡ Some (o, e) → OrdinalRead low high x r D d e o
+    pub ordinal_read : (x : syntax.Ordinal) (ts r : Tokens) → IsOrdinal x ts r → (hidden : Hidden) (D : Table) (d e : Declared) (o : Ordinal) (low high : ℕ) → AreOrdered low high ts → EndsBefore low D → Known D d → ordinal f hidden d x ≡ Yes (o, e) → OrdinalRead low high x r D d e o
     unfolding ordinal
     ordinal_read x ts r (p.named {at = at}) hidden D d e o low high ordered ends k q =
-        let type = then_some (type_named f.text (regions f hidden d.known) at) _ (o, e) q in
-        let there = then_some (ordinal_at type.0) _ (o, e) type.2 in
-        let known = is_ordinal D (pointers d) type.0 there.0 (named_known D (pointers d) f.text (regions f hidden d.known) at type.0 (names_known D d hidden k) type.1) there.1 in
-        subst (λ (z : Ordinal × Declared). OrdinalRead low high x r D d z.1 z.0) (inside (there.0, d) (o, e) there.2)
+        let type = then_yes (type_named f.text (regions f hidden d.known) at) _ (o, e) q in
+        let there = then_yes (ordinal_at at.from type.0) _ (o, e) type.2 in
+        let known = is_ordinal D (pointers d) at.from type.0 there.0 (named_known D (pointers d) f.text (regions f hidden d.known) at type.0 (names_known D d hidden k) type.1) there.1 in
+        subst (λ (z : Ordinal × Declared). OrdinalRead low high x r D d z.1 z.0) (inside_yes (there.0, d) (o, e) there.2)
         (unchanged low high at.to (v.Name at) r D D d there.0 ordered.0 ordered.1 ordered.2 (agrees_self low D) (λ i. refl) (ends_later D low at.to (let a = ordered.0 in let b = ordered.1 in omega (arith, a, b)) ends) k known)
     ordinal_read x ts r (p.enumeration {left = at} {xs = xs} {ts = us} names) hidden D d e o low high ordered ends k q =
         let later : Later us r = past _ us r r (names_go xs us _ names) (same_place r) in
@@ -195,9 +199,9 @@ module _ (f : Frame) where
     ordinal_read x ts r (p.subrange {x = y} {y = z} {m = m} first second) hidden D d e o low high ordered ends k q =
         let Γ = regions f hidden d.known in
         let at = first_of_constant y in
-        let a = then_some (constant f.text Γ y) _ (o, e) q in
-        let b = then_some (constant f.text Γ z) _ (o, e) a.2 in
-        let made = then_some (subrange at a.0 b.0) _ (o, e) b.2 in
+        let made = then_yes (subrange_of f hidden d.known at y z) _ (o, e) q in
+        let a = then_yes (constant f.text Γ y) _ made.0 made.1 in
+        let b = then_yes (constant f.text Γ z) _ made.0 a.2 in
         let starts = constant_starts y ts _ first low high ordered in
         let ends_at = constant_starts z m r second _ high starts.ordered.2 in
         let next = ends_at.next in
@@ -207,6 +211,6 @@ module _ (f : Frame) where
         let agrees = subrange_agrees low D at made.0 le in
         let extends = agrees_extend low D table ends agrees in
         let known = names_known D d hidden k in
-        let ordinal_there = subrange_known D at a.0 b.0 made.0 (constant_known D (pointers d) f.text Γ y a.0 bytes short known a.1) (constant_known D (pointers d) f.text Γ z b.0 bytes short known b.1) extends made.1 in
-        subst (λ (t : Ordinal × Declared). OrdinalRead low high x r D d t.1 t.0) (inside (made.0, d) (o, e) made.2)
+        let ordinal_there = subrange_known D at a.0 b.0 made.0 (constant_known D (pointers d) f.text Γ y a.0 bytes short known a.1) (constant_known D (pointers d) f.text Γ z b.0 bytes short known b.1) extends b.2 in
+        subst (λ (t : Ordinal × Declared). OrdinalRead low high x r D d t.1 t.0) (inside_yes (made.0, d) (o, e) made.2)
         (unchanged low high next (v.Subrange y z) r D table d made.0 le inner ends_at.ordered agrees (λ i. refl) (subrange_ends low next D at made.0 ends (omega (arith, le, inner)) inner) (known_more D table d extends k) ordinal_there)

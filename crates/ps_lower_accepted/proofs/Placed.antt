@@ -3,8 +3,10 @@ use Rattle.std.proofs.Common.{◌≡◌, ℕ, suc, ◌<◌, ◌≤◌, Bool, ◌
 use Rattle.ps_tree.specs.declared.types.Ordinal.{Ordinal}
 use Rattle.ps_tree.specs.Types.{DataType, ArrayType}
 use Rattle.ps_tree.specs.Counts.{is_small}
+use Rattle.ps_check_judgement.specs.Judged.{Yes}
+use Rattle.ps_check_judgement.proofs.Binds.{then_yes, provided_yes, inside_yes}
 use Rattle.ps_check_declarations.specs.Denoters.{Indices, small, array_of}
-use Rattle.ps_lower_accepted.proofs.Lists.{Each, then_some, provided_some, none_some, inside}
+use Rattle.ps_lower_accepted.proofs.Lists.{Each, none_some}
 use Rattle.ps_lower_accepted.proofs.Tables.{Table, Extends, extends_self, extends_both, EndsBefore, OrdinalKnown, TypeKnown, ordinal_more, type_more}
 use Rattle.ps_lower_accepted.proofs.Blocks.{below_or}
 
@@ -121,7 +123,7 @@ abbrev pub IndexKnown : Table → ℕ × Ordinal → Type 0
 IndexKnown E i = OrdinalKnown E i.1
 
 pub array_built : (low high : ℕ) (E : Table) (b : ℕ) (packed : Bool) (component : DataType) → TypeKnown E b component → (is : Indices) → Rises low high is → Each (IndexKnown E) is → ((at : ℕ) → low ≤ at → at < high → E.structures at ≡ None)
-    → (type : DataType) → array_of packed is component ≡ Some type → Built low high E b type
+    → (type : DataType) → array_of packed is component ≡ Yes type → Built low high E b type
 unfolding array_of
 array_built low high E b packed component known [] r indices clear type e = record {
   table = E;
@@ -130,10 +132,10 @@ array_built low high E b packed component known [] r indices clear type e = reco
   above = λ at l. refl;
   subranges = λ at. refl;
   enumerations = λ at. refl;
-  known = subst (TypeKnown E b) (inside component type e) known;
+  known = subst (TypeKnown E b) (inside_yes component type e) known;
 }
 array_built low high E b packed component known (i ∷ is) r indices clear type e =
-    let t = then_some (array_of packed is component) (λ t. small (ArrayType i.0 packed i.1 t)) type e in
+    let t = then_yes (array_of packed is component) (λ t. small i.0 (ArrayType i.0 packed i.1 t)) type e in
     let whole = ArrayType i.0 packed i.1 t.0 in
     let inner = array_built (suc i.0) high E b packed component known is r.1 indices.1 (λ at l m. clear at (let q = r.0 in omega (arith, l, q)) m) t.0 t.1 in
     let before = rises_le (suc i.0) high is r.1 in
@@ -141,7 +143,7 @@ array_built low high E b packed component known (i ∷ is) r indices clear type 
     let more = structure_extends inner.table i.0 whole nothing in
     let last = with_structure inner.table i.0 whole in
     let both = extends_both E inner.table last inner.extends more in
-    subst (Built low high E b) (provided_some (is_small whole) whole type t.2).1 (record {
+    subst (Built low high E b) (provided_yes (is_small whole) _ _ whole type t.2).1 (record {
       table = last;
       extends = both;
       below = λ at l. put_other i.0 whole inner.table.structures at (λ q. let m = r.0 in omega (arith, l, q, m)) ∙ inner.below at (let m = r.0 in omega (arith, l, m));

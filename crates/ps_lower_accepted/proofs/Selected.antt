@@ -12,11 +12,15 @@ use Rattle.ps_lower_code.specs.Scopes.{Scope, kind_at}
 use Rattle.ps_lower_code.specs.Fits.{SortOf, CountIs, shape_in}
 use Rattle.ps_lower_accepted.proofs.Tidy.{PlaceSound, SelectorsSound, SelectorSound, ExprSound}
 use Rattle.tac_code.specs.Sound.{IsLine}
+use Rattle.ps_check_judgement.specs.declared.refusal.Rule.TheVariants.{WrongType}
+use Rattle.ps_check_judgement.specs.Judged.{Yes, some_or}
+use Rattle.ps_check_judgement.proofs.Binds.{then_yes, provided_yes, some_or_yes, inside_yes, no_yes}
 use Rattle.ps_check_names.specs.Regions.{Context, Region, Point, BlockPoint, FieldPoint, ConstantMeaning, TextMeaning, TypeMeaning, VariableMeaning, ParameterMeaning, RoutineParameterMeaning, RoutineMeaning, FileMeaning, RequiredMeaning, LeftOutMeaning}
 use Rattle.ps_tree.specs.Chains.{selector_after, selected}
 use Rattle.ps_check_expressions.specs.Values.{Value, SimpleValue, SetValue, StructureValue, Variable, contents, loaded}
+use Rattle.ps_check_expressions.specs.declared.operators.Operands.{Operands}
 use Rattle.ps_check_expressions.specs.Places.{variable_at, index_operand, element, field_of, component, target}
-use Rattle.ps_lower_accepted.proofs.Lists.{left, right, never, inside, none_some, then_some, provided_some}
+use Rattle.ps_lower_accepted.proofs.Lists.{left, right, never, inside, none_some}
 use Rattle.ps_lower_accepted.proofs.Names.{field_told}
 use Rattle.ps_lower_accepted.proofs.Reach.{entry_there, shape_there}
 use Rattle.ps_lower_accepted.proofs.Standing.{Here, PointStands}
@@ -59,50 +63,50 @@ module _ (D : Table) (k : Scope) (os : List Shape) where
 
   -- ---- elements, fields, and what pointers identify
 
-  index_told : (index : Ordinal) (v : Value) (e : Expr) → ValueTold D k os v → index_operand index v ≡ Some e → ExprSound k os e NumberSort
+  index_told : (at : ℕ) (index : Ordinal) (v : Value) (e : Expr) → ValueTold D k os v → index_operand at index v ≡ Yes e → ExprSound k os e NumberSort
   unfolding index_operand is_compatible is_same_type string_length
-  index_told index (SimpleValue x (OrdinalType o)) e h q = let p = provided_some _ x e q in subst (λ y. ExprSound k os y NumberSort) p.1 h.1
-  index_told index (SimpleValue x (PointerType n)) e h q = absurd (none_some q)
-  index_told index (SimpleValue x NilType) e h q = absurd (none_some q)
-  index_told index (SimpleValue x type) e h q = absurd h
-  index_told index (SetValue x type) e h q = absurd (none_some q)
-  index_told index (StructureValue x type) e h q = absurd (none_some q)
+  index_told at index (SimpleValue x (OrdinalType o)) e h q = let p = provided_yes _ _ _ x e q in subst (λ y. ExprSound k os y NumberSort) p.1 h.1
+  index_told at index (SimpleValue x (PointerType n)) e h q = absurd (no_yes q)
+  index_told at index (SimpleValue x NilType) e h q = absurd (no_yes q)
+  index_told at index (SimpleValue x type) e h q = absurd h
+  index_told at index (SetValue x type) e h q = absurd (no_yes q)
+  index_told at index (StructureValue x type) e h q = absurd (no_yes q)
 
-  element_of_array : (p : Place) (b in_packed : Bool) (at : ℕ) (packed : Bool) (index : Ordinal) (c : DataType) (v : Value) (line : ℕ) → IsLine line → (x : Variable) → TypeKnown D (bound_of k) (ArrayType at packed index c) → PlaceSound k os p (Whole (shape_of (ArrayType at packed index c))) → ValueTold D k os v → element p (ArrayType at packed index c) v line ≡ Some x → VariableTold D k os x
+  element_of_array : (place : Operands) (p : Place) (b in_packed : Bool) (at : ℕ) (packed : Bool) (index : Ordinal) (c : DataType) (v : Value) (line : ℕ) → IsLine line → (x : Variable) → TypeKnown D (bound_of k) (ArrayType at packed index c) → PlaceSound k os p (Whole (shape_of (ArrayType at packed index c))) → ValueTold D k os v → element place p (ArrayType at packed index c) v line ≡ Yes x → VariableTold D k os x
   unfolding element
-  element_of_array p b in_packed at packed index c v line l x known fits h q =
+  element_of_array place p b in_packed at packed index c v line l x known fits h q =
       let type = ArrayType at packed index c in
-      let e = then_some (index_operand index v) _ x q in
+      let e = then_yes (index_operand place.second index v) _ x q in
       let small = packed && fits_byte c in
-      subst (VariableTold D k os) (inside _ x e.2) (record {
+      subst (VariableTold D k os) (inside_yes _ x e.2) (record {
         known = known.2;
         byte = small;
         packed = λ s. left packed (fits_byte c) s;
         small = λ s. right packed (fits_byte c) s;
         fits = selected_fits p (Tree.Element type e.0 line) (shape_of type) (part_of small c) fits
-            (let i = index_told index v e.0 h e.1 in ((refl, part_there index c small, (counted index c small, known.1.low, known.1.high), i.0), (known.1.rises, i.1, l)));
+            (let i = index_told place.second index v e.0 h e.1 in ((refl, part_there index c small, (counted index c small, known.1.low, known.1.high), i.0), (known.1.rises, i.1, l)));
       })
 
-  pub element_told : (v : Variable) (index : Value) (line : ℕ) → IsLine line → (x : Variable) → VariableTold D k os v → ValueTold D k os index → element v.place v.type index line ≡ Some x → VariableTold D k os x
+  pub element_told : (at : Operands) (v : Variable) (index : Value) (line : ℕ) → IsLine line → (x : Variable) → VariableTold D k os v → ValueTold D k os index → element at v.place v.type index line ≡ Yes x → VariableTold D k os x
   unfolding element
-  element_told v index line l x told h q = go v.type told.known (λ b. told.small b) told.fits q
+  element_told at v index line l x told h q = go v.type told.known (λ b. told.small b) told.fits q
     where
-      go : (type : DataType) → TypeKnown D (bound_of k) type → (told.byte ≡ true → fits_byte type ≡ true) → PlaceSound k os v.place (part_of told.byte type) → element v.place type index line ≡ Some x → VariableTold D k os x
-      go (ArrayType at packed i c) known small fits r = element_of_array v.place told.byte v.in_packed at packed i c index line l x known (whole_fits v.place (ArrayType at packed i c) told.byte fits (no_byte told.byte small)) h r
-      go (OrdinalType o) known small fits r = absurd (none_some r)
-      go (PointerType n) known small fits r = absurd (none_some r)
-      go NilType known small fits r = absurd (none_some r)
-      go (SetType d p o) known small fits r = absurd (none_some r)
-      go EmptySetType known small fits r = absurd (none_some r)
-      go (TextType n) known small fits r = absurd (none_some r)
-      go (RecordType at packed fs) known small fits r = absurd (none_some r)
+      go : (type : DataType) → TypeKnown D (bound_of k) type → (told.byte ≡ true → fits_byte type ≡ true) → PlaceSound k os v.place (part_of told.byte type) → element at v.place type index line ≡ Yes x → VariableTold D k os x
+      go (ArrayType a packed i c) known small fits r = element_of_array at v.place told.byte v.in_packed a packed i c index line l x known (whole_fits v.place (ArrayType a packed i c) told.byte fits (no_byte told.byte small)) h r
+      go (OrdinalType o) known small fits r = absurd (no_yes r)
+      go (PointerType n) known small fits r = absurd (no_yes r)
+      go NilType known small fits r = absurd (no_yes r)
+      go (SetType d p o) known small fits r = absurd (no_yes r)
+      go EmptySetType known small fits r = absurd (no_yes r)
+      go (TextType n) known small fits r = absurd (no_yes r)
+      go (RecordType at packed fs) known small fits r = absurd (no_yes r)
 
-  field_there : (p : Place) (at : ℕ) (packed : Bool) (fs : FieldList) (name : List ℕ) (x : Variable) (o : Option (ℕ × DataType)) → field_in fs name ≡ o → TypeKnown D (bound_of k) (RecordType at packed fs) → PlaceSound k os p (Whole (shape_of (RecordType at packed fs))) → field_of p (RecordType at packed fs) o ≡ Some x → VariableTold D k os x
-  field_there p at packed fs name x None e known fits r = absurd (none_some r)
-  field_there p at packed fs name x (Some f) e known fits r =
+  field_there : (name_at : ℕ) (p : Place) (at : ℕ) (packed : Bool) (fs : FieldList) (name : List ℕ) (x : Variable) (o : Option (ℕ × DataType)) → field_in fs name ≡ o → TypeKnown D (bound_of k) (RecordType at packed fs) → PlaceSound k os p (Whole (shape_of (RecordType at packed fs))) → field_of name_at p (RecordType at packed fs) o ≡ Yes x → VariableTold D k os x
+  field_there name_at p at packed fs name x None e known fits r = absurd (no_yes r)
+  field_there name_at p at packed fs name x (Some f) e known fits r =
       let type = RecordType at packed fs in
       let told = field_told D (bound_of k) at packed fs name f known.1 e in
-      subst (VariableTold D k os) (inside _ x r) (record {
+      subst (VariableTold D k os) (inside_yes _ x r) (record {
         known = told.known;
         byte = false;
         packed = λ s. never s;
@@ -110,42 +114,42 @@ module _ (D : Table) (k : Scope) (os : List Shape) where
         fits = selected_fits p (Tree.Field type f.0) (shape_of type) (Whole (shape_of f.1)) fits ((refl, (shape_of f.1, told.part, refl)), tt);
       })
 
-  pub component_told : (v : Variable) (name : List ℕ) (x : Variable) → VariableTold D k os v → component v.place v.type name ≡ Some x → VariableTold D k os x
+  pub component_told : (first at : ℕ) (v : Variable) (name : List ℕ) (x : Variable) → VariableTold D k os v → component first at v.place v.type name ≡ Yes x → VariableTold D k os x
   unfolding component
-  component_told v name x told q = go v.type told.known (λ b. told.small b) told.fits q
+  component_told first at v name x told q = go v.type told.known (λ b. told.small b) told.fits q
     where
-      go : (type : DataType) → TypeKnown D (bound_of k) type → (told.byte ≡ true → fits_byte type ≡ true) → PlaceSound k os v.place (part_of told.byte type) → component v.place type name ≡ Some x → VariableTold D k os x
-      go (RecordType at packed fs) known small fits r = field_there v.place at packed fs name x (field_in fs name) refl known (whole_fits v.place (RecordType at packed fs) told.byte fits (no_byte told.byte small)) r
-      go (OrdinalType o) known small fits r = absurd (none_some r)
-      go (PointerType n) known small fits r = absurd (none_some r)
-      go NilType known small fits r = absurd (none_some r)
-      go (SetType d p o) known small fits r = absurd (none_some r)
-      go EmptySetType known small fits r = absurd (none_some r)
-      go (TextType n) known small fits r = absurd (none_some r)
-      go (ArrayType at packed i c) known small fits r = absurd (none_some r)
+      go : (type : DataType) → TypeKnown D (bound_of k) type → (told.byte ≡ true → fits_byte type ≡ true) → PlaceSound k os v.place (part_of told.byte type) → component first at v.place type name ≡ Yes x → VariableTold D k os x
+      go (RecordType a packed fs) known small fits r = field_there at v.place a packed fs name x (field_in fs name) refl known (whole_fits v.place (RecordType a packed fs) told.byte fits (no_byte told.byte small)) r
+      go (OrdinalType o) known small fits r = absurd (no_yes r)
+      go (PointerType n) known small fits r = absurd (no_yes r)
+      go NilType known small fits r = absurd (no_yes r)
+      go (SetType d p o) known small fits r = absurd (no_yes r)
+      go EmptySetType known small fits r = absurd (no_yes r)
+      go (TextType n) known small fits r = absurd (no_yes r)
+      go (ArrayType at packed i c) known small fits r = absurd (no_yes r)
 
-  pub target_told : (c : Context) (Γ : List Region) → Here c Γ D k os → (v : Variable) (line : ℕ) → IsLine line → (x : Variable) → VariableTold D k os v → target c.domains v.place v.type line ≡ Some x → VariableTold D k os x
+  pub target_told : (first : ℕ) (c : Context) (Γ : List Region) → Here c Γ D k os → (v : Variable) (line : ℕ) → IsLine line → (x : Variable) → VariableTold D k os v → target first c.domains v.place v.type line ≡ Yes x → VariableTold D k os x
   unfolding target
-  target_told c Γ here v line l x told q = go v.type told.known (λ b. told.small b) told.fits q
+  target_told first c Γ here v line l x told q = go v.type told.known (λ b. told.small b) told.fits q
     where
-      go : (type : DataType) → TypeKnown D (bound_of k) type → (told.byte ≡ true → fits_byte type ≡ true) → PlaceSound k os v.place (part_of told.byte type) → target c.domains v.place type line ≡ Some x → VariableTold D k os x
+      go : (type : DataType) → TypeKnown D (bound_of k) type → (told.byte ≡ true → fits_byte type ≡ true) → PlaceSound k os v.place (part_of told.byte type) → target first c.domains v.place type line ≡ Yes x → VariableTold D k os x
       go (PointerType n) known small fits r =
-          let t = then_some (slice_get c.domains n) _ x r in
-          let there = here.domains n t.0 t.1 in
-          subst (VariableTold D k os) (inside _ x t.2) (record {
+          let t = then_yes (some_or WrongType first (slice_get c.domains n)) _ x r in
+          let there = here.domains n t.0 (some_or_yes WrongType first (slice_get c.domains n) t.0 t.1) in
+          subst (VariableTold D k os) (inside_yes _ x t.2) (record {
             known = here.targets n t.0 there;
             byte = false;
             packed = λ s. never s;
             small = λ s. never s;
             fits = selected_fits v.place (Tree.Target n line) (PointerShape n) (Whole (shape_of t.0)) (whole_fits v.place (PointerType n) told.byte fits (no_byte told.byte small)) ((refl, ap (λ d. Whole (shape_of d)) (sym (domain_there k.program.domains n t.0 there))), l);
           })
-      go (OrdinalType o) known small fits r = absurd (none_some r)
-      go NilType known small fits r = absurd (none_some r)
-      go (SetType d p o) known small fits r = absurd (none_some r)
-      go EmptySetType known small fits r = absurd (none_some r)
-      go (TextType n) known small fits r = absurd (none_some r)
-      go (ArrayType at packed i d) known small fits r = absurd (none_some r)
-      go (RecordType at packed fs) known small fits r = absurd (none_some r)
+      go (OrdinalType o) known small fits r = absurd (no_yes r)
+      go NilType known small fits r = absurd (no_yes r)
+      go (SetType d p o) known small fits r = absurd (no_yes r)
+      go EmptySetType known small fits r = absurd (no_yes r)
+      go (TextType n) known small fits r = absurd (no_yes r)
+      go (ArrayType at packed i d) known small fits r = absurd (no_yes r)
+      go (RecordType at packed fs) known small fits r = absurd (no_yes r)
 
   -- ---- the variable that a name denotes
 
@@ -158,29 +162,29 @@ module _ (D : Table) (k : Scope) (os : List Shape) where
     fits = ((shape_of type, there, refl), tt);
   }
 
-  pub point_told : (p : Point) (x : Variable) → PointStands D k os p → variable_at p ≡ Some x → VariableTold D k os x
+  pub point_told : (at : ℕ) (p : Point) (x : Variable) → PointStands D k os p → variable_at at p ≡ Yes x → VariableTold D k os x
   unfolding variable_at
-  point_told (BlockPoint up (VariableMeaning entry type)) x h q =
+  point_told at (BlockPoint up (VariableMeaning entry type)) x h q =
       let there = entry_there k up entry (Own (shape_of type)) h.1 in
-      subst (VariableTold D k os) (inside _ x q) (named up entry type h.0 (there.0, ap shape_in there.1))
-  point_told (BlockPoint up (ParameterMeaning entry type)) x h q =
-      subst (VariableTold D k os) (inside _ x q) (named up entry type h.0 (shape_there k up entry (shape_of type) h.1))
-  point_told (FieldPoint which record_type number type) x h q =
-      subst (VariableTold D k os) (inside _ x q) (record {
+      subst (VariableTold D k os) (inside_yes _ x q) (named up entry type h.0 (there.0, ap shape_in there.1))
+  point_told at (BlockPoint up (ParameterMeaning entry type)) x h q =
+      subst (VariableTold D k os) (inside_yes _ x q) (named up entry type h.0 (shape_there k up entry (shape_of type) h.1))
+  point_told at (FieldPoint which record_type number type) x h q =
+      subst (VariableTold D k os) (inside_yes _ x q) (record {
         known = h.2;
         byte = false;
         packed = λ s. never s;
         small = λ s. never s;
         fits = ((shape_of type, (h.0, h.1), refl), tt);
       })
-  point_told (BlockPoint up (ConstantMeaning o n)) x h q = absurd (none_some q)
-  point_told (BlockPoint up (TextMeaning w)) x h q = absurd (none_some q)
-  point_told (BlockPoint up (TypeMeaning type)) x h q = absurd (none_some q)
-  point_told (BlockPoint up (RoutineParameterMeaning entry sections result)) x h q = absurd (none_some q)
-  point_told (BlockPoint up (RoutineMeaning heading)) x h q = absurd (none_some q)
-  point_told (BlockPoint up (FileMeaning file)) x h q = absurd (none_some q)
-  point_told (BlockPoint up (RequiredMeaning r)) x h q = absurd (none_some q)
-  point_told (BlockPoint up LeftOutMeaning) x h q = absurd (none_some q)
+  point_told at (BlockPoint up (ConstantMeaning o n)) x h q = absurd (no_yes q)
+  point_told at (BlockPoint up (TextMeaning w)) x h q = absurd (no_yes q)
+  point_told at (BlockPoint up (TypeMeaning type)) x h q = absurd (no_yes q)
+  point_told at (BlockPoint up (RoutineParameterMeaning entry sections result)) x h q = absurd (no_yes q)
+  point_told at (BlockPoint up (RoutineMeaning heading)) x h q = absurd (no_yes q)
+  point_told at (BlockPoint up (FileMeaning file)) x h q = absurd (no_yes q)
+  point_told at (BlockPoint up (RequiredMeaning r)) x h q = absurd (no_yes q)
+  point_told at (BlockPoint up LeftOutMeaning) x h q = absurd (no_yes q)
 
   -- ---- the contents of a variable
 
@@ -188,16 +192,16 @@ module _ (D : Table) (k : Scope) (os : List Shape) where
   number_part o true = refl
   number_part o false = refl
 
-  pub loaded_told : (v : Variable) (x : Value) → VariableTold D k os v → loaded v ≡ Some x → ValueTold D k os x
+  pub loaded_told : (at : ℕ) (v : Variable) (x : Value) → VariableTold D k os v → loaded at v ≡ Yes x → ValueTold D k os x
   unfolding contents
-  loaded_told v x told q = go v.type told.known (λ b. told.small b) told.fits q
+  loaded_told at v x told q = go v.type told.known (λ b. told.small b) told.fits q
     where
-      go : (type : DataType) → TypeKnown D (bound_of k) type → (told.byte ≡ true → fits_byte type ≡ true) → PlaceSound k os v.place (part_of told.byte type) → contents v.place type ≡ Some x → ValueTold D k os x
-      go (OrdinalType o) known small fits r = subst (ValueTold D k os) (inside _ x r) (known, ((part_of told.byte (OrdinalType o), number_part o told.byte, fits.0), fits.1))
-      go (PointerType n) known small fits r = subst (ValueTold D k os) (inside _ x r) (known, (let w = whole_fits v.place (PointerType n) told.byte fits (no_byte told.byte small) in ((Whole (PointerShape n), refl, w.0), w.1)))
-      go (SetType d p o) known small fits r = subst (ValueTold D k os) (inside _ x r) (whole_fits v.place (SetType d p o) told.byte fits (no_byte told.byte small))
-      go (ArrayType at packed i c) known small fits r = subst (ValueTold D k os) (inside _ x r) (refl, known, whole_fits v.place (ArrayType at packed i c) told.byte fits (no_byte told.byte small))
-      go (RecordType at packed fs) known small fits r = subst (ValueTold D k os) (inside _ x r) (refl, known, whole_fits v.place (RecordType at packed fs) told.byte fits (no_byte told.byte small))
+      go : (type : DataType) → TypeKnown D (bound_of k) type → (told.byte ≡ true → fits_byte type ≡ true) → PlaceSound k os v.place (part_of told.byte type) → contents at v.place type ≡ Yes x → ValueTold D k os x
+      go (OrdinalType o) known small fits r = subst (ValueTold D k os) (inside_yes _ x r) (known, ((part_of told.byte (OrdinalType o), number_part o told.byte, fits.0), fits.1))
+      go (PointerType n) known small fits r = subst (ValueTold D k os) (inside_yes _ x r) (known, (let w = whole_fits v.place (PointerType n) told.byte fits (no_byte told.byte small) in ((Whole (PointerShape n), refl, w.0), w.1)))
+      go (SetType d p o) known small fits r = subst (ValueTold D k os) (inside_yes _ x r) (whole_fits v.place (SetType d p o) told.byte fits (no_byte told.byte small))
+      go (ArrayType a packed i c) known small fits r = subst (ValueTold D k os) (inside_yes _ x r) (refl, known, whole_fits v.place (ArrayType a packed i c) told.byte fits (no_byte told.byte small))
+      go (RecordType a packed fs) known small fits r = subst (ValueTold D k os) (inside_yes _ x r) (refl, known, whole_fits v.place (RecordType a packed fs) told.byte fits (no_byte told.byte small))
       go NilType known small fits r = absurd known
       go EmptySetType known small fits r = absurd known
       go (TextType n) known small fits r = absurd known

@@ -8,7 +8,7 @@ use Rattle.ps_lower_layout.specs.Shapes.{Shape, shape_of, field_part}
 use Rattle.ps_lower_layout.specs.Frames.{Kind, Own, Closure, kinds_of, result_shape, entries}
 use Rattle.ps_lower_code.specs.Scopes.{Scope}
 use Rattle.ps_lower_code.specs.Fits.{shape_in, outermost_of}
-use Rattle.ps_check_names.specs.Regions.{Section, ValueSection, VariableSection, RoutineSection, Sections, no_section, section_before, formals_of, Heading, Meaning, ConstantMeaning, TextMeaning, TypeMeaning, VariableMeaning, ParameterMeaning, RoutineParameterMeaning, RoutineMeaning, FileMeaning, RequiredMeaning, LeftOutMeaning, Region, BlockRegion, RecordRegion, FieldNames, Point, BlockPoint, FieldPoint, Context}
+use Rattle.ps_check_names.specs.Regions.{Section, ValueSection, VariableSection, RoutineSection, Sections, no_section, section_before, formals_of, Heading, Meaning, ConstantMeaning, TextMeaning, TypeMeaning, VariableMeaning, ParameterMeaning, RoutineParameterMeaning, RoutineMeaning, FileMeaning, RequiredMeaning, LeftOutMeaning, Region, BlockRegion, RecordRegion, OwnNames, Point, BlockPoint, FieldPoint, Context}
 use Rattle.ps_lower_accepted.proofs.Lists.{Each}
 use Rattle.ps_lower_accepted.proofs.Tables.{Table, OrdinalKnown, TypeKnown}
 
@@ -55,7 +55,7 @@ MeaningKnown D b LeftOutMeaning = Unit {0}
 abbrev pub RegionKnown : Table → ℕ → Region → Type 0
 RegionKnown D b (BlockRegion routine names known) = Each (MeaningKnown D b) known
 RegionKnown D b (RecordRegion type fields) = Unit {0}
-RegionKnown D b (FieldNames names) = Unit {0}
+RegionKnown D b (OwnNames names defined) = Unit {0}
 
 abbrev pub RegionsKnown : Table → ℕ → List Region → Type 0
 RegionsKnown D b Γ = Each (RegionKnown D b) Γ
@@ -93,7 +93,7 @@ BlocksStand P D [] chain = Unit {0}
 BlocksStand P D (BlockRegion routine names known ∷ Γ) [] = Each (MeaningKnown D (length P.domains)) known × Each (MeaningStands P []) known × BlocksStand P D Γ []
 BlocksStand P D (BlockRegion routine names known ∷ Γ) (r ∷ chain) = (routine ≡ r) × Each (MeaningKnown D (length P.domains)) known × Each (MeaningStands P (r ∷ chain)) known × BlocksStand P D Γ chain
 BlocksStand P D (RecordRegion type fields ∷ Γ) chain = ⊥
-BlocksStand P D (FieldNames names ∷ Γ) chain = ⊥
+BlocksStand P D (OwnNames names defined ∷ Γ) chain = ⊥
 
 -- a record type with these fields
 abbrev pub HasFields : DataType → FieldList → Type 0

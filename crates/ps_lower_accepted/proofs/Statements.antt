@@ -1,9 +1,9 @@
 -- What statements have that the lowering needs, by their derivations (6.8).
-use Rattle.std.proofs.Common.{◌≡◌, ℕ, zero, suc, ◌==◌, Bool, true, false, if◌then◌else◌, List, [], ◌∷◌, ◌++◌, length, map, ℤ, Option, Some, None, is_some, refl, sym, ap, ◌∙◌, subst, eqb-true}
+use Rattle.std.proofs.Common.{◌≡◌, ℕ, zero, suc, ◌==◌, Bool, true, false, List, [], ◌∷◌, ◌++◌, length, map, ℤ, Option, Some, is_none, refl, sym, ap, subst, eqb-true}
 use Rattle.ps_text.specs.declared.Span.{Span}
 use Rattle.ps_syntax.specs.declared.expression.Expr.{Expr}
 use Rattle.ps_syntax.specs.declared.expression.Variable as syntax
-use Rattle.ps_syntax.specs.First.{first_of_expr}
+use Rattle.ps_syntax.specs.First.{first_of_constant, first_of_expr}
 use Rattle.ps_syntax.specs.declared.statement.Constant.{Constant}
 use Rattle.ps_syntax.specs.declared.statement.Element.{Element, out-Element, out-roll-Element}
 use Rattle.ps_syntax.specs.declared.statement.Parameter.{Parameter}
@@ -28,22 +28,26 @@ use Rattle.ps_lower_bounds.specs.Forms.{AreIntegers, AllIntegers}
 use Rattle.ps_check_names.specs.Constants.{ConstantValue, OrdinalConstant, TextConstant, constant}
 use Rattle.ps_lower_accepted.proofs.Constants.{ConstantKnown, constant_known}
 use Rattle.ps_lower_accepted.proofs.Tidy.{line_there, PlaceSound, ExprSound, OpenedSound, StatementSound, StatementsSound, ElementsSound, ArgumentsSound}
-use Rattle.ps_check_names.specs.Option.{◌>>=◌, traverse, steps}
-use Rattle.ps_check_names.specs.Regions.{Context, Region, BlockRegion, RecordRegion, FieldNames, Point, BlockPoint, FieldPoint, formals_of, ConstantMeaning, TextMeaning, TypeMeaning, VariableMeaning, ParameterMeaning, RoutineMeaning, RoutineParameterMeaning, RequiredMeaning, FileMeaning, LeftOutMeaning}
+use Rattle.ps_check_judgement.specs.declared.refusal.Rule.TheVariants.{WrongKind}
+use Rattle.ps_check_judgement.specs.Judged.{Yes, holds, steps}
+use Rattle.ps_check_judgement.specs.Changing.{each, through}
+use Rattle.ps_check_judgement.proofs.Binds.{then_yes, provided_yes, inside_yes, no_yes}
+use Rattle.ps_check_names.specs.Regions.{Context, Region, BlockRegion, RecordRegion, OwnNames, Point, BlockPoint, FieldPoint, Sections, formals_of, ConstantMeaning, TextMeaning, TypeMeaning, VariableMeaning, ParameterMeaning, RoutineMeaning, RoutineParameterMeaning, RequiredMeaning, FileMeaning, LeftOutMeaning}
 use Rattle.ps_check_names.specs.Spelling.{line_in}
 use Rattle.ps_check_expressions.specs.Names.{denoted}
+use Rattle.ps_check_expressions.specs.Changed.{changed}
 use Rattle.ps_check_expressions.specs.Values.{Value, SimpleValue, SetValue, StructureValue, Variable, ordinal_of, argument_list}
 use Rattle.ps_check_expressions.specs.Expressions.{operand, variable_operand}
 use Rattle.ps_check_statements.specs.Assignments.{target}
-use Rattle.ps_check_statements.specs.Procedures.{procedure_called, procedure_statement, actual_parameters}
-use Rattle.ps_check_statements.specs.Structured.{TypedElement, case_constant, case_label, condition, are_distinct, control_at, bound, bound_at, Head, Opening, repeated, record_region, record_at, open_next}
-use Rattle.ps_check_statements.specs.Statements.{statement_list, element_list, condition_at, index_at, for_head, statement, element, statements}
-use Rattle.ps_check_statements.proofs.Equations.{statement_empty, statement_assign, statement_call, statement_compound, statement_if, statement_if_else, statement_case, elements_are, statement_while, statement_repeat, statement_for, statement_with, element_is}
+use Rattle.ps_check_statements.specs.Procedures.{procedure_called, procedure_statement, procedure_parameters, actual_parameters}
+use Rattle.ps_check_statements.specs.Structured.{TypedElement, case_constant, case_label, fresh, next_label, labels, condition, control_at, unthreatened, bound, bound_at, Head, Opening, repeated, with_control, record_region, opened, open_next}
+use Rattle.ps_check_statements.specs.Statements.{statement_list, element_list, condition_at, governed, index_at, one_element, elements, control_of, for_head, for_behind, statement, element, statements}
+use Rattle.ps_check_statements.proofs.Equations.{statement_empty, statement_assign, statement_call, statement_compound, statement_if, statement_if_else, statement_case, statement_while, statement_repeat, statement_for, statement_with, element_is}
 use Rattle.ps_lower_accepted.proofs.Aims.{StatementsTell}
 use Rattle.ps_lower_accepted.proofs.Assigned.{left_told, assigned_fits}
 use Rattle.ps_lower_accepted.proofs.Calls.{ordinal_told}
 use Rattle.ps_lower_accepted.proofs.Expressions.{expressions_tell, variables_within}
-use Rattle.ps_lower_accepted.proofs.Lists.{Each, never, inside, none_some, then_some, provided_some}
+use Rattle.ps_lower_accepted.proofs.Lists.{Each, never, Gives, then_gives, same_gives, still_then, then_still, then_same, as_given, through_end, through_next, Images, each_gives}
 use Rattle.ps_lower_accepted.proofs.Names.{denoted_stands}
 use Rattle.ps_lower_accepted.proofs.Reach.{entry_there, declared_there}
 use Rattle.ps_lower_accepted.proofs.Selected.{no_byte, whole_fits}
@@ -52,14 +56,10 @@ use Rattle.ps_lower_accepted.proofs.Tables.{Table, TypeKnown}
 use Rattle.ps_lower_accepted.proofs.Told.{bound_of, part_of, VariableTold, ValueTold, OperandTold}
 use Rattle.ps_lower_accepted.proofs.Written.{ParameterTold, required_fits, parameters_fit}
 
-if_none : {A : Type 0} (b : Bool) (o : Option A) (x : A) → (if b then None else o) ≡ Some x → o ≡ Some x
-if_none true o x h = absurd (none_some h)
-if_none false o x h = h
-
-number_there : (D : Table) (o : Ordinal) (v : ConstantValue) (n : ℤ) → ConstantKnown D v → case_constant o v ≡ Some n → IsInteger n
+number_there : (D : Table) (at : ℕ) (o : Ordinal) (v : ConstantValue) (n : ℤ) → ConstantKnown D v → case_constant at o v ≡ Yes n → IsInteger n
 unfolding case_constant
-number_there D o (OrdinalConstant p m) n h q = subst IsInteger (provided_some _ m n q).1 h.1
-number_there D o (TextConstant w) n h q = absurd (none_some q)
+number_there D at o (OrdinalConstant p m) n h q = subst IsInteger (provided_yes _ _ _ m n q).1 h.1
+number_there D at o (TextConstant w) n h q = absurd (no_yes q)
 
 -- all that the regions round a statement give a meaning is known
 blocks_known : (P : Program) (D : Table) (Γ : List Region) (chain : List ℕ) → BlocksStand P D Γ chain → RegionsKnown D (length P.domains) Γ
@@ -67,39 +67,39 @@ blocks_known P D [] chain st = tt
 blocks_known P D (BlockRegion routine names known ∷ Γ) [] st = (st.0, blocks_known P D Γ [] st.2)
 blocks_known P D (BlockRegion routine names known ∷ Γ) (r ∷ chain) st = (st.1, blocks_known P D Γ chain st.3)
 blocks_known P D (RecordRegion type fields ∷ Γ) chain st = absurd st
-blocks_known P D (FieldNames names ∷ Γ) chain st = absurd st
+blocks_known P D (OwnNames names defined ∷ Γ) chain st = absurd st
 
 all_known : (P : Program) (D : Table) (Γ : List Region) (chain : List ℕ) (os : List Shape) → RegionsStand P D Γ chain os → RegionsKnown D (length P.domains) Γ
 all_known P D (RecordRegion type fields ∷ Γ) chain [] st = absurd st
 all_known P D (RecordRegion type fields ∷ Γ) chain (o ∷ os) st = (tt, all_known P D Γ chain os st.3)
 all_known P D [] chain [] st = tt
 all_known P D (BlockRegion routine names known ∷ Γ) chain [] st = blocks_known P D (BlockRegion routine names known ∷ Γ) chain st
-all_known P D (FieldNames names ∷ Γ) chain [] st = absurd st
+all_known P D (OwnNames names defined ∷ Γ) chain [] st = absurd st
 all_known P D [] chain (o ∷ os) st = absurd st
 all_known P D (BlockRegion routine names known ∷ Γ) chain (o ∷ os) st = absurd st
-all_known P D (FieldNames names ∷ Γ) chain (o ∷ os) st = absurd st
+all_known P D (OwnNames names defined ∷ Γ) chain (o ∷ os) st = absurd st
 
 module _ (D : Table) (k : Scope) where
   module _ (os : List Shape) where
     -- ---- conditions and bounds
 
-    condition_fits : (v : Value) (e : Tree.Expr) → ValueTold D k os v → condition v ≡ Some e → ExprSound k os e NumberSort
+    condition_fits : (at : ℕ) (v : Value) (e : Tree.Expr) → ValueTold D k os v → condition at v ≡ Yes e → ExprSound k os e NumberSort
     unfolding condition
-    condition_fits (SimpleValue x (OrdinalType o)) e h q = subst (λ y. ExprSound k os y NumberSort) (provided_some _ _ e q).1 h.1
-    condition_fits (SimpleValue x (PointerType n)) e h q = absurd (none_some q)
-    condition_fits (SimpleValue x NilType) e h q = absurd (none_some q)
-    condition_fits (SimpleValue x type) e h q = absurd h
-    condition_fits (SetValue x type) e h q = absurd (none_some q)
-    condition_fits (StructureValue x type) e h q = absurd (none_some q)
+    condition_fits at (SimpleValue x (OrdinalType o)) e h q = subst (λ y. ExprSound k os y NumberSort) (provided_yes _ _ _ _ e q).1 h.1
+    condition_fits at (SimpleValue x (PointerType n)) e h q = absurd (no_yes q)
+    condition_fits at (SimpleValue x NilType) e h q = absurd (no_yes q)
+    condition_fits at (SimpleValue x type) e h q = absurd h
+    condition_fits at (SetValue x type) e h q = absurd (no_yes q)
+    condition_fits at (StructureValue x type) e h q = absurd (no_yes q)
 
-    bound_fits : (o : Ordinal) (v : Value) (e : Tree.Expr) → ValueTold D k os v → bound o v ≡ Some e → ExprSound k os e NumberSort
+    bound_fits : (at : ℕ) (o : Ordinal) (v : Value) (e : Tree.Expr) → ValueTold D k os v → bound at o v ≡ Yes e → ExprSound k os e NumberSort
     unfolding bound is_compatible is_same_type string_length
-    bound_fits o (SimpleValue x (OrdinalType p)) e h q = subst (λ y. ExprSound k os y NumberSort) (provided_some _ _ e q).1 h.1
-    bound_fits o (SimpleValue x (PointerType n)) e h q = absurd (none_some q)
-    bound_fits o (SimpleValue x NilType) e h q = absurd (none_some q)
-    bound_fits o (SimpleValue x type) e h q = absurd h
-    bound_fits o (SetValue x type) e h q = absurd (none_some q)
-    bound_fits o (StructureValue x type) e h q = absurd (none_some q)
+    bound_fits at o (SimpleValue x (OrdinalType p)) e h q = subst (λ y. ExprSound k os y NumberSort) (provided_yes _ _ _ _ e q).1 h.1
+    bound_fits at o (SimpleValue x (PointerType n)) e h q = absurd (no_yes q)
+    bound_fits at o (SimpleValue x NilType) e h q = absurd (no_yes q)
+    bound_fits at o (SimpleValue x type) e h q = absurd h
+    bound_fits at o (SetValue x type) e h q = absurd (no_yes q)
+    bound_fits at o (StructureValue x type) e h q = absurd (no_yes q)
 
     -- the control variable stands in the block's own frame
     abbrev ControlThere : ℕ → Type 0
@@ -109,48 +109,52 @@ module _ (D : Table) (k : Scope) where
     abbrev ControlKnown : ℕ × Ordinal → Type 0
     ControlKnown x = ControlThere x.0 × AreIntegers x.1.low x.1.high
 
-    control_there : (p : Point) (x : ℕ × Ordinal) → PointStands D k os p → control_at p ≡ Some x → ControlKnown x
+    control_there : (at : ℕ) (p : Point) (x : ℕ × Ordinal) → PointStands D k os p → control_at at p ≡ Yes x → ControlKnown x
     unfolding control_at
-    control_there (BlockPoint up (VariableMeaning entry (OrdinalType o))) x st q =
-        let b = provided_some (up == 0) (entry, o) x q in
+    control_there at (BlockPoint up (VariableMeaning entry (OrdinalType o))) x st q =
+        let b = provided_yes (up == 0) _ _ (entry, o) x q in
         let there = entry_there k up entry (Own (shape_of (OrdinalType o))) st.1 in
         subst ControlKnown b.1 ((first_ordinal o, (fits_byte (OrdinalType o), subst (λ n. kind_at k n entry ≡ Some (Own (shape_of (OrdinalType o)))) (eqb-true up 0 b.0) there.1)), (st.0.low, st.0.high))
-    control_there (BlockPoint up (VariableMeaning entry (PointerType n))) x st q = absurd (none_some q)
-    control_there (BlockPoint up (VariableMeaning entry NilType)) x st q = absurd (none_some q)
-    control_there (BlockPoint up (VariableMeaning entry (SetType d l o))) x st q = absurd (none_some q)
-    control_there (BlockPoint up (VariableMeaning entry EmptySetType)) x st q = absurd (none_some q)
-    control_there (BlockPoint up (VariableMeaning entry (TextType n))) x st q = absurd (none_some q)
-    control_there (BlockPoint up (VariableMeaning entry (ArrayType at l i t))) x st q = absurd (none_some q)
-    control_there (BlockPoint up (VariableMeaning entry (RecordType at l fs))) x st q = absurd (none_some q)
-    control_there (BlockPoint up (ConstantMeaning o n)) x st q = absurd (none_some q)
-    control_there (BlockPoint up (TextMeaning w)) x st q = absurd (none_some q)
-    control_there (BlockPoint up (TypeMeaning type)) x st q = absurd (none_some q)
-    control_there (BlockPoint up (ParameterMeaning entry type)) x st q = absurd (none_some q)
-    control_there (BlockPoint up (RoutineMeaning h)) x st q = absurd (none_some q)
-    control_there (BlockPoint up (RoutineParameterMeaning entry sections result)) x st q = absurd (none_some q)
-    control_there (BlockPoint up (FileMeaning file)) x st q = absurd (none_some q)
-    control_there (BlockPoint up (RequiredMeaning r)) x st q = absurd (none_some q)
-    control_there (BlockPoint up LeftOutMeaning) x st q = absurd (none_some q)
-    control_there (FieldPoint which record_type number type) x st q = absurd (none_some q)
+    control_there at (BlockPoint up (VariableMeaning entry (PointerType n))) x st q = absurd (no_yes q)
+    control_there at (BlockPoint up (VariableMeaning entry NilType)) x st q = absurd (no_yes q)
+    control_there at (BlockPoint up (VariableMeaning entry (SetType d l o))) x st q = absurd (no_yes q)
+    control_there at (BlockPoint up (VariableMeaning entry EmptySetType)) x st q = absurd (no_yes q)
+    control_there at (BlockPoint up (VariableMeaning entry (TextType n))) x st q = absurd (no_yes q)
+    control_there at (BlockPoint up (VariableMeaning entry (ArrayType a l i t))) x st q = absurd (no_yes q)
+    control_there at (BlockPoint up (VariableMeaning entry (RecordType a l fs))) x st q = absurd (no_yes q)
+    control_there at (BlockPoint up (ConstantMeaning o n)) x st q = absurd (no_yes q)
+    control_there at (BlockPoint up (TextMeaning w)) x st q = absurd (no_yes q)
+    control_there at (BlockPoint up (TypeMeaning type)) x st q = absurd (no_yes q)
+    control_there at (BlockPoint up (ParameterMeaning entry type)) x st q = absurd (no_yes q)
+    control_there at (BlockPoint up (RoutineMeaning h)) x st q = absurd (no_yes q)
+    control_there at (BlockPoint up (RoutineParameterMeaning entry sections result)) x st q = absurd (no_yes q)
+    control_there at (BlockPoint up (FileMeaning file)) x st q = absurd (no_yes q)
+    control_there at (BlockPoint up (RequiredMeaning r)) x st q = absurd (no_yes q)
+    control_there at (BlockPoint up LeftOutMeaning) x st q = absurd (no_yes q)
+    control_there at (FieldPoint which record_type number type) x st q = absurd (no_yes q)
 
     -- ---- procedure statements (6.8.2.3)
 
     module _ (c : Context) (Γ : List Region) (here : Here c Γ D k os) where
-      called_fits : (line : ℕ) → IsLine line → (xs : List Parameter) (p : Point) (t : Statement) → Each (ParameterTold D k os c Γ here) xs → PointStands D k os p → procedure_called c Γ line xs p ≡ Some t → StatementSound k os t
+      -- a procedure has no result
+      passed : (at : ℕ) (result : Option DataType) (sections : Sections) (xs : List Parameter) (args : List Tree.Argument) → Gives (procedure_parameters c Γ at result sections xs) args → Gives (actual_parameters c Γ at sections xs) args
+      passed at result sections xs args q = (still_then (holds (is_none result) WrongKind at) _ args q).2
+
+      called_fits : (at : ℕ) (xs : List Parameter) (p : Point) (t : Statement) → Each (ParameterTold D k os c Γ here) xs → PointStands D k os p → Gives (procedure_called c Γ at xs p) t → StatementSound k os t
       unfolding procedure_called
-      called_fits line ln xs (BlockPoint up (RoutineMeaning h)) t told st q =
-          let args = then_some (actual_parameters c Γ h.sections xs) _ t (if_none (is_some h.result) _ t q) in
+      called_fits at xs (BlockPoint up (RoutineMeaning h)) t told st q =
+          let args = then_same (procedure_parameters c Γ at h.result h.sections xs) _ t q in
           let there = declared_there k up h st.1 in
-          let all = subst (λ fs. ArgumentsSound k os (argument_list args.0) (kinds_of fs)) (sym there.is.formals) (parameters_fit D k os c Γ here h.sections xs args.0 st.0.0 told args.1) in
-          subst (StatementSound k os) (inside _ t args.2) ((there.at, all.0), (all.1, ln))
-      called_fits line ln xs (BlockPoint up (RoutineParameterMeaning entry sections result)) t told st q =
-          let args = then_some (actual_parameters c Γ sections xs) _ t (if_none (is_some result) _ t q) in
+          let all = subst (λ fs. ArgumentsSound k os (argument_list args.0) (kinds_of fs)) (sym there.is.formals) (parameters_fit D k os c Γ here at h.sections xs args.0 st.0.0 told (passed at h.result h.sections xs args.0 args.1)) in
+          subst (StatementSound k os) args.2 ((there.at, all.0), (all.1, line_there c.text at here.lines))
+      called_fits at xs (BlockPoint up (RoutineParameterMeaning entry sections result)) t told st q =
+          let args = then_same (procedure_parameters c Γ at result sections xs) _ t q in
           let there = entry_there k up entry (Closure (kinds_of (formals_of sections)) (result_shape result)) st.1 in
-          let all = parameters_fit D k os c Γ here sections xs args.0 st.0.0 told args.1 in
-          subst (StatementSound k os) (inside _ t args.2) ((there.0, (kinds_of (formals_of sections), (result_shape result, there.1, all.0))), (all.1, ln))
-      called_fits line ln xs (BlockPoint up (RequiredMeaning r)) t told st q = required_fits D k os c Γ here line ln r xs t told q
-      called_fits line ln xs (BlockPoint up m) t told st q = absurd (none_some q)
-      called_fits line ln xs (FieldPoint which record_type number type) t told st q = absurd (none_some q)
+          let all = parameters_fit D k os c Γ here at sections xs args.0 st.0.0 told (passed at result sections xs args.0 args.1) in
+          subst (StatementSound k os) args.2 ((there.0, (kinds_of (formals_of sections), (result_shape result, there.1, all.0))), (all.1, line_there c.text at here.lines))
+      called_fits at xs (BlockPoint up (RequiredMeaning r)) t told st q = required_fits D k os c Γ here at r xs t told q
+      called_fits at xs (BlockPoint up m) t told st q = absurd (no_yes q.given)
+      called_fits at xs (FieldPoint which record_type number type) t told st q = absurd (no_yes q.given)
 
   -- ---- records that are opened one after another (6.8.3.10)
 
@@ -164,17 +168,24 @@ module _ (D : Table) (k : Scope) where
     here : Here c o.1 D k inner
     fits : OpenedSound k os o.0 inner
 
-  one_opened : (c : Context) (os inner : List Shape) (places : List Place) (Γ : List Region) (v : Variable) (r : Region) → Here c Γ D k inner → OpenedSound k os places inner → VariableTold D k inner v → record_region v.type ≡ Some r → OpenedSo c os (places ++ v.place ∷ [], r ∷ Γ)
+  one_opened : (at : ℕ) (c : Context) (os inner : List Shape) (places : List Place) (Γ : List Region) (v : Variable) (r : Region) → Here c Γ D k inner → OpenedSound k os places inner → VariableTold D k inner v → record_region at v.type ≡ Yes r → OpenedSo c os (places ++ v.place ∷ [], r ∷ Γ)
   unfolding record_region
-  one_opened c os inner places Γ v r here fits told q = go v.type told.known (λ b. told.small b) told.fits q
+  one_opened at c os inner places Γ v r here fits told q = go v.type told.known (λ b. told.small b) told.fits q
     where
-      go : (type : DataType) → TypeKnown D (bound_of k) type → (told.byte ≡ true → fits_byte type ≡ true) → PlaceSound k inner v.place (part_of told.byte type) → record_region type ≡ Some r → OpenedSo c os (places ++ v.place ∷ [], r ∷ Γ)
-      go (RecordType at l fs) known small place f = subst (λ x. OpenedSo c os (places ++ v.place ∷ [], x ∷ Γ)) (inside _ r f) (record {
-        inner = shape_of (RecordType at l fs) ∷ inner;
+      go : (type : DataType) → TypeKnown D (bound_of k) type → (told.byte ≡ true → fits_byte type ≡ true) → PlaceSound k inner v.place (part_of told.byte type) → record_region at type ≡ Yes r → OpenedSo c os (places ++ v.place ∷ [], r ∷ Γ)
+      go (RecordType a l fs) known small place f = subst (λ x. OpenedSo c os (places ++ v.place ∷ [], x ∷ Γ)) (inside_yes _ r f) (record {
+        inner = shape_of (RecordType a l fs) ∷ inner;
         here = record { stands = (refl, refl, known, here.stands); domains = here.domains; targets = here.targets; outermost = here.outermost; bytes = here.bytes; short = here.short; lines = here.lines };
-        fits = opened_after os inner places v.place (shape_of (RecordType at l fs)) fits (whole_fits D k inner v.place (RecordType at l fs) told.byte place (no_byte told.byte small));
+        fits = opened_after os inner places v.place (shape_of (RecordType a l fs)) fits (whole_fits D k inner v.place (RecordType a l fs) told.byte place (no_byte told.byte small));
       })
-      go type known small place f = absurd (none_some f)
+      go type known small place f = absurd (no_yes f)
+
+  -- a statement is read in a context of its own: its `for` statements have their control variables there
+  abbrev StatementTells : (Bool → Symbol syntax_statement.Statement) → Type 0
+  StatementTells symbol = (c : Context) (Γ : List Region) (os : List Shape) → Here c Γ D k os → (ends : Bool) (x : syntax_statement.Statement) (ts r : Tokens) → symbol ends x ts r → (t : Statement) → Gives (statement x c Γ) t → StatementSound k os t
+
+  with_control_there : (c : Context) (Γ : List Region) (os : List Shape) (entry : ℕ) → Here c Γ D k os → Here (with_control c entry) Γ D k os
+  with_control_there c Γ os entry here = record { stands = here.stands; domains = here.domains; targets = here.targets; outermost = here.outermost; bytes = here.bytes; short = here.short; lines = here.lines }
 
   module _ (c : Context) where
     abbrev VariableTells : Symbol syntax.Variable → Type 0
@@ -183,88 +194,106 @@ module _ (D : Table) (k : Scope) where
     abbrev ExprTells : Symbol Expr → Type 0
     ExprTells symbol = (Γ : List Region) (os : List Shape) → Here c Γ D k os → (x : Expr) (ts r : Tokens) → symbol x ts r → OperandTold D k os (operand c Γ x)
 
-    abbrev StatementTells : (Bool → Symbol syntax_statement.Statement) → Type 0
-    StatementTells symbol = (Γ : List Region) (os : List Shape) → Here c Γ D k os → (ends : Bool) (x : syntax_statement.Statement) (ts r : Tokens) → symbol ends x ts r → (t : Statement) → statement c x Γ ≡ Some t → StatementSound k os t
-
-    next_opened : (expr : Symbol Expr) → VariableTells (IsVariable expr) → (x : syntax.Variable) (ts r : Tokens) → IsVariable expr x ts r → (os : List Shape) (o o' : Opening) → OpenedSo c os o → open_next c o x ≡ Some o' → OpenedSo c os o'
+    next_opened : (expr : Symbol Expr) → VariableTells (IsVariable expr) → (x : syntax.Variable) (ts r : Tokens) → IsVariable expr x ts r → (os : List Shape) (o o' : Opening) → OpenedSo c os o → Gives (open_next c o x) o' → OpenedSo c os o'
     unfolding open_next
     next_opened expr tells x ts r d os o o' so q =
-        let p = then_some (record_at c o.1 o.0 x) _ o' q in
-        let v = then_some (variable_operand c o.1 x).variable _ p.0 p.1 in
-        let region = then_some (record_region p.0.1) _ o' p.2 in
+        let at = (variable_operand c o.1 x).first in
+        let v = then_still (variable_operand c o.1 x).variable (opened at o) o' q in
+        let region = then_yes (record_region at v.0.type) _ o' v.2 in
         let told = tells o.1 so.inner so.here x ts r d in
-        let is = inside (o.0 ++ v.0.place ∷ [], v.0.type) p.0 v.2 in
-        subst (OpenedSo c os) (ap (λ y. (y.0, region.0 ∷ o.1)) is ∙ inside _ o' region.2)
-        (one_opened c os so.inner o.0 o.1 v.0 region.0 so.here so.fits (told.variable v.0 v.1) (ap (λ y. record_region y.1) is ∙ region.1))
+        subst (OpenedSo c os) (inside_yes _ o' region.2) (one_opened at c os so.inner o.0 o.1 v.0 region.0 so.here so.fits (told.variable v.0 v.1) region.1)
 
-    all_opened : (expr : Symbol Expr) → VariableTells (IsVariable expr) → {separator : _} (xs : List syntax.Variable) (ts r : Tokens) → Separated separator (IsVariable expr) xs ts r → (os : List Shape) (o o' : Opening) → OpenedSo c os o → steps (open_next c) o xs ≡ Some o' → OpenedSo c os o'
+    all_opened : (expr : Symbol Expr) → VariableTells (IsVariable expr) → {separator : _} (xs : List syntax.Variable) (ts r : Tokens) → Separated separator (IsVariable expr) xs ts r → (os : List Shape) (o o' : Opening) → OpenedSo c os o → Gives (through (open_next c) o xs) o' → OpenedSo c os o'
     all_opened expr tells [] ts r d os o o' so q = elim d [ ]
     all_opened expr tells (x ∷ []) ts r (one d) os o o' so q =
-        let y = then_some (open_next c o x) _ o' q in
-        subst (OpenedSo c os) (inside y.0 o' y.2) (next_opened expr tells x _ _ d os o y.0 so y.1)
+        let y = through_next (open_next c) o x [] o' q in
+        subst (OpenedSo c os) (through_end (open_next c) y.0 o' y.2) (next_opened expr tells x _ _ d os o y.0 so y.1)
     all_opened expr tells (x ∷ xs) ts r (several d rest) os o o' so q =
-        let y = then_some (open_next c o x) _ o' q in
+        let y = through_next (open_next c) o x xs o' q in
         all_opened expr tells xs _ _ rest os y.0 o' (next_opened expr tells x _ _ d os o y.0 so y.1) y.2
 
     -- ---- all statements, where those in them are told
 
     module _ (expr : Symbol Expr) (exprs_tell : ExprTells expr) (variables_tell : VariableTells (IsVariable expr)) (inner : Bool → Symbol syntax_statement.Statement) (inner_tell : StatementTells inner) where
-      one_of_sequence : (Γ : List Region) (os : List Shape) → Here c Γ D k os → (x : syntax_statement.Statement) (ts r : Tokens) → InSequence inner x ts r → (t : Statement) → statement c x Γ ≡ Some t → StatementSound k os t
-      one_of_sequence Γ os here x ts r (g.in_sequence {ends = ends} d) t q = inner_tell Γ os here ends x _ _ d t q
+      one_of_sequence : (Γ : List Region) (os : List Shape) → Here c Γ D k os → (x : syntax_statement.Statement) (ts r : Tokens) → InSequence inner x ts r → (t : Statement) → Gives (statement x c Γ) t → StatementSound k os t
+      one_of_sequence Γ os here x ts r (g.in_sequence {ends = ends} d) t q = inner_tell c Γ os here ends x _ _ d t q
 
-      listed_fit : (Γ : List Region) (os : List Shape) → Here c Γ D k os → {separator : _} (xs : List syntax_statement.Statement) (ts r : Tokens) → Separated separator (InSequence inner) xs ts r → (list : List Statement) → traverse (λ s. statement c s Γ) xs ≡ Some list → StatementsSound k os (statement_list list)
+      listed_fit : (Γ : List Region) (os : List Shape) → Here c Γ D k os → {separator : _} (xs : List syntax_statement.Statement) (ts r : Tokens) → Separated separator (InSequence inner) xs ts r → (list : List Statement) → Images (λ s. statement s c Γ) xs list → StatementsSound k os (statement_list list)
       listed_fit Γ os here [] ts r d list q = elim d [ ]
-      listed_fit Γ os here (x ∷ []) ts r (one d) list q =
-          let t = then_some (statement c x Γ) _ list q in
-          subst (λ l. StatementsSound k os (statement_list l)) (inside _ list t.2) (let h = one_of_sequence Γ os here x _ _ d t.0 t.1 in ((h.0, tt), (h.1, tt)))
-      listed_fit Γ os here (x ∷ xs) ts r (several d rest) list q =
-          let t = then_some (statement c x Γ) _ list q in
-          let others = then_some (traverse (λ s. statement c s Γ) xs) _ list t.2 in
-          subst (λ l. StatementsSound k os (statement_list l)) (inside _ list others.2) (let h = one_of_sequence Γ os here x _ _ d t.0 t.1 in let g = listed_fit Γ os here xs _ _ rest others.0 others.1 in ((h.0, g.0), (h.1, g.1)))
+      listed_fit Γ os here (x ∷ []) ts r (one d) (t ∷ []) q = let h = one_of_sequence Γ os here x _ _ d t q.0 in ((h.0, tt), (h.1, tt))
+      listed_fit Γ os here (x ∷ xs) ts r (several d rest) (t ∷ list) q =
+          let h = one_of_sequence Γ os here x _ _ d t q.0 in
+          let g = listed_fit Γ os here xs _ _ rest list q.1 in
+          ((h.0, g.0), (h.1, g.1))
+      listed_fit Γ os here (x ∷ xs) ts r d [] q = absurd q
+      listed_fit Γ os here (x ∷ []) ts r (one d) (t ∷ u ∷ list) q = absurd q.1
 
-      sequence_fits : (Γ : List Region) (os : List Shape) → Here c Γ D k os → (xs : List syntax_statement.Statement) (ts r : Tokens) → IsSequence inner xs ts r → (ss : Statements) → statements c Γ xs ≡ Some ss → StatementsSound k os ss
+      sequence_fits : (Γ : List Region) (os : List Shape) → Here c Γ D k os → (xs : List syntax_statement.Statement) (ts r : Tokens) → IsSequence inner xs ts r → (ss : Statements) → Gives (statements c Γ xs) ss → StatementsSound k os ss
       unfolding statements
       sequence_fits Γ os here xs ts r d ss q =
-          let list = then_some (traverse (λ s. statement c s Γ) xs) _ ss q in
-          subst (StatementsSound k os) (inside (statement_list list.0) ss list.2) (listed_fit Γ os here xs ts r d list.0 list.1)
+          let list = then_same (each (λ s. statement s c Γ) xs) _ ss q in
+          subst (StatementsSound k os) list.2 (listed_fit Γ os here xs ts r d list.0 (each_gives (λ s. statement s c Γ) xs list.0 list.1))
 
       -- ---- case elements (6.8.3.5)
 
-      label_there : (Γ : List Region) (os : List Shape) → Here c Γ D k os → (o : Ordinal) (x : Constant) (n : ℤ) → case_label c Γ o x ≡ Some n → IsInteger n
+      label_there : (Γ : List Region) (os : List Shape) → Here c Γ D k os → (o : Ordinal) (x : Constant) (n : ℤ) → case_label c Γ o x ≡ Yes n → IsInteger n
       label_there Γ os here o x n q =
-          let v = then_some (constant c.text Γ x) (case_constant o) n q in
-          number_there D o v.0 n (constant_known D (bound_of k) c.text Γ x v.0 here.bytes here.short (all_known k.program D Γ k.chain os here.stands) v.1) v.2
+          let v = then_yes (constant c.text Γ x) (case_constant (first_of_constant x) o) n q in
+          number_there D (first_of_constant x) o v.0 n (constant_known D (bound_of k) c.text Γ x v.0 here.bytes here.short (all_known k.program D Γ k.chain os here.stands) v.1) v.2
 
-      labels_there : (Γ : List Region) (os : List Shape) → Here c Γ D k os → (o : Ordinal) (xs : List Constant) (ns : List ℤ) → traverse (case_label c Γ o) xs ≡ Some ns → AllIntegers ns
-      labels_there Γ os here o [] ns q = subst AllIntegers (inside [] ns q) tt
-      labels_there Γ os here o (x ∷ xs) ns q =
-          let n = then_some (case_label c Γ o x) _ ns q in
-          let rest = then_some (traverse (case_label c Γ o) xs) _ ns n.2 in
-          subst AllIntegers (inside _ ns rest.2) (label_there Γ os here o x n.0 n.1, labels_there Γ os here o xs rest.0 rest.1)
+      one_more_integer : (ns : List ℤ) (n : ℤ) → AllIntegers ns → IsInteger n → AllIntegers (ns ++ n ∷ [])
+      one_more_integer [] n h g = (g, tt)
+      one_more_integer (m ∷ ns) n h g = (h.0, one_more_integer ns n h.1 g)
+
+      labels_there : (Γ : List Region) (os : List Shape) → Here c Γ D k os → (o : Ordinal) (seen own : List ℤ) (xs : List Constant) (ns : List ℤ) → AllIntegers own → steps (next_label c Γ o seen) own xs ≡ Yes ns → AllIntegers ns
+      labels_there Γ os here o seen own [] ns h q = subst AllIntegers (inside_yes own ns q) h
+      labels_there Γ os here o seen own (x ∷ xs) ns h q =
+          let more = then_yes (next_label c Γ o seen own x) _ ns q in
+          let n = then_yes (case_label c Γ o x) (fresh (first_of_constant x) seen own) more.0 more.1 in
+          let is = provided_yes _ _ _ (own ++ n.0 ∷ []) more.0 n.2 in
+          labels_there Γ os here o seen more.0 xs ns (subst AllIntegers is.1 (one_more_integer own n.0 h (label_there Γ os here o x n.0 n.1))) more.2
 
       abbrev ElementSound : List Shape → TypedElement → Type 0
       ElementSound os t = AllIntegers t.0 × StatementSound k os t.1
 
-      element_fits : (Γ : List Region) (os : List Shape) → Here c Γ D k os → (o : Ordinal) (x : Element) (ts r : Tokens) → IsElement inner x ts r → (t : TypedElement) → element c x Γ o ≡ Some t → ElementSound os t
-      element_fits Γ os here o x ts r (g.element cs y {ends = ends} labels d) t q =
+      element_fits : (Γ : List Region) (os : List Shape) → Here c Γ D k os → (o : Ordinal) (seen : List ℤ) (x : Element) (ts r : Tokens) → IsElement inner x ts r → (t : TypedElement) → Gives (element x c Γ o seen) t → ElementSound os t
+      unfolding labels
+      element_fits Γ os here o seen x ts r (g.element cs y {ends = ends} ls d) t q =
           let z = out-roll-Element (record { constants = cs; statement = y }) in
-          let e = then_some (traverse (case_label c Γ o) (out-Element x).constants) _ t (sym (element_is c Γ x o) ∙ q) in
-          let body = then_some (statement c (out-Element x).statement Γ) _ t e.2 in
-          subst (ElementSound os) (inside _ t body.2) (labels_there Γ os here o (out-Element x).constants e.0 e.1, inner_tell Γ os here ends y _ _ d body.0 (ap (λ u. statement c u.statement Γ) (sym z) ∙ body.1))
+          let e = still_then (labels c Γ o seen (out-Element x).constants) _ t (as_given (element_is c Γ x o seen) q) in
+          let body = then_same (statement (out-Element x).statement c Γ) _ t e.2 in
+          subst (ElementSound os) body.2 (labels_there Γ os here o seen [] (out-Element x).constants e.0 tt e.1, inner_tell c Γ os here ends y _ _ d body.0 (as_given (ap (λ u. statement u.statement c Γ) z) body.1))
 
-      separated_elements : (Γ : List Region) (os : List Shape) → Here c Γ D k os → (o : Ordinal) → {separator : _} (xs : List Element) (ts r : Tokens) → Separated separator (IsElement inner) xs ts r → (list : List TypedElement) → traverse (λ x. element c x Γ o) xs ≡ Some list → ElementsSound k os (element_list list)
-      separated_elements Γ os here o [] ts r d list q = elim d [ ]
-      separated_elements Γ os here o (x ∷ []) ts r (one d) list q =
-          let t = then_some (element c x Γ o) _ list q in
-          subst (λ l. ElementsSound k os (element_list l)) (inside _ list t.2) (let h = element_fits Γ os here o x _ _ d t.0 t.1 in ((h.1.0, tt), (h.0, h.1.1, tt)))
-      separated_elements Γ os here o (x ∷ xs) ts r (several d rest) list q =
-          let t = then_some (element c x Γ o) _ list q in
-          let others = then_some (traverse (λ x. element c x Γ o) xs) _ list t.2 in
-          subst (λ l. ElementsSound k os (element_list l)) (inside _ list others.2) (let h = element_fits Γ os here o x _ _ d t.0 t.1 in let g = separated_elements Γ os here o xs _ _ rest others.0 others.1 in ((h.1.0, g.0), (h.0, h.1.1, g.1)))
+      elements_after : (os : List Shape) (es : List TypedElement) (t : TypedElement) → ElementsSound k os (element_list es) → ElementSound os t → ElementsSound k os (element_list (es ++ t ∷ []))
+      elements_after os [] t h g = ((g.1.0, tt), (g.0, g.1.1, tt))
+      elements_after os (x ∷ es) t h g = let r = elements_after os es t (h.0.1, h.1.2) g in ((h.0.0, r.0), (h.1.0, h.1.1, r.1))
 
-      elements_fit : (Γ : List Region) (os : List Shape) → Here c Γ D k os → (o : Ordinal) → {separator : _} (xs : List Element) (ts r : Tokens) → Terminated separator (IsElement inner) xs ts r → (list : List TypedElement) → traverse (λ x. element c x Γ o) xs ≡ Some list → ElementsSound k os (element_list list)
-      elements_fit Γ os here o xs ts r (exactly d) list q = separated_elements Γ os here o xs _ _ d list q
-      elements_fit Γ os here o xs ts r (trailing d) list q = separated_elements Γ os here o xs _ _ d list q
+      -- the elements so far, behind the constants that are seen
+      abbrev DoneSound : List Shape → List ℤ × List TypedElement → Type 0
+      DoneSound os done = ElementsSound k os (element_list done.1)
+
+      next_element : (Γ : List Region) (os : List Shape) → Here c Γ D k os → (o : Ordinal) (x : Element) (ts r : Tokens) → IsElement inner x ts r → (done now : List ℤ × List TypedElement) → DoneSound os done → Gives (one_element c Γ o done (element x)) now → DoneSound os now
+      next_element Γ os here o x ts r d done now h q =
+          let t = then_same (element x c Γ o done.0) _ now q in
+          subst (DoneSound os) t.2 (elements_after os done.1 t.0 h (element_fits Γ os here o done.0 x ts r d t.0 t.1))
+
+      separated_elements : (Γ : List Region) (os : List Shape) → Here c Γ D k os → (o : Ordinal) → {separator : _} (xs : List Element) (ts r : Tokens) → Separated separator (IsElement inner) xs ts r → (done end : List ℤ × List TypedElement) → DoneSound os done → Gives (through (one_element c Γ o) done (map element xs)) end → DoneSound os end
+      separated_elements Γ os here o [] ts r d done end h q = elim d [ ]
+      separated_elements Γ os here o (x ∷ []) ts r (one d) done end h q =
+          let y = through_next (one_element c Γ o) done (element x) [] end q in
+          subst (DoneSound os) (through_end (one_element c Γ o) y.0 end y.2) (next_element Γ os here o x _ _ d done y.0 h y.1)
+      separated_elements Γ os here o (x ∷ xs) ts r (several d rest) done end h q =
+          let y = through_next (one_element c Γ o) done (element x) (map element xs) end q in
+          separated_elements Γ os here o xs _ _ rest y.0 end (next_element Γ os here o x _ _ d done y.0 h y.1) y.2
+
+      all_elements : (Γ : List Region) (os : List Shape) → Here c Γ D k os → (o : Ordinal) → {separator : _} (xs : List Element) (ts r : Tokens) → Terminated separator (IsElement inner) xs ts r → (end : List ℤ × List TypedElement) → Gives (through (one_element c Γ o) ([], []) (map element xs)) end → DoneSound os end
+      all_elements Γ os here o xs ts r (exactly d) end q = separated_elements Γ os here o xs _ _ d ([], []) end (tt, tt) q
+      all_elements Γ os here o xs ts r (trailing d) end q = separated_elements Γ os here o xs _ _ d ([], []) end (tt, tt) q
+
+      elements_fit : (Γ : List Region) (os : List Shape) → Here c Γ D k os → (o : Ordinal) → {separator : _} (xs : List Element) (ts r : Tokens) → Terminated separator (IsElement inner) xs ts r → (list : List TypedElement) → Gives (elements c Γ o (map element xs)) list → ElementsSound k os (element_list list)
+      elements_fit Γ os here o xs ts r d list q =
+          let end = then_same (through (one_element c Γ o) ([], []) (map element xs)) _ list q in
+          subst (λ l. ElementsSound k os (element_list l)) end.2 (all_elements Γ os here o xs ts r d end.0 end.1)
 
       parameter_told : (Γ : List Region) (os : List Shape) (here : Here c Γ D k os) → (x : Parameter) (ts r : Tokens) → IsParameter expr x ts r → ParameterTold D k os c Γ here x
       parameter_told Γ os here x ts r (g.unformatted {x = y} d) = (λ z e. subst (λ u. OperandTold D k os (operand c Γ u)) (plain_is y z e) (exprs_tell Γ os here y _ _ d), λ z w e. absurd (not_width y z w e))
@@ -304,92 +333,118 @@ module _ (D : Table) (k : Scope) where
       parameters_told Γ os here (x ∷ []) ts r (one d) = (parameter_told Γ os here x _ _ d, tt)
       parameters_told Γ os here (x ∷ xs) ts r (several d rest) = (parameter_told Γ os here x _ _ d, parameters_told Γ os here xs _ _ rest)
 
-      call_fits : (Γ : List Region) (os : List Shape) (here : Here c Γ D k os) (at : Span) (xs : List Parameter) (t : Statement) → Each (ParameterTold D k os c Γ here) xs → procedure_statement c Γ at xs ≡ Some t → StatementSound k os t
+      call_fits : (Γ : List Region) (os : List Shape) (here : Here c Γ D k os) (at : Span) (xs : List Parameter) (t : Statement) → Each (ParameterTold D k os c Γ here) xs → Gives (procedure_statement c Γ at xs) t → StatementSound k os t
       call_fits Γ os here at xs t told q =
-          let point = then_some (denoted c Γ at) _ t q in
-          called_fits os c Γ here (line_in c.text at.from) (line_there c.text at.from here.lines) xs point.0 t told (denoted_stands c Γ D k os here at point.0 point.1) point.2
+          let point = still_then (denoted c Γ at) _ t q in
+          called_fits os c Γ here at.from xs point.0 t told (denoted_stands c Γ D k os here at point.0 point.1) point.2
 
-      condition_there : (Γ : List Region) (os : List Shape) → Here c Γ D k os → (x : Expr) (ts r : Tokens) → expr x ts r → (e : Tree.Expr) → condition_at c Γ x ≡ Some e → ExprSound k os e NumberSort
+      condition_there : (Γ : List Region) (os : List Shape) → Here c Γ D k os → (x : Expr) (ts r : Tokens) → expr x ts r → (e : Tree.Expr) → Gives (condition_at c Γ x) e → ExprSound k os e NumberSort
       condition_there Γ os here x ts r d e q =
-          let v = then_some (operand c Γ x).value condition e q in
+          let v = then_still (operand c Γ x).value (condition (first_of_expr x)) e q in
           let told = exprs_tell Γ os here x ts r d in
-          condition_fits os v.0 e (told.value v.0 v.1) v.2
+          condition_fits os (first_of_expr x) v.0 e (told.value v.0 v.1) v.2
 
-      bound_there : (Γ : List Region) (os : List Shape) → Here c Γ D k os → (o : Ordinal) (x : Expr) (ts r : Tokens) → expr x ts r → (e : Tree.Expr) → bound_at c Γ o x ≡ Some e → ExprSound k os e NumberSort
+      bound_there : (Γ : List Region) (os : List Shape) → Here c Γ D k os → (o : Ordinal) (x : Expr) (ts r : Tokens) → expr x ts r → (e : Tree.Expr) → Gives (bound_at c Γ o x) e → ExprSound k os e NumberSort
       bound_there Γ os here o x ts r d e q =
-          let v = then_some (operand c Γ x).value (bound o) e q in
+          let v = then_still (operand c Γ x).value (bound (first_of_expr x) o) e q in
           let told = exprs_tell Γ os here x ts r d in
-          bound_fits os o v.0 e (told.value v.0 v.1) v.2
+          bound_fits os (first_of_expr x) o v.0 e (told.value v.0 v.1) v.2
+
+      -- a condition, and the statement that it governs
+      governed_fits : (Γ : List Region) (os : List Shape) → Here c Γ D k os → (x : Expr) (ts r : Tokens) → expr x ts r → (ends : Bool) (y : syntax_statement.Statement) (us w : Tokens) → inner ends y us w → (p : Tree.Expr × Statement) → Gives (governed c Γ x (statement y)) p → ExprSound k os p.0 NumberSort × StatementSound k os p.1
+      governed_fits Γ os here x ts r d ends y us w d' p q =
+          let test = then_gives (condition_at c Γ x) _ p q in
+          let body = then_same (statement y c Γ) _ p test.2 in
+          subst (λ z. ExprSound k os z.0 NumberSort × StatementSound k os z.1) body.2 (condition_there Γ os here x ts r d test.0 test.1, inner_tell c Γ os here ends y us w d' body.0 body.1)
 
       -- ---- for (6.8.3.9)
 
-      repeated_fits : (os : List Shape) (h : Head) (body t : Statement) → ControlKnown os (h.variable, h.type) → IsLine h.first_line → IsLine h.last_line → ExprSound k os h.first NumberSort → ExprSound k os h.last NumberSort → StatementSound k os body → repeated h body ≡ Some t → StatementSound k os t
-      unfolding repeated
-      repeated_fits os h body t control from to first last inside_body q = subst (StatementSound k os) (provided_some _ _ t q).1 ((control.0, first.0, last.0, inside_body.0), (first.1, last.1, control.1, from, to, inside_body.1))
+      control_known : (Γ : List Region) (os : List Shape) → Here c Γ D k os → (name : Span) (x : ℕ × Ordinal) → Gives (control_of c Γ name) x → ControlKnown os x
+      control_known Γ os here name x q =
+          let point = still_then (denoted c Γ name) _ x q in
+          let control = still_then (control_at name.from point.0) _ x point.2 in
+          let change = then_gives (changed c (Tree.Variable (Tree.Entry 0 control.0.0) Tree.no_selector) name.from) _ x control.2 in
+          let free = still_then (unthreatened c control.0.0) _ x change.2 in
+          subst (ControlKnown os) (same_gives control.0 x free.2) (control_there os name.from point.0 control.0 (denoted_stands c Γ D k os here name point.0 point.1) control.1)
 
-      statements_tell : (Γ : List Region) (os : List Shape) → Here c Γ D k os → (ends : Bool) (x : syntax_statement.Statement) (ts r : Tokens) → IsStatement expr inner ends x ts r → (t : Statement) → statement c x Γ ≡ Some t → StatementSound k os t
-      statements_tell Γ os here ends x ts r g.empty t q = subst (StatementSound k os) (inside _ t (sym (statement_empty c Γ) ∙ q)) (tt, tt)
+      record HeadSound (os : List Shape) (h : Head) : Type 0 where
+        control : ControlKnown os (h.variable, h.type)
+        from : IsLine h.first_line
+        to : IsLine h.last_line
+        first : ExprSound k os h.first NumberSort
+        last : ExprSound k os h.last NumberSort
+
+      head_fits : (Γ : List Region) (os : List Shape) → Here c Γ D k os → (name : Span) (x : Expr) (ts r : Tokens) → expr x ts r → (direction : _) (y : Expr) (us w : Tokens) → expr y us w → (h : Head) → Gives (for_head c Γ name x direction y) h → HeadSound os h
+      head_fits Γ os here name x ts r d direction y us w d' h q =
+          let control = then_gives (control_of c Γ name) _ h q in
+          let first = then_gives (bound_at c Γ control.0.1 x) _ h control.2 in
+          let last = then_same (bound_at c Γ control.0.1 y) _ h first.2 in
+          subst (HeadSound os) last.2 (record {
+            control = control_known Γ os here name control.0 control.1;
+            from = line_there c.text (first_of_expr x) here.lines;
+            to = line_there c.text (first_of_expr y) here.lines;
+            first = bound_there Γ os here control.0.1 x ts r d first.0 first.1;
+            last = bound_there Γ os here control.0.1 y us w d' last.0 last.1;
+          })
+
+      repeated_fits : (os : List Shape) (h : Head) (body : Statement) → HeadSound os h → StatementSound k os body → StatementSound k os (repeated h body)
+      repeated_fits os h body s inside_body = ((s.control.0, s.first.0, s.last.0, inside_body.0), (s.first.1, s.last.1, s.control.1, s.from, s.to, inside_body.1))
+
+      statements_tell : (Γ : List Region) (os : List Shape) → Here c Γ D k os → (ends : Bool) (x : syntax_statement.Statement) (ts r : Tokens) → IsStatement expr inner ends x ts r → (t : Statement) → Gives (statement x c Γ) t → StatementSound k os t
+      statements_tell Γ os here ends x ts r g.empty t q = subst (StatementSound k os) (same_gives _ t (as_given (statement_empty c Γ) q)) (tt, tt)
       statements_tell Γ os here ends x ts r (g.assign {v = v} {at = at} {x = y} d d') t q =
-          let place = then_some (target c Γ v) _ t (sym (statement_assign c Γ v at y) ∙ q) in
-          let value = then_some (operand c Γ y).value _ t place.2 in
+          let place = then_gives (target c Γ v) _ t (as_given (statement_assign c Γ v at y) q) in
+          let change = then_gives (changed c place.0.place (variable_operand c Γ v).first) _ t place.2 in
+          let value = then_still (operand c Γ y).value _ t change.2 in
           let told = exprs_tell Γ os here y _ _ d' in
-          assigned_fits D k os place.0 value.0 (line_in c.text at.from) (line_there c.text at.from here.lines) t (left_told D k os c Γ here (variable_operand c Γ v) place.0 (variables_tell Γ os here v _ _ d) place.1) (told.value value.0 value.1) value.2
-      statements_tell Γ os here ends x ts r (g.procedure {at = at}) t q = call_fits Γ os here at [] t tt (sym (statement_call c Γ at []) ∙ q)
-      statements_tell Γ os here ends x ts r (g.call {at = at} {xs = xs} d) t q = call_fits Γ os here at xs t (parameters_told Γ os here xs _ _ d) (sym (statement_call c Γ at xs) ∙ q)
+          assigned_fits D k os at.from place.0 value.0 (line_in c.text at.from) (line_there c.text at.from here.lines) t (left_told D k os c Γ here (variable_operand c Γ v) place.0 (variables_tell Γ os here v _ _ d) place.1) (told.value value.0 value.1) value.2
+      statements_tell Γ os here ends x ts r (g.procedure {at = at}) t q = call_fits Γ os here at [] t tt (as_given (statement_call c Γ at []) q)
+      statements_tell Γ os here ends x ts r (g.call {at = at} {xs = xs} d) t q = call_fits Γ os here at xs t (parameters_told Γ os here xs _ _ d) (as_given (statement_call c Γ at xs) q)
       statements_tell Γ os here ends x ts r (g.compound {xs = xs} d) t q =
-          let body = then_some (statements c Γ xs) _ t (sym (statement_compound c Γ xs) ∙ q) in
-          subst (StatementSound k os) (inside _ t body.2) (sequence_fits Γ os here xs _ _ d body.0 body.1)
+          let body = then_same (statements c Γ xs) _ t (as_given (statement_compound c Γ xs) q) in
+          subst (StatementSound k os) body.2 (sequence_fits Γ os here xs _ _ d body.0 body.1)
       statements_tell Γ os here ends x ts r (g.if_then {c = y} {x = z} {ends = e} d d') t q =
-          let test = then_some (condition_at c Γ y) _ t (sym (statement_if c Γ y z) ∙ q) in
-          let body = then_some (statement c z Γ) _ t test.2 in
-          subst (StatementSound k os) (inside _ t body.2) (let a = condition_there Γ os here y _ _ d test.0 test.1 in let b = inner_tell Γ os here e z _ _ d' body.0 body.1 in ((a.0, b.0), (a.1, b.1)))
+          let p = then_same (governed c Γ y (statement z)) _ t (as_given (statement_if c Γ y z) q) in
+          let a = governed_fits Γ os here y _ _ d e z _ _ d' p.0 p.1 in
+          subst (StatementSound k os) p.2 ((a.0.0, a.1.0), (a.0.1, a.1.1))
       statements_tell Γ os here ends x ts r (g.if_else {c = y} {x = z} {y = w} d d' d'') t q =
-          let test = then_some (condition_at c Γ y) _ t (sym (statement_if_else c Γ y z w) ∙ q) in
-          let body = then_some (statement c z Γ) _ t test.2 in
-          let other = then_some (statement c w Γ) _ t body.2 in
-          subst (StatementSound k os) (inside _ t other.2) (let a = condition_there Γ os here y _ _ d test.0 test.1 in let b = inner_tell Γ os here false z _ _ d' body.0 body.1 in let e = inner_tell Γ os here ends w _ _ d'' other.0 other.1 in ((a.0, b.0, e.0), (a.1, b.1, e.1)))
+          let p = then_gives (governed c Γ y (statement z)) _ t (as_given (statement_if_else c Γ y z w) q) in
+          let other = then_same (statement w c Γ) _ t p.2 in
+          let a = governed_fits Γ os here y _ _ d false z _ _ d' p.0 p.1 in
+          let e = inner_tell c Γ os here ends w _ _ d'' other.0 other.1 in
+          subst (StatementSound k os) other.2 ((a.0.0, a.1.0, e.0), (a.0.1, a.1.1, e.1))
       statements_tell Γ os here ends x ts r (g.case {at = at} {x = y} {xs = xs} d d') t q =
-          let index = then_some (index_at c Γ y) _ t (sym (statement_case c Γ at y xs) ∙ q) in
-          let v = then_some (operand c Γ y).value ordinal_of index.0 index.1 in
+          let index = then_gives (index_at c Γ y) _ t (as_given (statement_case c Γ at y xs) q) in
+          let v = then_still (operand c Γ y).value (ordinal_of (first_of_expr y)) index.0 index.1 in
           let told = exprs_tell Γ os here y _ _ d in
-          let list = then_some (traverse (λ e. e Γ index.0.1) (map (element c) xs)) _ t index.2 in
-          subst (StatementSound k os) (provided_some (are_distinct list.0) _ t list.2).1
-          (let a = (ordinal_told D k os v.0 index.0 (told.value v.0 v.1) v.2).1 in let b = elements_fit Γ os here index.0.1 xs _ _ d' list.0 (sym (elements_are c Γ index.0.1 xs) ∙ list.1) in ((a.0, b.0), (a.1, b.1, line_there c.text at.from here.lines)))
+          let list = then_same (elements c Γ index.0.1 (map element xs)) _ t index.2 in
+          let a = (ordinal_told D k os (first_of_expr y) v.0 index.0 (told.value v.0 v.1) v.2).1 in
+          let b = elements_fit Γ os here index.0.1 xs _ _ d' list.0 list.1 in
+          subst (StatementSound k os) list.2 ((a.0, b.0), (a.1, b.1, line_there c.text at.from here.lines))
       statements_tell Γ os here ends x ts r (g.while {c = y} {x = z} d d') t q =
-          let test = then_some (condition_at c Γ y) _ t (sym (statement_while c Γ y z) ∙ q) in
-          let body = then_some (statement c z Γ) _ t test.2 in
-          subst (StatementSound k os) (inside _ t body.2) (let a = condition_there Γ os here y _ _ d test.0 test.1 in let b = inner_tell Γ os here ends z _ _ d' body.0 body.1 in ((a.0, b.0), (a.1, b.1)))
+          let p = then_same (governed c Γ y (statement z)) _ t (as_given (statement_while c Γ y z) q) in
+          let a = governed_fits Γ os here y _ _ d ends z _ _ d' p.0 p.1 in
+          subst (StatementSound k os) p.2 ((a.0.0, a.1.0), (a.0.1, a.1.1))
       statements_tell Γ os here ends x ts r (g.repeat {xs = xs} {c = y} d d') t q =
-          let body = then_some (statements c Γ xs) _ t (sym (statement_repeat c Γ xs y) ∙ q) in
-          let test = then_some (condition_at c Γ y) _ t body.2 in
-          subst (StatementSound k os) (inside _ t test.2) (let a = sequence_fits Γ os here xs _ _ d body.0 body.1 in let b = condition_there Γ os here y _ _ d' test.0 test.1 in ((a.0, b.0), (a.1, b.1)))
+          let body = then_gives (statements c Γ xs) _ t (as_given (statement_repeat c Γ xs y) q) in
+          let test = then_same (condition_at c Γ y) _ t body.2 in
+          subst (StatementSound k os) test.2 (let a = sequence_fits Γ os here xs _ _ d body.0 body.1 in let b = condition_there Γ os here y _ _ d' test.0 test.1 in ((a.0, b.0), (a.1, b.1)))
       statements_tell Γ os here ends x ts r (g.for direction {name = name} {x = y} {y = z} {z = w} d d' d'') t q =
-          let head = then_some (for_head c Γ name y direction z) _ t (sym (statement_for c Γ name y direction z w) ∙ q) in
-          let control = then_some (denoted c Γ name >>= control_at) _ head.0 head.1 in
-          let point = then_some (denoted c Γ name) control_at control.0 control.1 in
-          let first = then_some (bound_at c Γ control.0.1 y) _ head.0 control.2 in
-          let last = then_some (bound_at c Γ control.0.1 z) _ head.0 first.2 in
-          let is = inside _ head.0 last.2 in
-          let body = then_some (statement c w Γ) _ t head.2 in
-          repeated_fits os head.0 body.0 t
-          (subst (λ h. ControlKnown os (h.variable, h.type)) is (control_there os point.0 control.0 (denoted_stands c Γ D k os here name point.0 point.1) point.2))
-          (subst (λ h. IsLine h.first_line) is (line_there c.text (first_of_expr y) here.lines))
-          (subst (λ h. IsLine h.last_line) is (line_there c.text (first_of_expr z) here.lines))
-          (subst (λ h. ExprSound k os h.first NumberSort) is (bound_there Γ os here control.0.1 y _ _ d first.0 first.1))
-          (subst (λ h. ExprSound k os h.last NumberSort) is (bound_there Γ os here control.0.1 z _ _ d' last.0 last.1))
-          (inner_tell Γ os here ends w _ _ d'' body.0 body.1) body.2
+          let head = then_gives (for_head c Γ name y direction z) (for_behind c Γ (statement w)) t (as_given (statement_for c Γ name y direction z w) q) in
+          let body = then_same (statement w (with_control c head.0.variable) Γ) _ t head.2 in
+          subst (StatementSound k os) body.2 (repeated_fits os head.0 body.0 (head_fits Γ os here name y _ _ d direction z _ _ d' head.0 head.1) (inner_tell (with_control c head.0.variable) Γ os (with_control_there c Γ os head.0.variable here) ends w _ _ d'' body.0 body.1))
       statements_tell Γ os here ends x ts r (g.with {vs = vs} {x = y} d d') t q =
-          let o = then_some (steps (open_next c) ([], Γ) vs) _ t (sym (statement_with c Γ vs y) ∙ q) in
+          let o = then_gives (through (open_next c) ([], Γ) vs) _ t (as_given (statement_with c Γ vs y) q) in
           let so = all_opened expr variables_tell vs _ _ d os ([], Γ) o.0 (record { inner = os; here = here; fits = (refl, tt) }) o.1 in
-          let body = then_some (statement c y o.0.1) _ t o.2 in
-          subst (StatementSound k os) (inside _ t body.2) (let opened = so.fits in let b = inner_tell o.0.1 so.inner so.here ends y _ _ d' body.0 body.1 in ((so.inner, opened.0, b.0), (opened.1, b.1)))
+          let body = then_same (statement y c o.0.1) _ t o.2 in
+          subst (StatementSound k os) body.2 (let opened = so.fits in let b = inner_tell c o.0.1 so.inner so.here ends y _ _ d' body.0 body.1 in ((so.inner, opened.0, b.0), (opened.1, b.1)))
 
-    all_statements : (n : ℕ) → StatementTells (statement_within n)
-    all_statements zero Γ os here ends x ts r d t q = absurd d
-    all_statements (suc n) Γ os here ends x ts r d t q = statements_tell (expr_within n) (λ Γ os here x ts r d. expressions_tell c Γ D k os here n x ts r d) (λ Γ os here x ts r d. variables_within c Γ D k os here n x ts r d) (statement_within n) (all_statements n) Γ os here ends x ts r d t q
+  all_statements : (n : ℕ) → StatementTells (statement_within n)
+  all_statements zero c Γ os here ends x ts r d t q = absurd d
+  all_statements (suc n) c Γ os here ends x ts r d t q = statements_tell c (expr_within n) (λ Γ os here x ts r d. expressions_tell c Γ D k os here n x ts r d) (λ Γ os here x ts r d. variables_within c Γ D k os here n x ts r d) (statement_within n) (all_statements n) Γ os here ends x ts r d t q
 
-    pub sequences_fit : (n : ℕ) (Γ : List Region) (os : List Shape) → Here c Γ D k os → (xs : List syntax_statement.Statement) (ts r : Tokens) → IsSequence (statement_within n) xs ts r → (ss : Statements) → statements c Γ xs ≡ Some ss → StatementsSound k os ss
-    sequences_fit n = sequence_fits (expr_within n) (λ Γ os here x ts r d. expressions_tell c Γ D k os here n x ts r d) (λ Γ os here x ts r d. variables_within c Γ D k os here n x ts r d) (statement_within n) (all_statements n)
+  pub sequences_fit : (c : Context) (n : ℕ) (Γ : List Region) (os : List Shape) → Here c Γ D k os → (xs : List syntax_statement.Statement) (ts r : Tokens) → IsSequence (statement_within n) xs ts r → (ss : Statements) → Gives (statements c Γ xs) ss → StatementsSound k os ss
+  sequences_fit c n = sequence_fits c (expr_within n) (λ Γ os here x ts r d. expressions_tell c Γ D k os here n x ts r d) (λ Γ os here x ts r d. variables_within c Γ D k os here n x ts r d) (statement_within n) (all_statements n)
 
 pub statements_tell_all : StatementsTell
 statements_tell_all c Γ D k os here n xs ts r d ss q = sequences_fit D k c n Γ os here xs ts r d ss q

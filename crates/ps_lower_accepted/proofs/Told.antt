@@ -1,5 +1,5 @@
 -- What the typing of variables and expressions tells of the trees that it gives.
-use Rattle.std.proofs.Common.{◌≡◌, ℕ, ◌<◌, Bool, true, false, List, length, Some}
+use Rattle.std.proofs.Common.{◌≡◌, ℕ, ◌<◌, Bool, true, false, List, length}
 use Rattle.ps_tree.specs.Types.{DataType, OrdinalType, PointerType, NilType, SetType, EmptySetType, TextType, ArrayType, RecordType}
 use Rattle.ps_tree.specs.Sizes.{fits_byte}
 use Rattle.ps_tree.specs.Tree.{Expr, SetExpr, Structure, Literal, Contents}
@@ -8,6 +8,7 @@ use Rattle.ps_lower_layout.specs.Paths.{NumberSort, PointerSort}
 use Rattle.ps_lower_code.specs.Scopes.{Scope}
 use Rattle.ps_lower_accepted.proofs.Tidy.{PlaceSound, ExprSound, SetSound}
 use Rattle.ps_check_expressions.specs.Values.{Value, SimpleValue, SetValue, StructureValue, Variable, Operand}
+use Rattle.ps_lower_accepted.proofs.Lists.{Gives}
 use Rattle.ps_lower_accepted.proofs.Tables.{Table, OrdinalKnown, TypeKnown}
 use Rattle.ps_lower_accepted.proofs.Standing.{IsText}
 
@@ -52,5 +53,5 @@ module _ (D : Table) (k : Scope) (os : List Shape) where
 
   -- what an expression is seen as: its value, and the variable that it is
   pub record OperandTold (x : Operand) : Type 0 where
-    pub value : (v : Value) → x.value ≡ Some v → ValueTold v
-    pub variable : (v : Variable) → x.variable ≡ Some v → VariableTold v
+    pub value : (v : Value) → Gives x.value v → ValueTold v
+    pub variable : (v : Variable) → Gives x.variable v → VariableTold v

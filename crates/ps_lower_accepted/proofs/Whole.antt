@@ -14,6 +14,7 @@ use Rattle.ps_lower_code.specs.Routines.{scope_of}
 use Rattle.ps_lower_bounds.specs.Forms.{HasFirst, HaveFirst, VariablesHaveFirst, ResultHasFirst, RoutineFormed, RoutinesFormed}
 use Rattle.ps_lower_calls.specs.Binding.{FirstsFit}
 use Rattle.ps_lower_calls.specs.Routines.{ResultFits}
+use Rattle.ps_check_judgement.specs.Judged.{Yes}
 use Rattle.ps_check.specs.Programs.{program}
 use Rattle.ps_lower_accepted.specs.Formed.{IsFormed}
 use Rattle.ps_lower_accepted.specs.Laws.{AcceptedFit, AcceptedFormed}
@@ -29,7 +30,7 @@ each_byte [] h = tt
 each_byte (b ∷ text) h = (h 0 0 (omega arith), each_byte text (λ i d lt. h (suc i) d (omega (arith, lt))))
 
 sound : (text : List ℕ) (tokens : List Token) (tree : syntax.Program) (checked : Program)
-    → AreBytes text → IsSource text → IsTokens text tokens → IsTreeOf text tokens tree → program text tree ≡ Some checked → ProgramSound checked
+    → AreBytes text → IsSource text → IsTokens text tokens → IsTreeOf text tokens tree → program text tree ≡ Yes checked → ProgramSound checked
 sound text tokens tree checked bytes source scanned derived e =
     let short : length text ≤ 1048576 = source.length_fits in
     accepted_sound limits_small text (each_byte text bytes) short source.lines_fit checked tokens tree scanned derived e

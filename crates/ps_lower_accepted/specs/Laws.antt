@@ -1,5 +1,5 @@
 -- What is accepted has what the lowering needs, and is formed.
-use Rattle.std.specs.Prelude.{◌≡◌, ℕ, List, Some}
+use Rattle.std.specs.Prelude.{◌≡◌, ℕ, List}
 use Rattle.behavior.specs.Transcripts.{AreBytes}
 use Rattle.ps_text.specs.Lines.{IsSource}
 use Rattle.ps_scan.specs.declared.token.Token.{Token}
@@ -7,6 +7,7 @@ use Rattle.ps_scan.specs.Lexis.{IsTokens}
 use Rattle.ps_syntax.specs.declared.program.Program as syntax
 use Rattle.ps_parse_grammar.specs.Trees.{IsTreeOf}
 use Rattle.ps_tree.specs.Tree.{Program}
+use Rattle.ps_check_judgement.specs.Judged.{Yes}
 use Rattle.ps_check.specs.Programs.{program}
 use Rattle.ps_lower_laws.specs.Fits.{ProgramFits}
 use Rattle.ps_lower_accepted.specs.Formed.{IsFormed}
@@ -15,9 +16,9 @@ use Rattle.ps_lower_accepted.specs.Formed.{IsFormed}
 abbrev pub AcceptedFit : Type 0
 AcceptedFit =
     (text : List ℕ) (tokens : List Token) (tree : syntax.Program) (checked : Program)
-    → AreBytes text → IsSource text → IsTokens text tokens → IsTreeOf text tokens tree → program text tree ≡ Some checked → ProgramFits checked
+    → AreBytes text → IsSource text → IsTokens text tokens → IsTreeOf text tokens tree → program text tree ≡ Yes checked → ProgramFits checked
 
 abbrev pub AcceptedFormed : Type 0
 AcceptedFormed =
     (text : List ℕ) (tokens : List Token) (tree : syntax.Program) (checked : Program)
-    → AreBytes text → IsSource text → IsTokens text tokens → IsTreeOf text tokens tree → program text tree ≡ Some checked → IsFormed checked
+    → AreBytes text → IsSource text → IsTokens text tokens → IsTreeOf text tokens tree → program text tree ≡ Yes checked → IsFormed checked

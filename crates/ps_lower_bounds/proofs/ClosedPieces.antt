@@ -1,5 +1,6 @@
 -- The pieces that all constructs share are closed.
-use Rattle.std.proofs.Common.{◌≡◌, ℕ, zero, suc, ◌+◌, ◌-◌, ◌*◌, ◌<◌, ◌%◌, Bool, true, false, not, ◌&&◌, nat_eq, nat_le, nat_lt, if◌then◌else◌, List, [], ◌∷◌, length, ℤ, pos, negsuc, ◌-ℤ◌, Option, Some, None, refl, arith, leb-true, ltb-true, ltb-false}
+use Rattle.std.proofs.Common.{◌≡◌, ℕ, zero, suc, ◌+◌, ◌-◌, ◌*◌, ◌<◌, ◌%◌, ◌^◌, Bool, true, false, not, ◌&&◌, nat_eq, nat_le, nat_lt, if◌then◌else◌, List, [], ◌∷◌, length, ℤ, pos, negsuc, ◌-ℤ◌, Option, Some, None, refl, arith, leb-true, ltb-true, ltb-false}
+use Rattle.std.proofs.Math.Pow.{pow-lt}
 use Rattle.ps_tree.specs.declared.tree.Range.{Range}
 use Rattle.ps_tree.specs.declared.tree.Range.TheVariants.{Any, Within}
 use Rattle.ps_tree.specs.declared.tree.SetRelation.{SetRelation}
@@ -10,6 +11,7 @@ use Rattle.ps_tree.specs.Types.{DataType}
 use Rattle.ps_tree.specs.Tree.{PlaceBase, Entry, Opened, Expr, Number, Nil, Minus, Not, Compare, ComparePointers, Eoln}
 use Rattle.ps_meaning.specs.Operators.{is_between}
 use Rattle.ps_meaning.specs.Expressions.{index_of}
+use Rattle.tac_code.specs.declared.code.Base.{Base}
 use Rattle.tac_code.specs.declared.code.Base.TheVariants as base
 use Rattle.tac_code.specs.declared.code.Instruction.{Instruction}
 use Rattle.tac_code.specs.declared.code.Instruction.TheVariants as i
@@ -18,8 +20,8 @@ use Rattle.tac_code.specs.Numbers.{number_of}
 use Rattle.ps_lower_layout.specs.Words.{filled}
 use Rattle.ps_lower_layout.specs.Frames.{Kind, Own, Reference, Closure}
 use Rattle.ps_lower_code.specs.Fits.{FunctionFits}
-use Rattle.ps_lower_code.specs.Scopes.{beside, moved, least, greatest, range_code, is_any, check_code, has_bytes, fitting_code, operand_check, operand_of, Site, Scope, kind_at, is_outermost, hops, frame_code, link_code, formal_code}
-use Rattle.ps_lower_code.specs.Values.{negated, literal_of, is_relation, is_truth, right_in, relation_code, finish, truth_finish, load_code, store_code, index_code, function_code, minus_code, reference_code, name_code, holds_all, outside_bits, masked, joined_word, outside_code, set_check, clear_code, same_sets_code, sets_code, range_members}
+use Rattle.ps_lower_code.specs.Scopes.{beside, moved, least, greatest, range_code, is_any, check_code, has_bytes, fitting_code, operand_check, operand_of, Site, Scope, kind_at, is_outermost, hops, frame_code, link_code, formal_code, words_code}
+use Rattle.ps_lower_code.specs.Values.{negated, literal_of, is_relation, is_truth, right_in, relation_code, finish, truth_finish, load_code, store_code, index_code, function_code, minus_code, reference_code, name_code, holds_all, outside_bits, masked, joined_word, outside_code, set_check, one_code, membership_code, clear_code, same_sets_code, sets_code, range_members}
 use Rattle.ps_lower_code.proofs.Masks.{outside_small}
 use Rattle.ps_lower_bounds.specs.Forms.{IsRange, HasBounds, ExprFormed}
 use Rattle.ps_lower_bounds.proofs.Closed.{IsInt, to_int, IsNumber, Closed, anywhere, both, either}
@@ -178,6 +180,22 @@ module _ (R T : ℕ) where
       (both R T (i.Literal t (pos 0) ∷ outside_code low high t x 8) _ (both R T (i.Literal t (pos 0) ∷ []) _ (omega arith, tt, tt) (outside_closed low high t x 8)) (omega arith, omega arith, (omega (arith, w), tt, tt)))
 
 -- ---- sets
+
+module _ (R T : ℕ) where
+  pub words_closed : (to : Base) (o : ℕ) (from : Base) (p v n b : ℕ) → Closed R T b 0 (words_code to o from p v n)
+  unfolding words_code
+  words_closed to o from p v zero b = tt
+  words_closed to o from p v (suc n) b = (tt, tt, (tt, tt, words_closed to (o + 4) from (p + 4) v n (suc (suc b))))
+
+  bit_number : (n : ℕ) → IsInt (number_of (2 ^ (n % 32)))
+  bit_number n = let l : n % 32 < 32 = omega arith in let e = pow-lt l in number_int (2 ^ (n % 32)) (omega (arith, e))
+
+  pub one_closed : (m : Option ℕ) (t x : ℕ) (code : List Instruction) → Closed R T 0 0 code → Closed R T 0 0 (one_code m t x code)
+  one_closed None t x code c = c
+  one_closed (Some n) t x code c = (tt, tt, (bit_number n, tt, (tt, tt, tt)))
+
+  pub membership_closed : (m u t : ℕ) → Closed R T 0 0 (membership_code m u t)
+  membership_closed m u t = omega arith
 
 module _ (R T : ℕ) (k : Scope) (h : length k.program.routines ≡ R) where
   pub clear_closed : (t x : ℕ) → Closed R T 0 0 (clear_code k t x)

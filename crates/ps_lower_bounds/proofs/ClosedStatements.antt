@@ -16,7 +16,7 @@ use Rattle.ps_lower_code.specs.Values.{literal_of, relation_in, left_in, right_i
 use Rattle.ps_lower_code.specs.Statements.{expr_code, read_code, reads_code, width_code, write_code, writes_code, within_site, with_code, with_scope, with_depth, tests_code, body_depth, room_code, statement_code, statements_code, elements_code}
 use Rattle.ps_lower_bounds.specs.Forms.{IsSmall, HasFirst, ExprFormed, PlacesFormed, ReadFormed, ReadsFormed, WidthFormed, WriteFormed, WritesFormed, StatementFormed, StatementsFormed, ElementsFormed}
 use Rattle.ps_lower_bounds.proofs.Closed.{to_int, Closed, anywhere, joined, both, three, four, five, six, unknown}
-use Rattle.ps_lower_bounds.proofs.ClosedPieces.{literal_known, operand_number, right_number, range_closed, check_closed, fitting_closed, operand_check_closed, store_closed, link_closed, formal_closed, set_check_closed}
+use Rattle.ps_lower_bounds.proofs.ClosedPieces.{literal_known, operand_number, right_number, range_closed, check_closed, fitting_closed, operand_check_closed, store_closed, link_closed, formal_closed, words_closed, set_check_closed}
 use Rattle.ps_lower_bounds.proofs.ClosedValues.{arguments_counted, finished, place_closed, front_closed, set_closed, structure_closed, arguments_closed}
 use Rattle.ps_lower_bounds.proofs.ClosedFirsts.{first_closed, tests_closed, room_closed, for_closed, components_closed, truth_text_closed}
 
@@ -91,8 +91,8 @@ module _ (R T : ℕ) where
         let c = kept (expr_calls e) d in let t = even_from (suc (place_temporary p c)) in
         four R T (place_code k p c 0) _ _ _ (place_closed R T k h.0 p c 0 f.0) (expr_closed R T k h.0 e t f.1) (fitting_closed R T (gives_byte e) (literal_of e) t range line f.2 f.3) (store_closed R T (is_byte p) (place_site k p c) t)
     statement_closed k h (AssignSet p low high e line) d f =
-        let c = odd_from d in let t = even_from (suc c) in let r = h.0 in
-        five R T (place_code k p c 0) _ _ _ _ (place_closed R T k h.0 p c 0 f.0) (set_closed R T k h.0 e (suc c) 0 f.1) (set_check_closed R T t 0 low high line f.3) (tt, tt, tt) (omega (arith, r))
+        let c = odd_from d in let t = even_from (suc c) in
+        five R T (place_code k p c 0) _ _ _ _ (place_closed R T k h.0 p c 0 f.0) (set_closed R T k h.0 e (suc c) 0 f.1) (set_check_closed R T t 0 low high line f.3) (tt, tt, tt) (words_closed R T (base.Temporary t) 0 base.Scratch 0 (beside t) 8 0)
     statement_closed k h (AssignStructure p e) d f =
         let c = held (structure_calls e) d in let t = even_from (suc (place_temporary p c)) in let r = h.0 in let s = f.2 in
         four R T (place_code k p c 0) _ _ _ (place_closed R T k h.0 p c 0 f.0) (structure_closed R T k h.0 e t 0 f.1) (tt, tt, tt) (omega (arith, r, s))

@@ -1,16 +1,17 @@
 -- The code of variables, expressions and actual parameters is closed.
-use Rattle.std.proofs.Common.{◌≡◌, ℕ, suc, ◌+◌, ◌<◌, [], ◌∷◌, ◌++◌, length, arith, length-append}
+use Rattle.std.proofs.Common.{◌≡◌, ℕ, suc, ◌+◌, ◌<◌, if◌then◌else◌, [], ◌∷◌, ◌++◌, length, arith, length-append}
 use Rattle.ps_tree.specs.declared.tree.BooleanOperator.{BooleanOperator}
 use Rattle.ps_tree.specs.declared.tree.SetOperator.{SetOperator}
 use Rattle.ps_tree.specs.declared.tree.SetOperator.TheVariants.{Union, Difference, Intersection}
 use Rattle.ps_tree.specs.Tree.{Place, Variable, Element, Field, Target, Selectors, no_selector, selector_before, ArithmeticSteps, no_arithmetic_step, arithmetic_step_before, Operands, no_operand, operand_before, SetSteps, no_set_step, set_step_before, Expr, Number, Nil, Load, Plus, Minus, Not, Arithmetic, Logic, Compare, ComparePointers, CompareSets, CompareStrings, In, Apply, Eof, Eoln, Call, CallFormal, SetExpr, LoadSet, Constructor, Combine, Member, One, Several, Members, no_member, member_before, Structure, Literal, Contents, Argument, ByValue, BySet, ByCopy, ByVariable, ByRoutine, ByFormal, Arguments, no_argument, argument_before}
+use Rattle.tac_code.specs.declared.code.Base.TheVariants as base
 use Rattle.tac_code.specs.declared.code.Instruction.TheVariants as i
-use Rattle.ps_lower_code.specs.Scopes.{even_from, odd_from, held, kept, beside, unless_known, Site, Scope, run_time_number}
-use Rattle.ps_lower_code.specs.Calling.{selectors_call, expr_calls, steps_call, operands_call, structure_calls, arguments_call}
-use Rattle.ps_lower_code.specs.Values.{literal_of, negated, set_routine, finish, truth_finish, known_steps, element_site, is_byte, gives_byte, index_code, argument_words, argument_end, argument_scratch, arguments_words, arguments_end, name_code, name_site, place_site, clear_code, place_code, selectors_code, front_code, steps_code, operands_code, set_code, set_steps_code, members_code, member_code, structure_code, argument_code, arguments_code}
+use Rattle.ps_lower_code.specs.Scopes.{even_from, held, kept, beside, unless_known, Site, Scope, run_time_number}
+use Rattle.ps_lower_code.specs.Calling.{selectors_call, expr_calls, steps_call, operands_call, asked_calls, structure_calls, arguments_call}
+use Rattle.ps_lower_code.specs.Values.{literal_of, negated, set_routine, finish, truth_finish, known_steps, element_site, is_byte, gives_byte, index_code, argument_words, argument_end, argument_scratch, arguments_words, arguments_end, name_code, name_site, place_site, clear_code, place_code, selectors_code, front_code, steps_code, operands_code, known_member, adds, joining_code, adding_code, asked_code, set_code, set_steps_code, members_code, member_code, structure_code, argument_code, arguments_code}
 use Rattle.ps_lower_bounds.specs.Forms.{argument_count, arguments_count, PlaceFormed, SelectorsFormed, ExprFormed, StepsFormed, OperandsFormed, SetFormed, SetStepsFormed, MemberFormed, MembersFormed, StructureFormed, ArgumentFormed, ArgumentsFormed}
-use Rattle.ps_lower_bounds.proofs.Closed.{to_int, Closed, anywhere, both, three, four, unknown}
-use Rattle.ps_lower_bounds.proofs.ClosedPieces.{negated_known, filled_whole, literal_known, operand_number, moved_closed, fitting_closed, finish_closed, truth_closed, function_closed, minus_closed, load_closed, index_closed, link_closed, formal_closed, name_closed, clear_closed, set_check_closed, sets_closed, members_closed}
+use Rattle.ps_lower_bounds.proofs.Closed.{to_int, Closed, anywhere, either, both, three, four, unknown}
+use Rattle.ps_lower_bounds.proofs.ClosedPieces.{negated_known, filled_whole, literal_known, operand_number, moved_closed, fitting_closed, finish_closed, truth_closed, function_closed, minus_closed, load_closed, index_closed, link_closed, formal_closed, name_closed, clear_closed, set_check_closed, words_closed, one_closed, membership_closed, sets_closed, members_closed}
 
 words_counted : (a : Argument) (t : ℕ) → length (argument_words a t) ≡ argument_count a
 words_counted (ByRoutine r up) t = omega arith
@@ -86,7 +87,8 @@ module _ (R T : ℕ) (k : Scope) (h : length k.program.routines ≡ R) where
         let n = f.2 in
         three R T (structure_code k a (held (structure_calls b) d) x) _ _ (structure_closed a (held (structure_calls b) d) x f.0) (structure_closed b (even_from (suc (held (structure_calls b) d))) x f.1) (omega (arith, h, n))
     front_closed (In a b) d x f =
-        three R T (front_code k a (odd_from d) x ++ finish a (odd_from d)) _ _ (finished a (odd_from d) x f.0 (front_closed a (odd_from d) x f.0)) (set_closed b (even_from (suc (odd_from d))) x f.1) (omega (arith, h))
+        let m = kept (asked_calls b) d in let u = even_from (suc m) in
+        three R T (front_code k a m x ++ finish a m) _ _ (finished a m x f.0 (front_closed a m x f.0)) (asked_closed b u x f.1) (membership_closed R T m u d)
     front_closed (Apply function e line) d x f = both R T (front_code k e d x ++ finish e d) _ (finished e d x f.0 (front_closed e d x f.0)) (function_closed R T function d line f.1 f.2)
     front_closed Eof d x f = omega (arith, h)
     front_closed (Eoln line) d x f = omega (arith, h, f)
@@ -110,17 +112,31 @@ module _ (R T : ℕ) (k : Scope) (h : length k.program.routines ≡ R) where
         both R T (front_code k e (even_from (suc a)) x ++ truth_finish e (even_from (suc a))) _
         (truth_finished e (even_from (suc a)) x f.0 (front_closed e (even_from (suc a)) x f.0)) (tt, tt, anywhere R T (operands_code k operator rest a x) 1 0 (operands_closed operator rest a x f.1))
 
+    asked_closed : (e : SetExpr) (t x : ℕ) → SetFormed R T e → Closed R T 0 0 (asked_code k e t x)
+    asked_closed (LoadSet p) t x f = both R T (place_code k p t x) _ (place_closed p t x f) (tt, tt, tt)
+    asked_closed (Constructor members) t x f =
+        both R T (clear_code k (even_from t) x ++ members_code k members t x) _
+        (both R T (clear_code k (even_from t) x) _ (clear_closed R T k h (even_from t) x) (members_of_closed members t x f)) (tt, tt, tt)
+    asked_closed (Combine e steps) t x f =
+        both R T (set_code k e t x ++ set_steps_code k steps t x) _ (both R T (set_code k e t x) _ (set_closed e t x f.0) (set_steps_closed steps t x f.1)) (tt, tt, tt)
+
     pub set_closed : (e : SetExpr) (d x : ℕ) → SetFormed R T e → Closed R T 0 0 (set_code k e d x)
-    set_closed (LoadSet p) d x f = three R T (place_code k p d x) _ _ (place_closed p d x f) (tt, tt, tt) (omega (arith, h))
+    set_closed (LoadSet p) d x f = three R T (place_code k p d x) _ _ (place_closed p d x f) (tt, tt, tt) (words_closed R T base.Scratch x (base.Temporary (even_from (suc d))) 0 (beside (even_from (suc d))) 8 0)
     set_closed (Constructor members) d x f = both R T (clear_code k (even_from d) x) _ (clear_closed R T k h (even_from d) x) (members_of_closed members d x f)
     set_closed (Combine e steps) d x f = both R T (set_code k e d x) _ (set_closed e d x f.0) (set_steps_closed steps d x f.1)
 
     set_steps_closed : (steps : SetSteps) (d x : ℕ) → SetStepsFormed R T steps → Closed R T 0 0 (set_steps_code k steps d x)
     set_steps_closed no_set_step d x f = tt
     set_steps_closed (set_step_before operator e rest) d x f =
-        let n = set_number operator in
-        both R T (set_code k e d (x + 32)) _ (set_closed e d (x + 32) f.0)
-        (tt, tt, (tt, tt, (omega (arith, h, n), tt, anywhere R T (set_steps_code k rest d x) 3 0 (set_steps_closed rest d x f.1))))
+        let n = set_number operator in let u = beside (even_from d) in
+        both R T (if adds operator e then adding_code k e d x else (asked_code k e u (x + 32) ++ joining_code k operator (even_from d) x)) _
+        (either R T (adds operator e) (adding_code k e d x) _ (adding_closed e d x f.0) (both R T (asked_code k e u (x + 32)) _ (asked_closed e u (x + 32) f.0) (omega (arith, h, n))))
+        (set_steps_closed rest d x f.1)
+
+    adding_closed : (e : SetExpr) (d x : ℕ) → SetFormed R T e → Closed R T 0 0 (adding_code k e d x)
+    adding_closed (LoadSet p) d x f = tt
+    adding_closed (Constructor members) d x f = members_of_closed members d x f
+    adding_closed (Combine e steps) d x f = tt
 
     members_of_closed : (members : Members) (d x : ℕ) → MembersFormed R T members → Closed R T 0 0 (members_code k members d x)
     members_of_closed no_member d x f = tt
@@ -129,7 +145,8 @@ module _ (R T : ℕ) (k : Scope) (h : length k.program.routines ≡ R) where
     member_closed : (m : Member) (d x : ℕ) → MemberFormed R T m → Closed R T 0 0 (member_code k m d x)
     member_closed (One e line) d x f =
         let w = f.1 in
-        both R T (front_code k e (even_from d) (x + 32) ++ finish e (even_from d)) _ (finished e (even_from d) (x + 32) f.0 (front_closed e (even_from d) (x + 32) f.0)) (omega (arith, h, w))
+        one_closed R T (known_member (literal_of e)) (even_from d) x _
+        (both R T (front_code k e (even_from d) (x + 32) ++ finish e (even_from d)) _ (finished e (even_from d) (x + 32) f.0 (front_closed e (even_from d) (x + 32) f.0)) (omega (arith, h, w)))
     member_closed (Several a b line) d x f =
         let t = held (expr_calls b) d in
         three R T (front_code k a t (x + 32) ++ finish a t) _ _ (finished a t (x + 32) f.0 (front_closed a t (x + 32) f.0))

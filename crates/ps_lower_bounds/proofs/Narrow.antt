@@ -13,7 +13,7 @@ use Rattle.tac_code.specs.declared.code.Instruction.TheVariants.{Offset, Index, 
 use Rattle.ps_lower_layout.specs.Shapes.{Shape, NumberShape, PointerShape, SetShape, ByteShape, ArrayShape, RecordShape, Shapes, no_shape, shape_before, shape_of, word_count, word_counts, byte_count, component_bytes, field_offset, field_shape, words_before, field_part, Part, Whole, Byte, component_part}
 use Rattle.ps_lower_layout.specs.Frames.{Kind, Own, Reference, Closure, entries, entry_offset, input_offset}
 use Rattle.ps_lower_code.specs.Fits.{shape_in, CountIs, BaseFits}
-use Rattle.ps_lower_code.specs.Scopes.{Site, Scope, unless_known, routine_up, kind_at, is_outermost, hops, frame_code, frame_base, link_code, formal_code, site_code}
+use Rattle.ps_lower_code.specs.Scopes.{Site, Scope, unless_known, routine_up, kind_at, is_outermost, hops, frame_code, frame_base, link_code, formal_code, site_code, words_code}
 use Rattle.ps_lower_code.specs.Values.{known_steps, element_site, load_code, store_code, index_code, field_site, reference_code, entry_site, name_code, name_site}
 use Rattle.ps_lower_bounds.specs.Places.{HasComponents}
 use Rattle.ps_lower_bounds.proofs.Gaps.{gap, index_number}
@@ -231,3 +231,15 @@ module _ (k : Scope) (b : Framed k.program) where
   name_reach os o (Entry up index) t shape f = entry_reach (kind_at k up index) t up index shape refl f.1
   name_reach os o (Opened which type number) t shape f =
       opened_reach k k.opened os which (field_offset (shape_of type) number) (byte_count shape) (shape_of type) o f.0 (field_part_in (shape_of type) number shape f.1)
+
+-- ---- words from and to the scratch block
+
+pub taken_narrow : (x t p v n : ℕ) → p + 4 * n < 2147483648 → Narrow (words_code base.Scratch x (base.Temporary t) p v n)
+unfolding words_code
+taken_narrow x t p v zero l = tt
+taken_narrow x t p v (suc n) l = (omega (arith, l), (tt, taken_narrow (x + 4) t (p + 4) v n (omega (arith, l))))
+
+pub kept_narrow : (x t p v n : ℕ) → p + 4 * n < 2147483648 → Narrow (words_code (base.Temporary t) p base.Scratch x v n)
+unfolding words_code
+kept_narrow x t p v zero l = tt
+kept_narrow x t p v (suc n) l = (tt, (omega (arith, l), kept_narrow (x + 4) t (p + 4) v n (omega (arith, l))))

@@ -13,7 +13,7 @@ use Rattle.ps_lower_code.specs.Calling.{places_call, expr_calls, structure_calls
 use Rattle.ps_lower_code.specs.Values.{literal_of, finish, is_byte, gives_byte, is_byte_array, text_length, structure_bytes, arguments_end, place_temporary, place_site, place_code, front_code, structure_code, arguments_code}
 use Rattle.ps_lower_code.specs.Statements.{expr_code, read_code, reads_code, width_code, write_code, writes_code, within_site, with_code, with_scope, with_depth, tests_code, body_depth, statement_code, statements_code, elements_code}
 use Rattle.ps_lower_bounds.specs.Places.{ExprLies, RecordsLie, ReadLies, ReadsLie, WidthLies, WriteLies, WritesLie, StatementLies, StatementsLie, ElementsLie}
-use Rattle.ps_lower_bounds.proofs.Narrow.{Narrow, both, three, four, five, six, unknown, component_most, SitesReach, Framed, link_narrow, formal_narrow, entry_most, store_narrow, site_narrow}
+use Rattle.ps_lower_bounds.proofs.Narrow.{Narrow, both, three, four, five, six, unknown, component_most, SitesReach, Framed, link_narrow, formal_narrow, entry_most, store_narrow, site_narrow, kept_narrow}
 use Rattle.ps_lower_bounds.proofs.NarrowValues.{range_narrow, check_narrow, fitting_narrow, operand_check_narrow, set_check_narrow, finished, place_reach, place_most, place_narrow, front_narrow, set_narrow, structure_narrow, arguments_narrow}
 use Rattle.ps_lower_bounds.proofs.NarrowFirsts.{first_narrow, tests_narrow, room_narrow, for_narrow, components_narrow}
 
@@ -83,7 +83,7 @@ mutual
   statement_narrow k b os o (AssignSet p low high e line) d f =
       let c = odd_from d in let t = even_from (suc c) in
       five (place_code k p c 0) _ _ _ _ (place_narrow k b os o p c 0 f.0 f.1) (set_narrow k b os o e (suc c) 0 f.2) (set_check_narrow t 0 low high line)
-      (site_narrow t (place_site k p c) 32 (place_most k b os o p c f.0 f.1) (omega arith)) ((tt, tt), (tt, (tt, tt)))
+      (site_narrow t (place_site k p c) 32 (place_most k b os o p c f.0 f.1) (omega arith)) (kept_narrow 0 t 0 (beside t) 8 (omega arith))
   statement_narrow k b os o (AssignStructure p e) d f =
       let c = held (structure_calls e) d in let t = even_from (suc (place_temporary p c)) in
       four (place_code k p c 0) _ _ _ (place_narrow k b os o p c 0 f.0 f.1) (structure_narrow k b os o e t 0 f.2) (site_narrow (beside t) (place_site k p c) (structure_bytes e) (place_most k b os o p c f.0 f.1) f.3) (tt, (tt, tt))

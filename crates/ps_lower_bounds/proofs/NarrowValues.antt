@@ -1,5 +1,5 @@
 -- The code of variables, expressions and actual parameters has small offsets, and their variables lie within their blocks.
-use Rattle.std.proofs.Common.{ℕ, zero, suc, ◌+◌, ◌*◌, ◌≤◌, ℤ, Bool, not, ◌&&◌, nat_eq, List, [], ◌∷◌, ◌++◌, Option, Some, None, subst, arith}
+use Rattle.std.proofs.Common.{if◌then◌else◌, ℕ, zero, suc, ◌+◌, ◌*◌, ◌≤◌, ℤ, Bool, not, ◌&&◌, nat_eq, List, [], ◌∷◌, ◌++◌, Option, Some, None, subst, arith}
 use Rattle.ps_tree.specs.declared.tree.BooleanOperator.{BooleanOperator}
 use Rattle.ps_tree.specs.declared.tree.RequiredFunction.{RequiredFunction}
 use Rattle.ps_tree.specs.declared.tree.RequiredFunction.TheVariants.{Abs, Sqr, Odd, Ord, Chr, Succ, Pred}
@@ -13,11 +13,11 @@ use Rattle.tac_code.specs.declared.code.Base.TheVariants as base
 use Rattle.tac_code.specs.declared.code.Instruction.{Instruction}
 use Rattle.tac_code.specs.declared.code.Instruction.TheVariants as i
 use Rattle.ps_lower_layout.specs.Shapes.{Shape, shape_of, byte_count, field_offset, Part, Whole, component_part}
-use Rattle.ps_lower_code.specs.Scopes.{even_from, odd_from, held, kept, beside, moved, least, greatest, is_any, range_code, check_code, has_bytes, fitting_code, operand_check, unless_known, Site, Scope}
-use Rattle.ps_lower_code.specs.Calling.{selectors_call, expr_calls, steps_call, operands_call, structure_calls, arguments_call}
-use Rattle.ps_lower_code.specs.Values.{literal_of, negated, is_relation, is_truth, relation_code, finish, truth_finish, known_steps, element_site, selectors_site, is_byte, gives_byte, index_code, function_code, minus_code, argument_end, argument_scratch, arguments_end, name_code, name_site, place_site, holds_all, outside_bits, masked, joined_word, outside_code, set_check, clear_code, sets_code, range_members, place_code, selectors_code, front_code, steps_code, operands_code, set_code, set_steps_code, members_code, member_code, structure_code, argument_code, arguments_code}
+use Rattle.ps_lower_code.specs.Scopes.{even_from, held, kept, beside, moved, least, greatest, is_any, range_code, check_code, has_bytes, fitting_code, operand_check, unless_known, Site, Scope}
+use Rattle.ps_lower_code.specs.Calling.{selectors_call, expr_calls, steps_call, operands_call, asked_calls, structure_calls, arguments_call}
+use Rattle.ps_lower_code.specs.Values.{literal_of, negated, is_relation, is_truth, relation_code, finish, truth_finish, known_steps, element_site, selectors_site, is_byte, gives_byte, index_code, function_code, minus_code, argument_end, argument_scratch, arguments_end, name_code, name_site, place_site, holds_all, outside_bits, masked, joined_word, outside_code, set_check, membership_code, clear_code, sets_code, range_members, place_code, selectors_code, front_code, steps_code, operands_code, known_member, one_code, adds, joining_code, adding_code, asked_code, set_code, set_steps_code, members_code, member_code, structure_code, argument_code, arguments_code}
 use Rattle.ps_lower_bounds.specs.Places.{PlaceLies, SelectorsLie, ExprLies, StepsLie, OperandsLie, SetLies, SetStepsLie, MemberLies, MembersLie, StructureLies, ArgumentLies, ArgumentsLie}
-use Rattle.ps_lower_bounds.proofs.Narrow.{Narrow, at_narrow, both, three, four, either, unknown, part_bytes, component_most, field_part_in, known_in, Reach, SitesReach, element_reach, load_narrow, site_narrow, index_narrow, Framed, link_narrow, formal_narrow, name_narrow, name_reach}
+use Rattle.ps_lower_bounds.proofs.Narrow.{Narrow, at_narrow, both, three, four, either, unknown, part_bytes, component_most, field_part_in, known_in, Reach, SitesReach, element_reach, load_narrow, site_narrow, index_narrow, Framed, link_narrow, formal_narrow, name_narrow, name_reach, taken_narrow}
 
 -- ---- pieces without offsets
 
@@ -70,6 +70,13 @@ pub set_check_narrow : (t x : ℕ) (low high : ℤ) (line : ℕ) → Narrow (set
 set_check_narrow t x low high line = either (holds_all low high) [] _ tt (tt, both (outside_code low high t x 8) _ (outside_narrow low high t x 8) (tt, (tt, tt)))
 
 module _ (k : Scope) where
+  one_narrow : (m : Option ℕ) (t x : ℕ) (code : List Instruction) → Narrow code → Narrow (one_code m t x code)
+  one_narrow None t x code c = c
+  one_narrow (Some n) t x code c = (tt, (tt, (tt, tt)))
+
+  membership_narrow : (m u t : ℕ) → Narrow (membership_code m u t)
+  membership_narrow m u t = omega arith
+
   clear_narrow : (t x : ℕ) → Narrow (clear_code k t x)
   clear_narrow t x = omega arith
 
@@ -160,7 +167,8 @@ module _ (k : Scope) (b : Framed k.program) (os : List Shape) (o : SitesReach k.
     front_narrow (CompareStrings relation a e) d x f =
         three (structure_code k a (held (structure_calls e) d) x) _ _ (structure_narrow a (held (structure_calls e) d) x f.0) (structure_narrow e (even_from (suc (held (structure_calls e) d))) x f.1) (tt, (tt, tt))
     front_narrow (In a e) d x f =
-        three (front_code k a (odd_from d) x ++ finish a (odd_from d)) _ _ (finished a (odd_from d) x (front_narrow a (odd_from d) x f.0)) (set_narrow e (even_from (suc (odd_from d))) x f.1) ((tt, tt), (tt, tt))
+        let m = kept (asked_calls e) d in let u = even_from (suc m) in
+        three (front_code k a m x ++ finish a m) _ _ (finished a m x (front_narrow a m x f.0)) (asked_narrow e u x f.1) (membership_narrow k m u d)
     front_narrow (Apply function e line) d x f = both (front_code k e d x ++ finish e d) _ (finished e d x (front_narrow e d x f)) (function_narrow function d line)
     front_narrow Eof d x f = let l = b.input in omega (arith, l)
     front_narrow (Eoln line) d x f = let l = b.input in omega (arith, l)
@@ -183,16 +191,32 @@ module _ (k : Scope) (b : Framed k.program) (os : List Shape) (o : SitesReach k.
         both (front_code k e (even_from (suc a)) x ++ truth_finish e (even_from (suc a))) _
         (truth_finished e (even_from (suc a)) x (front_narrow e (even_from (suc a)) x f.0)) (tt, operands_narrow operator rest a x f.1)
 
+    asked_narrow : (e : SetExpr) (t x : ℕ) → SetLies k os e → Narrow (asked_code k e t x)
+    asked_narrow (LoadSet p) t x f = both (place_code k p t x) _ (place_narrow p t x f.0 f.1) (site_narrow t (place_site k p t) 32 (place_most p t f.0 f.1) (omega arith))
+    asked_narrow (Constructor members) t x f =
+        both (clear_code k (even_from t) x ++ members_code k members t x) _
+        (both (clear_code k (even_from t) x) _ (clear_narrow k (even_from t) x) (members_of_narrow members t x f)) ((tt, tt), tt)
+    asked_narrow (Combine e steps) t x f =
+        both (set_code k e t x ++ set_steps_code k steps t x) _ (both (set_code k e t x) _ (set_narrow e t x f.0) (set_steps_narrow steps t x f.1)) ((tt, tt), tt)
+
     pub set_narrow : (e : SetExpr) (d x : ℕ) → SetLies k os e → Narrow (set_code k e d x)
     set_narrow (LoadSet p) d x f =
-        three (place_code k p d x) _ _ (place_narrow p d x f.0 f.1) (site_narrow (even_from (suc d)) (place_site k p d) 32 (place_most p d f.0 f.1) (omega arith)) ((tt, tt), (tt, (tt, tt)))
+        three (place_code k p d x) _ _ (place_narrow p d x f.0 f.1) (site_narrow (even_from (suc d)) (place_site k p d) 32 (place_most p d f.0 f.1) (omega arith)) (taken_narrow x (even_from (suc d)) 0 (beside (even_from (suc d))) 8 (omega arith))
     set_narrow (Constructor members) d x f = both (clear_code k (even_from d) x) _ (clear_narrow k (even_from d) x) (members_of_narrow members d x f)
     set_narrow (Combine e steps) d x f = both (set_code k e d x) _ (set_narrow e d x f.0) (set_steps_narrow steps d x f.1)
 
     set_steps_narrow : (steps : SetSteps) (d x : ℕ) → SetStepsLie k os steps → Narrow (set_steps_code k steps d x)
     set_steps_narrow no_set_step d x f = tt
     set_steps_narrow (set_step_before operator e rest) d x f =
-        both (set_code k e d (x + 32)) _ (set_narrow e d (x + 32) f.0) ((tt, tt), ((tt, tt), (tt, set_steps_narrow rest d x f.1)))
+        let u = beside (even_from d) in
+        both (if adds operator e then adding_code k e d x else (asked_code k e u (x + 32) ++ joining_code k operator (even_from d) x)) _
+        (either (adds operator e) (adding_code k e d x) _ (adding_narrow e d x f.0) (both (asked_code k e u (x + 32)) _ (asked_narrow e u (x + 32) f.0) ((tt, tt), (tt, tt))))
+        (set_steps_narrow rest d x f.1)
+
+    adding_narrow : (e : SetExpr) (d x : ℕ) → SetLies k os e → Narrow (adding_code k e d x)
+    adding_narrow (LoadSet p) d x f = tt
+    adding_narrow (Constructor members) d x f = members_of_narrow members d x f
+    adding_narrow (Combine e steps) d x f = tt
 
     members_of_narrow : (members : Members) (d x : ℕ) → MembersLie k os members → Narrow (members_code k members d x)
     members_of_narrow no_member d x f = tt
@@ -200,7 +224,8 @@ module _ (k : Scope) (b : Framed k.program) (os : List Shape) (o : SitesReach k.
 
     member_narrow : (m : Member) (d x : ℕ) → MemberLies k os m → Narrow (member_code k m d x)
     member_narrow (One e line) d x f =
-        both (front_code k e (even_from d) (x + 32) ++ finish e (even_from d)) _ (finished e (even_from d) (x + 32) (front_narrow e (even_from d) (x + 32) f)) (tt, ((tt, tt), (tt, tt)))
+        one_narrow k (known_member (literal_of e)) (even_from d) x _
+        (both (front_code k e (even_from d) (x + 32) ++ finish e (even_from d)) _ (finished e (even_from d) (x + 32) (front_narrow e (even_from d) (x + 32) f)) (tt, ((tt, tt), (tt, tt))))
     member_narrow (Several a e line) d x f =
         let t = held (expr_calls e) d in
         three (front_code k a t (x + 32) ++ finish a t) _ _ (finished a t (x + 32) (front_narrow a t (x + 32) f.0))

@@ -14,9 +14,10 @@ use Rattle.tac_code.specs.declared.code.Instruction.{Instruction}
 use Rattle.tac_code.specs.declared.code.Instruction.TheVariants as i
 use Rattle.ps_lower_layout.specs.Shapes.{shape_of, field_offset}
 use Rattle.ps_lower_layout.specs.Frames.{Kind, Own, Reference, Closure}
-use Rattle.ps_lower_code.specs.Scopes.{held, kept, beside, moved, least, greatest, range_code, is_any, check_code, has_bytes, fitting_code, operand_check, operand_of, Site, Scope, kind_at, is_outermost, hops, frame_code, frame_base, link_code, formal_code, site_code}
+use Rattle.ps_lower_code.specs.Scopes.{held, kept, beside, moved, least, greatest, range_code, is_any, check_code, has_bytes, fitting_code, operand_check, operand_of, Site, Scope, kind_at, is_outermost, hops, frame_code, frame_base, link_code, formal_code, site_code, words_code}
 use Rattle.ps_lower_code.specs.Calling.{expr_calls, selectors_call}
-use Rattle.ps_lower_code.specs.Values.{literal_of, is_relation, is_truth, left_in, right_in, relation_code, finish, truth_finish, known_steps, element_site, selectors_site, load_code, store_code, index_code, function_code, minus_code, field_site, reference_code, entry_site, name_code, name_site, place_site, holds_all, outside_bits, masked, joined_word, outside_code, set_check, clear_code, same_sets_code, sets_code, range_members}
+use Rattle.ps_lower_code.specs.Values.{literal_of, is_relation, is_truth, left_in, right_in, relation_code, finish, truth_finish, known_steps, element_site, selectors_site, load_code, store_code, index_code, function_code, minus_code, field_site, reference_code, entry_site, name_code, name_site, place_site, holds_all, outside_bits, masked, joined_word, outside_code, set_check, one_code, membership_code, clear_code, same_sets_code, sets_code, range_members}
+use Rattle.ps_lower_code.proofs.Masks.{IsMember}
 use Rattle.ps_lower_bounds.proofs.Uses.{OperandUnder, BaseUnder, Under, both, either, at_base}
 
 -- ---- depths
@@ -90,6 +91,19 @@ module _ (D X : ℕ) where
   pub minus_under : (z : Option ℤ) (d t line : ℕ) (code : List Instruction) → d < D → t < D → Under D X code → Under D X (minus_code z d t line code)
   minus_under (Some z) d t line code h l u = (h, tt)
   minus_under None d t line code h l u = both D X code _ u (omega (arith, h, l))
+
+-- ---- words from and to the scratch block
+
+module _ (D X : ℕ) where
+  pub taken_under : (x t p v n : ℕ) → x + 4 * n ≤ X → x % 4 ≡ 0 → t < D → v < D → Under D X (words_code base.Scratch x (base.Temporary t) p v n)
+  unfolding words_code
+  taken_under x t p v zero h q l m = tt
+  taken_under x t p v (suc n) h q l m = ((m, l), ((omega (arith, h, q), m), taken_under (x + 4) t (p + 4) v n (omega (arith, h)) (omega (arith, q)) l m))
+
+  pub kept_under : (x t p v n : ℕ) → x + 4 * n ≤ X → x % 4 ≡ 0 → t < D → v < D → Under D X (words_code (base.Temporary t) p base.Scratch x v n)
+  unfolding words_code
+  kept_under x t p v zero h q l m = tt
+  kept_under x t p v (suc n) h q l m = ((m, omega (arith, h, q)), ((l, m), kept_under (x + 4) t (p + 4) v n (omega (arith, h)) (omega (arith, q)) l m))
 
 -- ---- where a variable stands
 
@@ -204,6 +218,13 @@ module _ (D X : ℕ) where
 -- ---- sets: they stand in the scratch block
 
 module _ (k : Scope) (D X : ℕ) where
+  pub one_under : (m : Option ℕ) (t x : ℕ) (code : List Instruction) → IsMember m → t < D → x + 32 ≤ X → x % 4 ≡ 0 → Under D X code → Under D X (one_code m t x code)
+  one_under None t x code s h l q u = u
+  one_under (Some n) t x code s h l q u = ((h, omega (arith, s, l, q)), ((h, h, tt), ((omega (arith, s, l, q), h), tt)))
+
+  pub membership_under : (m u t : ℕ) → m < D → u + 2 < D → t < D → Under D X (membership_code m u t)
+  membership_under m u t h l n = omega (arith, h, l, n)
+
   pub clear_under : (t x : ℕ) → t < D → x + 32 ≤ X → x % 4 ≡ 0 → Under D X (clear_code k t x)
   clear_under t x h l q = omega (arith, h, l, q)
 

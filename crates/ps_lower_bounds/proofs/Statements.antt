@@ -14,7 +14,7 @@ use Rattle.ps_lower_code.specs.Calling.{places_call, expr_calls, structure_calls
 use Rattle.ps_lower_code.specs.Values.{literal_of, finish, is_byte, gives_byte, is_byte_array, text_length, structure_bytes, arguments_end, place_temporary, place_site, place_code, front_code, structure_code, arguments_code}
 use Rattle.ps_lower_code.specs.Statements.{expr_code, read_code, reads_code, width_code, write_code, writes_code, within_site, with_code, with_scope, with_depth, tests_code, body_depth, statement_code, statements_code, elements_code}
 use Rattle.ps_lower_bounds.proofs.Uses.{BaseUnder, Under, both, three, four, five, six, unknown, at_base}
-use Rattle.ps_lower_bounds.proofs.Pieces.{held_most, kept_most, range_under, check_under, fitting_under, operand_check_under, operand_under, left_under, right_under, OpenedUnder, store_under, site_under, link_under, formal_under, place_site_under, set_check_under}
+use Rattle.ps_lower_bounds.proofs.Pieces.{held_most, kept_most, range_under, check_under, fitting_under, operand_check_under, operand_under, left_under, right_under, OpenedUnder, store_under, site_under, link_under, formal_under, place_site_under, kept_under, set_check_under}
 use Rattle.ps_lower_bounds.proofs.Nodes.{place_node, expr_node, set_node, structure_node}
 use Rattle.ps_lower_bounds.proofs.Values.{Room, arguments_end_most, words_under, finished, place_under, front_under, set_under, structure_under, arguments_under}
 use Rattle.ps_lower_bounds.proofs.Firsts.{temporary_most, first_under, tests_under, truth_text_under, room_under, for_under, body_depth_most, components_under}
@@ -102,7 +102,7 @@ module _ (D X : ℕ) where
     statement_under k o (AssignSet p low high e line) d r =
         let c = odd_from d in let t = even_from (suc c) in let n = place_node p in let q = set_node e in
         five D X (place_code k p c 0) _ _ _ _ (place_under k D X o p c 0 (omega (arith, r))) (set_under k D X o e (suc c) 0 (omega (arith, r))) (set_check_under D X t 0 low high line (omega (arith, r, n, q)) (omega (arith, r, n, q)) (omega arith))
-        (site_under D X t (place_site k p c) 32 (omega (arith, r)) (at_place k D X o p c (omega (arith, r)))) (omega (arith, r, n, q))
+        (site_under D X t (place_site k p c) 32 (omega (arith, r)) (at_place k D X o p c (omega (arith, r)))) (kept_under D X 0 t 0 (beside t) 8 (omega (arith, r, n, q)) (omega arith) (omega (arith, r, n, q)) (omega (arith, r, n, q)))
     statement_under k o (AssignStructure p e) d r =
         let c = held (structure_calls e) d in let m = held_most (structure_calls e) d in let l = temporary_most p c in let n = place_node p in let q = structure_node e in
         let t = even_from (suc (place_temporary p c)) in

@@ -1,17 +1,18 @@
 -- What the code of variables, expressions and actual parameters uses: 8 temporaries for each node, and of the scratch block 32 bytes
 -- for each node and 4 for each cell that is copied.
-use Rattle.std.proofs.Common.{◌≡◌, ℕ, suc, ◌+◌, ◌*◌, ◌%◌, ◌<◌, ◌≤◌, [], ◌∷◌, ◌++◌, arith}
+use Rattle.std.proofs.Common.{◌≡◌, ℕ, suc, ◌+◌, ◌*◌, ◌%◌, ◌<◌, ◌≤◌, if◌then◌else◌, [], ◌∷◌, ◌++◌, arith}
 use Rattle.ps_tree.specs.declared.tree.BooleanOperator.{BooleanOperator}
 use Rattle.ps_tree.specs.declared.count.Extent.{Extent}
 use Rattle.ps_tree.specs.Counts.{place_extent, selector_extent, selectors_extent, expr_extent, arithmetic_extent, operands_extent, set_extent, set_steps_extent, member_extent, members_extent, structure_extent, argument_extent, arguments_extent}
 use Rattle.ps_tree.specs.Tree.{Place, Variable, Element, Field, Target, Selectors, no_selector, selector_before, ArithmeticSteps, no_arithmetic_step, arithmetic_step_before, Operands, no_operand, operand_before, SetSteps, no_set_step, set_step_before, Expr, Number, Nil, Load, Plus, Minus, Not, Arithmetic, Logic, Compare, ComparePointers, CompareSets, CompareStrings, In, Apply, Eof, Eoln, Call, CallFormal, SetExpr, LoadSet, Constructor, Combine, Member, One, Several, Members, no_member, member_before, Structure, Literal, Contents, Argument, ByValue, BySet, ByCopy, ByVariable, ByRoutine, ByFormal, Arguments, no_argument, argument_before}
 use Rattle.tac_code.specs.declared.code.Instruction.TheVariants as i
 use Rattle.ps_lower_layout.specs.Shapes.{shape_of, byte_count}
-use Rattle.ps_lower_code.specs.Scopes.{even_from, odd_from, held, kept, beside, unless_known, Site, Scope}
-use Rattle.ps_lower_code.specs.Calling.{selectors_call, expr_calls, steps_call, operands_call, structure_calls, arguments_call}
-use Rattle.ps_lower_code.specs.Values.{literal_of, negated, finish, truth_finish, known_steps, element_site, is_byte, gives_byte, index_code, argument_words, argument_end, argument_scratch, arguments_words, arguments_end, name_code, name_site, place_site, clear_code, place_code, selectors_code, front_code, steps_code, operands_code, set_code, set_steps_code, members_code, member_code, structure_code, argument_code, arguments_code}
-use Rattle.ps_lower_bounds.proofs.Uses.{BaseUnder, AllUnder, Under, both, three, four, unknown, at_base, all_both}
-use Rattle.ps_lower_bounds.proofs.Pieces.{held_most, kept_most, moved_under, fitting_under, operand_under, finish_under, truth_under, function_under, minus_under, OpenedUnder, load_under, site_under, index_under, element_under, link_under, formal_under, name_under, name_site_under, place_site_under, clear_under, set_check_under, sets_under, members_under}
+use Rattle.ps_lower_code.specs.Scopes.{even_from, held, kept, beside, unless_known, Site, Scope}
+use Rattle.ps_lower_code.specs.Calling.{selectors_call, expr_calls, steps_call, operands_call, asked_calls, structure_calls, arguments_call}
+use Rattle.ps_lower_code.specs.Values.{literal_of, negated, finish, truth_finish, known_steps, element_site, is_byte, gives_byte, index_code, argument_words, argument_end, argument_scratch, arguments_words, arguments_end, name_code, name_site, place_site, clear_code, place_code, selectors_code, front_code, steps_code, operands_code, known_member, adds, joining_code, adding_code, asked_code, set_code, set_steps_code, members_code, member_code, structure_code, argument_code, arguments_code}
+use Rattle.ps_lower_code.proofs.Masks.{known_small}
+use Rattle.ps_lower_bounds.proofs.Uses.{BaseUnder, AllUnder, Under, either, both, three, four, unknown, at_base, all_both}
+use Rattle.ps_lower_bounds.proofs.Pieces.{held_most, kept_most, moved_under, fitting_under, operand_under, finish_under, truth_under, function_under, minus_under, OpenedUnder, load_under, site_under, index_under, element_under, link_under, formal_under, name_under, name_site_under, place_site_under, taken_under, one_under, membership_under, clear_under, set_check_under, sets_under, members_under}
 use Rattle.ps_lower_bounds.proofs.Nodes.{place_node, expr_node, set_node, structure_node}
 use Rattle.ps_lower_bounds.proofs.Cells.{words_cells}
 
@@ -147,9 +148,10 @@ module _ (k : Scope) (D X : ℕ) (o : OpenedUnder D k.opened) where
         three D X (structure_code k a (held (structure_calls b) d) x) _ _ (structure_under a (held (structure_calls b) d) x (omega (arith, r, m)))
         (structure_under b (even_from (suc (held (structure_calls b) d))) x (omega (arith, r, m, l))) (omega (arith, r, m, l, n))
     front_under (In a b) d x r =
-        let l = expr_node a in let n = set_node b in
-        three D X (front_code k a (odd_from d) x ++ finish a (odd_from d)) _ _ (finished a (odd_from d) x (omega (arith, r)) (front_under a (odd_from d) x (omega (arith, r))))
-        (set_under b (even_from (suc (odd_from d))) x (omega (arith, r, l))) (omega (arith, r, l, n))
+        let c = kept_most (asked_calls b) d in let l = expr_node a in let n = set_node b in
+        let m = kept (asked_calls b) d in let u = even_from (suc m) in
+        three D X (front_code k a m x ++ finish a m) _ _ (finished a m x (omega (arith, r, c)) (front_under a m x (omega (arith, r, c))))
+        (asked_under b u x (omega (arith, r, c, l))) (membership_under k D X m u d (omega (arith, r, c)) (omega (arith, r, c, l, n)) (omega (arith, r)))
     front_under (Apply function e line) d x r =
         both D X (front_code k e d x ++ finish e d) _ (finished e d x (omega (arith, r)) (front_under e d x (omega (arith, r)))) (function_under D X function d line (omega (arith, r)))
     front_under Eof d x r = omega (arith, r)
@@ -179,20 +181,41 @@ module _ (k : Scope) (D X : ℕ) (o : OpenedUnder D k.opened) where
         (truth_finished e (even_from (suc a)) x (omega (arith, r)) (front_under e (even_from (suc a)) x (omega (arith, r))))
         ((omega (arith, r), omega (arith, r), omega (arith, r)), operands_under operator rest a x (omega (arith, r)))
 
+    asked_under : (e : SetExpr) (t x : ℕ) → Room D X t x (set_extent e) → Under D X (asked_code k e t x)
+    asked_under (LoadSet p) t x r =
+        let n = place_node p in
+        both D X (place_code k p t x) _ (place_under p t x r) (site_under D X t (place_site k p t) 32 (omega (arith, r, n)) (place_site_under k D X p t o (omega (arith, r, n))))
+    asked_under (Constructor members) t x r =
+        both D X (clear_code k (even_from t) x ++ members_code k members t x) _
+        (both D X (clear_code k (even_from t) x) _ (clear_under k D X (even_from t) x (omega (arith, r)) (omega (arith, r)) (omega (arith, r))) (members_of_under members t x (omega (arith, r))))
+        (omega (arith, r))
+    asked_under (Combine e steps) t x r =
+        let n = set_node e in
+        both D X (set_code k e t x ++ set_steps_code k steps t x) _
+        (both D X (set_code k e t x) _ (set_under e t x (omega (arith, r))) (set_steps_under steps t x (omega (arith, r)))) (omega (arith, r, n))
+
     pub set_under : (e : SetExpr) (d x : ℕ) → Room D X d x (set_extent e) → Under D X (set_code k e d x)
     set_under (LoadSet p) d x r =
         let n = place_node p in
         three D X (place_code k p d x) _ _ (place_under p d x r)
-        (site_under D X (even_from (suc d)) (place_site k p d) 32 (omega (arith, r, n)) (place_site_under k D X p d o (omega (arith, r, n)))) (omega (arith, r, n))
+        (site_under D X (even_from (suc d)) (place_site k p d) 32 (omega (arith, r, n)) (place_site_under k D X p d o (omega (arith, r, n))))
+        (taken_under D X x (even_from (suc d)) 0 (beside (even_from (suc d))) 8 (omega (arith, r, n)) (omega (arith, r)) (omega (arith, r, n)) (omega (arith, r, n)))
     set_under (Constructor members) d x r = both D X (clear_code k (even_from d) x) _ (clear_under k D X (even_from d) x (omega (arith, r)) (omega (arith, r)) (omega (arith, r))) (members_of_under members d x (omega (arith, r)))
     set_under (Combine e steps) d x r = let n = set_node e in both D X (set_code k e d x) _ (set_under e d x (omega (arith, r))) (set_steps_under steps d x (omega (arith, r)))
 
     set_steps_under : (steps : SetSteps) (d x : ℕ) → Room D X d x (set_steps_extent steps) → Under D X (set_steps_code k steps d x)
     set_steps_under no_set_step d x r = tt
     set_steps_under (set_step_before operator e rest) d x r =
-        let n = set_node e in
-        both D X (set_code k e d (x + 32)) _ (set_under e d (x + 32) (omega (arith, r)))
-        ((omega (arith, r), omega (arith, r, n)), ((omega (arith, r), omega (arith, r, n)), ((omega (arith, r), omega (arith, r)), set_steps_under rest d x (omega (arith, r)))))
+        let n = set_node e in let u = beside (even_from d) in
+        both D X (if adds operator e then adding_code k e d x else (asked_code k e u (x + 32) ++ joining_code k operator (even_from d) x)) _
+        (either D X (adds operator e) (adding_code k e d x) _ (adding_under e d x (omega (arith, r)))
+        (both D X (asked_code k e u (x + 32)) _ (asked_under e u (x + 32) (omega (arith, r))) ((omega (arith, r), omega (arith, r, n)), ((omega (arith, r), omega (arith, r)), tt))))
+        (set_steps_under rest d x (omega (arith, r)))
+
+    adding_under : (e : SetExpr) (d x : ℕ) → Room D X d x (set_extent e) → Under D X (adding_code k e d x)
+    adding_under (LoadSet p) d x r = tt
+    adding_under (Constructor members) d x r = members_of_under members d x (omega (arith, r))
+    adding_under (Combine e steps) d x r = tt
 
     members_of_under : (members : Members) (d x : ℕ) → Room D X d x (members_extent members) → Under D X (members_code k members d x)
     members_of_under no_member d x r = tt
@@ -200,7 +223,8 @@ module _ (k : Scope) (D X : ℕ) (o : OpenedUnder D k.opened) where
 
     member_under : (m : Member) (d x : ℕ) → Room D X d x (member_extent m) → Under D X (member_code k m d x)
     member_under (One e line) d x r =
-        both D X (front_code k e (even_from d) (x + 32) ++ finish e (even_from d)) _ (finished e (even_from d) (x + 32) (omega (arith, r)) (front_under e (even_from d) (x + 32) (omega (arith, r)))) (omega (arith, r))
+        one_under k D X (known_member (literal_of e)) (even_from d) x _ (known_small (literal_of e)) (omega (arith, r)) (omega (arith, r)) (omega (arith, r))
+        (both D X (front_code k e (even_from d) (x + 32) ++ finish e (even_from d)) _ (finished e (even_from d) (x + 32) (omega (arith, r)) (front_under e (even_from d) (x + 32) (omega (arith, r)))) (omega (arith, r)))
     member_under (Several a b line) d x r =
         let m = held_most (expr_calls b) d in let l = expr_node a in
         let t = held (expr_calls b) d in

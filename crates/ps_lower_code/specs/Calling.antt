@@ -1,6 +1,6 @@
 -- Whether the code of a part of the tree calls a routine, be it of the program or of the run-time ones.
 use Rattle.std.specs.Prelude.{Bool, true, false, ◌||◌, List, [], ◌∷◌}
-use Rattle.ps_tree.specs.Tree.{Place, Variable, Selector, Element, Field, Target, Selectors, no_selector, selector_before, ArithmeticSteps, no_arithmetic_step, arithmetic_step_before, Operands, no_operand, operand_before, Expr, Number, Nil, Load, Plus, Minus, Not, Arithmetic, Logic, Compare, ComparePointers, CompareSets, CompareStrings, In, Apply, Eof, Eoln, Call, CallFormal, Structure, Literal, Contents, Argument, ByValue, BySet, ByCopy, ByVariable, ByRoutine, ByFormal, Arguments, no_argument, argument_before, Width, DefaultWidth, GivenWidth, Statement, Empty, Assign, AssignSet, AssignStructure, CallProcedure, CallFormalProcedure, Compound, If, IfElse, Case, While, Repeat, For, With, New, Pack, Unpack, Read, Readln, Write, Writeln, Statements, no_statement, statement_before, Elements, no_element, element_before}
+use Rattle.ps_tree.specs.Tree.{Place, Variable, Selector, Element, Field, Target, Selectors, no_selector, selector_before, ArithmeticSteps, no_arithmetic_step, arithmetic_step_before, Operands, no_operand, operand_before, Expr, Number, Nil, Load, Plus, Minus, Not, Arithmetic, Logic, Compare, ComparePointers, CompareSets, CompareStrings, In, Apply, Eof, Eoln, Call, CallFormal, SetExpr, LoadSet, Constructor, Combine, Structure, Literal, Contents, Argument, ByValue, BySet, ByCopy, ByVariable, ByRoutine, ByFormal, Arguments, no_argument, argument_before, Width, DefaultWidth, GivenWidth, Statement, Empty, Assign, AssignSet, AssignStructure, CallProcedure, CallFormalProcedure, Compound, If, IfElse, Case, While, Repeat, For, With, New, Pack, Unpack, Read, Readln, Write, Writeln, Statements, no_statement, statement_before, Elements, no_element, element_before}
 
 abbrev mutual
   pub place_calls : Place → Bool
@@ -28,7 +28,7 @@ abbrev mutual
   expr_calls (ComparePointers relation a b) = expr_calls a || expr_calls b
   expr_calls (CompareSets relation a b) = true
   expr_calls (CompareStrings relation a b) = true
-  expr_calls (In a b) = true
+  expr_calls (In a b) = expr_calls a || asked_calls b
   expr_calls (Apply function e line) = expr_calls e
   expr_calls Eof = true
   expr_calls (Eoln line) = true
@@ -42,6 +42,12 @@ abbrev mutual
   pub operands_call : Operands → Bool
   operands_call no_operand = false
   operands_call (operand_before e rest) = expr_calls e || operands_call rest
+
+  -- a set that is asked for a member: a variable's stays where it is
+  pub asked_calls : SetExpr → Bool
+  asked_calls (LoadSet p) = place_calls p
+  asked_calls (Constructor members) = true
+  asked_calls (Combine e steps) = true
 
 abbrev pub structure_calls : Structure → Bool
 structure_calls (Literal characters) = false

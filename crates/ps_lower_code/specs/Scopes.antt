@@ -9,7 +9,7 @@ use Rattle.tac_code.specs.declared.code.Operand.TheVariants as operand
 use Rattle.tac_code.specs.declared.code.Base.{Base}
 use Rattle.tac_code.specs.declared.code.Base.TheVariants as base
 use Rattle.tac_code.specs.declared.code.Instruction.{Instruction}
-use Rattle.tac_code.specs.declared.code.Instruction.TheVariants.{Literal, Copy, CheckRange, Offset, Load, Call, Trap}
+use Rattle.tac_code.specs.declared.code.Instruction.TheVariants.{Literal, Copy, CheckRange, Offset, Load, Store, Call, Trap}
 use Rattle.ps_lower_layout.specs.Frames.{Kind, entries, entry_offset, link_offset, input_offset}
 
 -- ---- temporaries
@@ -170,6 +170,11 @@ run_time_number ReadLine = 16
 -- such calls aren't told among the open ones, so any line does
 abbrev pub helper : Scope → RunTime → (operands : List ℕ) → (to : ℕ) → Instruction
 helper k routine operands t = Call t (length k.program.routines + run_time_number routine) operands 1
+
+-- so many words from one place to another, one by one; v is used
+unfoldable pub words_code : (to : Base) (o : ℕ) (from : Base) (p v words : ℕ) → List Instruction
+words_code to o from p v zero = []
+words_code to o from p v (suc n) = Load v from p ∷ Store to o v ∷ words_code to (o + 4) from (p + 4) v n
 
 -- the words at the address in `from` go to the address in `to`; a temporary above is used
 abbrev pub copy_code : Scope → (to from t : ℕ) (bytes : ℕ) → List Instruction

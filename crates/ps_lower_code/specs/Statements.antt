@@ -20,7 +20,7 @@ use Rattle.tac_code.specs.declared.code.Instruction.TheVariants as i
 use Rattle.ps_lower_layout.specs.Shapes.{Shape, NumberShape, PointerShape, SetShape, ByteShape, ArrayShape, RecordShape, Shapes, no_shape, shape_before, shape_of, word_count, byte_count, component_bytes}
 use Rattle.ps_lower_layout.specs.Words.{filled}
 use Rattle.ps_lower_layout.specs.Frames.{entry_offset}
-use Rattle.ps_lower_code.specs.Scopes.{even_from, held, kept, beside, greatest, range_code, check_code, fitting_code, operand_of, operand_check, unless_known, Site, Scope, routine_up, link_code, formal_code, site_code, input_site, PackBytes, UnpackBytes, WriteNumber, WriteCharacter, WriteString, ReadCharacter, ReadNumber, ReadLine, helper, copy_code}
+use Rattle.ps_lower_code.specs.Scopes.{even_from, held, kept, beside, greatest, range_code, check_code, fitting_code, operand_of, operand_check, unless_known, Site, Scope, routine_up, link_code, formal_code, site_code, input_site, PackBytes, UnpackBytes, WriteNumber, WriteCharacter, WriteString, ReadCharacter, ReadNumber, ReadLine, helper, words_code, copy_code}
 use Rattle.ps_lower_code.specs.Calling.{places_call, expr_calls, structure_calls, width_calls, statement_calls}
 use Rattle.ps_lower_code.specs.Values.{literal_of, relation_in, left_in, right_in, opposite, finish, is_byte, gives_byte, is_byte_array, store_code, text_length, structure_bytes, arguments_words, arguments_end, place_temporary, place_site, place_code, front_code, set_code, set_check, structure_code, arguments_code}
 
@@ -197,8 +197,8 @@ abbrev mutual
       ++ store_code (is_byte p) (place_site k p (kept (expr_calls e) d)) (even_from (suc (place_temporary p (kept (expr_calls e) d))))
   statement_code k (AssignSet p low high e line) d =
       place_code k p (held true d) 0 ++ set_code k e (suc (held true d)) 0 ++ set_check (even_from (suc (held true d))) 0 low high line
-      ++ site_code (even_from (suc (held true d))) (place_site k p (held true d)) 32 ++ i.Offset (beside (even_from (suc (held true d)))) base.Scratch 0 32
-      ∷ copy_code k (even_from (suc (held true d))) (beside (even_from (suc (held true d)))) (beside (beside (even_from (suc (held true d))))) 32
+      ++ site_code (even_from (suc (held true d))) (place_site k p (held true d)) 32
+      ++ words_code (base.Temporary (even_from (suc (held true d)))) 0 base.Scratch 0 (beside (even_from (suc (held true d)))) 8
   statement_code k (AssignStructure p e) d =
       place_code k p (held (structure_calls e) d) 0
       ++ structure_code k e (even_from (suc (place_temporary p (held (structure_calls e) d)))) 0

@@ -1,6 +1,6 @@
 -- The code of variables, expressions and actual parameters. Code at depths d and x leaves its word in temporary d, writes no
 -- temporary below d, and no byte of the scratch block below x. A set stands in the scratch block from x on.
-use Rattle.std.specs.Prelude.{ℕ, zero, suc, ◌+◌, ◌*◌, ℤ, pos, ◌-ℤ◌, unsigned_abs, Bool, true, false, not, ◌&&◌, nat_eq, if◌then◌else◌, List, [], ◌∷◌, ◌++◌, length, Option, Some, None, slice_get}
+use Rattle.std.specs.Prelude.{ℕ, zero, suc, ◌+◌, ◌*◌, ◌/◌, ◌%◌, ◌^◌, ℤ, pos, ◌-ℤ◌, unsigned_abs, Bool, true, false, not, ◌&&◌, nat_eq, if◌then◌else◌, List, [], ◌∷◌, ◌++◌, length, Option, Some, None, slice_get}
 use Rattle.ps_tree.specs.declared.tree.ArithmeticOperator.{ArithmeticOperator}
 use Rattle.ps_tree.specs.declared.tree.ArithmeticOperator.TheVariants.{Add, Subtract, Multiply, Div, Mod}
 use Rattle.ps_tree.specs.declared.tree.BooleanOperator.{BooleanOperator}
@@ -34,8 +34,8 @@ use Rattle.tac_code.specs.Numbers.{number_of}
 use Rattle.ps_lower_layout.specs.Shapes.{Shape, ByteShape, shape_of, byte_count, component_bytes, field_offset}
 use Rattle.ps_lower_layout.specs.Words.{filled, bits_from}
 use Rattle.ps_lower_layout.specs.Frames.{Kind, Reference, entry_offset}
-use Rattle.ps_lower_code.specs.Scopes.{even_from, held, kept, beside, moved, least, greatest, has_bytes, range_code, fitting_code, operand_of, unless_known, Site, Scope, routine_up, kind_at, frame_code, frame_base, link_code, formal_code, site_code, input_site, AddRange, UniteSets, SubtractSet, IntersectSets, IsIncluded, IsMember, CompareBytes, LookAhead, RunTime, helper, copy_code}
-use Rattle.ps_lower_code.specs.Calling.{selectors_call, expr_calls, steps_call, operands_call, structure_calls, arguments_call}
+use Rattle.ps_lower_code.specs.Scopes.{even_from, held, kept, beside, moved, least, greatest, has_bytes, range_code, fitting_code, operand_of, unless_known, Site, Scope, routine_up, kind_at, frame_code, frame_base, link_code, formal_code, site_code, input_site, AddRange, UniteSets, SubtractSet, IntersectSets, IsIncluded, CompareBytes, LookAhead, RunTime, helper, words_code, copy_code}
+use Rattle.ps_lower_code.specs.Calling.{selectors_call, expr_calls, steps_call, operands_call, asked_calls, structure_calls, arguments_call}
 
 -- ---- numbers that are known
 
@@ -250,6 +250,45 @@ abbrev pub set_check : (t x : ℕ) (low high : ℤ) (line : ℕ) → List Instru
 set_check t x low high line =
     if holds_all low high then [] else (i.Literal t (pos 0) ∷ outside_code low high t x 8 ++ i.Branch Equal t (operand.Number (pos 0)) 1 ∷ i.Trap 8 line ∷ [])
 
+-- ---- members
+
+-- a number that is known, and can be a member
+abbrev pub known_member : Option ℤ → Option ℕ
+known_member None = None
+known_member (Some z) = if is_between (pos 0) z (pos 255) then Some (unsigned_abs z) else None
+
+-- the member n goes into the set from x on as a bit of its word; t is used
+abbrev pub bit_code : (n t x : ℕ) → List Instruction
+bit_code n t x =
+    i.Load t base.Scratch (x + 4 * (n / 32)) ∷ i.Bits bits.Or t t (operand.Number (number_of (2 ^ (n % 32)))) ∷ i.Store base.Scratch (x + 4 * (n / 32)) t ∷ []
+
+-- a member that is known, or the code of any other
+abbrev pub one_code : Option ℕ → (t x : ℕ) → List Instruction → List Instruction
+one_code None t x code = code
+one_code (Some n) t x code = bit_code n t x
+
+abbrev pub is_union : SetOperator → Bool
+is_union Union = true
+is_union Difference = false
+is_union Intersection = false
+
+-- a constructor's members that join a set: they go into it one by one, and no second set is made of them
+abbrev pub adds : SetOperator → SetExpr → Bool
+adds operator (LoadSet p) = false
+adds operator (Constructor members) = is_union operator
+adds operator (Combine e steps) = false
+
+-- Whether the number in m is a member of the set at the address in u: the truth goes to t. A member lies in 0..255, and is bit m mod 32 of
+-- word m div 32, which is looked at where it stands. The temporary beside u is used. The errors and lines are those of nothing: neither the
+-- quotient nor its component fails.
+abbrev pub membership_code : (m u t : ℕ) → List Instruction
+membership_code m u t =
+    i.Bits bits.And (beside u) m (operand.Number (pos 255)) ∷ i.Branch NotEqual (beside u) (operand.Temporary m) 8
+    ∷ i.Arithmetic operator.Divide (beside u) m (operand.Number (pos 32)) 1 1 ∷ i.Index u (base.Temporary u) (beside u) (pos 0) (pos 7) 4 1 1
+    ∷ i.Load u (base.Temporary u) 0 ∷ i.Literal (beside u) (pos 1) ∷ i.Bits bits.ShiftLeft (beside u) (beside u) (operand.Temporary m)
+    ∷ i.Bits bits.And t u (operand.Temporary (beside u)) ∷ i.Compare NotEqual t t (operand.Number (pos 0)) ∷ i.Jump 1
+    ∷ i.Literal t (pos 0) ∷ []
+
 -- ---- actual parameters: where their words stand, and what scratch they hold
 
 abbrev pub argument_words : Argument → (t : ℕ) → List ℕ
@@ -310,6 +349,10 @@ module _ (k : Scope) where
   clear_code t x =
       i.Literal t (pos 0) ∷ i.Store base.Scratch x t ∷ i.Store base.Scratch (x + 4) t ∷ i.Store base.Scratch (x + 8) t ∷ i.Store base.Scratch (x + 12) t
       ∷ i.Store base.Scratch (x + 16) t ∷ i.Store base.Scratch (x + 20) t ∷ i.Store base.Scratch (x + 24) t ∷ i.Store base.Scratch (x + 28) t ∷ []
+
+  -- the set from x on is joined with that at the address beside t
+  abbrev pub joining_code : SetOperator → (t x : ℕ) → List Instruction
+  joining_code operator t x = i.Offset t base.Scratch x 32 ∷ helper k (set_routine operator) (t ∷ beside t ∷ []) t ∷ []
 
   -- two sets, from x and from x + 32 on, compared: the truth goes to t
   abbrev pub included_code : (first second to x : ℕ) → List Instruction
@@ -376,11 +419,9 @@ module _ (k : Scope) where
         structure_code a (held (structure_calls b) d) x ++ structure_code b (even_from (suc (held (structure_calls b) d))) x
         ++ i.Literal (beside (even_from (suc (held (structure_calls b) d)))) (pos (text_length a))
         ∷ helper k CompareBytes (held (structure_calls b) d ∷ even_from (suc (held (structure_calls b) d)) ∷ beside (even_from (suc (held (structure_calls b) d))) ∷ []) d ∷ []
-    -- the set's own code may call
     front_code (In a b) d x =
-        (front_code a (held true d) x ++ finish a (held true d)) ++ set_code b (even_from (suc (held true d))) x
-        ++ i.Offset (even_from (suc (held true d))) base.Scratch x 32
-        ∷ helper k IsMember (held true d ∷ even_from (suc (held true d)) ∷ []) d ∷ []
+        (front_code a (kept (asked_calls b) d) x ++ finish a (kept (asked_calls b) d)) ++ asked_code b (even_from (suc (kept (asked_calls b) d))) x
+        ++ membership_code (kept (asked_calls b) d) (even_from (suc (kept (asked_calls b) d))) d
     front_code (Apply function e line) d x = (front_code e d x ++ finish e d) ++ function_code function d line
     front_code Eof d x = site_code (even_from d) (input_site k) 8 ++ helper k LookAhead (even_from d ∷ []) d ∷ []
     front_code (Eoln line) d x = site_code (even_from d) (input_site k) 8 ++ helper k LookAhead (even_from d ∷ []) d ∷ i.CheckRange d (pos 1) (pos 2) 9 line ∷ []
@@ -404,20 +445,30 @@ module _ (k : Scope) where
         (front_code e (even_from (suc a)) x ++ truth_finish e (even_from (suc a)))
         ++ i.Bits (bit_operator_of operator) a a (operand.Temporary (even_from (suc a))) ∷ operands_code operator rest a x
 
+    -- the address of a set in t: a variable's own, and that of a set from x on for any other
+    pub asked_code : SetExpr → (t x : ℕ) → List Instruction
+    asked_code (LoadSet p) t x = place_code p t x ++ site_code t (place_site p t) 32
+    asked_code (Constructor members) t x = (clear_code (even_from t) x ++ members_code members t x) ++ i.Offset t base.Scratch x 32 ∷ []
+    asked_code (Combine e steps) t x = (set_code e t x ++ set_steps_code steps t x) ++ i.Offset t base.Scratch x 32 ∷ []
+
     -- a set from x on
     pub set_code : SetExpr → (d x : ℕ) → List Instruction
     set_code (LoadSet p) d x =
         place_code p d x ++ site_code (even_from (suc d)) (place_site p d) 32
-        ++ i.Offset (beside (even_from (suc d))) base.Scratch x 32 ∷ copy_code k (beside (even_from (suc d))) (even_from (suc d)) (beside (beside (even_from (suc d)))) 32
+        ++ words_code base.Scratch x (base.Temporary (even_from (suc d))) 0 (beside (even_from (suc d))) 8
     set_code (Constructor members) d x = clear_code (even_from d) x ++ members_code members d x
     set_code (Combine e steps) d x = set_code e d x ++ set_steps_code steps d x
 
     pub set_steps_code : SetSteps → (d x : ℕ) → List Instruction
     set_steps_code no_set_step d x = []
     set_steps_code (set_step_before operator e rest) d x =
-        set_code e d (x + 32)
-        ++ i.Offset (even_from d) base.Scratch x 32 ∷ i.Offset (beside (even_from d)) base.Scratch (x + 32) 32
-        ∷ helper k (set_routine operator) (even_from d ∷ beside (even_from d) ∷ []) (even_from d) ∷ set_steps_code rest d x
+        (if adds operator e then adding_code e d x else (asked_code e (beside (even_from d)) (x + 32) ++ joining_code operator (even_from d) x)) ++ set_steps_code rest d x
+
+    -- the members of a constructor go into the set from x on
+    pub adding_code : SetExpr → (d x : ℕ) → List Instruction
+    adding_code (LoadSet p) d x = []
+    adding_code (Constructor members) d x = members_code members d x
+    adding_code (Combine e steps) d x = []
 
     pub members_code : Members → (d x : ℕ) → List Instruction
     members_code no_member d x = []
@@ -426,9 +477,10 @@ module _ (k : Scope) where
     -- the members go into the set from x on
     pub member_code : Member → (d x : ℕ) → List Instruction
     member_code (One e line) d x =
-        (front_code e (even_from d) (x + 32) ++ finish e (even_from d))
+        one_code (known_member (literal_of e)) (even_from d) x
+        ((front_code e (even_from d) (x + 32) ++ finish e (even_from d))
         ++ i.CheckRange (even_from d) (pos 0) (pos 255) 8 line ∷ i.Offset (beside (even_from d)) base.Scratch x 32
-        ∷ helper k AddRange (beside (even_from d) ∷ even_from d ∷ even_from d ∷ []) (even_from d) ∷ []
+        ∷ helper k AddRange (beside (even_from d) ∷ even_from d ∷ even_from d ∷ []) (even_from d) ∷ [])
     member_code (Several a b line) d x =
         (front_code a (held (expr_calls b) d) (x + 32) ++ finish a (held (expr_calls b) d))
         ++ (front_code b (even_from (suc (held (expr_calls b) d))) (x + 32) ++ finish b (even_from (suc (held (expr_calls b) d))))

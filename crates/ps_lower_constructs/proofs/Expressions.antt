@@ -4,6 +4,7 @@ use Rattle.ps_lower_constructs.proofs.Calling.{Callable, call_front, call_formal
 use Rattle.ps_lower_constructs.proofs.Arguments.{ArgumentRuns, ArgumentsRun, by_value, by_variable, by_routine, by_formal, no_arguments, argument_then}
 use Rattle.std.proofs.Common.{ℕ}
 use Rattle.ps_tree.specs.declared.tree.BooleanOperator.{BooleanOperator}
+use Rattle.ps_tree.specs.declared.tree.SetOperator.{SetOperator}
 use Rattle.ps_tree.specs.Tree.{Variable, no_selector, selector_before, ArithmeticSteps, no_arithmetic_step, arithmetic_step_before, Operands, no_operand, operand_before, Expr, Number, Nil, Load, Plus, Minus, Not, Arithmetic, Logic, Compare, ComparePointers, CompareSets, CompareStrings, In, Apply, Eof, Eoln, Call, CallFormal, Argument, ByValue, BySet, ByCopy, ByVariable, ByRoutine, ByFormal, Arguments, no_argument, argument_before}
 use Rattle.ps_meaning.specs.Expressions.{Caller}
 use Rattle.ps_lower_relation.specs.Here.{Setting, Activated, IsActive}
@@ -15,7 +16,8 @@ use Rattle.ps_lower_constructs.proofs.Structures.{StructureRuns, literal_structu
 use Rattle.ps_lower_constructs.proofs.Compared.{compare_strings_front}
 use Rattle.ps_lower_constructs.proofs.Passed.{by_copy}
 use Rattle.ps_tree.specs.Tree.{SetExpr, LoadSet, Constructor, Combine, SetSteps, no_set_step, set_step_before, Member, One, Several, Members, no_member, member_before}
-use Rattle.ps_lower_constructs.proofs.SetValues.{SetRuns, SetStepsRun, MemberRuns, MembersRun, load_set, no_set_steps, set_step_then, combine, one_member, several_members, no_members, member_then, construct, compare_sets_front, in_front}
+use Rattle.ps_lower_constructs.proofs.SetValues.{SetRuns, AskedRuns, AddingRuns, adding_load, adding_combined, adding_members, SetStepsRun, MemberRuns, MembersRun, load_set, no_set_steps, set_step_then, combine, one_member, several_members, no_members, member_then, construct, compare_sets_front}
+use Rattle.ps_lower_constructs.proofs.Members.{asked_load, asked_constructor, asked_combined, in_front}
 use Rattle.ps_lower_constructs.proofs.SetArguments.{by_set}
 use Rattle.ps_lower_constructs.proofs.Selectors.{PlaceRuns, SelectorsRun, no_selectors, field_then, target_then, element_then, place_from, load_front}
 
@@ -36,7 +38,7 @@ module _ (p : Setting) (n : ℕ) (call : Caller) (c : Activated) (active : IsAct
     front_runs (ComparePointers r a b) = compare_pointers_front p n call c active r a b (front_runs a) (front_runs b)
     front_runs (CompareSets r a b) = compare_sets_front p n call c active calls.does r a b (set_runs a) (set_runs b)
     front_runs (CompareStrings r a b) = compare_strings_front p n call c active calls.does r a b (structure_run a) (structure_run b)
-    front_runs (In a b) = in_front p n call c active calls.does a b (front_runs a) (set_runs b)
+    front_runs (In a b) = in_front p n call c active calls.does a b (front_runs a) (asked_runs b)
     front_runs (Apply f e line) = apply_front p n call c active f e line (front_runs e)
     front_runs Eof = eof_front p n call c active calls
     front_runs (Eoln line) = eoln_front p n call c active calls line
@@ -64,6 +66,11 @@ module _ (p : Setting) (n : ℕ) (call : Caller) (c : Activated) (active : IsAct
     structure_run (Literal text) = literal_structure p n call c active text
     structure_run (Contents q type) = contents_structure p n call c active q type (place_run q)
 
+    asked_runs : (e : SetExpr) → AskedRuns p n call c active calls.does e
+    asked_runs (LoadSet q) = asked_load p n call c active calls.does q (place_run q)
+    asked_runs (Constructor members) = asked_constructor p n call c active calls.does members (construct p n call c active calls.does members (members_run members))
+    asked_runs (Combine e steps) = asked_combined p n call c active calls.does e steps (combine p n call c active calls.does e steps (set_runs e) (set_steps_run steps))
+
     pub set_runs : (e : SetExpr) → SetRuns p n call c active calls.does e
     set_runs (LoadSet q) = load_set p n call c active calls.does q (place_run q)
     set_runs (Constructor members) = construct p n call c active calls.does members (members_run members)
@@ -71,7 +78,12 @@ module _ (p : Setting) (n : ℕ) (call : Caller) (c : Activated) (active : IsAct
 
     set_steps_run : (steps : SetSteps) → SetStepsRun p n call c active calls.does steps
     set_steps_run no_set_step = no_set_steps p n call c active calls.does
-    set_steps_run (set_step_before operator e rest) = set_step_then p n call c active calls.does operator e rest (set_runs e) (set_steps_run rest)
+    set_steps_run (set_step_before operator e rest) = set_step_then p n call c active calls.does operator e rest (asked_runs e) (adding_runs operator e) (set_steps_run rest)
+
+    adding_runs : (operator : SetOperator) (e : SetExpr) → AddingRuns p n call c active calls.does operator e
+    adding_runs operator (LoadSet q) = adding_load p n call c active calls.does operator q
+    adding_runs operator (Constructor members) = adding_members p n call c active calls.does operator members (members_run members)
+    adding_runs operator (Combine e steps) = adding_combined p n call c active calls.does operator e steps
 
     member_run : (m : Member) → MemberRuns p n call c active calls.does m
     member_run (One e line) = one_member p n call c active calls.does e line (front_runs e)

@@ -20,8 +20,10 @@ pub mod Arguments
 pub mod Calling
 pub mod Writes
 pub mod Passages
+pub mod InLine
 pub mod ScratchSets
 pub mod SetValues
+pub mod Members
 pub mod SetChecks
 pub mod SetArguments
 pub mod Inputs

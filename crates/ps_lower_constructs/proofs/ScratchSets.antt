@@ -1,38 +1,47 @@
 -- Sets in the scratch block, by straight code: loaded, emptied, joined, with members more; and what they are asked.
-use Rattle.std.proofs.Common.{◌≡◌, ◌⊎◌, inl, inr, ℕ, suc, ◌+◌, ◌*◌, ◌<◌, ◌≤◌, ℤ, pos, int_lt, Bool, true, false, ◌||◌, [], ◌∷◌, length, slice_get, Some, refl, sym, ap, ◌∙◌, arith, lt-ltb, nat_eq, nat_lt, eqb-true, eq-eqb, ltb-true, ltb-false}
+use Rattle.std.proofs.Common.{◌≡◌, ◌⊎◌, inl, inr, ℕ, suc, ◌+◌, ◌*◌, ◌/◌, ◌%◌, ◌^◌, ◌<◌, ◌≤◌, ℤ, pos, int_lt, Bool, true, false, ◌||◌, [], ◌∷◌, length, slice_get, Option, Some, refl, sym, ap, ◌∙◌, subst, append-nil, arith, lt-ltb, nat_eq, nat_lt, eqb-true, eq-eqb, ltb-true, ltb-false}
+use Rattle.std.proofs.lemmas.Option.{slice_get_within}
 use Rattle.ps_tree.specs.declared.tree.SetOperator.{SetOperator}
 use Rattle.tac_code.specs.declared.code.Base.TheVariants as base
 use Rattle.tac_code.specs.declared.code.Block.{Block}
 use Rattle.tac_code.specs.declared.code.Block.TheVariants.{Scratch as ScratchBlock}
 use Rattle.tac_code.specs.declared.code.Value.TheVariants.{Number as Numeral, Address}
 use Rattle.tac_code.specs.declared.code.Instruction.TheVariants as i
-use Rattle.tac_code.specs.Numbers.{truth}
-use Rattle.tac_code.specs.Memory.{Words, known}
+use Rattle.tac_code.specs.declared.code.Value.{Value as Word}
+use Rattle.tac_code.specs.declared.code.Operand.TheVariants as operand
+use Rattle.tac_code.specs.declared.code.BitOperator.TheVariants.{Or}
+use Rattle.tac_code.specs.Numbers.{truth, bits, number_of as number_in}
+use Rattle.tac_code.specs.Memory.{Words, known, load}
 use Rattle.tac_code.specs.Meaning.{fetch, text_at}
 use Rattle.ps_meaning.specs.Values.{Spot, set_of, no_member_of}
-use Rattle.ps_meaning.specs.Operators.{combine_sets, is_included, is_member, interval}
+use Rattle.ps_meaning.specs.Operators.{combine_sets, is_included, interval}
 use Rattle.ps_meaning.specs.Worlds.{World, contents_in}
 use Rattle.tac_code_steps.specs.Runs.{Stands}
 use Rattle.tac_code_steps.specs.Splices.{spliced}
 use Rattle.tac_code_steps.proofs.Temporaries.{put_same, put_other}
 use Rattle.tac_code_steps.proofs.Splices.{spliced_length, spliced_inside, spliced_before, spliced_behind}
-use Rattle.tac_code_steps.proofs.Instructions.{offset_step}
+use Rattle.tac_code_steps.proofs.Instructions.{offset_step, load_step, bits_step}
 use Rattle.ps_lower_layout.specs.Shapes.{SetShape, Whole}
 use Rattle.ps_lower_layout.specs.Words.{set_words}
-use Rattle.ps_lower_code.specs.Scopes.{Site, run_time_number}
-use Rattle.ps_lower_code.specs.Values.{set_routine}
+use Rattle.ps_lower_code.specs.Scopes.{Site, run_time_number, words_code}
+use Rattle.ps_lower_code.specs.Values.{set_routine, bit_code}
 use Rattle.ps_lower_relation.specs.Here.{Setting, machine_of, code_in, Work, Activated, IsActive, Alive, state, SiteAt, Keeps}
-use Rattle.ps_lower_relation.specs.RunTime.{WritesDo}
+use Rattle.ps_lower_relation.specs.RunTime.{SetAt, CopiedUp, WritesDo}
 use Rattle.ps_lower_relation.specs.Sets.{set_number}
 use Rattle.ps_lower_relation.proofs.Copies.{SameOutside, Sources, copied_up}
 use Rattle.ps_lower_relation.proofs.Places.{place_end}
 use Rattle.ps_lower_relation.proofs.SetWords.{set_word}
-use Rattle.ps_lower_relation.proofs.Sets.{HasSet, set_at, adds, joins_sets, adding_interval, has_same, here_spliced, there_spliced}
+use Rattle.ps_lower_relation.proofs.Sets.{HasSet, set_at, adds, one_added, joins_sets, adding_interval, has_same, here_spliced, there_spliced}
 use Rattle.ps_lower_relation.proofs.Spots.{spot_read}
 use Rattle.ps_lower_constructs.proofs.Runs.{with_temporary}
+use Rattle.ps_lower_constructs.proofs.InLine.{in_line}
 use Rattle.ps_lower_constructs.proofs.Places.{base_is}
 use Rattle.ps_lower_constructs.proofs.Scratch.{ScratchAt, scratch_offset, scratch_store, scratch_room}
 use Rattle.ps_lower_constructs.proofs.Passages.{called_work, Passage, further, to_end, word_passage, literal_passage, scratch_passage, memory_with, scratch_held, store_passage, call_passage, two_values, three_values}
+
+-- a word that is there lies within
+within_list : {v : Option Word} (place : ℕ) (ws : Words) → slice_get ws (place + 7) ≡ Some v → place + 8 ≤ length ws
+within_list place ws h = let l = slice_get_within ws (place + 7) _ h in omega (arith, l)
 
 -- a set stands in the scratch block from x on
 abbrev pub SetIn : (x : ℕ) → (ℕ → Bool) → Work → Type 0
@@ -41,6 +50,15 @@ SetIn x s k = (place : ℕ) × (x ≡ 4 * place) × HasSet place s k.scratch
 -- it is still there behind code that writes above it
 pub set_kept : (x d y : ℕ) (s : ℕ → Bool) (w w' : World) (k k' : Work) → x + 32 ≤ y → Keeps d y w k w' k' → SetIn x s k → SetIn x s k'
 set_kept x d y s w w' k k' l kept at = (at.0, at.1, λ q b. let e = at.1 in kept.scratch (at.0 + q) (omega (arith, e, b, l)) ∙ at.2 q b)
+
+module _ (p : Setting) (c : Activated) (active : IsActive p c) where
+  -- a set stands at the address in t, whatever becomes of the scratch block below y
+  pub record AskedIn (t y : ℕ) (s : ℕ → Bool) (w : World) (k : Work) : Type 0 where
+    pub block : Block
+    pub offset : ℕ
+    pub word : k.temporaries t ≡ Some (Address block offset)
+    pub at : (ws : Words) → ((j : ℕ) → y ≤ 4 * j → slice_get ws j ≡ slice_get k.scratch j) → SetAt p (memory_with p c active w ws) block offset s
+    pub small : offset + 32 < 2147483648
 
 module _ (p : Setting) (c : Activated) (active : IsActive p c) (does : WritesDo p) where
   -- what straight code leaves: a set in the scratch block
@@ -54,29 +72,25 @@ module _ (p : Setting) (c : Activated) (active : IsActive p c) (does : WritesDo 
 
   -- ---- two sets are joined
 
-  pub combined_so : (operator : SetOperator) (d x t u : ℕ) (s s' : ℕ → Bool) (w : World) (k : Work) (pc pc' : ℕ) → d ≤ t → t < u → Alive p c w k → SetIn x s k → SetIn (x + 32) s' k
-      → Stands (code_in p) c.routine pc (i.Offset t base.Scratch x 32 ∷ i.Offset u base.Scratch (x + 32) 32 ∷ i.Call t (length p.program.routines + run_time_number (set_routine operator)) (t ∷ u ∷ []) 1 ∷ []) pc' → SetLeft d x w k pc pc' (combine_sets operator s s')
-  combined_so operator d x t u s s' w k pc pc' l above alive first second st =
+  -- the set from x on, and the one at the address in u
+  pub combined_so : (operator : SetOperator) (d x t u : ℕ) (s s' : ℕ → Bool) (w : World) (k : Work) (pc pc' : ℕ) → d ≤ t → (t ≡ u → ⊥) → Alive p c w k → SetIn x s k → AskedIn p c active u (x + 32) s' w k
+      → Stands (code_in p) c.routine pc (i.Offset t base.Scratch x 32 ∷ i.Call t (length p.program.routines + run_time_number (set_routine operator)) (t ∷ u ∷ []) 1 ∷ []) pc' → SetLeft d x w k pc pc' (combine_sets operator s s')
+  combined_so operator d x t u s s' w k pc pc' l ne alive first second st =
       let one = Address block x in
-      let two = Address block (x + 32) in
+      let two = Address second.block second.offset in
       let a = scratch_passage p c active d x w k pc t x 32 l alive st.0 in
       let k1 = with_temporary k t one in
-      let b = scratch_passage p c active d x w k1 (suc pc) u (x + 32) 32 (omega (arith, l, above)) a.alive st.1.0 in
-      let k2 = with_temporary k1 u two in
       let at1 = scratch_offset p c active pc t x 32 st.0 in
-      let at2 = scratch_offset p c active (suc pc) u (x + 32) 32 st.1.0 in
       let room = scratch_room p c active x 32 8 w k alive at1 (omega arith) in
       let e = first.1 in
-      let e' = second.1 in
       let f = at1.is in
-      let r = joins_sets p block (λ ws. memory_with p c active w ws) (scratch_held p c active w) operator first.0 second.0 x (x + 32) s s' k.scratch (omega (arith, e, e')) (omega (arith, room, e, f)) e e' first.2 second.2 in
+      let r = joins_sets p block (λ ws. memory_with p c active w ws) (scratch_held p c active w) operator first.0 x second.block second.offset s s' k.scratch (omega (arith, room, e, f)) e first.2 (λ ws same. second.at ws (λ j h. same j (omega (arith, h, e)))) in
       let tape = (state p c w k pc).tape in
-      let law = does.sets.joined operator block x block (x + 32) (memory_with p c active w k.scratch) (memory_with p c active w r.after) tape r.up at1.small at2.small in
-      let ne : t ≡ u → ⊥ = λ q. omega (arith, above, q) in
-      let values = two_values k2.temporaries t u one two (put_other k1.temporaries u two t ne ∙ put_same k.temporaries t one) (put_same k1.temporaries u two) in
+      let law = does.sets.joined operator block x second.block second.offset (memory_with p c active w k.scratch) (memory_with p c active w r.after) tape r.up at1.small second.small in
+      let values = two_values k1.temporaries t u one two (put_same k.temporaries t one) (put_other k.temporaries t one u (λ q. ne (sym q)) ∙ second.word) in
       record {
-        work = called_work k2 t (Numeral (pos 0)) r.after;
-        passage = further p c active a (further p c active b (call_passage p c active d x w k2 (suc (suc pc)) pc' t (run_time_number (set_routine operator)) (t ∷ u ∷ []) (one ∷ two ∷ []) (Numeral (pos 0)) r.after l b.alive r.other.wide (λ m low. r.other.below m (omega (arith, low, e))) law values st.1.1));
+        work = called_work k1 t (Numeral (pos 0)) r.after;
+        passage = further p c active a (call_passage p c active d x w k1 (suc pc) pc' t (run_time_number (set_routine operator)) (t ∷ u ∷ []) (one ∷ two ∷ []) (Numeral (pos 0)) r.after l a.alive r.other.wide (λ m low. r.other.below m (omega (arith, low, e))) law values st.1);
         set = (first.0, e, r.has);
       }
 
@@ -118,6 +132,33 @@ module _ (p : Setting) (c : Activated) (active : IsActive p c) (does : WritesDo 
       let left = interval_called d x a b u t n m s w k1 (suc pc) pc' lt one.alive (scratch_offset p c active pc u x 32 st.0) (put_same k.temporaries u address) (put_other k.temporaries u address a na ∙ at_a) (put_other k.temporaries u address b nb ∙ at_b) low set st.1 in
       record { work = left.work; passage = further p c active one left.passage; set = left.set }
 
+  -- a member that is known
+  pub bit_so : (d x t n : ℕ) (s : ℕ → Bool) (w : World) (k : Work) (pc pc' : ℕ) → d ≤ t → n < 256 → Alive p c w k → SetIn x s k → Stands (code_in p) c.routine pc (bit_code n t x) pc' → SetLeft d x w k pc pc' (λ j. s j || nat_eq j n)
+  bit_so d x t n s w k pc pc' l low alive set st =
+      let q : ℕ = n / 32 in
+      let place = set.0 in
+      let e = set.1 in
+      let number = set_number s q in
+      let bit = number_in (2 ^ (n % 32)) in
+      let new = Numeral (bits Or number bit) in
+      let at = scratch_store p c active (suc (suc pc)) (x + 4 * q) t st.1.1.0 in
+      let end = scratch_room p c active (x + 4 * q) 4 1 w k alive at (omega arith) in
+      let f = at.is in
+      let room : place + q < length k.scratch = omega (arith, end, e, f) in
+      let there : 0 + (x + 4 * q) ≡ 4 * (place + q) = omega (arith, e) in
+      let k1 = with_temporary k t (Numeral number) in
+      let k2 = with_temporary k1 t new in
+      let a = word_passage p c active d x w k pc t (Numeral number) l alive
+      (load_step (machine_of p) (state p c w k pc) t base.Scratch (x + 4 * q) block 0 (Numeral number) st.0 refl
+      (ap (load (text_at (code_in p)) (memory_with p c active w k.scratch) block) there ∙ (scratch_held p c active w).reads k.scratch (place + q) (Numeral number) (set.2 q (omega (arith, low))))) in
+      let b = word_passage p c active d x w k1 (suc pc) t new l a.alive (bits_step (machine_of p) (state p c w k1 (suc pc)) Or t t (operand.Number bit) number bit st.1.0 (put_same k.temporaries t (Numeral number)) refl) in
+      let g = store_passage p c active d x w k2 (suc (suc pc)) (x + 4 * q) (place + q) t new (omega arith) (omega (arith, e)) room b.alive (put_same k1.temporaries t new) st.1.1.0 in
+      record {
+        work = record k2 { scratch = spliced (place + q) (Some new ∷ []) k.scratch };
+        passage = to_end p c active (further p c active a (further p c active b g)) st.1.1.1;
+        set = (place, e, one_added p block (λ ws. memory_with p c active w ws) (scratch_held p c active w) n place s k.scratch low (within_list set.0 k.scratch (set.2 7 (omega arith))) set.2);
+      }
+
   -- ---- what sets are asked
 
   -- whether one is included in another
@@ -129,18 +170,6 @@ module _ (p : Setting) (c : Activated) (active : IsActive p c) (does : WritesDo 
       let there' = set_at p block (λ ws. memory_with p c active w ws) held second.0 o' s' k.scratch second.1 second.2 in
       let law = does.sets.included block o block o' s s' (memory_with p c active w k.scratch) (state p c w k pc).tape there there' small small' in
       call_passage p c active d x w k pc pc' t 5 (a ∷ b ∷ []) (Address block o ∷ Address block o' ∷ []) (Numeral (truth (is_included s s'))) k.scratch l alive refl (λ m low. refl) law (two_values k.temporaries a b (Address block o) (Address block o') at_a at_b) st
-
-  -- whether a number is a member
-  pub member_so : (d x a u t : ℕ) (z : ℤ) (s : ℕ → Bool) (w : World) (k : Work) (pc pc' : ℕ) → d ≤ u → d ≤ t → (a ≡ u → ⊥) → Alive p c w k → k.temporaries a ≡ Some (Numeral z) → SetIn x s k
-      → Stands (code_in p) c.routine pc (i.Offset u base.Scratch x 32 ∷ i.Call t (length p.program.routines + 6) (a ∷ u ∷ []) 1 ∷ []) pc' → Passage p c active d x w k pc (called_work (with_temporary k u (Address block x)) t (Numeral (truth (is_member z s))) k.scratch) pc'
-  member_so d x a u t z s w k pc pc' lu lt na alive at_a set st =
-      let address = Address block x in
-      let one = scratch_passage p c active d x w k pc u x 32 lu alive st.0 in
-      let k1 = with_temporary k u address in
-      let at = scratch_offset p c active pc u x 32 st.0 in
-      let there = set_at p block (λ ws. memory_with p c active w ws) (scratch_held p c active w) set.0 x s k.scratch set.1 set.2 in
-      let law = does.sets.member z block x s (memory_with p c active w k.scratch) (state p c w k pc).tape there at.small in
-      further p c active one (call_passage p c active d x w k1 (suc pc) pc' t 6 (a ∷ u ∷ []) (Numeral z ∷ address ∷ []) (Numeral (truth (is_member z s))) k.scratch lt one.alive refl (λ m low. refl) law (two_values k1.temporaries a u (Numeral z) address (put_other k.temporaries u address a na ∙ at_a) (put_same k.temporaries u address)) st.1)
 
   -- ---- an empty set
 
@@ -246,25 +275,23 @@ module _ (p : Setting) (c : Activated) (active : IsActive p c) (does : WritesDo 
 
   -- ---- the set of a variable
 
-  pub loaded_so : (d x t u v : ℕ) (site : Site) (s : Spot) (w : World) (k : Work) (pc pc' : ℕ) → d ≤ t → t < u → u < v → Alive p c w k → SiteAt p c w.made k.temporaries site s (Whole SetShape)
-      → Stands (code_in p) c.routine pc (i.Offset t site.base site.offset 32 ∷ i.Offset u base.Scratch x 32 ∷ i.Literal v (pos 32) ∷ i.Call v (length p.program.routines + 0) (u ∷ t ∷ v ∷ []) 1 ∷ []) pc' → SetLeft d x w k pc pc' (set_of (contents_in w s))
-  loaded_so d x t u v site s w k pc pc' l above higher alive at st =
+  pub loaded_so : (d x t v : ℕ) (site : Site) (s : Spot) (w : World) (k : Work) (pc pc' : ℕ) → d ≤ t → t < v → Alive p c w k → SiteAt p c w.made k.temporaries site s (Whole SetShape)
+      → Stands (code_in p) c.routine pc (i.Offset t site.base site.offset 32 ∷ words_code base.Scratch x (base.Temporary t) 0 v 8) pc' → SetLeft d x w k pc pc' (set_of (contents_in w s))
+  unfolding words_code
+  loaded_so d x t v site s w k pc pc' l above alive at st =
       let from = at.offset + site.offset in
       let ends = place_end p.program c.ghosts active.small w k.count alive.holds s at.block from (Whole SetShape) at.place in
       let value = set_of (contents_in w s) in
       let one = Address at.block from in
-      let two = Address block x in
-      let three = Numeral (pos 32) in
       let a = word_passage p c active d x w k pc t one l alive (offset_step (machine_of p) (state p c w k pc) t site.base site.offset 32 at.block at.offset st.0 (base_is c pc k.temporaries site.base ∙ at.base) (lt-ltb from 2147483648 (omega (arith, ends)))) in
       let k1 = with_temporary k t one in
-      let b = scratch_passage p c active d x w k1 (suc pc) u x 32 (omega (arith, l, above)) a.alive st.1.0 in
-      let k2 = with_temporary k1 u two in
-      let e = literal_passage p c active d x w k2 (suc (suc pc)) v (pos 32) (omega (arith, l, above, higher)) b.alive st.1.1.0 in
-      let k3 = with_temporary k2 v three in
-      let there = scratch_offset p c active (suc pc) u x 32 st.1.0 in
-      let room = scratch_room p c active x 32 8 w k alive there (omega arith) in
+      let there = scratch_store p c active (suc (suc pc)) x v st.1.1.0 in
       let m = there.place in
       let is = there.is in
+      let last = scratch_store p c active (suc (suc (suc (suc (suc (suc (suc (suc (suc (suc (suc (suc (suc (suc (suc (suc pc)))))))))))))))) (x + 4 + 4 + 4 + 4 + 4 + 4 + 4) v st.1.1.1.1.1.1.1.1.1.1.1.1.1.1.1.1.0 in
+      let end = scratch_room p c active (x + 4 + 4 + 4 + 4 + 4 + 4 + 4) 4 1 w k alive last (omega arith) in
+      let last_is = last.is in
+      let room : m + 8 ≤ length k.scratch = omega (arith, end, is, last_is) in
       let words = set_words value in
       let before = k.scratch in
       let after = spliced m words before in
@@ -276,14 +303,23 @@ module _ (p : Setting) (c : Activated) (active : IsActive p c) (does : WritesDo 
         reads = spot_read p.program w c.ghosts k.count alive.holds (text_at (code_in p)) (record { number = c.number; words = before' } ∷ c.waiting) s at.block from SetShape j at.place b ∙ ap known (set_word value j b);
       } in
       let up = copied_up p block (λ ws. memory_with p c active w ws) (scratch_held p c active w) at.block after 8 m x from before is (sym long) (omega (arith, room, long)) same sources in
-      let law = does.words block x at.block from 8 (memory_with p c active w before) (memory_with p c active w after) (state p c w k pc).tape up there.small ends in
-      let n1 : t ≡ u → ⊥ = λ q. omega (arith, above, q) in
-      let n2 : t ≡ v → ⊥ = λ q. omega (arith, above, higher, q) in
-      let n3 : u ≡ v → ⊥ = λ q. omega (arith, higher, q) in
-      let values = three_values k3.temporaries u t v two one three (put_other k2.temporaries v three u n3 ∙ put_same k1.temporaries u two) (put_other k2.temporaries v three t n2 ∙ put_other k1.temporaries u two t n1 ∙ put_same k.temporaries t one) (put_same k2.temporaries v three) in
+      let ne : t ≡ v → ⊥ = λ q. omega (arith, above, q) in
+      let z : x ≡ 0 + x = omega arith in
+      let y : from ≡ from + 0 = omega arith in
+      let up' = subst (λ n. CopiedUp p (memory_with p c active w before) block (0 + x) at.block n 8 (memory_with p c active w after)) y (subst (λ n. CopiedUp p (memory_with p c active w before) block n at.block from 8 (memory_with p c active w after)) z up) in
+      let r = in_line p c 8 base.Scratch (base.Temporary t) x 0 v block 0 at.block from w k.count k1.temporaries (suc pc) pc' (memory_with p c active w before) (memory_with p c active w after) tt ne refl (put_same k.temporaries t one) up' st.1 in
+      let k2 : Work = record { count = k.count; temporaries = r.temporaries; scratch = after } in
       record {
-        work = called_work k3 v (Numeral (pos 0)) after;
-        passage = further p c active a (further p c active b (further p c active e (call_passage p c active d x w k3 (suc (suc (suc pc))) pc' v 0 (u ∷ t ∷ v ∷ []) (two ∷ one ∷ three ∷ []) (Numeral (pos 0)) after (omega (arith, l, above, higher)) e.alive long (λ j low. spliced_before m words before j (omega (arith, low, is))) law values st.1.1.1)));
+        work = k2;
+        passage = further p c active a (record {
+          comes = r.comes;
+          alive = record { holds = alive.holds; stands = alive.stands; room = long ∙ alive.room };
+          keeps = record {
+            temporaries = λ j b. r.others j (λ q. omega (arith, l, above, b, q));
+            scratch = λ j low. spliced_before m words before j (omega (arith, low, is));
+            grown = ([], sym (append-nil w.made));
+          };
+        });
         set = (m, is, λ j b. spliced_inside m words before j b room ∙ set_word value j b);
       }
     where

@@ -1,10 +1,10 @@
 -- Expressions of a set type, and what they are asked.
-use Rattle.std.proofs.Common.{◌≡◌, ℕ, suc, ◌+◌, ◌-◌, ◌<◌, ◌≤◌, ℤ, pos, negsuc, int_lt, nat_lt, Bool, true, false, not, ◌&&◌, ◌||◌, if◌then◌else◌, [], ◌∷◌, ◌++◌, length, Some, refl, sym, ap, ◌∙◌, subst, arith, ltb-true, ltb-false, leb-true, nat_le}
+use Rattle.std.proofs.Common.{◌≡◌, ℕ, suc, ◌+◌, ◌-◌, ◌<◌, ◌≤◌, ℤ, pos, negsuc, int_lt, nat_lt, Bool, true, false, not, ◌&&◌, ◌||◌, if◌then◌else◌, [], ◌∷◌, ◌++◌, length, nat_eq, unsigned_abs, Option, Some, None, refl, sym, ap, ◌∙◌, subst, arith, ltb-true, ltb-false, leb-true, nat_le}
 use Rattle.ps_tree.specs.declared.tree.SetOperator.{SetOperator}
-use Rattle.ps_tree.specs.declared.tree.SetOperator.TheVariants.{Union}
+use Rattle.ps_tree.specs.declared.tree.SetOperator.TheVariants.{Union, Difference, Intersection}
 use Rattle.ps_tree.specs.declared.tree.SetRelation.{SetRelation}
 use Rattle.ps_tree.specs.declared.tree.SetRelation.TheVariants as sets
-use Rattle.ps_tree.specs.Tree.{Place, Expr, CompareSets, In, SetExpr, LoadSet, Constructor, Combine, SetSteps, no_set_step, set_step_before, Member, One, Several, Members, no_member, member_before}
+use Rattle.ps_tree.specs.Tree.{Place, Expr, CompareSets, SetExpr, LoadSet, Constructor, Combine, SetSteps, no_set_step, set_step_before, Member, One, Several, Members, no_member, member_before}
 use Rattle.tac_code.specs.declared.code.Base.TheVariants as base
 use Rattle.tac_code.specs.declared.code.Block.TheVariants.{Scratch as ScratchBlock}
 use Rattle.tac_code.specs.declared.code.Value.{Value as Word}
@@ -16,7 +16,7 @@ use Rattle.tac_code.specs.declared.code.Instruction.TheVariants as i
 use Rattle.tac_code.specs.Numbers.{bits, truth as truth_word}
 use Rattle.tac_code.specs.Meaning.{fetch, checks, related}
 use Rattle.ps_meaning.specs.Values.{OrdinalValue, number_of, set_of, no_member_of}
-use Rattle.ps_meaning.specs.Operators.{truth, combine_sets, is_included, is_member, sets_hold, interval, is_between}
+use Rattle.ps_meaning.specs.Operators.{truth, combine_sets, is_included, sets_hold, interval, is_between}
 use Rattle.ps_meaning.specs.Worlds.{World, Gives, and_then, give, fault, contents_in}
 use Rattle.ps_meaning.specs.Expressions.{Caller, access, value, set_value, sets_combined, member_value, members_value, set_between}
 use Rattle.tac_code_steps.specs.Runs.{Stands, Comes, step_of}
@@ -25,9 +25,9 @@ use Rattle.tac_code_steps.proofs.Temporaries.{put_same, put_other}
 use Rattle.tac_code_steps.proofs.Instructions.{range_step, branch_step, compare_step, bits_step}
 use Rattle.ps_lower_layout.specs.Shapes.{SetShape, Whole}
 use Rattle.ps_lower_layout.specs.Paths.{NumberSort, HasSort}
-use Rattle.ps_lower_code.specs.Scopes.{even_from, held, beside, moved, run_time_number, copy_code}
+use Rattle.ps_lower_code.specs.Scopes.{even_from, held, beside, moved, run_time_number, words_code}
 use Rattle.ps_lower_code.specs.Calling.{expr_calls}
-use Rattle.ps_lower_code.specs.Values.{place_temporary, place_site, place_code, sets_code, included_code, same_sets_code, range_members, set_code, set_steps_code, member_code, members_code, set_routine, clear_code}
+use Rattle.ps_lower_code.specs.Values.{place_temporary, place_site, place_code, sets_code, included_code, same_sets_code, range_members, literal_of, known_member, one_code, adds, joining_code, adding_code, asked_code, set_code, set_steps_code, member_code, members_code, set_routine, clear_code}
 use Rattle.ps_lower_code.specs.Statements.{expr_code}
 use Rattle.ps_lower_code.specs.Fits.{SetFits, SetStepsFit, MembersFit, MemberFits}
 use Rattle.ps_lower_code.proofs.Depths.{even_above, held_above}
@@ -35,16 +35,16 @@ use Rattle.ps_lower_relation.specs.Here.{Setting, machine_of, code_in, Work, Act
 use Rattle.ps_lower_relation.specs.Outcomes.{Reached, Runs}
 use Rattle.ps_lower_relation.specs.RunTime.{WritesDo}
 use Rattle.ps_lower_relation.proofs.Numbers.{in_range, truths, truth_integer}
-use Rattle.ps_lower_relation.proofs.Sets.{has_same}
+use Rattle.ps_lower_relation.proofs.Sets.{has_same, adding_interval}
 use Rattle.ps_lower_constructs.specs.Openings.{plain_scope, Opening, scope_in, context_in, IsOpened}
 use Rattle.ps_lower_constructs.proofs.Runs.{with_temporary, runs_bind, runs_map, runs_from, here, keeps_refl, keeps_less}
 use Rattle.ps_lower_constructs.proofs.Kept.{opened_kept}
 use Rattle.ps_lower_constructs.proofs.Leaves.{fails_so}
-use Rattle.ps_lower_constructs.proofs.Values.{false_true, FrontIn, FrontRuns, expr_runs_from, plain_front}
+use Rattle.ps_lower_constructs.proofs.Values.{false_true, FrontIn, FrontRuns, expr_runs_from, plain_front, known_is}
 use Rattle.ps_lower_constructs.proofs.Selectors.{PlaceIn, PlaceRuns}
 use Rattle.ps_lower_constructs.proofs.Scratch.{scratch_offset}
 use Rattle.ps_lower_constructs.proofs.Passages.{called_work, Passage, further, arrives, to_end, word_passage, scratch_passage, moved_passage}
-use Rattle.ps_lower_constructs.proofs.ScratchSets.{SetIn, set_kept, combined_so, interval_added, included_so, member_so, cleared_so, loaded_so}
+use Rattle.ps_lower_constructs.proofs.ScratchSets.{SetIn, set_kept, combined_so, interval_added, included_so, cleared_so, loaded_so, bit_so, AskedIn}
 
 -- ---- numbers of 0..255
 
@@ -98,6 +98,18 @@ module _ (p : Setting) (n : ℕ) (call : Caller) (c : Activated) (active : IsAct
       (d x : ℕ) (o : Opening) (w : World) (k : Work) (pc pc' : ℕ) (s : ℕ → Bool) → Alive p c w k → IsOpened p c w k d o → SetIn x s k → SetStepsFit (plain_scope p c) o.shapes steps → Stands (code_in p) c.routine pc (set_steps_code (scope_in p c o) steps d x) pc'
       → Runs p (suc n) c d x w k pc pc' (sets_combined call steps s (context_in c o) w) (λ s' w' k'. SetIn x s' k')
 
+  -- the address of a set
+  abbrev pub AskedRuns : SetExpr → Type 0
+  AskedRuns e =
+      (t x : ℕ) (o : Opening) (w : World) (k : Work) (pc pc' : ℕ) → Alive p c w k → IsOpened p c w k t o → SetFits (plain_scope p c) o.shapes e → Stands (code_in p) c.routine pc (asked_code (scope_in p c o) e t x) pc'
+      → Runs p (suc n) c t x w k pc pc' (set_value call e (context_in c o) w) (λ s w' k'. AskedIn p c active t x s w' k')
+
+  -- the members of a constructor join the set that stands there
+  abbrev pub AddingRuns : SetOperator → SetExpr → Type 0
+  AddingRuns operator e =
+      adds operator e ≡ true → (d x : ℕ) (o : Opening) (w : World) (k : Work) (pc pc' : ℕ) (s : ℕ → Bool) → Alive p c w k → IsOpened p c w k d o → SetIn x s k → SetFits (plain_scope p c) o.shapes e → Stands (code_in p) c.routine pc (adding_code (scope_in p c o) e d x) pc'
+      → Runs p (suc n) c d x w k pc pc' (set_value call e (context_in c o) w) (λ y w' k'. SetIn x (combine_sets operator s y) k')
+
   -- members go into the set that stands there
   abbrev pub MemberRuns : Member → Type 0
   MemberRuns m =
@@ -120,13 +132,13 @@ module _ (p : Setting) (n : ℕ) (call : Caller) (c : Activated) (active : IsAct
       let u = beside t in
       let site = place_site code q d in
       let first = i.Offset t site.base site.offset 32 ∷ [] in
-      let rest = i.Offset u base.Scratch x 32 ∷ copy_code code u t (beside u) 32 in
+      let rest = words_code base.Scratch x (base.Temporary t) 0 u 8 in
       let cut = split (code_in p) c.routine pc (place_code code q d x ++ first) rest pc' st in
       let cut1 = split (code_in p) c.routine pc (place_code code q d x) first cut.0 cut.1 in
       runs_bind p (suc n) c d x d x d x w k pc cut1.0 pc' (access call q ctx w) (λ s w1. Gives (set_of (contents_in w1 s)) w1) (λ s w' k'. PlaceIn p n call c active site (place_temporary q d) s (Whole SetShape) w' k') (λ s w' k'. SetIn x s k') (omega arith) (omega arith) (omega arith) (omega arith)
       (place d x o w k pc cut1.0 (Whole SetShape) alive opened fits cut1.1)
       (λ s w1 k1 alive1 kept1 r1.
-      let left = loaded_so p c active does d x t u (beside u) site s w1 k1 cut1.0 pc' (omega (arith, l)) (omega arith) (omega arith) alive1 r1.0 (cut1.2.0, subst (λ z. Stands (code_in p) c.routine z rest pc') (sym cut1.2.1) cut.2) in
+      let left = loaded_so p c active does d x t u site s w1 k1 cut1.0 pc' (omega (arith, l)) (omega arith) alive1 r1.0 (cut1.2.0, subst (λ z. Stands (code_in p) c.routine z rest pc') (sym cut1.2.1) cut.2) in
       arrives p c active left.passage (λ w' k'. SetIn x (set_of (contents_in w1 s)) k') left.set)
 
   -- ---- union, difference, intersection
@@ -134,25 +146,40 @@ module _ (p : Setting) (n : ℕ) (call : Caller) (c : Activated) (active : IsAct
   pub no_set_steps : SetStepsRun no_set_step
   no_set_steps d x o w k pc pc' s alive opened set fits st = here p (suc n) c d x w k pc pc' (λ w' k'. SetIn x s k') st alive set
 
-  pub set_step_then : (operator : SetOperator) (e : SetExpr) (rest : SetSteps) → SetRuns e → SetStepsRun rest → SetStepsRun (set_step_before operator e rest)
-  set_step_then operator e rest run next d x o w k pc pc' s alive opened set fits st =
-      let code = scope_in p c o in
-      let ctx = context_in c o in
-      let t = even_from d in
-      let l : d ≤ t = even_above d in
-      let u = beside t in
-      let cut = split (code_in p) c.routine pc (set_code code e d (x + 32)) (i.Offset t base.Scratch x 32 ∷ i.Offset u base.Scratch (x + 32) 32 ∷ i.Call t (length_of + run_time_number (set_routine operator)) (t ∷ u ∷ []) 1 ∷ set_steps_code code rest d x) pc' st in
-      runs_bind p (suc n) c d x d (x + 32) d x w k pc cut.0 pc' (set_value call e ctx w) (λ y w1. sets_combined call rest (combine_sets operator s y) ctx w1) (λ y w' k'. SetIn (x + 32) y k') (λ s' w' k'. SetIn x s' k') (omega arith) (omega arith) (omega arith) (omega arith)
-      (run d (x + 32) o w k pc cut.0 alive opened fits.0 cut.1)
-      (λ y w1 k1 alive1 kept1 r1.
-      let kept = set_kept x d (x + 32) s w w1 k k1 (omega arith) kept1 set in
-      let left = combined_so p c active does operator d x t u s y w1 k1 cut.0 (suc (suc (suc cut.0))) l (omega arith) alive1 kept r1 (cut.2.0, (cut.2.1.0, (cut.2.1.1.0, refl))) in
-      let open1 = opened_kept p c d (x + 32) d w w1 k k1 o (omega arith) kept1 opened in
-      runs_from p (suc n) c d x w1 w1 k1 left.work cut.0 (suc (suc (suc cut.0))) pc' (sets_combined call rest (combine_sets operator s y) ctx w1) (λ s' w' k'. SetIn x s' k') left.passage.comes left.passage.keeps
-      (next d x o w1 left.work (suc (suc (suc cut.0))) pc' (combine_sets operator s y) left.passage.alive (opened_kept p c d x d w1 w1 k1 left.work o (omega arith) left.passage.keeps open1) left.set fits.1 cut.2.1.1.1))
+  pub adding_load : (operator : SetOperator) (q : Place) → AddingRuns operator (LoadSet q)
+  adding_load operator q e = false_true e
+
+  pub adding_combined : (operator : SetOperator) (e : SetExpr) (steps : SetSteps) → AddingRuns operator (Combine e steps)
+  adding_combined operator e steps h = false_true h
+
+  pub adding_members : (operator : SetOperator) (members : Members) → MembersRun members → AddingRuns operator (Constructor members)
+  adding_members Union members run e = λ d x o w k pc pc' s alive opened set fits st. run d x o w k pc pc' s alive opened set fits st
+  adding_members Difference members run e = false_true e
+  adding_members Intersection members run e = false_true e
+
+  pub set_step_then : (operator : SetOperator) (e : SetExpr) (rest : SetSteps) → AskedRuns e → AddingRuns operator e → SetStepsRun rest → SetStepsRun (set_step_before operator e rest)
+  set_step_then operator e rest asked adding next d x o w k pc pc' s alive opened set fits st = go (adds operator e) refl st
     where
-      length_of : ℕ
-      length_of = length p.program.routines
+      go : (b : Bool) → adds operator e ≡ b → Stands (code_in p) c.routine pc ((if b then adding_code (scope_in p c o) e d x else (asked_code (scope_in p c o) e (beside (even_from d)) (x + 32) ++ joining_code (scope_in p c o) operator (even_from d) x)) ++ set_steps_code (scope_in p c o) rest d x) pc' → Runs p (suc n) c d x w k pc pc' (and_then (set_value call e (context_in c o) w) (λ y w1. sets_combined call rest (combine_sets operator s y) (context_in c o) w1)) (λ s' w' k'. SetIn x s' k')
+      go true q h =
+          let cut = split (code_in p) c.routine pc (adding_code (scope_in p c o) e d x) (set_steps_code (scope_in p c o) rest d x) pc' h in
+          runs_bind p (suc n) c d x d x d x w k pc cut.0 pc' (set_value call e (context_in c o) w) (λ y w1. sets_combined call rest (combine_sets operator s y) (context_in c o) w1) (λ y w' k'. SetIn x (combine_sets operator s y) k') (λ s' w' k'. SetIn x s' k') (omega arith) (omega arith) (omega arith) (omega arith)
+          (adding q d x o w k pc cut.0 s alive opened set fits.0 cut.1)
+          (λ y w1 k1 alive1 kept1 r1. next d x o w1 k1 cut.0 pc' (combine_sets operator s y) alive1 (opened_kept p c d x d w w1 k k1 o (omega arith) kept1 opened) r1 fits.1 cut.2)
+      go false q h =
+          let cut2 = split (code_in p) c.routine pc (asked_code (scope_in p c o) e (beside (even_from d)) (x + 32) ++ joining_code (scope_in p c o) operator (even_from d) x) (set_steps_code (scope_in p c o) rest d x) pc' h in
+          let cut = split (code_in p) c.routine pc (asked_code (scope_in p c o) e (beside (even_from d)) (x + 32)) (joining_code (scope_in p c o) operator (even_from d) x) cut2.0 cut2.1 in
+          let l : d ≤ even_from d = even_above d in
+          let lu : d ≤ beside (even_from d) = omega (arith, l) in
+          let ne : even_from d ≡ beside (even_from d) → ⊥ = λ r. omega (arith, r) in
+          runs_bind p (suc n) c d x (beside (even_from d)) (x + 32) d x w k pc cut.0 pc' (set_value call e (context_in c o) w) (λ y w1. sets_combined call rest (combine_sets operator s y) (context_in c o) w1) (λ y w' k'. AskedIn p c active (beside (even_from d)) (x + 32) y w' k') (λ s' w' k'. SetIn x s' k') lu (omega arith) (omega arith) (omega arith)
+          (asked (beside (even_from d)) (x + 32) o w k pc cut.0 alive (opened_kept p c d x (beside (even_from d)) w w k k o lu (keeps_refl d x w k) opened) fits.0 cut.1)
+          (λ y w1 k1 alive1 kept1 r1.
+          let kept = set_kept x (beside (even_from d)) (x + 32) s w w1 k k1 (omega arith) kept1 set in
+          let left = combined_so p c active does operator d x (even_from d) (beside (even_from d)) s y w1 k1 cut.0 cut2.0 l ne alive1 kept r1 cut.2 in
+          let open1 = opened_kept p c d (x + 32) d w w1 k k1 o (omega arith) (keeps_less d (x + 32) (beside (even_from d)) (x + 32) lu (omega arith) kept1) opened in
+          runs_from p (suc n) c d x w1 w1 k1 left.work cut.0 cut2.0 pc' (sets_combined call rest (combine_sets operator s y) (context_in c o) w1) (λ s' w' k'. SetIn x s' k') left.passage.comes left.passage.keeps
+          (next d x o w1 left.work cut2.0 pc' (combine_sets operator s y) left.passage.alive (opened_kept p c d x d w1 w1 k1 left.work o (omega arith) left.passage.keeps open1) left.set fits.1 cut2.2))
 
   pub combine : (e : SetExpr) (steps : SetSteps) → SetRuns e → SetStepsRun steps → SetRuns (Combine e steps)
   combine e steps run next d x o w k pc pc' alive opened fits st =
@@ -196,20 +223,9 @@ module _ (p : Setting) (n : ℕ) (call : Caller) (c : Activated) (active : IsAct
       arrives p c active left.passage (λ w' k'. SetIn x (combine_sets Union s (interval y z)) k')
       (set_as x (λ j. s j || interval (pos m) (pos (m + r)) j) (combine_sets Union s (interval y z)) left.work (λ j. ap (λ v. s j || interval (pos m) (pos v) j) (sym f) ∙ ap (λ v. s j || interval (pos m) v j) (sym e) ∙ ap (λ v. s j || interval v z j) (sym is)) left.set)
 
+  -- one that is known goes into its word; any other is worked out, tested and added
   pub one_member : (e : Expr) (line : ℕ) → FrontRuns p n call c active e → MemberRuns (One e line)
-  one_member e line front d x o w k pc pc' s alive opened set fits st =
-      let code = scope_in p c o in
-      let ctx = context_in c o in
-      let t = even_from d in
-      let l : d ≤ t = even_above d in
-      let u = beside t in
-      let cut = split (code_in p) c.routine pc (expr_code code e t (x + 32)) (i.CheckRange t (pos 0) (pos 255) 8 line ∷ i.Offset u base.Scratch x 32 ∷ i.Call t (length p.program.routines + 1) (u ∷ t ∷ t ∷ []) 1 ∷ []) pc' st in
-      runs_bind p (suc n) c d x t (x + 32) d x w k pc cut.0 pc' (value call e ctx w) (λ v w1. set_between (number_of v) (number_of v) line ctx w1) (λ v w' k'. WordIn k'.temporaries w'.made t NumberSort v) (λ y w' k'. SetIn x (combine_sets Union s y) k') l (omega arith) (omega arith) (omega arith)
-      (expr_runs_from p n call c active e front t (x + 32) o w k pc cut.0 NumberSort alive (opened_kept p c d x t w w k k o l (keeps_refl d x w k) opened) fits cut.1)
-      (λ v w1 k1 alive1 kept1 r1.
-      let z = number_of v in
-      subst (λ b. Runs p (suc n) c d x w1 k1 cut.0 pc' ((if b then give no_member_of else (if is_between (pos 0) z (pos 255) && is_between (pos 0) z (pos 255) then give (interval z z) else fault 8 line ctx)) w1) (λ y w' k'. SetIn x (combine_sets Union s y) k')) (sym (not_below_itself z))
-      (go w1 k1 cut.0 z alive1 r1.word (set_kept x t (x + 32) s w w1 k k1 (omega arith) kept1 set) cut.2 (is_between (pos 0) z (pos 255)) refl))
+  one_member e line front d x o w k pc pc' s alive opened set fits st = by_literal (literal_of e) refl st
     where
       go : (w1 : World) (k1 : Work) (mid : ℕ) (z : ℤ) → Alive p c w1 k1 → k1.temporaries (even_from d) ≡ Some (Numeral z) → SetIn x s k1 → Stands (code_in p) c.routine mid (i.CheckRange (even_from d) (pos 0) (pos 255) 8 line ∷ i.Offset (beside (even_from d)) base.Scratch x 32 ∷ i.Call (even_from d) (length p.program.routines + 1) (beside (even_from d) ∷ even_from d ∷ even_from d ∷ []) 1 ∷ []) pc'
           → (b : Bool) → is_between (pos 0) z (pos 255) ≡ b → Runs p (suc n) c d x w1 k1 mid pc' ((if b && b then give (interval z z) else fault 8 line (context_in c o)) w1) (λ y w' k'. SetIn x (combine_sets Union s y) k')
@@ -222,6 +238,41 @@ module _ (p : Setting) (n : ℕ) (call : Caller) (c : Activated) (active : IsAct
           runs_from p (suc n) c d x w1 w1 k1 k1 mid (suc mid) pc' (Gives (interval z z) w1) (λ y w' k'. SetIn x (combine_sets Union s y) k') test.comes test.keeps
           (between_added d x t t (beside t) t m.0 s z z w1 k1 (suc mid) pc' (omega (arith, l)) l ne ne alive1 at at m.1 q (not_below_itself z) kept st1.1)
       go w1 k1 mid z alive1 at kept st1 false q = fails_so p (suc n) c active w1 k1 mid 8 line (omega arith) (test_fails w1 k1 mid (even_from d) line z at q st1.0)
+
+      worked : Stands (code_in p) c.routine pc (expr_code (scope_in p c o) e (even_from d) (x + 32) ++ i.CheckRange (even_from d) (pos 0) (pos 255) 8 line ∷ i.Offset (beside (even_from d)) base.Scratch x 32 ∷ i.Call (even_from d) (length p.program.routines + 1) (beside (even_from d) ∷ even_from d ∷ even_from d ∷ []) 1 ∷ []) pc' → Runs p (suc n) c d x w k pc pc' (and_then (value call e (context_in c o) w) (λ v w1. set_between (number_of v) (number_of v) line (context_in c o) w1)) (λ y w' k'. SetIn x (combine_sets Union s y) k')
+      worked st =
+          let code = scope_in p c o in
+          let ctx = context_in c o in
+          let t = even_from d in
+          let l : d ≤ t = even_above d in
+          let u = beside t in
+          let cut = split (code_in p) c.routine pc (expr_code code e t (x + 32)) (i.CheckRange t (pos 0) (pos 255) 8 line ∷ i.Offset u base.Scratch x 32 ∷ i.Call t (length p.program.routines + 1) (u ∷ t ∷ t ∷ []) 1 ∷ []) pc' st in
+          runs_bind p (suc n) c d x t (x + 32) d x w k pc cut.0 pc' (value call e ctx w) (λ v w1. set_between (number_of v) (number_of v) line ctx w1) (λ v w' k'. WordIn k'.temporaries w'.made t NumberSort v) (λ y w' k'. SetIn x (combine_sets Union s y) k') l (omega arith) (omega arith) (omega arith)
+          (expr_runs_from p n call c active e front t (x + 32) o w k pc cut.0 NumberSort alive (opened_kept p c d x t w w k k o l (keeps_refl d x w k) opened) fits cut.1)
+          (λ v w1 k1 alive1 kept1 r1.
+          let z = number_of v in
+          subst (λ b. Runs p (suc n) c d x w1 k1 cut.0 pc' ((if b then give no_member_of else (if is_between (pos 0) z (pos 255) && is_between (pos 0) z (pos 255) then give (interval z z) else fault 8 line ctx)) w1) (λ y w' k'. SetIn x (combine_sets Union s y) k')) (sym (not_below_itself z))
+          (go w1 k1 cut.0 z alive1 r1.word (set_kept x t (x + 32) s w w1 k k1 (omega arith) kept1 set) cut.2 (is_between (pos 0) z (pos 255)) refl))
+
+      by_literal : (literal : Option ℤ) → literal_of e ≡ literal → Stands (code_in p) c.routine pc (one_code (known_member literal) (even_from d) x (expr_code (scope_in p c o) e (even_from d) (x + 32) ++ i.CheckRange (even_from d) (pos 0) (pos 255) 8 line ∷ i.Offset (beside (even_from d)) base.Scratch x 32 ∷ i.Call (even_from d) (length p.program.routines + 1) (beside (even_from d) ∷ even_from d ∷ even_from d ∷ []) 1 ∷ [])) pc' → Runs p (suc n) c d x w k pc pc' (and_then (value call e (context_in c o) w) (λ v w1. set_between (number_of v) (number_of v) line (context_in c o) w1)) (λ y w' k'. SetIn x (combine_sets Union s y) k')
+      by_literal None q h = worked h
+      by_literal (Some z) q h = tested (is_between (pos 0) z (pos 255)) refl h
+        where
+          tested : (b : Bool) → is_between (pos 0) z (pos 255) ≡ b → Stands (code_in p) c.routine pc (one_code (if b then Some (unsigned_abs z) else None) (even_from d) x (expr_code (scope_in p c o) e (even_from d) (x + 32) ++ i.CheckRange (even_from d) (pos 0) (pos 255) 8 line ∷ i.Offset (beside (even_from d)) base.Scratch x 32 ∷ i.Call (even_from d) (length p.program.routines + 1) (beside (even_from d) ∷ even_from d ∷ even_from d ∷ []) 1 ∷ [])) pc' → Runs p (suc n) c d x w k pc pc' (and_then (value call e (context_in c o) w) (λ v w1. set_between (number_of v) (number_of v) line (context_in c o) w1)) (λ y w' k'. SetIn x (combine_sets Union s y) k')
+          tested false r h = worked h
+          tested true r h =
+              let known_ = known_is p n call c active e z o w q fits in
+              let m = byte_is z r in
+              let same : unsigned_abs z ≡ m.0 = ap unsigned_abs m.1 in
+              let left = bit_so p c active does d x (even_from d) (unsigned_abs z) s w k pc pc' (even_above d) (subst (λ y. y < 256) (sym same) m.2) alive set h in
+              let zero_more : m.0 + 0 ≡ m.0 = omega arith in
+              subst (λ a. Runs p (suc n) c d x w k pc pc' (and_then a (λ v w1. set_between (number_of v) (number_of v) line (context_in c o) w1)) (λ y w' k'. SetIn x (combine_sets Union s y) k')) (sym known_.gives_it)
+              (subst (λ y. Runs p (suc n) c d x w k pc pc' (set_between y y line (context_in c o) w) (λ y w' k'. SetIn x (combine_sets Union s y) k')) (sym known_.is)
+              (subst (λ b. Runs p (suc n) c d x w k pc pc' ((if b then give no_member_of else (if is_between (pos 0) z (pos 255) && is_between (pos 0) z (pos 255) then give (interval z z) else fault 8 line (context_in c o))) w) (λ y w' k'. SetIn x (combine_sets Union s y) k')) (sym (not_below_itself z))
+              (subst (λ b. Runs p (suc n) c d x w k pc pc' ((if b && b then give (interval z z) else fault 8 line (context_in c o)) w) (λ y w' k'. SetIn x (combine_sets Union s y) k')) (sym r)
+              (arrives p c active left.passage (λ w' k'. SetIn x (combine_sets Union s (interval z z)) k')
+              (set_as x (λ j. s j || nat_eq j (unsigned_abs z)) (combine_sets Union s (interval z z)) left.work
+              (λ j. ap (λ v. s j || nat_eq j v) same ∙ adding_interval 0 m.0 j s ∙ ap (λ v. s j || interval (pos m.0) v j) (ap pos zero_more ∙ sym m.1) ∙ ap (λ v. s j || interval v z j) (sym m.1)) left.set)))))
 
   pub several_members : (a b : Expr) (line : ℕ) → FrontRuns p n call c active a → FrontRuns p n call c active b → MemberRuns (Several a b line)
   several_members a b line fa fb d x o w k pc pc' s alive opened set fits st =
@@ -429,26 +480,3 @@ module _ (p : Setting) (n : ℕ) (call : Caller) (c : Activated) (active : IsAct
       let end = moved_passage p c active d x w2 asked.0 cut3.0 pc' t (Numeral (truth q)) l asked.1.alive asked.2 cut3.2 in
       arrives p c active (further p c active asked.1 end.1) (λ w' k'. FrontIn (CompareSets r a b) d sort (OrdinalValue (truth q)) w'.made k'.temporaries)
       (plain_front (CompareSets r a b) d sort (OrdinalValue (truth q)) w2.made end.0.temporaries refl refl refl refl (end.2 ∙ ap (λ y. Some (word_of y (OrdinalValue (truth q)))) (sym fits.0)) (subst (HasSort w2.made (OrdinalValue (truth q))) (sym fits.0) (truth_integer q)) (λ e. (q, refl)) (λ e. false_true e))))
-
-  pub in_front : (a : Expr) (b : SetExpr) → FrontRuns p n call c active a → SetRuns b → FrontRuns p n call c active (In a b)
-  in_front a b fa rb d x o w k pc pc' sort alive opened fits st =
-      let code = scope_in p c o in
-      let ctx = context_in c o in
-      let t = held true d in
-      let l : d ≤ t = held_above true d in
-      let u = even_from (suc t) in
-      let lu : suc t ≤ u = even_above (suc t) in
-      let cut2 = split (code_in p) c.routine pc (expr_code code a t x ++ set_code code b u x) (i.Offset u base.Scratch x 32 ∷ i.Call d (length p.program.routines + 6) (t ∷ u ∷ []) 1 ∷ []) pc' st in
-      let cut = split (code_in p) c.routine pc (expr_code code a t x) (set_code code b u x) cut2.0 cut2.1 in
-      runs_bind p (suc n) c d x t x d x w k pc cut.0 pc' (value call a ctx w) (λ v w1. and_then (set_value call b ctx w1) (λ s w2. Gives (OrdinalValue (truth (is_member (number_of v) s))) w2)) (λ v w' k'. WordIn k'.temporaries w'.made t NumberSort v) (λ v w' k'. FrontIn (In a b) d sort v w'.made k'.temporaries) l (omega arith) (omega arith) (omega arith)
-      (expr_runs_from p n call c active a fa t x o w k pc cut.0 NumberSort alive (opened_kept p c d x t w w k k o l (keeps_refl d x w k) opened) fits.1 cut.1)
-      (λ v w1 k1 alive1 kept1 r1.
-      runs_bind p (suc n) c d x u x d x w1 k1 cut.0 cut2.0 pc' (set_value call b ctx w1) (λ s w2. Gives (OrdinalValue (truth (is_member (number_of v) s))) w2) (λ s w' k'. SetIn x s k') (λ v w' k'. FrontIn (In a b) d sort v w'.made k'.temporaries) (omega (arith, l, lu)) (omega arith) (omega arith) (omega arith)
-      (rb u x o w1 k1 cut.0 cut2.0 alive1 (opened_kept p c d x u w w1 k k1 o (omega (arith, l, lu)) (keeps_less d x t x l (omega arith) kept1) opened) fits.2 cut.2)
-      (λ s w2 k2 alive2 kept2 r2.
-      let q = is_member (number_of v) s in
-      let ne : t ≡ u → ⊥ = λ e. omega (arith, lu, e) in
-      let end = member_so p c active does d x t u d (number_of v) s w2 k2 cut2.0 pc' (omega (arith, l, lu)) (omega arith) ne alive2 (kept2.temporaries t (omega (arith, lu)) ∙ r1.word) r2 cut2.2 in
-      let k3 = called_work (with_temporary k2 u (Address (ScratchBlock c.number) x)) d (Numeral (truth_word q)) k2.scratch in
-      arrives p c active end (λ w' k'. FrontIn (In a b) d sort (OrdinalValue (truth q)) w'.made k'.temporaries)
-      (plain_front (In a b) d sort (OrdinalValue (truth q)) w2.made k3.temporaries refl refl refl refl (truth_in q d k3 (put_same (with_temporary k2 u (Address (ScratchBlock c.number) x)).temporaries d (Numeral (truth_word q))) ∙ ap (λ y. Some (word_of y (OrdinalValue (truth q)))) (sym fits.0)) (subst (HasSort w2.made (OrdinalValue (truth q))) (sym fits.0) (truth_integer q)) (λ e. (q, refl)) (λ e. false_true e))))

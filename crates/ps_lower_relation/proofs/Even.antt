@@ -1,5 +1,5 @@
 -- Words of the scratch block are addressed by multiples of 4, and variables stand elsewhere: the code of expressions.
-use Rattle.std.proofs.Common.{◌≡◌, ℕ, zero, suc, ◌+◌, ◌*◌, ℤ, Bool, true, false, not, ◌&&◌, nat_eq, if◌then◌else◌, List, [], ◌∷◌, ◌++◌, Option, Some, None, slice_get, refl, subst, arith}
+use Rattle.std.proofs.Common.{◌≡◌, ℕ, zero, suc, ◌+◌, ◌*◌, ◌/◌, ℤ, Bool, true, false, not, ◌&&◌, nat_eq, if◌then◌else◌, List, [], ◌∷◌, ◌++◌, Option, Some, None, slice_get, refl, subst, arith}
 use Rattle.ps_tree.specs.declared.tree.Range.{Range}
 use Rattle.ps_tree.specs.declared.tree.Range.TheVariants.{Any, Within}
 use Rattle.ps_tree.specs.declared.tree.RequiredFunction.{RequiredFunction}
@@ -16,9 +16,9 @@ use Rattle.tac_code.specs.declared.code.Instruction.TheVariants as i
 use Rattle.ps_meaning.specs.Operators.{is_between}
 use Rattle.ps_lower_layout.specs.Shapes.{shape_of, word_count, byte_count, field_offset}
 use Rattle.ps_lower_layout.specs.Frames.{Kind, Own, Reference, Closure}
-use Rattle.ps_lower_code.specs.Scopes.{even_from, kept, held, beside, moved, least, greatest, is_any, range_code, check_code, has_bytes, fitting_code, operand_check, unless_known, Site, Scope, kind_at, is_outermost, hops, frame_code, frame_base, link_code, formal_code, site_code, copy_code}
+use Rattle.ps_lower_code.specs.Scopes.{even_from, kept, held, beside, moved, least, greatest, is_any, range_code, check_code, has_bytes, fitting_code, operand_check, unless_known, Site, Scope, kind_at, is_outermost, hops, frame_code, frame_base, link_code, formal_code, site_code, words_code, copy_code}
 use Rattle.ps_lower_code.specs.Calling.{selectors_call, expr_calls, arguments_call}
-use Rattle.ps_lower_code.specs.Values.{literal_of, negated, is_relation, is_truth, finish, truth_finish, known_steps, element_site, selectors_site, is_byte, gives_byte, load_code, store_code, index_code, function_code, minus_code, argument_end, argument_scratch, field_site, reference_code, entry_site, name_code, name_site, place_site, holds_all, outside_bits, joined_word, outside_code, set_check, clear_code, included_code, same_sets_code, sets_code, range_members, place_code, selectors_code, front_code, steps_code, operands_code, set_code, set_steps_code, members_code, member_code, structure_code, argument_code, arguments_code}
+use Rattle.ps_lower_code.specs.Values.{literal_of, negated, is_relation, is_truth, finish, truth_finish, known_steps, element_site, selectors_site, is_byte, gives_byte, load_code, store_code, index_code, function_code, minus_code, argument_end, argument_scratch, field_site, reference_code, entry_site, name_code, name_site, place_site, holds_all, outside_bits, joined_word, outside_code, set_check, membership_code, clear_code, included_code, same_sets_code, sets_code, range_members, place_code, selectors_code, front_code, steps_code, operands_code, known_member, one_code, adds, adding_code, asked_code, set_code, set_steps_code, members_code, member_code, structure_code, argument_code, arguments_code}
 
 -- a multiple of 4
 abbrev pub IsEvenly : ℕ → Type 0
@@ -135,6 +135,16 @@ even_formal k t up index = both (even_frame k t up) (more tt (more tt none))
 pub even_site : (t : ℕ) (s : Site) (extent : ℕ) → NotScratch s.base → Even (site_code t s extent)
 even_site t s extent h = more (elsewhere s.base s.offset h) none
 
+pub even_taken : (x t p v n : ℕ) → IsEvenly x → Even (words_code base.Scratch x (base.Temporary t) p v n)
+unfolding words_code
+even_taken x t p v zero h = none
+even_taken x t p v (suc n) h = more tt (more h (even_taken (x + 4) t (p + 4) v n (evenly_more x 4 h (1, omega arith))))
+
+pub even_kept : (x t p v n : ℕ) → Even (words_code (base.Temporary t) p base.Scratch x v n)
+unfolding words_code
+even_kept x t p v zero = none
+even_kept x t p v (suc n) = more tt (more tt (even_kept (x + 4) t (p + 4) v n))
+
 pub even_copy : (k : Scope) (to from t bytes : ℕ) → Even (copy_code k to from t bytes)
 even_copy k to from t bytes = more tt (more tt none)
 
@@ -229,6 +239,13 @@ module _ (k : Scope) (opened : ArePlain k.opened) where
 
   -- ---- sets, from a multiple of 4 on
 
+  even_one : (m : Option ℕ) (t x : ℕ) (code : List Instruction) → IsEvenly x → Even code → Even (one_code m t x code)
+  even_one None t x code h c = c
+  even_one (Some n) t x code h c = more tt (more tt (more (evenly_more x (4 * (n / 32)) h (n / 32, refl)) none))
+
+  even_membership : (m u t : ℕ) → Even (membership_code m u t)
+  even_membership m u t = more tt (more tt (more tt (more tt (more tt (more tt (more tt (more tt (more tt (more tt (more tt none))))))))))
+
   even_clear : (t x : ℕ) → IsEvenly x → Even (clear_code k t x)
   even_clear t x h =
       more tt (more h (more (evenly_more x 4 h (1, omega arith)) (more (evenly_more x 8 h (2, omega arith)) (more (evenly_more x 12 h (3, omega arith))
@@ -283,7 +300,7 @@ module _ (k : Scope) (opened : ArePlain k.opened) where
     even_front (CompareSets relation a b) d x h =
         both (both (both (even_set a (even_from d) x h) (even_set b (even_from d) (x + 32) (evenly_more x 32 h thirty_two))) (even_sets relation (even_from d) x h)) (even_moved (even_from d) d)
     even_front (CompareStrings relation a b) d x h = both (both (even_structure a _ x h) (even_structure b _ x h)) (more tt (more tt none))
-    even_front (In a b) d x h = both (both (both (even_front a _ x h) (even_finish a _)) (even_set b _ x h)) (more h (more tt none))
+    even_front (In a b) d x h = both (both (both (even_front a _ x h) (even_finish a _)) (even_asked b _ x h)) (even_membership _ _ d)
     even_front (Apply f e line) d x h = both (both (even_front e d x h) (even_finish e d)) (even_function f d line)
     even_front Eof d x h = more tt (more tt none)
     even_front (Eoln line) d x h = more tt (more tt (more tt none))
@@ -300,22 +317,34 @@ module _ (k : Scope) (opened : ArePlain k.opened) where
     even_operands operator no_operand a x h = none
     even_operands operator (operand_before e rest) a x h = both (both (even_front e _ x h) (even_truth e _)) (more tt (even_operands operator rest a x h))
 
+    even_asked : (e : SetExpr) (t x : ℕ) → IsEvenly x → Even (asked_code k e t x)
+    even_asked (LoadSet p) t x h = both (even_place p t x h) (even_site t (place_site k p t) 32 (place_plain p t))
+    even_asked (Constructor members) t x h = both (both (even_clear (even_from t) x h) (even_members members t x h)) (more h none)
+    even_asked (Combine e steps) t x h = both (both (even_set e t x h) (even_set_steps steps t x h)) (more h none)
+
     pub even_set : (e : SetExpr) (d x : ℕ) → IsEvenly x → Even (set_code k e d x)
-    even_set (LoadSet p) d x h = both (both (even_place p d x h) (even_site _ (place_site k p d) 32 (place_plain p d))) (more h (even_copy k _ _ _ 32))
+    even_set (LoadSet p) d x h = both (both (even_place p d x h) (even_site _ (place_site k p d) 32 (place_plain p d))) (even_taken x (even_from (suc d)) 0 (beside (even_from (suc d))) 8 h)
     even_set (Constructor members) d x h = both (even_clear (even_from d) x h) (even_members members d x h)
     even_set (Combine e steps) d x h = both (even_set e d x h) (even_set_steps steps d x h)
 
     even_set_steps : (steps : SetSteps) (d x : ℕ) → IsEvenly x → Even (set_steps_code k steps d x)
     even_set_steps no_set_step d x h = none
     even_set_steps (set_step_before operator e rest) d x h =
-        both (even_set e d (x + 32) (evenly_more x 32 h thirty_two)) (more h (more (evenly_more x 32 h thirty_two) (more tt (even_set_steps rest d x h))))
+        let u = beside (even_from d) in
+        both (either (adds operator e) (even_adding e d x h) (both (even_asked e u (x + 32) (evenly_more x 32 h thirty_two)) (more h (more tt none))))
+        (even_set_steps rest d x h)
+
+    even_adding : (e : SetExpr) (d x : ℕ) → IsEvenly x → Even (adding_code k e d x)
+    even_adding (LoadSet p) d x h = none
+    even_adding (Constructor members) d x h = even_members members d x h
+    even_adding (Combine e steps) d x h = none
 
     even_members : (members : Members) (d x : ℕ) → IsEvenly x → Even (members_code k members d x)
     even_members no_member d x h = none
     even_members (member_before m rest) d x h = both (even_member m d x h) (even_members rest d x h)
 
     even_member : (m : Member) (d x : ℕ) → IsEvenly x → Even (member_code k m d x)
-    even_member (One e line) d x h = both (both (even_front e _ (x + 32) (evenly_more x 32 h thirty_two)) (even_finish e _)) (more tt (more h (more tt none)))
+    even_member (One e line) d x h = even_one (known_member (literal_of e)) (even_from d) x _ h (both (both (even_front e _ (x + 32) (evenly_more x 32 h thirty_two)) (even_finish e _)) (more tt (more h (more tt none))))
     even_member (Several a b line) d x h =
         both (both (both (even_front a _ (x + 32) (evenly_more x 32 h thirty_two)) (even_finish a _)) (both (even_front b _ (x + 32) (evenly_more x 32 h thirty_two)) (even_finish b _))) (even_members_range _ _ x line h)
 

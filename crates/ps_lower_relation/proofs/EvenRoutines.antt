@@ -13,12 +13,12 @@ use Rattle.tac_code.specs.declared.code.Instruction.TheVariants as i
 use Rattle.ps_meaning.specs.Expressions.{index_of}
 use Rattle.ps_lower_layout.specs.Shapes.{Shape, NumberShape, PointerShape, SetShape, ByteShape, ArrayShape, RecordShape, Shapes, no_shape, shape_before, shape_of, word_count, byte_count, component_bytes}
 use Rattle.ps_lower_layout.specs.Frames.{Kind, Own, Reference, Closure, Kinds, no_kind, kind_before, kinds_of, entry_offset, link_offset, is_program_block}
-use Rattle.ps_lower_code.specs.Scopes.{held, kept, even_from, greatest, Scope, routine_up, input_site}
+use Rattle.ps_lower_code.specs.Scopes.{held, kept, even_from, beside, greatest, Scope, routine_up, input_site}
 use Rattle.ps_lower_code.specs.Calling.{expr_calls, structure_calls, places_call, statement_calls}
 use Rattle.ps_lower_code.specs.Values.{literal_of, is_byte, gives_byte, is_byte_array, structure_bytes, place_temporary, place_site}
 use Rattle.ps_lower_code.specs.Statements.{expr_code, spread_code, bytes_code, first_code, fields_code, read_code, reads_code, width_code, write_code, writes_code, components_code, within_site, with_code, with_scope, with_depth, tests_code, for_code, body_depth, room_code, statement_code, statements_code, elements_code}
 use Rattle.ps_lower_code.specs.Routines.{parameter_total, result_entries, count_kinds, own_code, parameter_code, parameter_words, parameters_code, variables_code, result_code, input_code, begin_code, result_end, end_code, scope_of, routine_code}
-use Rattle.ps_lower_relation.proofs.Even.{IsEvenly, NotScratch, Even, none, more, both, either, elsewhere, even_range, even_check, even_fitting, even_operand_check, even_unless, even_link, even_formal, even_site, even_copy, even_store, ArePlain, place_plain, even_set_check, even_place, even_expr, even_front, even_set, even_structure, even_arguments}
+use Rattle.ps_lower_relation.proofs.Even.{IsEvenly, NotScratch, Even, none, more, both, either, elsewhere, even_range, even_check, even_fitting, even_operand_check, even_unless, even_link, even_formal, even_site, even_kept, even_copy, even_store, ArePlain, place_plain, even_set_check, even_place, even_expr, even_front, even_set, even_structure, even_arguments}
 
 zero_evenly : IsEvenly 0
 zero_evenly = (0, refl)
@@ -109,7 +109,7 @@ mutual
       let t = kept (expr_calls e) d in
       both (both (both (even_place k o p t 0 zero_evenly) (even_expr k o e _ 0 zero_evenly)) (even_fitting (gives_byte e) (literal_of e) _ range line)) (even_store (is_byte p) (place_site k p t) _ (place_plain k o p t))
   even_statement k o (AssignSet p low high e line) d =
-      both (both (both (both (even_place k o p _ 0 zero_evenly) (even_set k o e _ 0 zero_evenly)) (even_set_check _ 0 low high line)) (even_site _ (place_site k p (held true d)) 32 (place_plain k o p (held true d)))) (more zero_evenly (even_copy k _ _ _ 32))
+      both (both (both (both (even_place k o p _ 0 zero_evenly) (even_set k o e _ 0 zero_evenly)) (even_set_check _ 0 low high line)) (even_site _ (place_site k p (held true d)) 32 (place_plain k o p (held true d)))) (even_kept 0 (even_from (suc (held true d))) 0 (beside (even_from (suc (held true d)))) 8)
   even_statement k o (AssignStructure p e) d =
       let t = held (structure_calls e) d in both (both (both (even_place k o p t 0 zero_evenly) (even_structure k o e _ 0 zero_evenly)) (even_site _ (place_site k p t) (structure_bytes e) (place_plain k o p t))) (even_copy k _ _ _ (structure_bytes e))
   even_statement k o (CallProcedure r up arguments line) d = both (both (even_arguments k o arguments d 0 zero_evenly) (even_link k _ up)) (more tt none)

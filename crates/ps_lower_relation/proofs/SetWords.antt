@@ -128,6 +128,14 @@ numbers_joined Intersection s t q =
     ∙ ap (λ b. number_of (bit_and (bits_from 32 (32 * q) s) b)) (number_back t q)
     ∙ ap number_of (bits_and (32 * q) s t)
 
+-- the bit of a member
+pub bit_plain : (n : ℕ) → bits ShiftLeft (pos 1) (pos n) ≡ number_of (2 ^ (n % 32))
+bit_plain n =
+    let l : n % 32 < 32 = omega arith in
+    let e = pow-lt l in
+    let plain : (1 * 2 ^ (n % 32)) % 4294967296 ≡ 2 ^ (n % 32) = omega (arith, e) in
+    ap number_of plain
+
 -- the bit of a member, in its word
 pub member_bit : (n : ℕ) → n < 256 → bits ShiftLeft (pos 1) (pos n) ≡ set_number (λ k. nat_eq k n) (n / 32)
 member_bit n low =

@@ -1,11 +1,11 @@
 -- Sets in a block of which the words are known: members are added, and two sets are joined.
-use Rattle.std.proofs.Common.{◌≡◌, ◌⊎◌, inl, inr, ℕ, zero, suc, ◌+◌, ◌*◌, ◌/◌, ◌<◌, ◌≤◌, pos, Bool, true, false, ◌&&◌, ◌||◌, nat_eq, nat_le, [], ◌∷◌, length, slice_get, Some, refl, sym, ap, ◌∙◌, arith, eqb-true, leb-true, le-leb, eq-eqb}
+use Rattle.std.proofs.Common.{◌≡◌, ◌⊎◌, inl, inr, ℕ, zero, suc, ◌+◌, ◌*◌, ◌/◌, ◌%◌, ◌^◌, ◌<◌, ◌≤◌, pos, Bool, true, false, ◌&&◌, ◌||◌, nat_eq, nat_le, [], ◌∷◌, length, slice_get, Some, refl, sym, ap, ◌∙◌, subst, arith, eqb-true, leb-true, le-leb, eq-eqb}
 use Rattle.ps_tree.specs.declared.tree.SetOperator.{SetOperator}
 use Rattle.tac_code.specs.declared.code.Block.{Block}
 use Rattle.tac_code.specs.declared.code.Value.{Value as Word}
 use Rattle.tac_code.specs.declared.code.Value.TheVariants.{Number}
 use Rattle.tac_code.specs.declared.code.BitOperator.TheVariants.{Or, ShiftLeft}
-use Rattle.tac_code.specs.Numbers.{bits}
+use Rattle.tac_code.specs.Numbers.{bits, number_of}
 use Rattle.tac_code.specs.Memory.{Words, Memory, load, store}
 use Rattle.tac_code.specs.Meaning.{text_at}
 use Rattle.ps_meaning.specs.Operators.{combine_sets, interval}
@@ -16,7 +16,7 @@ use Rattle.ps_lower_relation.specs.RunTime.{JoinedUp, AddedUp, SetAt}
 use Rattle.ps_lower_relation.specs.Sets.{set_number, bit_operator_of}
 use Rattle.ps_lower_relation.proofs.Numbers.{same_test}
 use Rattle.ps_lower_relation.proofs.Copies.{Holding}
-use Rattle.ps_lower_relation.proofs.SetWords.{number_same, numbers_joined, member_added, member_elsewhere}
+use Rattle.ps_lower_relation.proofs.SetWords.{number_same, numbers_joined, bit_plain, member_added, member_elsewhere}
 
 -- the words of a set stand in a block from a place on
 abbrev pub HasSet : (place : ℕ) → (ℕ → Bool) → Words → Type 0
@@ -116,19 +116,30 @@ module _ (p : Setting) (b : Block) (memory : Words → Memory) (holding : Holdin
           no : true ≡ false → ⊥
           no q = absurd (cc q)
 
+  -- one member in its word
+  pub one_added : (n place : ℕ) (s : ℕ → Bool) (before : Words) → n < 256 → place + 8 ≤ length before → HasSet place s before → HasSet place (λ j. s j || nat_eq j n) (spliced (place + n / 32) (Some (Number (bits Or (set_number s (n / 32)) (number_of (2 ^ (n % 32))))) ∷ []) before)
+  unfolding adds
+  one_added n place s before low wide h =
+      subst (λ z. HasSet place (λ j. s j || nat_eq j n) (spliced (place + n / 32) (Some (Number (bits Or (set_number s (n / 32)) z)) ∷ []) before)) (bit_plain n)
+      (adds 1 n place (4 * place) s before refl wide (omega (arith, low)) h).has
+
   -- ---- two sets that are joined
 
-  pub record Joined (operator : SetOperator) (place o start o' : ℕ) (s t : ℕ → Bool) (q n : ℕ) (before : Words) : Type 0 where
+  -- a set stands at an address, whatever becomes of the words of this block before a place
+  abbrev pub Elsewhere : (start : ℕ) → Words → Block → ℕ → (ℕ → Bool) → Type 0
+  Elsewhere start ws c o t = (now : Words) → ((j : ℕ) → start ≤ j → slice_get now j ≡ slice_get ws j) → SetAt p (memory now) c o t
+
+  pub record Joined (operator : SetOperator) (place o : ℕ) (c : Block) (o' : ℕ) (s t : ℕ → Bool) (q n : ℕ) (before : Words) : Type 0 where
     pub after : Words
-    pub up : JoinedUp p (bit_operator_of operator) (memory before) b o b o' n (memory after)
+    pub up : JoinedUp p (bit_operator_of operator) (memory before) b o c o' n (memory after)
     pub new : (i : ℕ) → q ≤ i → i < 8 → slice_get after (place + i) ≡ Some (Some (Number (set_number (combine_sets operator s t) i)))
     pub old : (i : ℕ) → i < q → slice_get after (place + i) ≡ slice_get before (place + i)
     pub other : Otherwise place before after
 
-  joins : (operator : SetOperator) (place start : ℕ) (s t : ℕ → Bool) → place + 8 ≤ start → (n q o o' : ℕ) (before : Words) → q + n ≡ 8 → o ≡ 4 * (place + q) → o' ≡ 4 * (start + q) → place + 8 ≤ length before → ((i : ℕ) → q ≤ i → i < 8 → slice_get before (place + i) ≡ Some (Some (Number (set_number s i)))) → HasSet start t before → Joined operator place o start o' s t q n before
-  joins operator place start s t apart zero q o o' before total e e' wide first second =
+  joins : (operator : SetOperator) (place : ℕ) (s t : ℕ → Bool) (c : Block) (from : ℕ) (ws : Words) → Elsewhere (place + 8) ws c from t → (n q o o' : ℕ) (before : Words) → q + n ≡ 8 → o ≡ 4 * (place + q) → o' ≡ from + 4 * q → place + 8 ≤ length before → ((i : ℕ) → q ≤ i → i < 8 → slice_get before (place + i) ≡ Some (Some (Number (set_number s i)))) → ((j : ℕ) → place + 8 ≤ j → slice_get before j ≡ slice_get ws j) → Joined operator place o c o' s t q n before
+  joins operator place s t c from ws there zero q o o' before total e e' wide first same =
       record { after = before; up = refl; new = λ i a b. absurd (omega (arith, total, a, b)); old = λ i a. refl; other = otherwise_refl place before }
-  joins operator place start s t apart (suc n) q o o' before total e e' wide first second =
+  joins operator place s t c from ws there (suc n) q o o' before total e e' wide first same =
       let l : q < 8 = omega (arith, total) in
       let x = set_number s q in
       let y = set_number t q in
@@ -136,12 +147,12 @@ module _ (p : Setting) (b : Block) (memory : Words → Memory) (holding : Holdin
       let k = place + q in
       let next = spliced k (Some (Number z) ∷ []) before in
       let long = spliced_length k (Some (Number z) ∷ []) before in
-      let r = joins operator place start s t apart n (suc q) (o + 4) (o' + 4) next (omega (arith, total)) (omega (arith, e)) (omega (arith, e')) (omega (arith, wide, long))
+      let r = joins operator place s t c from ws there n (suc q) (o + 4) (o' + 4) next (omega (arith, total)) (omega (arith, e)) (omega (arith, e')) (omega (arith, wide, long))
       (λ i a b. let ne : place + i ≡ k → ⊥ = λ m. omega (arith, a, m) in there_spliced k (place + i) before (Number z) ne ∙ first i (omega (arith, a)) b)
-      (λ i b. let ne : start + i ≡ k → ⊥ = λ m. omega (arith, apart, l, m) in there_spliced k (start + i) before (Number z) ne ∙ second i b) in
+      (λ j b. let ne : j ≡ k → ⊥ = λ m. omega (arith, b, l, m) in there_spliced k j before (Number z) ne ∙ same j b) in
       record {
         after = r.after;
-        up = (x, y, memory next, ap (load (text_at (code_in p)) (memory before) b) e ∙ holding.reads before k (Number x) (first q (omega arith) l), ap (load (text_at (code_in p)) (memory before) b) e' ∙ holding.reads before (start + q) (Number y) (second q l), ap (λ i. store (memory before) b i (Number z)) e ∙ holding.writes before k (Number z) (omega (arith, wide, l)), r.up);
+        up = (x, y, memory next, ap (load (text_at (code_in p)) (memory before) b) e ∙ holding.reads before k (Number x) (first q (omega arith) l), ap (load (text_at (code_in p)) (memory before) c) e' ∙ there before same q l, ap (λ i. store (memory before) b i (Number z)) e ∙ holding.writes before k (Number z) (omega (arith, wide, l)), r.up);
         new = λ i a c. which r i c (order_at i a);
         old = λ i a. let ne : place + i ≡ k → ⊥ = λ m. omega (arith, a, m) in r.old i (omega (arith, a)) ∙ there_spliced k (place + i) before (Number z) ne;
         other = otherwise_trans place before next r.after (otherwise_one place q before (Number z) l) r.other;
@@ -161,7 +172,7 @@ module _ (p : Setting) (b : Block) (memory : Words → Memory) (holding : Holdin
               above (inl u) = absurd (omega (arith, u, a))
               above (inr u) = omega (arith, u)
 
-      which : (r : Joined operator place (o + 4) start (o' + 4) s t (suc q) n (spliced (place + q) (Some (Number (bits (bit_operator_of operator) (set_number s q) (set_number t q))) ∷ []) before)) (i : ℕ) → i < 8 → (i ≡ q) ⊎ (suc q ≤ i) → slice_get r.after (place + i) ≡ Some (Some (Number (set_number (combine_sets operator s t) i)))
+      which : (r : Joined operator place (o + 4) c (o' + 4) s t (suc q) n (spliced (place + q) (Some (Number (bits (bit_operator_of operator) (set_number s q) (set_number t q))) ∷ []) before)) (i : ℕ) → i < 8 → (i ≡ q) ⊎ (suc q ≤ i) → slice_get r.after (place + i) ≡ Some (Some (Number (set_number (combine_sets operator s t) i)))
       which r i c (inr a) = r.new i a c
       which r i c (inl a) =
           let v = Number (bits (bit_operator_of operator) (set_number s q) (set_number t q)) in
@@ -171,15 +182,15 @@ module _ (p : Setting) (b : Block) (memory : Words → Memory) (holding : Holdin
           ∙ ap (λ y. Some (Some (Number y))) (numbers_joined operator s t q)
           ∙ ap (λ j. Some (Some (Number (set_number (combine_sets operator s t) j)))) (sym a)
 
-  pub record JoinedSet (operator : SetOperator) (place o start o' : ℕ) (s t : ℕ → Bool) (before : Words) : Type 0 where
+  pub record JoinedSet (operator : SetOperator) (place o : ℕ) (c : Block) (o' : ℕ) (s t : ℕ → Bool) (before : Words) : Type 0 where
     pub after : Words
-    pub up : JoinedUp p (bit_operator_of operator) (memory before) b o b o' 8 (memory after)
+    pub up : JoinedUp p (bit_operator_of operator) (memory before) b o c o' 8 (memory after)
     pub has : HasSet place (combine_sets operator s t) after
     pub other : Otherwise place before after
 
-  pub joins_sets : (operator : SetOperator) (place start o o' : ℕ) (s t : ℕ → Bool) (before : Words) → place + 8 ≤ start → place + 8 ≤ length before → o ≡ 4 * place → o' ≡ 4 * start → HasSet place s before → HasSet start t before → JoinedSet operator place o start o' s t before
-  joins_sets operator place start o o' s t before apart wide e e' first second =
-      let r = joins operator place start s t apart 8 0 o o' before (omega arith) (omega (arith, e)) (omega (arith, e')) wide (λ i a b. first i b) second in
+  pub joins_sets : (operator : SetOperator) (place o : ℕ) (c : Block) (o' : ℕ) (s t : ℕ → Bool) (before : Words) → place + 8 ≤ length before → o ≡ 4 * place → HasSet place s before → Elsewhere (place + 8) before c o' t → JoinedSet operator place o c o' s t before
+  joins_sets operator place o c o' s t before wide e first there =
+      let r = joins operator place s t c o' before there 8 0 o o' before (omega arith) (omega (arith, e)) (omega arith) wide (λ i a b. first i b) (λ j b. refl) in
       record { after = r.after; up = r.up; has = λ i b. r.new i (omega arith) b; other = r.other }
 
 -- ---- what was added is an interval

@@ -509,10 +509,10 @@ module _ (S : Symbol Simple) (q : Parser Simple) (i : Exact (Ends 2) S q) where
 
 -- ---- heights
 -- what is known of the factors in which nothing is higher than a number
-record Level (F : Symbol Factor) (q : Parser Factor) : Type 0 where
-  exact : Exact (Ends 4) F q
-  begins : (x : Factor) (ts r : Tokens) → F x ts r → sees k.RightBracket ts ≡ false
-  unsigned : (x : Factor) (ts r : Tokens) → F x ts r → read.eat_operator read.sign_of ts ≡ Ok (None, ts)
+pub record Level (F : Symbol Factor) (q : Parser Factor) : Type 0 where
+  pub exact : Exact (Ends 4) F q
+  pub begins : (x : Factor) (ts r : Tokens) → F x ts r → sees k.RightBracket ts ≡ false
+  pub unsigned : (x : Factor) (ts r : Tokens) → F x ts r → read.eat_operator read.sign_of ts ≡ Ok (None, ts)
 
 module _ (F : Symbol Factor) (q : Parser Factor) (l : Level F q) where
   term_unsigned : (x : Term) (ts r : Tokens) → IsTerm F x ts r → read.eat_operator read.sign_of ts ≡ Ok (None, ts)
@@ -530,14 +530,14 @@ module _ (F : Symbol Factor) (q : Parser Factor) (l : Level F q) where
   simple_begins x ts r (plain z xs {m = m} d ds) = term_begins z ts m d
   simple_begins x ts r (signed s at z xs {ts = l} d ds) = sign_seen s at l
 
-  expr_begins : (x : Expr) (ts r : Tokens) → IsExpr (IsSimple (IsTerm F)) x ts r → sees k.RightBracket ts ≡ false
+  pub expr_begins : (x : Expr) (ts r : Tokens) → IsExpr (IsSimple (IsTerm F)) x ts r → sees k.RightBracket ts ≡ false
   expr_begins x ts r (alone {x = z} d) = simple_begins z ts r d
   expr_begins x ts r (compare op at z y {m = m} d d') = simple_begins z ts (token (relation_kind op) at ∷ m) d
 
-  next_expr : Exact (Ends 1) (IsExpr (IsSimple (IsTerm F))) (read.compared (read.simple (read.term q)))
+  pub next_expr : Exact (Ends 1) (IsExpr (IsSimple (IsTerm F))) (read.compared (read.simple (read.term q)))
   next_expr = compared_exact _ _ (simple_exact _ _ (term_exact F q l.exact) term_unsigned)
 
-level : (n : ℕ) → Level (factor_within n) (read.read_factor n)
+pub level : (n : ℕ) → Level (factor_within n) (read.read_factor n)
 unfolding read.read_expr read.read_negated
 level zero = record {
   exact = factor_exact nothing refuse (refused _) nothing refuse (refused _) (λ x ts r d. absurd d);

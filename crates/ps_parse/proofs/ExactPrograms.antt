@@ -14,11 +14,12 @@ use Rattle.ps_syntax.specs.declared.program.Heading.{Heading}
 use Rattle.ps_syntax.specs.declared.program.Heading.TheVariants as h
 use Rattle.ps_syntax.specs.declared.program.Routine.{Routine}
 use Rattle.ps_syntax.specs.declared.program.Routine.TheVariants as q
+use Rattle.ps_syntax.specs.declared.statement.Statement.{Statement}
 use Rattle.ps_syntax.specs.declared.program.Block.{Block}
 use Rattle.ps_syntax.specs.declared.program.Program.{Program}
 use Rattle.ps_parse_grammar.specs.Symbols.{Tokens, Symbol, token, Many, Separated, none, more, one, several}
 use Rattle.ps_parse_grammar.specs.Statements.{IsConstant, IsSequence, statement_within}
-use Rattle.ps_parse_grammar.specs.Programs.{name, IsNames, IsSection, value, variable, routine, IsFormals, absent, present, IsFormalList, formals, IsHeading, procedure, function, formals_within, heading_within, IsPart, without, filled, IsConstantDefinition, constant, IsTypeDefinition, definition, IsVariables, variables, IsRoutine, whole, forward, completion, IsBlock, parts, block_within, IsProgram, plain, listed, DerivesWithin, type_within}
+use Rattle.ps_parse_grammar.specs.Programs.{name, IsNames, IsSection, value, variable, routine, IsFormals, absent, present, IsFormalList, formals, IsHeading, procedure, function, formals_within, IsPart, without, filled, IsConstantDefinition, constant, IsTypeDefinition, definition, IsVariables, variables, IsRoutine, whole, forward, completion, IsBlock, parts, block_within, IsProgram, plain, listed, DerivesWithin, type_within}
 use Rattle.ps_parse.specs.Steps.{Parser, sees, expect, separated, many, part, if_begins, pure, refuse_from}
 use Rattle.ps_parse.specs.ReadStatements.{read_statement}
 use Rattle.ps_parse.specs.ReadStatements as st
@@ -178,18 +179,18 @@ module _ (F : Symbol (List Section)) (p : Parser (List Section)) (i : Exact Anyt
   list_shrinks : (xs : List Section) (ts r : Tokens) → IsFormalList (IsHeading F) xs ts r → length r ≤ length ts
   list_shrinks xs ts r (formals {right = right} {ts = l} d) = omega (arith, sections_exact.shrinks xs l (token k.RightParen right ∷ r) d)
 
-  list_begins : (xs : List Section) (ts r : Tokens) → IsFormalList (IsHeading F) xs ts r → sees k.LeftParen ts ≡ true
+  pub list_begins : (xs : List Section) (ts r : Tokens) → IsFormalList (IsHeading F) xs ts r → sees k.LeftParen ts ≡ true
   unfolding same
   list_begins xs ts r (formals d) = refl
 
-  list_exact : Exact Anything (IsFormalList (IsHeading F)) (read.formal_list p)
+  pub list_exact : Exact Anything (IsFormalList (IsHeading F)) (read.formal_list p)
   list_exact = record { sound = list_sound; complete = list_complete; shrinks = list_shrinks }
 
-record FormalsLevel (F : Symbol (List Section)) (p : Parser (List Section)) : Type 0 where
-  exact : Exact Anything F p
-  begins : (xs : List Section) (ts r : Tokens) → F xs ts r → sees k.LeftParen ts ≡ true
+pub record FormalsLevel (F : Symbol (List Section)) (p : Parser (List Section)) : Type 0 where
+  pub exact : Exact Anything F p
+  pub begins : (xs : List Section) (ts r : Tokens) → F xs ts r → sees k.LeftParen ts ≡ true
 
-formals_level : (n : ℕ) → FormalsLevel (formals_within n) (read.read_formals n)
+pub formals_level : (n : ℕ) → FormalsLevel (formals_within n) (read.read_formals n)
 unfolding read.read_formals
 formals_level zero = record { exact = refused Anything; begins = λ xs ts r d. absurd d }
 formals_level (suc n) = let l = formals_level n in record { exact = list_exact (formals_within n) (read.read_formals n) l.exact l.begins; begins = list_begins (formals_within n) (read.read_formals n) l.exact l.begins }
@@ -447,75 +448,77 @@ at_end : (at : Span) (m : Tokens) → EndsSequence (token k.End at ∷ m)
 unfolding same
 at_end at m = ((omega arith, refl), refl)
 
-record BlockLevel (B : Symbol Block) (pb : Parser Block) : Type 0 where
-  exact : Exact Anything B pb
-  begins : (b : Block) (ts r : Tokens) → B b ts r → Later 1 ts
+pub record BlockLevel (B : Symbol Block) (pb : Parser Block) : Type 0 where
+  pub exact : Exact Anything B pb
+  pub begins : (b : Block) (ts r : Tokens) → B b ts r → Later 1 ts
 
-module _ (is_forward : Span → Bool) (n : ℕ) (B : Symbol Block) (pb : Parser Block) (bl : BlockLevel B pb) where
+module _ (is_forward : Span → Bool) (T : Symbol TypeDenoter) (pt : Parser TypeDenoter) (ht : Exact NoRange T pt) (F : Symbol (List Section)) (pf : Parser (List Section)) (fl : FormalsLevel F pf)
+    (S : Bool → Symbol Statement) (ps : Parser Statement) (hs : Exact EndsSequence (IsSequence S) (separated k.Semicolon ps)) (B : Symbol Block) (pb : Parser Block) (bl : BlockLevel B pb) where
   abbrev Whole : Symbol Block
-  Whole = IsBlock is_forward (type_within n) (heading_within n) (statement_within n) B
+  Whole = IsBlock is_forward T (IsHeading F) S B
 
   abbrev read_whole : Parser Block
-  read_whole = read.any_block is_forward (read.read_type n) (read.read_formals n) (read_statement n) pb
+  read_whole = read.any_block is_forward pt pf ps pb
 
-  rs : Exact (Later 5) (Many (IsRoutine is_forward (heading_within n) B)) (many (if_begins read.begins_routine (read.routine is_forward (read.read_formals n) pb)))
-  rs = routines_exact is_forward (formals_within n) (read.read_formals n) (formals_level n) B pb bl.exact bl.begins
+  rs : Exact (Later 5) (Many (IsRoutine is_forward (IsHeading F) B)) (many (if_begins read.begins_routine (read.routine is_forward pf pb)))
+  rs = routines_exact is_forward F pf fl B pb bl.exact bl.begins
 
-  ts_exact : Exact (Later 3) (IsPart k.Type (IsTypeDefinition (type_within n))) (part k.Type read.begins_name (read.type_definition (read.read_type n)))
-  ts_exact = types_exact (type_within n) (read.read_type n) (type_exact_within n)
+  ts_exact : Exact (Later 3) (IsPart k.Type (IsTypeDefinition T)) (part k.Type read.begins_name (read.type_definition pt))
+  ts_exact = types_exact T pt ht
 
-  vs_exact : Exact (Later 4) (IsPart k.Var (IsVariables (type_within n))) (part k.Var read.begins_name (read.variables (read.read_type n)))
-  vs_exact = variables_exact (type_within n) (read.read_type n) (type_exact_within n)
+  vs_exact : Exact (Later 4) (IsPart k.Var (IsVariables T)) (part k.Var read.begins_name (read.variables pt))
+  vs_exact = variables_exact T pt ht
 
   block_sound : (ts : Tokens) (y : Block) (r : Tokens) → read_whole ts ≡ Ok (y, r) → Whole y ts r
   unfolding read.any_block
   block_sound ts y r e =
       in_steps (part k.Const read.begins_name read.constant_definition ts) _ y r e (λ a0 a1 a2 a3.
-      in_steps (part k.Type read.begins_name (read.type_definition (read.read_type n)) a1) _ y r a3 (λ b0 b1 b2 b3.
-      in_steps (part k.Var read.begins_name (read.variables (read.read_type n)) b1) _ y r b3 (λ c0 c1 c2 c3.
-      in_steps (many (if_begins read.begins_routine (read.routine is_forward (read.read_formals n) pb)) c1) _ y r c3 (λ d0 d1 d2 d3.
+      in_steps (part k.Type read.begins_name (read.type_definition pt) a1) _ y r a3 (λ b0 b1 b2 b3.
+      in_steps (part k.Var read.begins_name (read.variables pt) b1) _ y r b3 (λ c0 c1 c2 c3.
+      in_steps (many (if_begins read.begins_routine (read.routine is_forward pf pb)) c1) _ y r c3 (λ d0 d1 d2 d3.
       in_steps (expect k.Begin d1) _ y r d3 (λ f0 f1 f2 f3.
-      in_steps (separated k.Semicolon (read_statement n) f1) _ y r f3 (λ g0 g1 g2 g3.
+      in_steps (separated k.Semicolon ps f1) _ y r f3 (λ g0 g1 g2 g3.
       in_steps (expect k.End g1) _ y r g3 (λ u0 u1 u2 u3.
       at_last Whole ts _ y u1 r u3 (parts a0 b0 c0 d0 f0 g0 (constants_exact.sound ts a0 a1 a2) (ts_exact.sound a1 b0 b1 b2) (vs_exact.sound b1 c0 c1 c2)
-      (subst (λ z. Many (IsRoutine is_forward (heading_within n) B) d0 c1 z) (expect_sound k.Begin d1 f0 f1 f2) (rs.sound c1 d0 d1 d2))
-      (subst (λ z. IsSequence (statement_within n) g0 f1 z) (expect_sound k.End g1 u0 u1 u2) ((sequence_exact_within n).sound f1 g0 g1 g2))))))))))
+      (subst (λ z. Many (IsRoutine is_forward (IsHeading F) B) d0 c1 z) (expect_sound k.Begin d1 f0 f1 f2) (rs.sound c1 d0 d1 d2))
+      (subst (λ z. IsSequence S g0 f1 z) (expect_sound k.End g1 u0 u1 u2) (hs.sound f1 g0 g1 g2))))))))))
 
   begin_later : (at : Span) (m : Tokens) → Later 5 (token k.Begin at ∷ m)
   begin_later at m = omega arith
 
-  later_c : (xs : List Routine) (begin : Span) (c d : Tokens) → Many (IsRoutine is_forward (heading_within n) B) xs c (token k.Begin begin ∷ d) → Later 4 c
-  later_c xs begin c d h = routines_later is_forward (formals_within n) (read.read_formals n) (formals_level n) B pb bl.exact bl.begins xs c (token k.Begin begin ∷ d) h (begin_later begin d)
+  later_c : (xs : List Routine) (begin : Span) (c d : Tokens) → Many (IsRoutine is_forward (IsHeading F) B) xs c (token k.Begin begin ∷ d) → Later 4 c
+  later_c xs begin c d h = routines_later is_forward F pf fl B pb bl.exact bl.begins xs c (token k.Begin begin ∷ d) h (begin_later begin d)
 
   block_complete : (y : Block) (ts r : Tokens) → Whole y ts r → Anything r → read_whole ts ≡ Ok (y, r)
   unfolding read.any_block
   block_complete y ts r (parts cs types vs routines begin ss {end = end} {a = a} {b = b} {c = c} {d = d} d1 d2 d3 d4 d5) o =
-      let lc = later_c routines begin c d d4 in let lb = part_later k.Var (IsVariables (type_within n)) vs b c d3 lc in let la = part_later k.Type (IsTypeDefinition (type_within n)) types a b d2 lb in
+      let lc = later_c routines begin c d d4 in let lb = part_later k.Var (IsVariables T) vs b c d3 lc in let la = part_later k.Type (IsTypeDefinition T) types a b d2 lb in
       rw (
         constants_exact.complete cs ts a d1 la,
         ts_exact.complete types a b d2 lb,
         vs_exact.complete vs b c d3 lc,
         rs.complete routines c (token k.Begin begin ∷ d) d4 (begin_later begin d),
         expect_complete k.Begin begin d,
-        (sequence_exact_within n).complete ss d (token k.End end ∷ r) d5 (at_end end r),
+        hs.complete ss d (token k.End end ∷ r) d5 (at_end end r),
         expect_complete k.End end r,
       ) refl
 
   block_shrinks : (y : Block) (ts r : Tokens) → Whole y ts r → length r ≤ length ts
   block_shrinks y ts r (parts cs types vs routines begin ss {end = end} {a = a} {b = b} {c = c} {d = d} d1 d2 d3 d4 d5) =
-      omega (arith, constants_exact.shrinks cs ts a d1, ts_exact.shrinks types a b d2, vs_exact.shrinks vs b c d3, rs.shrinks routines c (token k.Begin begin ∷ d) d4, (sequence_exact_within n).shrinks ss d (token k.End end ∷ r) d5)
+      omega (arith, constants_exact.shrinks cs ts a d1, ts_exact.shrinks types a b d2, vs_exact.shrinks vs b c d3, rs.shrinks routines c (token k.Begin begin ∷ d) d4, hs.shrinks ss d (token k.End end ∷ r) d5)
 
   block_begins : (y : Block) (ts r : Tokens) → Whole y ts r → Later 1 ts
   block_begins y ts r (parts cs types vs routines begin ss {end = end} {a = a} {b = b} {c = c} {d = d} d1 d2 d3 d4 d5) =
-      part_later k.Const IsConstantDefinition cs ts a d1 (part_later k.Type (IsTypeDefinition (type_within n)) types a b d2 (part_later k.Var (IsVariables (type_within n)) vs b c d3 (later_c routines begin c d d4)))
+      part_later k.Const IsConstantDefinition cs ts a d1 (part_later k.Type (IsTypeDefinition T) types a b d2 (part_later k.Var (IsVariables T) vs b c d3 (later_c routines begin c d d4)))
 
-  next_block : BlockLevel Whole read_whole
+  pub next_block : BlockLevel Whole read_whole
   next_block = record { exact = record { sound = block_sound; complete = block_complete; shrinks = block_shrinks }; begins = block_begins }
 
-block_level : (is_forward : Span → Bool) (n : ℕ) → BlockLevel (block_within is_forward n) (read.read_block is_forward n)
+pub block_level : (is_forward : Span → Bool) (n : ℕ) → BlockLevel (block_within is_forward n) (read.read_block is_forward n)
 unfolding read.read_block
 block_level is_forward zero = record { exact = refused Anything; begins = λ b ts r d. absurd d }
-block_level is_forward (suc n) = next_block is_forward n (block_within is_forward n) (read.read_block is_forward n) (block_level is_forward n)
+block_level is_forward (suc n) = next_block is_forward (type_within n) (read.read_type n) (type_exact_within n) (formals_within n) (read.read_formals n) (formals_level n) (statement_within n) (read_statement n) (sequence_exact_within n)
+    (block_within is_forward n) (read.read_block is_forward n) (block_level is_forward n)
 
 -- ---- programs
 module _ (is_forward : Span → Bool) (B : Symbol Block) (pb : Parser Block) (hb : Exact Anything B pb) where
@@ -534,7 +537,7 @@ module _ (is_forward : Span → Bool) (B : Symbol Block) (pb : Parser Block) (hb
             (subst (λ (z : List Span). IsProgram is_forward B (record { name = at; parameters = z; block = b }) (token k.Program word ∷ token k.Name at ∷ token k.Semicolon semicolon ∷ l) r) (first_part [] xs ts m w) (plain d)))
       ]
 
-  program_sound : (ts : Tokens) (y : Program) (r : Tokens) → read.program is_forward pb ts ≡ Ok (y, r) → IsProgram is_forward B y ts r
+  pub program_sound : (ts : Tokens) (y : Program) (r : Tokens) → read.program is_forward pb ts ≡ Ok (y, r) → IsProgram is_forward B y ts r
   unfolding read.program
   program_sound ts y r e =
       in_steps (expect k.Program ts) _ y r e (λ a0 a1 a2 a3.
@@ -555,7 +558,7 @@ module _ (is_forward : Span → Bool) (B : Symbol Block) (pb : Parser Block) (hb
   unfolding read.program_names
   some_names left right xs l m d = eat_found k.LeftParen left l _ ∙ rw (names_exact.complete xs l (token k.RightParen right ∷ m) d (paren_no_comma right m), expect_complete k.RightParen right m) refl
 
-  program_complete : (y : Program) (ts r : Tokens) → IsProgram is_forward B y ts r → read.program is_forward pb ts ≡ Ok (y, r)
+  pub program_complete : (y : Program) (ts r : Tokens) → IsProgram is_forward B y ts r → read.program is_forward pb ts ≡ Ok (y, r)
   unfolding read.program
   program_complete y ts r (plain {word = word} {at = at} {semicolon = semicolon} {dot = dot} {b = b} {ts = l} d) =
       rw (expect_complete k.Program word (token k.Name at ∷ token k.Semicolon semicolon ∷ l), expect_complete k.Name at (token k.Semicolon semicolon ∷ l), no_names semicolon l, expect_complete k.Semicolon semicolon l, hb.complete b l (token k.Dot dot ∷ r) d tt, expect_complete k.Dot dot r) refl

@@ -232,7 +232,7 @@ module _ (E : Symbol Expr) (p : Parser Expr) (h : Exact (Ends 1) E p) where
         any_shrinks : (x : Statement) (ts r : Tokens) → InSequence S x ts r → length r ≤ length ts
         any_shrinks x ts r (in_sequence {ends = ends} d) = sh ends x ts r d
 
-    sequence_exact : Exact EndsSequence (IsSequence S) (separated k.Semicolon q)
+    pub sequence_exact : Exact EndsSequence (IsSequence S) (separated k.Semicolon q)
     sequence_exact = separated_exact EndsInSequence EndsSequence k.Semicolon (InSequence S) q any_exact between_statements (λ r o. o.0) (λ r o. o.1)
 
     -- ---- elements
@@ -464,11 +464,11 @@ module _ (E : Symbol Expr) (p : Parser Expr) (h : Exact (Ends 1) E p) where
     }
 
 -- ---- heights
-record Level (S : Bool → Symbol Statement) (q : Parser Statement) : Type 0 where
-  exact : Exact Follows (Greedy S) q
-  shrinks : (ends : Bool) (x : Statement) (ts r : Tokens) → S ends x ts r → length r ≤ length ts
+pub record Level (S : Bool → Symbol Statement) (q : Parser Statement) : Type 0 where
+  pub exact : Exact Follows (Greedy S) q
+  pub shrinks : (ends : Bool) (x : Statement) (ts r : Tokens) → S ends x ts r → length r ≤ length ts
 
-level : (n : ℕ) → Level (statement_within n) (read.read_statement n)
+pub level : (n : ℕ) → Level (statement_within n) (read.read_statement n)
 unfolding read.read_statement
 level zero = record {
   exact = record { sound = λ ts x r e. cc; complete = λ x ts r d. absurd d.1; shrinks = λ x ts r d. absurd d.1 };

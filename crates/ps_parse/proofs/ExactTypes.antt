@@ -304,7 +304,7 @@ module _ (I : Symbol Ordinal) (pi : Parser Ordinal) (hi : Exact NoRange I pi) (T
   type_shrinks y ts r (structure {x = x} d) = structure_shrinks x ts r d
   type_shrinks y ts r (packed {x = x} {ts = l} d) = omega (arith, structure_shrinks x l r d)
 
-  type_exact : Exact NoRange (IsType I T) (read.any_type pi pt)
+  pub type_exact : Exact NoRange (IsType I T) (read.any_type pi pt)
   type_exact = record { sound = type_sound; complete = type_complete; shrinks = type_shrinks }
 
 pub type_exact_within : (n : ℕ) → Exact NoRange (type_within n) (read.read_type n)

@@ -25,7 +25,7 @@ use Rattle.ps_parse.proofs.Local.{Local, local_pure, local_refuse, local_bind, l
 use Rattle.ps_parse.proofs.LocalLists.{Turn, local_separated, separated_takes, local_terminated, local_many, local_part, turn_begins}
 use Rattle.ps_parse.proofs.LocalStatements.{local_constant, local_statement}
 
-local_names : Local read.names
+pub local_names : Local read.names
 unfolding read.names
 local_names = local_separated k.Comma (expect k.Name) (local_expect k.Name)
 
@@ -43,7 +43,7 @@ local_enumeration : (at : Span) → Local (read.enumeration at)
 unfolding read.enumeration
 local_enumeration at = local_bind read.names _ local_names (λ xs. local_bind (expect k.RightParen) _ (local_expect k.RightParen) (λ _. local_pure _))
 
-local_ordinal : Local read.ordinal
+pub local_ordinal : Local read.ordinal
 unfolding read.ordinal
 local_ordinal = local_bind (accept k.LeftParen) _ (local_accept k.LeftParen) (λ e. local_if_some _ _ local_enumeration (local_bind constant _ local_constant local_after_constant) e)
 
@@ -96,7 +96,7 @@ unfolding read.read_index
 local_index zero = local_refuse
 local_index (suc n) = local_ordinal
 
-local_type : (n : ℕ) → Local (read.read_type n)
+pub local_type : (n : ℕ) → Local (read.read_type n)
 unfolding read.read_type
 local_type zero = local_refuse
 local_type (suc n) = local_any_type (read.read_index n) (read.read_type n) (local_index n) (local_type n)
@@ -142,7 +142,7 @@ module _ (formals : Parser (List Section)) (h : Local formals) where
   local_formal_list =
       local_bind (expect k.LeftParen) _ (local_expect k.LeftParen) (λ _. local_bind (separated k.Semicolon (read.section formals)) _ (local_separated k.Semicolon (read.section formals) local_section) (λ xs. local_bind (expect k.RightParen) _ (local_expect k.RightParen) (λ _. local_pure _)))
 
-local_formals : (n : ℕ) → Local (read.read_formals n)
+pub local_formals : (n : ℕ) → Local (read.read_formals n)
 unfolding read.read_formals
 local_formals zero = local_refuse
 local_formals (suc n) = local_formal_list (read.read_formals n) (local_formals n)

@@ -2,6 +2,9 @@ pub mod Steps
 pub mod ReadExpressions
 pub mod ReadStatements
 pub mod ReadPrograms
+pub mod Reading
 pub mod Refusals
 pub mod Begun
+pub mod Low
+pub mod LeftOut
 pub mod Untaken

@@ -6,7 +6,7 @@ use Rattle.ps_scan.specs.declared.token.Token.{Token}
 use Rattle.ps_scan.specs.Kinds.{same}
 use Rattle.ps_parse_grammar.specs.Symbols.{Tokens}
 use Rattle.ps_parse.specs.declared.error.Fault.{Fault}
-use Rattle.ps_parse.specs.declared.error.Fault.TheVariants.{OutOfMemory, Unexpected, TooDeep, NotInProfile}
+use Rattle.ps_parse.specs.declared.error.Fault.TheVariants.{OutOfMemory, Unexpected}
 
 abbrev pub Outcome : Type 0 → Type 0
 Outcome A = Result (A × Tokens) ℕ
@@ -139,12 +139,15 @@ part word begins item = do
     x ← item
     λ ts. many_from (if_begins begins item) (length ts) (x ∷ []) ts) else pure []
 
+-- how many tokens are left where a parser stops, whether it read or refused
+abbrev pub stop : {A : Type 0} → Outcome A → ℕ
+stop (Ok q) = length q.1
+stop (Err n) = n
+
 -- how many tokens are left from the token on that a fault is told at
 abbrev pub left_of : Fault → ℕ
 left_of OutOfMemory = 0
 left_of (Unexpected left) = left
-left_of (TooDeep left) = left
-left_of (NotInProfile left) = left
 
 -- A function that parses gives what the parser reads, and refuses just where it refuses, unless memory runs out.
 abbrev pub Reads : {A : Type 0} → Outcome A → Result A Fault → Tokens → Type 0

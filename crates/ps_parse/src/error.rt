@@ -1,27 +1,71 @@
-//! Why tokens are no program.
+//! Why tokens are no program, and where.
 
 ghost use Rattle.std.specs.Prelude.{◌≡◌};
-ghost use Rattle.ps_parse.specs.Refusals.{number_of, line_of};
+ghost use Rattle.ps_parse.specs.Refusals.{number_of_fault, number_of, line_of, place_of};
 
+use ps_text::Span;
 use std::alloc::AllocError;
+use std::fmt;
 use thiserror::Error;
 
-/// Why tokens are no program of a height of at most `MAX_HEIGHT`. Each but `OutOfMemory` has the
-/// line, from 1 on, of the token that it is told at; the end counts as a token, at the end of the text.
+/// Why no program of a height of at most `MAX_HEIGHT` goes on with a token. It is shown by its name.
+#[derive(Clone, Copy, Debug)]
+pub enum ParseFault {
+    /// No program at all does, and the token is of no construction that the profile leaves out.
+    NotAProgram,
+    /// A higher program does.
+    TooDeep,
+    /// The token is of a construction that the profile leaves out.
+    NotInProfile,
+}
+
+impl fmt::Display for ParseFault {
+    fn fmt<W: fmt::Write>(&self, f: &mut fmt::Formatter<W>) -> fmt::Result {
+        f.write_str(match self {
+            ParseFault::NotAProgram => "NotAProgram",
+            ParseFault::TooDeep => "TooDeep",
+            ParseFault::NotInProfile => "NotInProfile",
+        })
+    }
+}
+
+impl ParseFault {
+    /// The number of the refusal that tells the fault.
+    pub fn number(self) -> u32
+        ensures { result ≡ number_of_fault self }
+    {
+        match self {
+            ParseFault::NotAProgram => 20,
+            ParseFault::TooDeep => 21,
+            ParseFault::NotInProfile => 22,
+        }
+    }
+}
+
+/// Why tokens are no program of a height of at most `MAX_HEIGHT`: the fault of the first token that no
+/// derivation takes. It is shown by the fault's name.
 #[derive(Clone, Copy, Debug, Error)]
 pub enum ParseRefusal {
-    /// No derivation from the start can take the token with this number, counted from 0.
-    #[error("NotAProgram")]
-    NotAProgram { line: u32, token: u32 },
-    /// The first construction that lies inside `MAX_HEIGHT` others begins here.
-    #[error("TooDeep")]
-    TooDeep { line: u32 },
-    /// No derivation can take this token, which stands for a construction that the profile leaves out.
-    #[error("NotInProfile")]
-    NotInProfile { line: u32 },
     /// A growth was refused.
-    #[error("OutOfMemory")]
     OutOfMemory,
+    /// The fault, with the line of the token, from 1 on, the token's number, counted from 0, and the offsets
+    /// of its first byte and of the one behind its last. The end counts as a token, at the end of the text.
+    Faulty {
+        fault: ParseFault,
+        line: u32,
+        token: u32,
+        from: u32,
+        to: u32,
+    },
+}
+
+impl fmt::Display for ParseRefusal {
+    fn fmt<W: fmt::Write>(&self, f: &mut fmt::Formatter<W>) -> fmt::Result {
+        match self {
+            ParseRefusal::OutOfMemory => f.write_str("OutOfMemory"),
+            ParseRefusal::Faulty { fault, .. } => fault.fmt(f),
+        }
+    }
 }
 
 impl ParseRefusal {
@@ -30,10 +74,8 @@ impl ParseRefusal {
         ensures { result ≡ number_of self }
     {
         match self {
-            ParseRefusal::NotAProgram { .. } => 20,
-            ParseRefusal::TooDeep { .. } => 21,
-            ParseRefusal::NotInProfile { .. } => 22,
             ParseRefusal::OutOfMemory => 9,
+            ParseRefusal::Faulty { fault, .. } => fault.number(),
         }
     }
 
@@ -42,21 +84,28 @@ impl ParseRefusal {
         ensures { result ≡ line_of self }
     {
         match self {
-            ParseRefusal::NotAProgram { line, .. }
-            | ParseRefusal::TooDeep { line }
-            | ParseRefusal::NotInProfile { line } => Some(line),
             ParseRefusal::OutOfMemory => None,
+            ParseRefusal::Faulty { line, .. } => Some(line),
+        }
+    }
+
+    /// The place in the text that it is told at, if it has one.
+    pub fn place(self) -> Option<Span>
+        ensures { result ≡ place_of self }
+    {
+        match self {
+            ParseRefusal::OutOfMemory => None,
+            ParseRefusal::Faulty { from, to, .. } => Some(Span { from, to }),
         }
     }
 }
 
-/// The same, by how many tokens are left.
+/// Why a part of the parser read nothing: memory, or a token that it can't take, by how many tokens are
+/// left from it on.
 #[derive(Clone, Copy)]
 pub enum Fault {
     OutOfMemory,
     Unexpected(usize),
-    TooDeep(usize),
-    NotInProfile(usize),
 }
 
 impl From<AllocError> for Fault {

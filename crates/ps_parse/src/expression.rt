@@ -4,7 +4,6 @@ ghost use Rattle.std.specs.Prelude.{◌≡◌, ◌≤◌, Ok, Some, drop};
 ghost use Rattle.ps_scan.specs.declared.token.Kind.TheVariants as k;
 ghost use Rattle.ps_parse.specs.Steps.{Reads, separated, many};
 ghost use Rattle.ps_parse.specs.ReadExpressions as read;
-ghost use Rattle.ps_parse.specs.Refusals as refusals;
 
 use crate::answer::{beside, boxed_answer, push_answer};
 use crate::error::Fault;
@@ -17,37 +16,9 @@ use ps_syntax::{
 use ps_text::Span;
 
 impl<'a> Parser<'a> {
-    fn begins_factor(&self) -> bool
-        ensures { result ≡ refusals.begins_factor self.now.rest.now }
-    {
-        matches!(
-            self.rest,
-            [
-                Token {
-                    kind: Kind::Name
-                        | Kind::Number
-                        | Kind::Text
-                        | Kind::Nil
-                        | Kind::LeftBracket
-                        | Kind::LeftParen
-                        | Kind::Not,
-                    ..
-                },
-                ..
-            ]
-        )
-    }
-
-    fn begins_expression(&self) -> bool
-        ensures { result ≡ refusals.begins_expression self.now.rest.now }
-    {
-        self.sees(Kind::Plus) || self.sees(Kind::Minus) || self.begins_factor()
-    }
-
     #[tactic(auto, unfolding(crate::specs::ReadExpressions::eat_operator))]
     fn relation(&mut self) -> Option<(Relation, Span)>
         ensures read { read.eat_operator read.relation_of self.old.rest.now ≡ Ok (result, self.new.rest.now) }
-        ensures kept { self.new.left_out ≡ self.old.left_out }
     {
         let [token, rest @ ..] = self.rest else {
             return None;
@@ -69,7 +40,6 @@ impl<'a> Parser<'a> {
     #[tactic(auto, unfolding(crate::specs::ReadExpressions::eat_operator))]
     pub fn sign(&mut self) -> Option<(Sign, Span)>
         ensures read { read.eat_operator read.sign_of self.old.rest.now ≡ Ok (result, self.new.rest.now) }
-        ensures kept { self.new.left_out ≡ self.old.left_out }
     {
         let [token, rest @ ..] = self.rest else {
             return None;
@@ -86,7 +56,6 @@ impl<'a> Parser<'a> {
     #[tactic(auto, unfolding(crate::specs::ReadExpressions::eat_operator))]
     fn adding(&mut self) -> Option<(Adding, Span)>
         ensures read { read.eat_operator read.adding_of self.old.rest.now ≡ Ok (result, self.new.rest.now) }
-        ensures kept { self.new.left_out ≡ self.old.left_out }
     {
         let [token, rest @ ..] = self.rest else {
             return None;
@@ -104,7 +73,6 @@ impl<'a> Parser<'a> {
     #[tactic(auto, unfolding(crate::specs::ReadExpressions::eat_operator))]
     fn multiplying(&mut self) -> Option<(Multiplying, Span)>
         ensures read { read.eat_operator read.multiplying_of self.old.rest.now ≡ Ok (result, self.new.rest.now) }
-        ensures kept { self.new.left_out ≡ self.old.left_out }
     {
         let [token, rest @ ..] = self.rest else {
             return None;
@@ -169,7 +137,7 @@ impl<'a> Parser<'a> {
         ensures { Reads (read.read_expr depth self.old.rest.now) result self.new.rest.now }
     {
         if depth == 0 {
-            return Err(self.too_deep(self.begins_expression()));
+            return Err(self.refusal());
         }
         let sign = self.sign();
         let first = self.factor(depth - 1)?;
@@ -223,7 +191,7 @@ impl<'a> Parser<'a> {
         ensures { Reads (read.read_expr depth self.old.rest.now) result self.new.rest.now }
     {
         if depth == 0 {
-            return Err(self.too_deep(self.begins_expression()));
+            return Err(self.refusal());
         }
         let sign = self.sign();
         let first = self.factor(depth - 1)?;
@@ -353,7 +321,7 @@ impl<'a> Parser<'a> {
         ensures { Reads (read.read_negated depth self.old.rest.now) result self.new.rest.now }
     {
         if depth == 0 {
-            return Err(self.too_deep(self.begins_factor()));
+            return Err(self.refusal());
         }
         boxed_answer(self.alloc, self.factor(depth - 1))
     }
@@ -363,7 +331,6 @@ impl<'a> Parser<'a> {
         ensures count { result ≡ read.parentheses most self.old.rest.now }
         ensures most { result ≤ most }
         ensures after { self.new.rest.now ≡ drop result self.old.rest.now }
-        ensures kept { self.new.left_out ≡ self.old.left_out }
     {
         for count in 0..most {
             if !self.eat(Kind::LeftParen) {

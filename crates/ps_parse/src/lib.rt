@@ -4,11 +4,15 @@
 mod answer;
 mod error;
 mod expression;
+mod fault;
+mod laws;
+mod left_out;
 mod parser;
 mod program;
 mod public;
 mod statement;
 mod types;
 
-pub use error::ParseRefusal;
+pub use error::{ParseFault, ParseRefusal};
+pub use laws::refusals_are_one;
 pub use public::{parse, release};

@@ -7,12 +7,11 @@ ghost use Rattle.ps_parse.specs.Steps.{Reads, many, part, if_begins};
 ghost use Rattle.ps_parse.specs.ReadStatements.{read_statement};
 ghost use Rattle.ps_parse.specs.ReadPrograms as read;
 ghost use Rattle.ps_parse_grammar.specs.Forward.{is_forward};
-ghost use Rattle.ps_parse.specs.Refusals as refusals;
 
 use crate::answer::{beside, push_answer};
 use crate::error::Fault;
 use crate::parser::Parser;
-use ps_scan::{Kind, Token};
+use ps_scan::Kind;
 use ps_syntax::{
     Block, ConstantDefinition, Heading, Items, Program, Routine, Section, TypeDefinition, Variables,
 };
@@ -96,7 +95,7 @@ impl<'a> Parser<'a> {
         ensures { Reads (read.read_formals depth self.old.rest.now) result self.new.rest.now }
     {
         if depth == 0 {
-            return Err(Fault::TooDeep(self.left()));
+            return Err(self.refusal());
         }
         self.expect(Kind::LeftParen)?;
         let mut sections = Items::new(self.alloc);
@@ -176,26 +175,6 @@ impl<'a> Parser<'a> {
             is_more = self.sees(Kind::Name);
         }
         Ok(found)
-    }
-
-    fn begins_block(&self) -> bool
-        ensures { result ≡ refusals.begins_block self.now.rest.now }
-    {
-        matches!(
-            self.rest,
-            [
-                Token {
-                    kind: Kind::Const
-                        | Kind::Type
-                        | Kind::Var
-                        | Kind::Procedure
-                        | Kind::Function
-                        | Kind::Begin,
-                    ..
-                },
-                ..
-            ]
-        )
     }
 
     fn sees_routine(&self) -> bool
@@ -314,7 +293,7 @@ impl<'a> Parser<'a> {
         ensures { Reads (read.read_block (is_forward text.now) depth self.old.rest.now) result self.new.rest.now }
     {
         if depth == 0 {
-            return Err(self.too_deep(self.begins_block()));
+            return Err(self.refusal());
         }
         self.any_block(text, depth - 1)
     }

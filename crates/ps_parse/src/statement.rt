@@ -17,7 +17,6 @@ impl<'a> Parser<'a> {
     #[tactic(auto, unfolding(crate::specs::ReadExpressions::eat_operator))]
     fn direction(&mut self) -> Option<(Direction, Span)>
         ensures read { expression.eat_operator read.direction_of self.old.rest.now ≡ Ok (result, self.new.rest.now) }
-        ensures kept { self.new.left_out ≡ self.old.left_out }
     {
         let [token, rest @ ..] = self.rest else {
             return None;
@@ -76,9 +75,6 @@ impl<'a> Parser<'a> {
             return Ok(Parameter::Plain(value));
         }
         let (value, width) = beside(value, self.boxed_expr(depth))?;
-        if self.sees(Kind::Colon) {
-            self.leave_out();
-        }
         Ok(Parameter::Width(value, width))
     }
 
@@ -154,7 +150,7 @@ impl<'a> Parser<'a> {
         ensures { Reads (read.read_statement depth self.old.rest.now) result self.new.rest.now }
     {
         if depth == 0 {
-            return Err(Fault::TooDeep(self.left()));
+            return Err(self.refusal());
         }
         let Some(token) = self.peek() else {
             return Ok(Statement::Empty);
@@ -209,10 +205,7 @@ impl<'a> Parser<'a> {
                 self.skip();
                 self.with_statement(depth)
             }
-            _ => {
-                self.leave_out_label();
-                Ok(Statement::Empty)
-            }
+            _ => Ok(Statement::Empty),
         }
     }
 

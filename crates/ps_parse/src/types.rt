@@ -4,51 +4,15 @@ ghost use Rattle.std.specs.Prelude.{◌≡◌};
 ghost use Rattle.ps_scan.specs.declared.token.Kind.TheVariants as k;
 ghost use Rattle.ps_parse.specs.Steps.{Reads, separated, terminated};
 ghost use Rattle.ps_parse.specs.ReadPrograms as read;
-ghost use Rattle.ps_parse.specs.Refusals as refusals;
 
 use crate::answer::{boxed_answer, push_answer};
 use crate::error::Fault;
 use crate::parser::Parser;
-use ps_scan::{Kind, Token};
+use ps_scan::Kind;
 use ps_syntax::{Constant, Fields, Items, Ordinal, Structure, TypeDenoter};
 use ps_text::Span;
 
 impl<'a> Parser<'a> {
-    fn begins_ordinal(&self) -> bool
-        ensures { result ≡ refusals.begins_ordinal self.now.rest.now }
-    {
-        matches!(
-            self.rest,
-            [
-                Token {
-                    kind: Kind::Name
-                        | Kind::LeftParen
-                        | Kind::Plus
-                        | Kind::Minus
-                        | Kind::Number
-                        | Kind::Text,
-                    ..
-                },
-                ..
-            ]
-        )
-    }
-
-    fn begins_type(&self) -> bool
-        ensures { result ≡ refusals.begins_type self.now.rest.now }
-    {
-        matches!(
-            self.rest,
-            [
-                Token {
-                    kind: Kind::Caret | Kind::Packed | Kind::Array | Kind::Record | Kind::Set,
-                    ..
-                },
-                ..
-            ]
-        ) || self.begins_ordinal()
-    }
-
     pub fn names(&mut self) -> Result<Items<Span>, Fault>
         ensures { Reads (read.names self.old.rest.now) result self.new.rest.now }
     {
@@ -98,7 +62,7 @@ impl<'a> Parser<'a> {
         ensures { Reads (read.read_index depth self.old.rest.now) result self.new.rest.now }
     {
         if depth == 0 {
-            return Err(self.too_deep(self.begins_ordinal()));
+            return Err(self.refusal());
         }
         self.ordinal()
     }
@@ -121,7 +85,7 @@ impl<'a> Parser<'a> {
         ensures { Reads (read.read_type depth self.old.rest.now) result self.new.rest.now }
     {
         if depth == 0 {
-            return Err(self.too_deep(self.begins_type()));
+            return Err(self.refusal());
         }
         let Some(token) = self.peek() else {
             return Err(self.refusal());
@@ -199,9 +163,6 @@ impl<'a> Parser<'a> {
     fn fields(&mut self, depth: u32) -> Result<Fields, Fault>
         ensures { Reads (read.fields (read.read_index depth) (read.read_type depth) self.old.rest.now) result self.new.rest.now }
     {
-        if self.sees(Kind::Case) {
-            self.leave_out();
-        }
         let names = self.names()?;
         self.expect(Kind::Colon)?;
         let ty = self.type_denoter(depth)?;

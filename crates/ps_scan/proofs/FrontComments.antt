@@ -1,51 +1,95 @@
 -- Comments at the front of bytes.
-use Rattle.std.proofs.Common.{◌≡◌, ℕ, ◌+◌, false, ◌∷◌, ◌++◌, length, Option, Some, None, refl, sym, ap, ◌∙◌, subst, arith}
-use Rattle.std.specs.Option.{option_map}
-use Rattle.ps_scan.specs.declared.lexeme.Lexeme.{Lexeme}
+use Rattle.std.proofs.Common.{◌≡◌, ℕ, ◌+◌, true, false, [], ◌∷◌, ◌++◌, length, Option, Some, None, Ok, refl, sym, ap, ◌∙◌, subst, arith}
+use Rattle.std.proofs.lemmas.Bool.{eqb-false}
+use Rattle.ps_scan.specs.declared.refusal.ScanFault.TheVariants as fault
+use Rattle.ps_scan.specs.Faults.{HasNoSeparator, open_comment, brace_opens, star_opens}
 use Rattle.ps_scan.specs.Scanner as s
-use Rattle.ps_scan.specs.Scanner.{front, word_len, digits_len, separator_of, token_of, string_end, comment_end}
-use Rattle.ps_scan.specs.Separators.{IsComment, brace, star, more, braced, starred}
+use Rattle.ps_scan.specs.Scanner.{fault_of, separator_of, comment_end}
+use Rattle.ps_scan.specs.Separators.{is_blank, IsComment, brace, star, more, blank, braced, starred}
 use Rattle.ps_scan.specs.Tables.{Bytes}
 use Rattle.ps_scan.proofs.Comments as comments
 use Rattle.ps_scan.proofs.Comments.{comment_end_is, comment_end_sound}
-use Rattle.ps_scan.proofs.Fronts.{Front, separates}
-
-comment_by : (opening : ℕ) (bs : Bytes) (l : Lexeme) (end : Option ℕ) → comment_end false 0 bs ≡ end → option_map (λ n. separator_of (opening + n)) end ≡ Some l
-    → (inner rest : Bytes) × (bs ≡ inner ++ rest) × IsComment inner × (separator_of (opening + length inner) ≡ l)
-comment_by opening bs l None e found = cc
-comment_by opening bs l (Some m) e found =
-    let c = comment_end_sound false 0 m bs e in
-    let len : opening + length c.inner ≡ opening + m = omega (arith, c.len) in
-    (c.inner, c.rest, c.split, c.goes, ap separator_of len ∙ some_is _ _ found)
-  where
-    some_is : (a b : Lexeme) → Some a ≡ Some b → a ≡ b
-    some_is a b e = cc
-
-pub braced_sound : (bs : Bytes) (l : Lexeme) → s.comment 1 (123 ∷ bs) ≡ Some l → Front (123 ∷ bs) l
-unfolding s.comment
-braced_sound bs l found =
-    let c = comment_by 1 bs l _ refl found in
-    let len : length (123 ∷ c.0) ≡ 1 + length c.0 = omega arith in
-    subst (λ z. Front (123 ∷ z) l) (sym c.2) (subst (λ z. Front (123 ∷ (c.0 ++ c.1)) z) (ap separator_of len ∙ c.4) (separates (123 ∷ c.0) c.1 (braced c.3)))
-
-pub starred_sound : (bs : Bytes) (l : Lexeme) → s.comment 2 (40 ∷ 42 ∷ bs) ≡ Some l → Front (40 ∷ 42 ∷ bs) l
-unfolding s.comment
-starred_sound bs l found =
-    let c = comment_by 2 bs l _ refl found in
-    let len : length (40 ∷ 42 ∷ c.0) ≡ 2 + length c.0 = omega arith in
-    subst (λ z. Front (40 ∷ 42 ∷ z) l) (sym c.2) (subst (λ z. Front (40 ∷ 42 ∷ (c.0 ++ c.1)) z) (ap separator_of len ∙ c.4) (separates (40 ∷ 42 ∷ c.0) c.1 (starred c.3)))
+use Rattle.ps_scan.proofs.Fronts.{IsFound, separates, heads}
 
 no_paren_first : {c : Bytes} → IsComment c → comments.Opens false c
-no_paren_first brace = λ no. (cc)
-no_paren_first star = λ no. (cc)
-no_paren_first (more _ _ _) = λ no. (cc)
+no_paren_first brace = λ never. (cc)
+no_paren_first star = λ never. (cc)
+no_paren_first (more _ _ _) = λ never. (cc)
 
-pub braced_complete : (bs rest : Bytes) → IsComment bs → s.comment 1 (123 ∷ (bs ++ rest)) ≡ Some (separator_of (length (123 ∷ bs)))
-unfolding s.comment
-braced_complete bs rest c =
-    ap (option_map (λ n. separator_of (1 + n))) (comment_end_is false 0 rest c (no_paren_first c)) ∙ ap (λ n. Some (separator_of n)) (omega arith)
+-- a comment ends in the bytes after its opening, and there
+ends_there : (bs inner rest : Bytes) → IsComment inner → bs ≡ inner ++ rest
+    → comment_end false 0 bs ≡ Some (0 + length inner)
+ends_there bs inner rest c e = ap (comment_end false 0) e ∙ comment_end_is false 0 rest c (no_paren_first c)
 
-pub starred_complete : (bs rest : Bytes) → IsComment bs → s.comment 2 (40 ∷ 42 ∷ (bs ++ rest)) ≡ Some (separator_of (length (40 ∷ 42 ∷ bs)))
+-- ---- sound
+no_braced : (bs : Bytes) → comment_end false 0 bs ≡ None → HasNoSeparator (123 ∷ bs)
+no_braced bs none s rest e (blank {b = b} is) =
+    let same : 123 ≡ b = cc in let never = subst (λ z. is_blank z ≡ true) (sym same) is in cc
+no_braced bs none s rest e (braced {bs = inner} c) = let some = ends_there bs inner rest c (cc) in cc
+no_braced bs none s rest e (starred c) = absurd (eqb-false 123 40 refl (heads _ _ _ _ e))
+
+no_starred : (bs : Bytes) → comment_end false 0 bs ≡ None → HasNoSeparator (40 ∷ 42 ∷ bs)
+no_starred bs none s rest e (blank {b = b} is) =
+    let same : 40 ≡ b = cc in let never = subst (λ z. is_blank z ≡ true) (sym same) is in cc
+no_starred bs none s rest e (braced c) = absurd (eqb-false 40 123 refl (heads _ _ _ _ e))
+no_starred bs none s rest e (starred {bs = inner} c) = let some = ends_there bs inner rest c (cc) in cc
+
+braced_found : (bs : Bytes) (end : Option ℕ) → comment_end false 0 bs ≡ end → IsFound (123 ∷ bs) (s.comment_of 1 end)
+braced_found bs None e = open_comment (123 ∷ []) bs brace_opens (no_braced bs e)
+braced_found bs (Some m) e =
+    let c = comment_end_sound false 0 m bs e in
+    let len : length (123 ∷ c.inner) ≡ 1 + m = omega (arith, c.len) in
+    let here : IsFound (123 ∷ (c.inner ++ c.rest)) (Ok (separator_of (1 + m))) =
+    subst (λ n. IsFound (123 ∷ (c.inner ++ c.rest)) (Ok (separator_of n))) len
+    (separates (123 ∷ c.inner) c.rest (braced c.goes)) in
+    subst (λ z. IsFound (123 ∷ z) (Ok (separator_of (1 + m)))) (sym c.split) here
+
+pub braced_sound : (bs : Bytes) → IsFound (123 ∷ bs) (s.comment 1 (123 ∷ bs))
 unfolding s.comment
-starred_complete bs rest c =
-    ap (option_map (λ n. separator_of (2 + n))) (comment_end_is false 0 rest c (no_paren_first c)) ∙ ap (λ n. Some (separator_of n)) (omega arith)
+braced_sound bs = braced_found bs _ refl
+
+starred_found : (bs : Bytes) (end : Option ℕ) → comment_end false 0 bs ≡ end
+    → IsFound (40 ∷ 42 ∷ bs) (s.comment_of 2 end)
+starred_found bs None e = open_comment (40 ∷ 42 ∷ []) bs star_opens (no_starred bs e)
+starred_found bs (Some m) e =
+    let c = comment_end_sound false 0 m bs e in
+    let len : length (40 ∷ 42 ∷ c.inner) ≡ 2 + m = omega (arith, c.len) in
+    let here : IsFound (40 ∷ 42 ∷ (c.inner ++ c.rest)) (Ok (separator_of (2 + m))) =
+    subst (λ n. IsFound (40 ∷ 42 ∷ (c.inner ++ c.rest)) (Ok (separator_of n))) len
+    (separates (40 ∷ 42 ∷ c.inner) c.rest (starred c.goes)) in
+    subst (λ z. IsFound (40 ∷ 42 ∷ z) (Ok (separator_of (2 + m)))) (sym c.split) here
+
+pub starred_sound : (bs : Bytes) → IsFound (40 ∷ 42 ∷ bs) (s.comment 2 (40 ∷ 42 ∷ bs))
+unfolding s.comment
+starred_sound bs = starred_found bs _ refl
+
+-- ---- complete
+pub braced_complete : (bs rest : Bytes) → IsComment bs
+    → s.comment 1 (123 ∷ (bs ++ rest)) ≡ Ok (separator_of (length (123 ∷ bs)))
+unfolding s.comment
+braced_complete bs rest c = ap (s.comment_of 1) (ends_there (bs ++ rest) bs rest c refl)
+    ∙ ap (λ n. Ok (separator_of n)) (omega arith)
+
+pub starred_complete : (bs rest : Bytes) → IsComment bs
+    → s.comment 2 (40 ∷ 42 ∷ (bs ++ rest)) ≡ Ok (separator_of (length (40 ∷ 42 ∷ bs)))
+unfolding s.comment
+starred_complete bs rest c = ap (s.comment_of 2) (ends_there (bs ++ rest) bs rest c refl)
+    ∙ ap (λ n. Ok (separator_of n)) (omega arith)
+
+open_end : (bs : Bytes) (end : Option ℕ) → comment_end false 0 bs ≡ end
+    → ((inner rest : Bytes) → bs ≡ inner ++ rest → IsComment inner → ⊥) → end ≡ None
+open_end bs None e never = refl
+open_end bs (Some m) e never = let c = comment_end_sound false 0 m bs e in absurd (never c.inner c.rest c.split c.goes)
+
+pub braced_open : (bs : Bytes) → HasNoSeparator (123 ∷ bs) → s.comment 1 (123 ∷ bs) ≡ fault_of fault.OpenComment 0 1
+unfolding s.comment
+braced_open bs never =
+    ap (s.comment_of 1)
+    (open_end bs _ refl (λ inner rest e c. never (123 ∷ inner) rest (ap (λ z. 123 ∷ z) e) (braced c)))
+
+pub starred_open : (bs : Bytes) → HasNoSeparator (40 ∷ 42 ∷ bs)
+    → s.comment 2 (40 ∷ 42 ∷ bs) ≡ fault_of fault.OpenComment 0 2
+unfolding s.comment
+starred_open bs never =
+    ap (s.comment_of 2)
+    (open_end bs _ refl (λ inner rest e c. never (40 ∷ 42 ∷ inner) rest (ap (λ z. 40 ∷ 42 ∷ z) e) (starred c)))

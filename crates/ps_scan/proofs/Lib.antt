@@ -16,3 +16,4 @@ pub mod FrontSymbols
 pub mod FrontSteps
 pub mod Places
 pub mod Scans
+pub mod OneAnswer

@@ -1,15 +1,16 @@
--- The scanner's loop: the tokens so far, and then those of the bytes that are left, are the text's.
-use Rattle.std.proofs.Common.{◌≡◌, ℕ, ◌+◌, ◌<◌, ◌≤◌, List, [], ◌∷◌, ◌++◌, length, drop, Option, Some, None, refl, sym, ap, ◌∙◌, subst, arith, append_assoc, append-nil, drop-cons}
+-- The scanner's loop: the tokens so far, and then what the bytes that are left come to, is what the text comes to.
+use Rattle.std.proofs.Common.{◌≡◌, ℕ, ◌+◌, ◌<◌, ◌≤◌, List, [], ◌∷◌, ◌++◌, length, drop, Option, Some, None, Ok, Err, refl, sym, ap, subst, arith, append_assoc, append-nil, drop-cons}
 use Rattle.std.proofs.lemmas.List.{drop_at, drop-drop, drop_all}
+use Rattle.ps_scan.specs.declared.lexeme.FaultAhead.{FaultAhead}
 use Rattle.ps_scan.specs.declared.lexeme.Lexeme.{Lexeme}
 use Rattle.ps_scan.specs.declared.token.Kind.{Kind}
 use Rattle.ps_scan.specs.declared.token.Token.{Token}
+use Rattle.ps_scan.specs.Faults.{span_at, RefusedFrom, here, behind_separator, behind_token, Scanned, Tokens, Refused}
 use Rattle.ps_scan.specs.Lexis.{IsTokens, TokensFrom, nothing, separator, token, token_at}
 use Rattle.ps_scan.specs.Scanner.{front}
 use Rattle.ps_scan.specs.Tables.{Bytes}
-use Rattle.ps_scan.proofs.Fronts.{Front, separates, stands}
-use Rattle.ps_scan.proofs.Places.{no_tokens}
-use Rattle.ps_scan.proofs.FrontSteps.{front_sound, separator_complete, token_complete}
+use Rattle.ps_scan.proofs.Fronts.{Front, separates, stands, IsFound}
+use Rattle.ps_scan.proofs.FrontSteps.{front_sound}
 
 -- the token that a lexeme at an offset is, if it is one
 abbrev pub token_by : Option Kind → ℕ → ℕ → List Token
@@ -19,80 +20,73 @@ token_by (Some kind) from len = token_at kind from len ∷ []
 abbrev pub tokens_of : ℕ → Lexeme → List Token
 tokens_of from l = token_by l.kind from l.length
 
-step_by : (n : ℕ) (bs : Bytes) (l : Lexeme) (ts : List Token) → Front bs l → TokensFrom (n + l.length) (drop l.length bs) ts → TokensFrom n bs (tokens_of n l ++ ts)
-step_by n bs l ts (separates s rest is) later = separator s rest is (subst (λ z. TokensFrom (n + length s) z ts) (drop_at s rest (length s) refl) later)
-step_by n bs l ts (stands w rest longest kind apart) later = token w rest longest kind apart (subst (λ z. TokensFrom (n + length w) z ts) (drop_at w rest (length w) refl) later)
+-- what the bytes from an offset on come to
+abbrev pub IsScanFrom : ℕ → Bytes → Scanned → Type 0
+IsScanFrom n bs (Tokens ts) = TokensFrom n bs ts
+IsScanFrom n bs (Refused why place) = RefusedFrom n bs why place
 
--- the tokens of the bytes, cut behind what the scanner finds at their front
-record Cut (n : ℕ) (bs : Bytes) (ts : List Token) : Type 0 where
-  lexeme : Lexeme
-  found : front bs ≡ Some lexeme
-  later : List Token
-  split : ts ≡ tokens_of n lexeme ++ later
-  left : TokensFrom (n + lexeme.length) (drop lexeme.length bs) later
+-- tokens before what bytes come to
+abbrev pub behind : List Token → Scanned → Scanned
+behind ts (Tokens us) = Tokens (ts ++ us)
+behind ts (Refused why place) = Refused why place
 
-cut : {n : ℕ} {bs : Bytes} {ts : List Token} → TokensFrom n bs ts → 0 < length bs → Cut n bs ts
-cut nothing some = absurd (omega arith)
-cut {n = n} (separator s rest {ts = ts} is later) some = record {
-  lexeme = record { kind = None; length = length s };
-  found = separator_complete s rest is;
-  later = ts;
-  split = refl;
-  left = subst (λ z. TokensFrom (n + length s) z ts) (sym (drop_at s rest (length s) refl)) later;
-}
-cut {n = n} (token {kind = kind} {ts = ts} w rest longest of_kind apart later) some = record {
-  lexeme = record { kind = Some kind; length = length w };
-  found = token_complete w rest ts longest of_kind apart later;
-  later = ts;
-  split = refl;
-  left = subst (λ z. TokensFrom (n + length w) z ts) (sym (drop_at w rest (length w) refl)) later;
-}
+pub step_by : (n : ℕ) (bs : Bytes) (l : Lexeme) (answer : Scanned) → Front bs l
+    → IsScanFrom (n + l.length) (drop l.length bs) answer → IsScanFrom n bs (behind (tokens_of n l) answer)
+step_by n bs l (Tokens ts) (separates s rest is) later =
+    separator s rest is (subst (λ z. TokensFrom (n + length s) z ts) (drop_at s rest (length s) refl) later)
+step_by n bs l (Tokens ts) (stands w rest longest kind apart closed) later =
+    token w rest longest kind apart (subst (λ z. TokensFrom (n + length w) z ts) (drop_at w rest (length w) refl) later)
+step_by n bs l (Refused why place) (separates s rest is) later =
+    let left = subst (λ z. RefusedFrom (n + length s) z why place) (drop_at s rest (length s) refl) later in
+    behind_separator s rest is left
+step_by n bs l (Refused why place) (stands w rest longest kind apart closed) later =
+    let left = subst (λ z. RefusedFrom (n + length w) z why place) (drop_at w rest (length w) refl) later in
+    behind_token w rest longest kind apart closed left
 
--- the tokens of the text's bytes before an offset, at which one begins or a separator does
+-- the tokens found are those of the text's bytes before an offset, at which a token, a separator or a fault begins
 pub record IsScanned (text : Bytes) (at : ℕ) (found : List Token) : Type 0 where
-  pub sound : (ts : List Token) → TokensFrom at (drop at text) ts → IsTokens text (found ++ ts)
-  pub only : (ts : List Token) → IsTokens text ts → (later : List Token) × (ts ≡ found ++ later) × TokensFrom at (drop at text) later
+  pub goes_on : (answer : Scanned) → IsScanFrom at (drop at text) answer → IsScanFrom 0 text (behind found answer)
 
 pub scan_starts : (text : Bytes) → IsScanned text 0 []
-scan_starts text = record { sound = λ ts tokens. tokens; only = λ ts tokens. (ts, refl, tokens) }
+scan_starts text = record { goes_on = λ answer is. same answer is }
+  where
+    same : (answer : Scanned) → IsScanFrom 0 text answer → IsScanFrom 0 text (behind [] answer)
+    same (Tokens ts) is = is
+    same (Refused why place) is = is
 
 some_left : (text : Bytes) (at : ℕ) → at < length text → 0 < length (drop at text)
 some_left text at inside = rw (drop-cons text at 0 inside) (omega arith)
 
-pub scan_goes_on : (text : Bytes) (at : ℕ) (found : List Token) (l : Lexeme) → at < length text → front (drop at text) ≡ Some l → IsScanned text at found
+found_at : (text : Bytes) (at : ℕ) (bs : Bytes) → at < length text → drop at text ≡ bs → IsFound bs (front bs)
+found_at text at [] inside e =
+    let some = some_left text at inside in let none = ap length e in absurd (omega (arith, some, none))
+found_at text at (b ∷ bs) inside e = front_sound b bs
+
+pub scan_goes_on : (text : Bytes) (at : ℕ) (found : List Token) (l : Lexeme) → at < length text
+    → front (drop at text) ≡ Ok l → IsScanned text at found
     → IsScanned text (at + l.length) (found ++ tokens_of at l)
 scan_goes_on text at found l inside is scanned = record {
-  sound = λ ts later. subst (λ z. IsTokens text z) (sym (append_assoc found (tokens_of at l) ts))
-      (scanned.sound _ (step_by at (drop at text) l ts (here (drop at text) refl) (subst (λ z. TokensFrom (at + l.length) z ts) (sym (drop-drop l.length at text)) later)));
-  only = λ ts tokens.
-      (let before = scanned.only ts tokens in
-      let c = cut before.2 (some_left text at inside) in
-      let same : c.lexeme ≡ l = some_is _ _ (sym c.found ∙ is) in
-      let split : ts ≡ (found ++ tokens_of at l) ++ c.later =
-      before.1 ∙ ap (λ z. found ++ z) (c.split ∙ ap (λ z. tokens_of at z ++ c.later) same) ∙ sym (append_assoc found (tokens_of at l) c.later) in
-      let left : TokensFrom (at + l.length) (drop l.length (drop at text)) c.later =
-      subst (λ z. TokensFrom (at + z.length) (drop z.length (drop at text)) c.later) same c.left in
-      (c.later, split, subst (λ z. TokensFrom (at + l.length) z c.later) (drop-drop l.length at text) left));
+  goes_on = λ answer later.
+      (let front' = found_at text at (drop at text) inside refl in
+      let here' : Front (drop at text) l = subst (λ z. IsFound (drop at text) z) is front' in
+      let left = subst (λ z. IsScanFrom (at + l.length) z answer) (sym (drop-drop l.length at text)) later in
+      joined answer (scanned.goes_on _ (step_by at (drop at text) l answer here' left)));
 }
   where
-    some_is : (a b : Lexeme) → Some a ≡ Some b → a ≡ b
-    some_is a b e = cc
+    joined : (answer : Scanned) → IsScanFrom 0 text (behind found (behind (tokens_of at l) answer))
+        → IsScanFrom 0 text (behind (found ++ tokens_of at l) answer)
+    joined (Tokens ts) is = subst (λ z. IsTokens text z) (sym (append_assoc found (tokens_of at l) ts)) is
+    joined (Refused why place) is = is
 
-    here : (bs : Bytes) → drop at text ≡ bs → Front (drop at text) l
-    here [] e = let some = some_left text at inside in let none = ap length e in absurd (omega (arith, some, none))
-    here (b ∷ bs) e = subst (λ z. Front z l) (sym e) (front_sound b bs l (sym (ap front e) ∙ is))
+pub scan_fails : (text : Bytes) (at : ℕ) (found : List Token) (f : FaultAhead) → at < length text
+    → front (drop at text) ≡ Err f → IsScanned text at found
+    → RefusedFrom 0 text f.fault (span_at (at + f.ahead) f.length)
+scan_fails text at found f inside is scanned =
+    let fault' = subst (λ z. IsFound (drop at text) z) is (found_at text at (drop at text) inside refl) in
+    scanned.goes_on (Refused f.fault (span_at (at + f.ahead) f.length)) (here fault')
 
-pub scan_stops : (text : Bytes) (at : ℕ) (found other : List Token) → at < length text → front (drop at text) ≡ None → IsScanned text at found → IsTokens text other → ⊥
-scan_stops text at found other inside none scanned tokens =
-    let before = scanned.only other tokens in
-    let c = cut before.2 (some_left text at inside) in
-    let no : None ≡ Some c.lexeme = sym none ∙ c.found in
-    cc
-
-pub scan_ends : (text : Bytes) (at : ℕ) (found : List Token) → length text ≤ at → IsScanned text at found → IsTokens text found
-scan_ends text at found past scanned = subst (λ z. IsTokens text z) (append-nil found) (scanned.sound [] (subst (λ z. TokensFrom at z []) (sym (drop_all at text past)) nothing))
-
-pub scan_only : (text : Bytes) (at : ℕ) (found other : List Token) → length text ≤ at → IsScanned text at found → IsTokens text other → other ≡ found
-scan_only text at found other past scanned tokens =
-    let t = scanned.only other tokens in
-    t.1 ∙ ap (λ z. found ++ z) (no_tokens t.2 (ap length (drop_all at text past))) ∙ append-nil found
+pub scan_ends : (text : Bytes) (at : ℕ) (found : List Token) → length text ≤ at → IsScanned text at found
+    → IsTokens text found
+scan_ends text at found past scanned =
+    let none = subst (λ z. TokensFrom at z []) (sym (drop_all at text past)) nothing in
+    subst (λ z. IsTokens text z) (append-nil found) (scanned.goes_on (Tokens []) none)

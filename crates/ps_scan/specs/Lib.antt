@@ -4,6 +4,8 @@ pub mod Lexemes
 pub mod Separators
 pub mod Lexis
 pub mod Spans
+pub mod Faults
 pub mod Refusals
+pub mod Laws
 pub mod Scanner
 pub mod Values

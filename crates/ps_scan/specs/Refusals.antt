@@ -1,30 +1,40 @@
--- The numbers and lines of the scanner's refusals (this project's format).
-use Rattle.std.specs.Prelude.{◌≡◌, ℕ, ◌<◌, List, length}
+-- The numbers, lines and places of the scanner's refusals (this project's format).
+use Rattle.std.specs.Prelude.{◌≡◌, ℕ, Option, Some, None}
+use Rattle.ps_text.specs.declared.Span.{Span}
 use Rattle.ps_text.specs.Lines.{line_at}
+use Rattle.ps_scan.specs.declared.refusal.ScanFault.{ScanFault}
+use Rattle.ps_scan.specs.declared.refusal.ScanFault.TheVariants as fault
 use Rattle.ps_scan.specs.declared.refusal.ScanRefusal.{ScanRefusal}
 use Rattle.ps_scan.specs.declared.refusal.ScanRefusal.TheVariants as r
+use Rattle.ps_scan.specs.Faults.{RefusedFrom}
+use Rattle.ps_scan.specs.Tables.{Bytes}
+
+abbrev pub number_of_fault : ScanFault → ℕ
+number_of_fault fault.BadByte = 10
+number_of_fault fault.OpenComment = 11
+number_of_fault fault.OpenString = 12
+number_of_fault fault.EmptyString = 13
+number_of_fault fault.SeparatorMissing = 14
+number_of_fault fault.NumberTooLarge = 15
+number_of_fault fault.RealNumber = 16
 
 abbrev pub number_of : ScanRefusal → ℕ
 number_of r.OutOfMemory = 9
-number_of (r.BadByte line) = 10
-number_of (r.OpenComment line) = 11
-number_of (r.OpenString line) = 12
-number_of (r.EmptyString line) = 13
-number_of (r.SeparatorMissing line) = 14
-number_of (r.NumberTooLarge line) = 15
-number_of (r.RealNumber line) = 16
+number_of (r.Faulty why line from to) = number_of_fault why
 
 -- the line of the fault, and 0 where memory ran out
 abbrev pub line_of : ScanRefusal → ℕ
 line_of r.OutOfMemory = 0
-line_of (r.BadByte line) = line
-line_of (r.OpenComment line) = line
-line_of (r.OpenString line) = line
-line_of (r.EmptyString line) = line
-line_of (r.SeparatorMissing line) = line
-line_of (r.NumberTooLarge line) = line
-line_of (r.RealNumber line) = line
+line_of (r.Faulty why line from to) = line
 
--- the line of a byte of the text
-abbrev pub IsLineIn : List ℕ → ℕ → Type 0
-IsLineIn text line = (offset : ℕ) × (offset < length text) × (line ≡ line_at text offset)
+-- the place of the fault, and none where memory ran out
+abbrev pub place_of : ScanRefusal → Option Span
+place_of r.OutOfMemory = None
+place_of (r.Faulty why line from to) = Some (record { from = from; to = to })
+
+-- What is told of a text is its first fault, the place of that, and the line of its first byte. Want of memory tells
+-- nothing.
+abbrev pub IsTold : Bytes → ScanRefusal → Type 0
+IsTold text r.OutOfMemory = Unit {0}
+IsTold text (r.Faulty why line from to) =
+    RefusedFrom 0 text why (record { from = from; to = to }) × (line ≡ line_at text from)

@@ -1,22 +1,18 @@
 -- The scanner as functions on bytes, which the code follows step by step. Bytes read as 0 past their end, and 0 begins nothing.
-use Rattle.std.specs.Prelude.{◌≡◌, ℕ, ◌+◌, Bool, true, false, ◌&&◌, ◌||◌, ◌==◌, nat_lt, if◌then◌else◌, List, [], ◌∷◌, take, drop, slice_index, Option, Some, None, Result, Ok, Err}
+use Rattle.std.specs.Prelude.{ℕ, ◌+◌, Bool, true, false, ◌&&◌, ◌||◌, ◌==◌, nat_lt, if◌then◌else◌, List, [], ◌∷◌, take, drop, slice_index, Option, Some, None, Result, Ok, Err}
 use Rattle.std.specs.Char.{is_ascii_alphabetic, is_ascii_alphanumeric, is_ascii_digit, to_ascii_lowercase}
 use Rattle.std.specs.List.{prefix_len}
-use Rattle.std.specs.Option.{option_map}
 use Rattle.std.specs.Str.{str_eq_ignore_ascii_case}
 use Rattle.ps_scan.specs.declared.TheConstants.{MAX_NUMBER}
-use Rattle.ps_scan.specs.declared.lexeme.Fault.{Fault}
+use Rattle.ps_scan.specs.declared.lexeme.FaultAhead.{FaultAhead}
 use Rattle.ps_scan.specs.declared.lexeme.Lexeme.{Lexeme}
+use Rattle.ps_scan.specs.declared.refusal.ScanFault.{ScanFault}
+use Rattle.ps_scan.specs.declared.refusal.ScanFault.TheVariants as fault
 use Rattle.ps_scan.specs.declared.token.Kind.{Kind}
 use Rattle.ps_scan.specs.declared.token.Kind.TheVariants as k
 use Rattle.ps_scan.specs.Lexemes.{digits_value}
 use Rattle.ps_scan.specs.Separators.{is_blank}
 use Rattle.ps_scan.specs.Tables.{Bytes, Spelling, word_kind}
-
--- the code found just what the function on bytes finds, or answered a fault where that finds nothing
-abbrev pub Finds : Result Lexeme Fault → Option Lexeme → Type 0
-Finds (Ok l) found = found ≡ Some l
-Finds (Err fault) found = found ≡ None
 
 -- ---- what stands at the front of the bytes
 abbrev pub separator_of : ℕ → Lexeme
@@ -24,6 +20,14 @@ separator_of len = record { kind = None; length = len }
 
 abbrev pub token_of : ℕ → Kind → Lexeme
 token_of len kind = record { kind = Some kind; length = len }
+
+-- what the front of bytes comes to
+abbrev pub Finding : Type 0
+Finding = Result Lexeme FaultAhead
+
+-- a fault that some bytes stand before
+abbrev pub fault_of : ScanFault → (ahead len : ℕ) → Finding
+fault_of why ahead len = Err (record { fault = why; ahead = ahead; length = len })
 
 -- ---- words
 abbrev pub find_word : List Spelling → Bytes → Kind
@@ -43,20 +47,34 @@ digits_len = prefix_len is_ascii_digit
 abbrev pub is_sign : ℕ → Bool
 is_sign b = b == 43 || b == 45
 
--- digits before these bytes begin a real literal: a point and a digit come, or a scale
-unfoldable pub makes_real : Bytes → Bool
-makes_real bs =
-    if slice_index bs 0 == 46 then is_ascii_digit (slice_index bs 1)
-    else (to_ascii_lowercase (slice_index bs 0) == 101
-    && (is_ascii_digit (slice_index bs 1) || (is_sign (slice_index bs 1) && is_ascii_digit (slice_index bs 2))))
+abbrev pub sign_len : ℕ → ℕ
+sign_len b = if is_sign b then 1 else 0
 
-unfoldable pub number : Bytes → Option Lexeme
+-- how many bytes a fraction has, with its point; 0 where none comes
+unfoldable pub fraction_len : Bytes → ℕ
+fraction_len bs = if slice_index bs 0 == 46 && is_ascii_digit (slice_index bs 1) then 1 + digits_len (drop 1 bs) else 0
+
+-- how many bytes a scale has, whose letter and sign are so many; 0 where none comes
+unfoldable pub scale_by : ℕ → Bytes → ℕ
+scale_by opening bs =
+    if to_ascii_lowercase (slice_index bs 0) == 101 && is_ascii_digit (slice_index bs opening)
+    then opening + digits_len (drop opening bs) else 0
+
+unfoldable pub scale_len : Bytes → ℕ
+scale_len bs = scale_by (1 + sign_len (slice_index bs 1)) bs
+
+-- how many bytes of a real literal stand behind its first digits; 0 where there is none
+unfoldable pub real_len : Bytes → ℕ
+real_len bs = fraction_len bs + scale_len (drop (fraction_len bs) bs)
+
+unfoldable pub number : Bytes → Finding
 number bs =
     let len = digits_len bs in
     let after = drop len bs in
-    if makes_real after then None
-    else (if is_ascii_alphabetic (slice_index after 0) then None
-    else (if nat_lt MAX_NUMBER (digits_value (take len bs)) then None else Some (token_of len k.Number)))
+    if nat_lt 0 (real_len after) then fault_of fault.RealNumber 0 (len + real_len after)
+    else (if is_ascii_alphabetic (slice_index after 0) then fault_of fault.SeparatorMissing len (word_len after)
+    else (if nat_lt MAX_NUMBER (digits_value (take len bs)) then fault_of fault.NumberTooLarge 0 len
+    else Ok (token_of len k.Number)))
 
 -- ---- strings
 -- The length of a string, some of whose bytes are passed. Pending: an apostrophe was the last of them, and is the closing one unless another comes.
@@ -67,11 +85,11 @@ string_end true n (b ∷ bs) = if b == 39 then string_end false (n + 1) bs else 
 string_end false n (b ∷ bs) =
     if b == 39 then string_end true (n + 1) bs else (if b == 10 || b == 13 then None else string_end false (n + 1) bs)
 
-abbrev pub string_of : Option ℕ → Option Lexeme
-string_of None = None
-string_of (Some len) = if len == 2 then None else Some (token_of len k.Text)
+abbrev pub string_of : Option ℕ → Finding
+string_of None = fault_of fault.OpenString 0 1
+string_of (Some len) = if len == 2 then fault_of fault.EmptyString 0 2 else Ok (token_of len k.Text)
 
-unfoldable pub string : Bytes → Option Lexeme
+unfoldable pub string : Bytes → Finding
 string bs = string_of (string_end false 1 (drop 1 bs))
 
 -- ---- comments
@@ -80,8 +98,12 @@ abbrev pub comment_end : Bool → ℕ → Bytes → Option ℕ
 comment_end after_star n [] = None
 comment_end after_star n (b ∷ bs) = if b == 125 || (b == 41 && after_star) then Some (n + 1) else comment_end (b == 42) (n + 1) bs
 
-unfoldable pub comment : ℕ → Bytes → Option Lexeme
-comment opening bs = option_map (λ n. separator_of (opening + n)) (comment_end false 0 (drop opening bs))
+abbrev pub comment_of : ℕ → Option ℕ → Finding
+comment_of opening None = fault_of fault.OpenComment 0 opening
+comment_of opening (Some n) = Ok (separator_of (opening + n))
+
+unfoldable pub comment : ℕ → Bytes → Finding
+comment opening bs = comment_of opening (comment_end false 0 (drop opening bs))
 
 -- ---- symbols
 unfoldable pub pair : ℕ → ℕ → Option Kind
@@ -98,19 +120,20 @@ single a =
     else (if a == 46 then Some k.Dot else (if a == 44 then Some k.Comma else (if a == 58 then Some k.Colon else (if a == 59 then Some k.Semicolon
     else (if a == 94 then Some k.Caret else (if a == 64 then Some k.Caret else None))))))))))))))))
 
-abbrev pub symbol_of : Option Kind → Option Kind → Option Lexeme
-symbol_of (Some kind) other = Some (token_of 2 kind)
-symbol_of None other = option_map (token_of 1) other
+abbrev pub symbol_of : Option Kind → Option Kind → Finding
+symbol_of (Some kind) other = Ok (token_of 2 kind)
+symbol_of None (Some kind) = Ok (token_of 1 kind)
+symbol_of None None = fault_of fault.BadByte 0 1
 
-unfoldable pub symbol : Bytes → Option Lexeme
+unfoldable pub symbol : Bytes → Finding
 symbol bs = symbol_of (pair (slice_index bs 0) (slice_index bs 1)) (single (slice_index bs 0))
 
 -- ---- the front of the bytes, of which there is at least one
-unfoldable pub front : Bytes → Option Lexeme
+unfoldable pub front : Bytes → Finding
 front bs =
     let b = slice_index bs 0 in
-    if is_blank b then Some (separator_of 1)
-    else (if is_ascii_alphabetic b then Some (word bs)
+    if is_blank b then Ok (separator_of 1)
+    else (if is_ascii_alphabetic b then Ok (word bs)
     else (if is_ascii_digit b then number bs
     else (if b == 39 then string bs
     else (if b == 123 then comment 1 bs

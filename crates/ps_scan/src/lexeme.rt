@@ -1,9 +1,10 @@
 //! The token or the separator at the front of bytes.
 
-ghost use Rattle.std.specs.Prelude.{◌≡◌, ◌+◌, ◌*◌, ◌-◌, ◌^◌, ◌<◌, ◌≤◌, ◌↔◌, IsTrue, true, false, length, drop, slice_index, IfOk, IfSome, MatchOption, Some, None};
+ghost use Rattle.std.specs.Prelude.{◌≡◌, ◌+◌, ◌*◌, ◌-◌, ◌^◌, ◌<◌, ◌≤◌, ◌↔◌, IsTrue, true, false, length, drop, slice_index, IfOk, IfErr, IfSome};
 ghost use Rattle.ps_scan.specs.Scanner as spec;
 ghost use Rattle.ps_scan.specs.Separators.{is_blank as blank};
 
+use crate::refusal::ScanFault;
 use crate::token::Kind;
 use crate::values::small_value;
 use crate::words::word_kind;
@@ -15,24 +16,32 @@ pub struct Lexeme {
     pub length: usize,
 }
 
-/// Why nothing stands at the front of bytes.
+/// A fault at the front of bytes: how many stand before what is told of it, and how many it has.
 #[derive(Clone, Copy)]
-pub enum Fault {
-    BadByte,
-    OpenComment,
-    OpenString,
-    EmptyString,
-    SeparatorMissing,
-    NumberTooLarge,
-    RealNumber,
+pub struct FaultAhead {
+    pub fault: ScanFault,
+    pub ahead: usize,
+    pub length: usize,
 }
 
-/// What stands at the front of the bytes: the longest token, or a separator.
+/// A fault of the first bytes.
+fn fault_of(fault: ScanFault, length: usize) -> FaultAhead
+    ensures { result ≡ record { fault = fault; ahead = 0; length = length } }
+{
+    FaultAhead {
+        fault,
+        ahead: 0,
+        length,
+    }
+}
+
+/// What stands at the front of the bytes: the longest token, or a separator; or the fault there.
 #[tactic(auto, unfolding(crate::specs::Scanner::front))]
-pub fn front(text: &[u8]) -> Result<Lexeme, Fault>
+pub fn front(text: &[u8]) -> Result<Lexeme, FaultAhead>
     requires { 0 < length text.now }
-    ensures value { spec.Finds result (spec.front text.now) }
+    ensures value { result ≡ spec.front text.now }
     ensures within { IfOk result (λ found. (1 ≤ found.length) × (found.length ≤ length text.now)) }
+    ensures placed { IfErr result (λ found. found.ahead + found.length ≤ length text.now) }
 {
     let first = text[0];
     if is_blank(first) {
@@ -99,21 +108,27 @@ fn word_len(text: &[u8]) -> usize
 
 /// A number.
 #[tactic(auto, unfolding(crate::specs::Scanner::number))]
-fn number(text: &[u8]) -> Result<Lexeme, Fault>
+fn number(text: &[u8]) -> Result<Lexeme, FaultAhead>
     requires { 0 < spec.digits_len text.now }
-    ensures value { spec.Finds result (spec.number text.now) }
+    ensures value { result ≡ spec.number text.now }
     ensures within { IfOk result (λ found. (1 ≤ found.length) × (found.length ≤ length text.now)) }
+    ensures placed { IfErr result (λ found. found.ahead + found.length ≤ length text.now) }
 {
     let length = digits_len(text);
     let after = &text[length..];
-    if makes_real(after) {
-        return Err(Fault::RealNumber);
+    let behind_digits = real_len(after);
+    if 0 < behind_digits {
+        return Err(fault_of(ScanFault::RealNumber, length + behind_digits));
     }
     if byte_at(after, 0).is_ascii_alphabetic() {
-        return Err(Fault::SeparatorMissing);
+        return Err(FaultAhead {
+            fault: ScanFault::SeparatorMissing,
+            ahead: length,
+            length: word_len(after),
+        });
     }
     if small_value(&text[..length]).is_none() {
-        return Err(Fault::NumberTooLarge);
+        return Err(fault_of(ScanFault::NumberTooLarge, length));
     }
     Ok(Lexeme {
         kind: Some(Kind::Number),
@@ -134,32 +149,73 @@ fn digits_len(text: &[u8]) -> usize
     text.len()
 }
 
-/// Whether digits before these bytes begin a real literal: a point and a digit come, or a scale.
-#[tactic(auto, unfolding(crate::specs::Scanner::makes_real))]
-fn makes_real(text: &[u8]) -> bool
-    ensures { result ≡ spec.makes_real text.now }
+/// How many bytes of a real literal stand behind its first digits: those of its fraction and its scale, or 0 where
+/// neither comes.
+#[tactic(auto, unfolding(crate::specs::Scanner::real_len))]
+fn real_len(text: &[u8]) -> usize
+    ensures value { result ≡ spec.real_len text.now }
+    ensures within { result ≤ length text.now }
 {
-    let (first, second) = (byte_at(text, 0), byte_at(text, 1));
-    if first == b'.' {
-        return second.is_ascii_digit();
+    let fraction = fraction_len(text);
+    fraction + scale_len(&text[fraction..])
+}
+
+/// How many bytes a fraction has, with its point, or 0.
+#[tactic(auto, unfolding(crate::specs::Scanner::fraction_len))]
+fn fraction_len(text: &[u8]) -> usize
+    ensures value { result ≡ spec.fraction_len text.now }
+    ensures within { result ≤ length text.now }
+{
+    if byte_at(text, 0) == b'.' && byte_at(text, 1).is_ascii_digit() {
+        1 + digits_len(&text[1..])
+    } else {
+        0
     }
-    let is_signed = second == b'+' || second == b'-';
-    first.to_ascii_lowercase() == b'e'
-        && (second.is_ascii_digit() || (is_signed && byte_at(text, 2).is_ascii_digit()))
+}
+
+/// How many bytes a scale has, with its letter and its sign, or 0.
+#[tactic(auto, unfolding(crate::specs::Scanner::scale_len))]
+fn scale_len(text: &[u8]) -> usize
+    ensures value { result ≡ spec.scale_len text.now }
+    ensures within { result ≤ length text.now }
+{
+    scale_by(1 + sign_len(byte_at(text, 1)), text)
+}
+
+/// How many bytes a scale has, whose letter and sign take so many, or 0.
+#[tactic(auto, unfolding(crate::specs::Scanner::scale_by))]
+fn scale_by(opening: usize, text: &[u8]) -> usize
+    ensures value { result ≡ spec.scale_by opening text.now }
+    ensures within { result ≤ length text.now }
+{
+    if byte_at(text, 0).to_ascii_lowercase() == b'e' && byte_at(text, opening).is_ascii_digit() {
+        opening + digits_len(&text[opening..])
+    } else {
+        0
+    }
+}
+
+/// How many bytes a sign takes: 1, or 0 where there is none.
+fn sign_len(byte: u8) -> usize
+    ensures value { result ≡ spec.sign_len byte }
+    ensures within { result ≤ 1 }
+{
+    if byte == b'+' || byte == b'-' { 1 } else { 0 }
 }
 
 /// A string, from its opening apostrophe on.
 #[tactic(auto, unfolding(crate::specs::Scanner::string))]
-fn string(text: &[u8]) -> Result<Lexeme, Fault>
+fn string(text: &[u8]) -> Result<Lexeme, FaultAhead>
     requires { 0 < length text.now }
-    ensures value { spec.Finds result (spec.string text.now) }
+    ensures value { result ≡ spec.string text.now }
     ensures within { IfOk result (λ found. (1 ≤ found.length) × (found.length ≤ length text.now)) }
+    ensures placed { IfErr result (λ found. found.ahead + found.length ≤ length text.now) }
 {
     let Some(length) = string_end(&text[1..]) else {
-        return Err(Fault::OpenString);
+        return Err(fault_of(ScanFault::OpenString, 1));
     };
     if length == 2 {
-        return Err(Fault::EmptyString);
+        return Err(fault_of(ScanFault::EmptyString, length));
     }
     Ok(Lexeme {
         kind: Some(Kind::Text),
@@ -193,18 +249,19 @@ fn string_end(text: &[u8]) -> Option<usize>
 
 /// A comment, whose opening has so many bytes.
 #[tactic(auto, unfolding(crate::specs::Scanner::comment))]
-fn comment(opening: usize, text: &[u8]) -> Result<Lexeme, Fault>
+fn comment(opening: usize, text: &[u8]) -> Result<Lexeme, FaultAhead>
     requires some { 1 ≤ opening }
     requires within { opening ≤ length text.now }
-    ensures value { spec.Finds result (spec.comment opening text.now) }
+    ensures value { result ≡ spec.comment opening text.now }
     ensures within { IfOk result (λ found. (1 ≤ found.length) × (found.length ≤ length text.now)) }
+    ensures placed { IfErr result (λ found. found.ahead + found.length ≤ length text.now) }
 {
     match comment_end(&text[opening..]) {
         Some(length) => Ok(Lexeme {
             kind: None,
             length: opening + length,
         }),
-        None => Err(Fault::OpenComment),
+        None => Err(fault_of(ScanFault::OpenComment, opening)),
     }
 }
 
@@ -225,10 +282,11 @@ fn comment_end(text: &[u8]) -> Option<usize>
 
 /// A symbol: that of the first two bytes, or else that of the first.
 #[tactic(auto, unfolding(crate::specs::Scanner::symbol))]
-fn symbol(text: &[u8]) -> Result<Lexeme, Fault>
+fn symbol(text: &[u8]) -> Result<Lexeme, FaultAhead>
     requires { 0 < length text.now }
-    ensures value { spec.Finds result (spec.symbol text.now) }
+    ensures value { result ≡ spec.symbol text.now }
     ensures within { IfOk result (λ found. (1 ≤ found.length) × (found.length ≤ length text.now)) }
+    ensures placed { IfErr result (λ found. found.ahead + found.length ≤ length text.now) }
 {
     let first = text[0];
     if let Some(kind) = pair(first, byte_at(text, 1)) {
@@ -242,7 +300,7 @@ fn symbol(text: &[u8]) -> Result<Lexeme, Fault>
             kind: Some(kind),
             length: 1,
         }),
-        None => Err(Fault::BadByte),
+        None => Err(fault_of(ScanFault::BadByte, 1)),
     }
 }
 

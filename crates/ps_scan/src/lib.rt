@@ -1,6 +1,7 @@
 //! Code: the scanner, from a text to its tokens with their kinds and spans (ISO 7185, 6.1).
 #![tactic(auto)]
 
+mod laws;
 mod lexeme;
 mod refusal;
 mod scanner;
@@ -8,7 +9,8 @@ mod token;
 mod values;
 mod words;
 
-pub use refusal::ScanRefusal;
+pub use laws::{each_text_is_scanned, faults_stand_within, tokens_stand_in_order};
+pub use refusal::{ScanFault, ScanRefusal};
 pub use scanner::scan;
 pub use token::{Kind, Token, is};
 pub use values::{

@@ -1,44 +1,83 @@
-//! Why a text has no tokens.
+//! Why a text has no tokens, and where.
 
 ghost use Rattle.std.specs.Prelude.{◌≡◌};
-ghost use Rattle.ps_scan.specs.Refusals.{number_of, line_of};
+ghost use Rattle.ps_scan.specs.Refusals.{number_of_fault, number_of, line_of, place_of};
 
+use ps_text::Span;
 use std::fmt;
 use thiserror::Error;
 
-/// Why a text has no tokens, and the line of the fault. It is shown by its name.
+/// What stands in a text where no token and no separator does (ISO 7185, 6.1). It is shown by its name.
+#[derive(Clone, Copy, Debug)]
+pub enum ScanFault {
+    /// A byte that begins no token and no separator.
+    BadByte,
+    /// A comment without its end. Its place is that of its opening.
+    OpenComment,
+    /// A string that meets the end of its line or of the text. Its place is that of its opening.
+    OpenString,
+    /// A string of no character.
+    EmptyString,
+    /// A name or a word-symbol that touches the number before it.
+    SeparatorMissing,
+    /// A number above `MAX_NUMBER`.
+    NumberTooLarge,
+    /// A real literal.
+    RealNumber,
+}
+
+impl fmt::Display for ScanFault {
+    fn fmt<W: fmt::Write>(&self, f: &mut fmt::Formatter<W>) -> fmt::Result {
+        f.write_str(match self {
+            ScanFault::BadByte => "BadByte",
+            ScanFault::OpenComment => "OpenComment",
+            ScanFault::OpenString => "OpenString",
+            ScanFault::EmptyString => "EmptyString",
+            ScanFault::SeparatorMissing => "SeparatorMissing",
+            ScanFault::NumberTooLarge => "NumberTooLarge",
+            ScanFault::RealNumber => "RealNumber",
+        })
+    }
+}
+
+impl ScanFault {
+    /// The number of the refusal that tells the fault.
+    pub fn number(self) -> u32
+        ensures { result ≡ number_of_fault self }
+    {
+        match self {
+            ScanFault::BadByte => 10,
+            ScanFault::OpenComment => 11,
+            ScanFault::OpenString => 12,
+            ScanFault::EmptyString => 13,
+            ScanFault::SeparatorMissing => 14,
+            ScanFault::NumberTooLarge => 15,
+            ScanFault::RealNumber => 16,
+        }
+    }
+}
+
+/// Why a text has no tokens: its first fault, with the offsets of the first byte that is told and of the one behind the
+/// last, and the line of the first. It is shown by the fault's name.
 #[derive(Clone, Copy, Debug, Error)]
 pub enum ScanRefusal {
     /// A growth was refused.
     OutOfMemory,
-    /// A byte that begins no token and no separator.
-    BadByte { line: u32 },
-    /// A comment without its end. The line is that of its opening.
-    OpenComment { line: u32 },
-    /// A string that meets the end of its line or of the text. The line is that of its opening.
-    OpenString { line: u32 },
-    /// A string of no character.
-    EmptyString { line: u32 },
-    /// A name or a word-symbol that touches the number before it.
-    SeparatorMissing { line: u32 },
-    /// A number above `MAX_NUMBER`.
-    NumberTooLarge { line: u32 },
-    /// A real literal.
-    RealNumber { line: u32 },
+    /// The text's first fault.
+    Faulty {
+        fault: ScanFault,
+        line: u32,
+        from: u32,
+        to: u32,
+    },
 }
 
 impl fmt::Display for ScanRefusal {
     fn fmt<W: fmt::Write>(&self, f: &mut fmt::Formatter<W>) -> fmt::Result {
-        f.write_str(match self {
-            ScanRefusal::OutOfMemory => "OutOfMemory",
-            ScanRefusal::BadByte { .. } => "BadByte",
-            ScanRefusal::OpenComment { .. } => "OpenComment",
-            ScanRefusal::OpenString { .. } => "OpenString",
-            ScanRefusal::EmptyString { .. } => "EmptyString",
-            ScanRefusal::SeparatorMissing { .. } => "SeparatorMissing",
-            ScanRefusal::NumberTooLarge { .. } => "NumberTooLarge",
-            ScanRefusal::RealNumber { .. } => "RealNumber",
-        })
+        match self {
+            ScanRefusal::OutOfMemory => f.write_str("OutOfMemory"),
+            ScanRefusal::Faulty { fault, .. } => fault.fmt(f),
+        }
     }
 }
 
@@ -49,13 +88,7 @@ impl ScanRefusal {
     {
         match self {
             ScanRefusal::OutOfMemory => 9,
-            ScanRefusal::BadByte { .. } => 10,
-            ScanRefusal::OpenComment { .. } => 11,
-            ScanRefusal::OpenString { .. } => 12,
-            ScanRefusal::EmptyString { .. } => 13,
-            ScanRefusal::SeparatorMissing { .. } => 14,
-            ScanRefusal::NumberTooLarge { .. } => 15,
-            ScanRefusal::RealNumber { .. } => 16,
+            ScanRefusal::Faulty { fault, .. } => fault.number(),
         }
     }
 
@@ -65,13 +98,17 @@ impl ScanRefusal {
     {
         match self {
             ScanRefusal::OutOfMemory => 0,
-            ScanRefusal::BadByte { line }
-            | ScanRefusal::OpenComment { line }
-            | ScanRefusal::OpenString { line }
-            | ScanRefusal::EmptyString { line }
-            | ScanRefusal::SeparatorMissing { line }
-            | ScanRefusal::NumberTooLarge { line }
-            | ScanRefusal::RealNumber { line } => line,
+            ScanRefusal::Faulty { line, .. } => line,
+        }
+    }
+
+    /// The place of the fault in the text, and none where memory ran out.
+    pub fn place(self) -> Option<Span>
+        ensures { result ≡ place_of self }
+    {
+        match self {
+            ScanRefusal::OutOfMemory => None,
+            ScanRefusal::Faulty { from, to, .. } => Some(Span { from, to }),
         }
     }
 }

@@ -1,27 +1,22 @@
 //! The scanner.
 
-ghost use Rattle.std.specs.Prelude.{◌≡◌, ◌≢◌, List, length, All, IfOk, IfErr};
-ghost use Rattle.ps_scan.specs.declared.token.Token.{Token};
+ghost use Rattle.std.specs.Prelude.{◌≡◌, ◌+◌, ◌≤◌, length};
+ghost use Rattle.std.specs.Result.{MatchResult};
+ghost use Rattle.ps_text.specs.Lines.{line_at, IsSource};
 ghost use Rattle.ps_scan.specs.Lexis.{IsTokens};
-ghost use Rattle.ps_scan.specs.Refusals.{line_of, IsLineIn};
-ghost use Rattle.ps_scan.specs.Spans.{AreOrdered, IsWithin};
+ghost use Rattle.ps_scan.specs.Refusals.{IsTold};
 
-use crate::lexeme::{Fault, front};
+use crate::lexeme::{FaultAhead, front};
 use crate::refusal::ScanRefusal;
 use crate::token::Token;
 use ps_text::{Source, Span};
 use std::alloc::Global;
 
-/// The tokens of a text.
+/// The tokens of a text, or else its first fault with the place (ISO 7185, 6.1).
+///
+/// Each text has one of the two, and one alone: `each_text_is_scanned`. Want of memory tells nothing of it.
 pub fn scan(alloc: Global, source: &Source<'_>) -> Result<Vec<Token>, ScanRefusal>
-    ensures tokens { IfOk result (λ tokens. IsTokens source.now tokens.items) }
-    // The text has no other tokens.
-    ensures only { IfOk result (λ tokens. (other : List Token) → IsTokens source.now other → other ≡ tokens.items) }
-    ensures ordered { IfOk result (λ tokens. AreOrdered 0 (length source.now) tokens.items) }
-    ensures within { IfOk result (λ tokens. All (IsWithin (length source.now)) tokens.items) }
-    // Unless memory ran out, the text has no tokens.
-    ensures refused { IfErr result (λ refusal. refusal ≢ ScanRefusal.OutOfMemory → (other : List Token) → IsTokens source.now other → ⊥) }
-    ensures line { IfErr result (λ refusal. refusal ≢ ScanRefusal.OutOfMemory → IsLineIn source.now (line_of refusal)) }
+    ensures { MatchResult result (λ tokens. IsTokens source.now tokens.items) (IsTold source.now) }
 {
     let text = source.bytes();
     let mut tokens = Vec::new(alloc);
@@ -29,7 +24,7 @@ pub fn scan(alloc: Global, source: &Source<'_>) -> Result<Vec<Token>, ScanRefusa
     while at < text.len() {
         let lexeme = match front(&text[at..]) {
             Ok(lexeme) => lexeme,
-            Err(fault) => return Err(refusal_of(fault, source.line_of(at as u32))),
+            Err(found) => return Err(refusal_of(source, at, found)),
         };
         let end = at + lexeme.length;
         if let Some(kind) = lexeme.kind {
@@ -46,18 +41,19 @@ pub fn scan(alloc: Global, source: &Source<'_>) -> Result<Vec<Token>, ScanRefusa
     Ok(tokens)
 }
 
-/// The refusal of a fault, with the line of its first byte.
-fn refusal_of(fault: Fault, line: u32) -> ScanRefusal
-    ensures line { line_of result ≡ line }
-    ensures fault { result ≢ ScanRefusal.OutOfMemory }
+/// The refusal of a fault that stands at an offset, or ahead of it.
+fn refusal_of(source: &Source<'_>, at: usize, found: FaultAhead) -> ScanRefusal
+    requires limits { IsSource source.now }
+    requires within { at + found.ahead + found.length ≤ length source.now }
+    ensures { let from = at + found.ahead in
+        result ≡ ScanRefusal.Faulty found.fault (line_at source.now from) from (from + found.length) }
 {
-    match fault {
-        Fault::BadByte => ScanRefusal::BadByte { line },
-        Fault::OpenComment => ScanRefusal::OpenComment { line },
-        Fault::OpenString => ScanRefusal::OpenString { line },
-        Fault::EmptyString => ScanRefusal::EmptyString { line },
-        Fault::SeparatorMissing => ScanRefusal::SeparatorMissing { line },
-        Fault::NumberTooLarge => ScanRefusal::NumberTooLarge { line },
-        Fault::RealNumber => ScanRefusal::RealNumber { line },
+    let from = at + found.ahead;
+    let to = from + found.length;
+    ScanRefusal::Faulty {
+        fault: found.fault,
+        line: source.line_of(from as u32),
+        from: from as u32,
+        to: to as u32,
     }
 }

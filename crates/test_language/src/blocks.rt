@@ -3,15 +3,18 @@
 
 use crate::types::{put_fields, put_relation, put_sizes};
 use ps_check_declarations::declarations::declarations;
-use ps_check_declarations::frame::{Declared, Frame};
+use ps_check_declarations::frame::{Declared, Frame, Parts};
 use ps_check_declarations::points::add_block;
+use ps_check_expressions::changed::Controls;
 use ps_check_expressions::expression::{expr_value, variable_place};
+use ps_check_expressions::inner::Inner;
 use ps_check_expressions::site::Site;
 use ps_check_expressions::value::TypedValue;
+use ps_check_judgement::change::Change;
+use ps_check_judgement::refusal::Fault;
 use ps_check_names::constants::{BOOLEAN, CHAR, INTEGER};
 use ps_check_names::meaning::Meaning;
 use ps_check_names::reading::Reading;
-use ps_check_names::refusal::Fault;
 use ps_check_names::scope::Scope;
 use ps_check_statements::statement::statements;
 use ps_syntax::{Block, Expr, Statement, Variable};
@@ -104,14 +107,16 @@ fn put_relation_in(
     variable: &Variable,
     value: &Expr,
 ) -> Result<(), Fault> {
-    let variable = variable_place(variable, site)?;
+    let mut changes = Vec::new(site.alloc);
+    let variable = variable_place(variable, site, &mut changes)?;
     let end = put_relation_to(line, site, value, &variable.ty);
     drop(variable);
     end
 }
 
 fn put_relation_to(line: &mut Line, site: Site<'_>, value: &Expr, ty: &Ty) -> Result<(), Fault> {
-    let value = expr_value(value, site)?;
+    let mut changes = Vec::new(site.alloc);
+    let value = expr_value(value, site, &mut changes)?;
     put_relation(line, type_of(&value), ty);
     drop(value);
     Ok(())
@@ -127,14 +132,16 @@ fn form_of(value: &TypedValue) -> &'static str {
 }
 
 fn put_form(line: &mut Line, site: Site<'_>, value: &Expr) -> Result<(), Fault> {
-    let value = expr_value(value, site)?;
+    let mut changes = Vec::new(site.alloc);
+    let value = expr_value(value, site, &mut changes)?;
     line.word(form_of(&value));
     drop(value);
     Ok(())
 }
 
 fn put_statements(line: &mut Line, site: Site<'_>, written: &[Statement]) -> Result<(), Fault> {
-    for statement in &statements(written, site)? {
+    let mut changes: Vec<Change> = Vec::new(site.alloc);
+    for statement in &statements(written, site, &mut changes)? {
         let is_empty = matches!(statement, Checked::Empty);
         line.space();
         line.word(if is_empty { "empty" } else { "other" });
@@ -164,6 +171,14 @@ fn put_asked(
     Ok(())
 }
 
+fn parts_of(block: &Block) -> Parts<'_> {
+    Parts {
+        constants: block.constants.as_slice(),
+        types: block.types.as_slice(),
+        variables: block.variables.as_slice(),
+    }
+}
+
 /// Adds the declarations of a block.
 fn declare(
     around: Site<'_>,
@@ -171,21 +186,15 @@ fn declare(
     names: &Names,
     declared: &mut Declared,
 ) -> Result<(), Fault> {
+    let begun = Names::new(around.alloc);
     let frame = Frame {
         reading: around.reading,
         routine: 0,
         names,
+        begun: &begun,
         outer: around.scope,
     };
-    declarations(
-        &frame,
-        around.alloc,
-        0,
-        declared,
-        block.constants.as_slice(),
-        block.types.as_slice(),
-        block.variables.as_slice(),
-    )
+    declarations(&frame, around.alloc, 0, declared, &parts_of(block))
 }
 
 /// Puts what is asked of a block whose names are known.
@@ -215,6 +224,8 @@ fn put_below(
         alloc: around.alloc,
         reading: &reading,
         scope: &scope,
+        controls: around.controls,
+        inner: around.inner,
     };
     put_asked(line, asked, declared, site, block.statements.as_slice())
 }
@@ -229,24 +240,20 @@ fn put_within(
     known: &mut Known,
 ) -> Result<(), Fault> {
     add_required(alloc, known)?;
-    add_block(
-        reading,
-        alloc,
-        &mut known.names,
-        block.constants.as_slice(),
-        block.types.as_slice(),
-        block.variables.as_slice(),
-    )?;
+    add_block(reading, alloc, &mut known.names, &parts_of(block))?;
     let scope = Scope::Block {
         routine: 0,
         names: &known.required,
         known: &known.meanings,
         outer: &Scope::Outside,
     };
+    let inner = Inner::new(alloc, &[])?;
     let around = Site {
         alloc,
         reading,
         scope: &scope,
+        controls: &Controls::Outside,
+        inner: &inner,
     };
     put_below(
         line,

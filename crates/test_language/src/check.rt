@@ -1,6 +1,5 @@
 //! What the checker says of program texts, and what is asked of the programs that it accepts.
 
-use crate::changes::put_changes;
 use crate::front::put_refusal;
 use crate::program::checked;
 use crate::runs::{Job, put_output, put_run, put_trail};
@@ -15,8 +14,6 @@ pub enum Asked {
     Verdict,
     /// The nodes and the cells of each of its routines, and how many domain types it has.
     Counts,
-    /// What its statements change.
-    Changes,
     /// How its run ends, and what that shows.
     Run,
     /// The lines that `trail` tells of its run.
@@ -39,7 +36,6 @@ fn put_asked(alloc: Global, line: &mut Line, program: &Checked, asked: Asked, jo
     match asked {
         Asked::Verdict => line.word("accepted"),
         Asked::Counts => put_counts(line, program),
-        Asked::Changes => put_changes(alloc, line, program),
         Asked::Run => put_run(alloc, line, program, job),
         Asked::Output => put_output(alloc, line, program, job),
         Asked::Trail => put_trail(alloc, line, program, job),

@@ -3,7 +3,7 @@
 use crate::blocks;
 use crate::program::parsed;
 use crate::shown::Shown;
-use ps_build::Refusal;
+use ps_build::{ParseFault, Refusal};
 use ps_parse::release;
 use ps_syntax::{Program, height};
 use ps_text::Source;
@@ -15,7 +15,12 @@ pub(crate) fn put_refusal(line: &mut Line, refusal: Refusal) {
     line.numbered("", u64::from(refusal.number()));
     line.valued(" ", &refusal);
     line.numbered(" at line ", u64::from(refusal.line().unwrap_or(0)));
-    if let Refusal::NotAProgram { token, .. } = refusal {
+    if let Refusal::Parse {
+        fault: ParseFault::NotAProgram,
+        token,
+        ..
+    } = refusal
+    {
         line.numbered(", token ", u64::from(token));
     }
 }

@@ -2,7 +2,6 @@
 #![tactic(auto)]
 
 pub mod blocks;
-mod changes;
 pub mod check;
 pub mod front;
 mod program;

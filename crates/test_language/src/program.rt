@@ -19,8 +19,12 @@ pub fn parsed(alloc: Global, source: &Source) -> Result<Program, Refusal> {
 /// The checked program of a text, or why the text is refused.
 pub fn checked(alloc: Global, text: &[u8]) -> Result<Checked, Refusal> {
     let source = Source::new(text)?;
-    let program = parsed(alloc, &source)?;
+    let tokens = scan(alloc, &source)?;
+    let program = parse(alloc, &source, &tokens)?;
     let checked = check(alloc, &source, &program);
     release(program);
-    Ok(checked?)
+    match checked {
+        Ok(checked) => Ok(checked),
+        Err(refusal) => Err(Refusal::of_check(refusal, &tokens)),
+    }
 }

@@ -59,9 +59,10 @@ fn put_lookup(line: &mut Line, lookup: Lookup) {
             line.word(" out");
         }
         Lookup::Found(Found::Field { .. }) => line.word("a field"),
-        Lookup::Later => line.word("later"),
-        Lookup::OwnField => line.word("a field of its own record"),
-        Lookup::Missing => line.word("missing"),
+        Lookup::Broken(rule) => {
+            line.numbered("", u64::from(rule.number()));
+            line.valued(" ", &rule);
+        }
     }
 }
 

@@ -2,11 +2,12 @@
 
 use crate::front::put_refusal;
 use ps_build::Refusal;
-use ps_check_names::refusal::CheckRefusal;
+use ps_check_judgement::refusal::CheckRefusal;
 use ps_scan::{
-    Token, is_same_name, name_spelling, number_value, scan, string_length, string_value,
+    ScanRefusal, Token, is_same_name, name_spelling, number_value, scan, string_length,
+    string_value,
 };
-use ps_text::Source;
+use ps_text::{Source, Span};
 use std::alloc::Global;
 use test_tables::Line;
 use test_tables::words::letters;
@@ -16,19 +17,32 @@ use test_tables::words::letters;
 pub enum Asked {
     /// Their kinds.
     Kinds,
-    /// Where they begin, and the offsets behind their ends.
+    /// Where they begin, and the offsets behind their ends; of a refusal its place.
     Spans,
+}
+
+fn put_span(line: &mut Line, span: Span) {
+    line.numbered("", u64::from(span.from));
+    line.numbered("-", u64::from(span.to));
 }
 
 fn put_token(line: &mut Line, token: Token, asked: Asked) {
     line.space();
     match asked {
         Asked::Kinds => line.seen("", &token.kind),
-        Asked::Spans => {
-            line.numbered("", u64::from(token.span.from));
-            line.numbered("-", u64::from(token.span.to));
-        }
+        Asked::Spans => put_span(line, token.span),
     }
+}
+
+// Puts why a text has no tokens, with the line or the place of the fault.
+fn put_fault(line: &mut Line, refusal: ScanRefusal, asked: Asked) {
+    if let (Asked::Spans, Some(place)) = (asked, refusal.place()) {
+        line.numbered("", u64::from(refusal.number()));
+        line.valued(" ", &refusal);
+        line.word(" at ");
+        return put_span(line, place);
+    }
+    put_refusal(line, Refusal::from(refusal));
 }
 
 /// Puts what is asked of a text's tokens, or the refusal.
@@ -43,7 +57,7 @@ pub(crate) fn put_tokens(alloc: Global, line: &mut Line, text: &[u8], asked: Ask
             }
             line.none_if_empty();
         }
-        Err(refusal) => put_refusal(line, Refusal::from(refusal)),
+        Err(refusal) => put_fault(line, refusal, asked),
     }
 }
 

@@ -1,4 +1,4 @@
-use Rattle.std.proofs.Common.{Bool, false, sym, inl, inr, ◌≡◌, ◌∙◌, ap, refl, subst, true, map, [], Result, Ok, Err, IfErr, IfSome}
+use Rattle.std.proofs.Common.{Bool, false, sym, inl, inr, ◌≡◌, ◌∙◌, ap, refl, subst, true, map, [], Result, Ok, Err, IfErr, IfOk, IfSome}
 use Rattle.std.specs.Prelude.{IsErrAnd, if◌then◌else◌}
 use Rattle.clap.specs.Simple.{is_simple, subcommand_of}
 use Rattle.clap.specs.Faults.{fault_of, is_simple_and_free}
@@ -45,18 +45,28 @@ returns-in_err-matches-clause-kind c =
     err_weaker c.from_residual-in_err-matches.result _ _ c.from_residual-in_err-matches.ensures.1
     (λ f e. subst (IsLineOf (fault_of pascal_app texts)) (sym e) (told error (fault_of pascal_app texts) has))
 
-pub returns-in-Ok-clause-asked : goal.returns-in-Ok-clause-asked
-returns-in-Ok-clause-asked c =
+both_weaker : {X E : Type 0} (r : Result X E) (P Q R : X → Type 0) → IfOk r P → IfOk r Q → ((x : X) → P x → Q x → R x) → IfOk r R
+both_weaker (Ok x) P Q R p q weaker = weaker x p q
+both_weaker (Err e) P Q R p q weaker = tt
+
+fault_weaker : {X E : Type 0} (r : Result X E) (P Q : E → Type 0) → IfErr r P → ((e : E) → P e → Q e) → IfErr r Q
+fault_weaker (Ok x) P Q is weaker = tt
+fault_weaker (Err e) P Q is weaker = weaker e is
+
+pub returns-clause-asked : goal.returns-clause-asked
+returns-clause-asked c =
     let texts = map (λ word. word.now) c.args.words.now in
     let app_is = c.in_ok-command.ensures in
     let none : fault_of pascal_app texts ≡ [] = subst (λ a. fault_of a texts ≡ []) app_is (c.in_ok-matches.ensures.kinds (ap is_simple_and_free app_is ∙ is_plain)) in
     let rows = (c.in_ok-matches.ensures.matches (ap is_simple app_is)).1 ∙ ap (λ a. subcommand_of a texts) app_is in
-    is_asked _ _ _ (top_agrees texts) none (subst (λ found. found_digits found ≡ true) rows c.in-Ok.ensures.digits) (request_in c.in-Ok.job)
-    (subst (λ found. IfSome found (λ e. HasLimits e.1) → request_in c.in-Ok.job ≡ row_request found) rows c.in-Ok.ensures.request)
+    both_weaker c.job_of.result _ _ _ c.job_of.ensures.request c.job_of.ensures.digits (λ job request digits.
+    is_asked _ _ _ (top_agrees texts) none (subst (λ found. found_digits found ≡ true) rows digits) (request_in job)
+    (subst (λ found. IfSome found (λ e. HasLimits e.1) → request_in job ≡ row_request found) rows request))
 
-pub returns-in-Err-clause-line : goal.returns-in-Err-clause-line
-returns-in-Err-clause-line c = λ line.
+pub returns-clause-line : goal.returns-clause-line
+returns-clause-line c =
     let texts = map (λ word. word.now) c.args.words.now in
     let app_is = c.in_ok-command.ensures in
     let rows = (c.in_ok-matches.ensures.matches (ap is_simple app_is)).1 ∙ ap (λ a. subcommand_of a texts) app_is in
-    is_odd _ _ _ (top_agrees texts) (subst (λ found. found_digits found ≡ false) rows c.in-Err.ensures.digits)
+    fault_weaker c.job_of.result _ _ c.job_of.ensures.odd (λ fault odd line.
+    is_odd _ _ _ (top_agrees texts) (subst (λ found. found_digits found ≡ false) rows (odd line)))

@@ -4,19 +4,29 @@ use pascal_cli::{CommandFault, Job, Task, command};
 use std::alloc::{AllocError, Global};
 use test_tables::Line;
 
-/// What a task is, in two words and the names of its files behind them.
-fn parts_of(task: Task<'_>) -> [&str; 4] {
+/// Puts what a task is: a word or two, and the names of its files behind them.
+fn put_task(line: &mut Line, task: &Task<'_>) {
     match task {
-        Task::Go { source } => ["go ", source, "", ""],
-        Task::GoStandardInput => ["go standard input", "", "", ""],
-        Task::Compile { source, image } => ["compile ", source, " to ", image],
-        Task::List { source } => ["list ", source, "", ""],
-        Task::Run { image } => ["run ", image, "", ""],
+        Task::Go { source } => put_named(line, "go ", *source),
+        Task::GoStandardInput => line.word("go standard input"),
+        Task::Compile { source, image } => {
+            put_named(line, "compile ", *source);
+            put_named(line, " to ", *image);
+        }
+        Task::List { source } => put_named(line, "list ", *source),
+        Task::Run { image } => put_named(line, "run ", *image),
+        Task::Explain { topic } => put_named(line, "explain ", topic.as_str()),
     }
 }
 
+/// Puts a word, and a name behind it.
+fn put_named(line: &mut Line, word: &str, name: &str) {
+    line.word(word);
+    line.word(name);
+}
+
 fn put_job(line: &mut Line, job: &Job<'_>) {
-    line.words(&parts_of(job.task));
+    put_task(line, &job.task);
     line.valued(", stack ", &job.stack);
     line.valued(", heap ", &job.heap);
     line.valued(", steps ", &job.steps);
@@ -30,10 +40,12 @@ pub(crate) fn put_asked(alloc: Global, line: &mut Line, row: &str) -> Result<(),
             words.push(word)?;
         }
     }
-    match command(alloc, &words) {
-        Ok(job) => put_job(line, &job),
-        Err(CommandFault::Line(_) | CommandFault::Number(_)) => line.word("refused"),
+    let asked = command(alloc, &words);
+    match &asked {
+        Ok(job) => put_job(line, job),
         Err(CommandFault::OutOfMemory) => line.fall_short(),
+        Err(CommandFault::Line(_) | CommandFault::Number(_)) => line.word("refused"),
     }
+    drop(asked);
     Ok(())
 }

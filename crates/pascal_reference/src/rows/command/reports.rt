@@ -1,16 +1,20 @@
 //! Statuses and messages.
 
 use pascal_cli::{message, status};
-use ps_build::{FaultKind, Outcome, Refusal, Rule, Trail};
+use ps_build::{FaultKind, Outcome, Place, Refusal, Rule, Trail};
 use std::alloc::Global;
 use test_tables::Line;
 use test_tables::words::number;
 
 fn refusal(name: &str, line: u32) -> Refusal {
     match name {
-        "WrongType" => Refusal::Broken {
+        "WrongType" => Refusal::Check {
             rule: Rule::WrongType,
-            line,
+            place: Place {
+                line,
+                from: 0,
+                to: 0,
+            },
         },
         "Truncated" => Refusal::Truncated,
         _ => Refusal::OutOfMemory,

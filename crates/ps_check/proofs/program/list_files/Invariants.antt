@@ -1,4 +1,4 @@
-use Rattle.ps_check_names.proofs.Lists.{Stepped}
+use Rattle.ps_check_judgement.proofs.Lists.{Stepped}
 use Rattle.ps_check.specs.Programs.{list_file, no_files}
 use Rattle.ps_check.specs.Views.{files_of}
 use Rattle.ps_check.proofs.program.list_files.Given as goal

@@ -1,20 +1,12 @@
-use Rattle.std.proofs.Common.{refl, ◌∙◌}
-use Rattle.std.proofs.lemmas.Result.{on_ok_weaker}
-use Rattle.ps_check_names.proofs.Refused.{still_refused}
-use Rattle.ps_check.proofs.Equations.{introduce_Whole, introduce_Forward, introduce_Completion}
+use Rattle.std.proofs.Common.{rules}
+use Rattle.ps_check.proofs.RoutineLemmas.{answered, told_as, introduce_Whole, introduce_Forward, introduce_Completion}
 use Rattle.ps_check.proofs.routines.add_heading.Goals as goal
 
-pub returns-in-Whole-clause-ok : goal.returns-in-Whole-clause-ok
-returns-in-Whole-clause-ok c = on_ok_weaker c.new_heading.result (λ e. introduce_Whole _ _ _ _ _ _ _ refl c.in-Whole.is ∙ e) c.new_heading.ensures.ok
+pub returns-in-Whole : goal.returns-in-Whole
+returns-in-Whole c = answered _ _ _ _ (introduce_Whole _ _ _ _ _ _ c.in-Whole.is) c.new_heading.ensures
 
-pub returns-in-Whole-clause-err : goal.returns-in-Whole-clause-err
-returns-in-Whole-clause-err c = still_refused _ _ _ (λ e. introduce_Whole _ _ _ _ _ _ _ refl c.in-Whole.is ∙ e) c.new_heading.ensures.err
+pub returns-in-Forward : goal.returns-in-Forward
+returns-in-Forward c = answered _ _ _ _ (introduce_Forward _ _ _ _ _ c.in-Forward.is) c.new_heading-in-Forward.ensures
 
-pub returns-in-Forward-clause-ok : goal.returns-in-Forward-clause-ok
-returns-in-Forward-clause-ok c = on_ok_weaker c.new_heading-in-Forward.result (λ e. introduce_Forward _ _ _ _ _ _ refl c.in-Forward.is ∙ e) c.new_heading-in-Forward.ensures.ok
-
-pub returns-in-Forward-clause-err : goal.returns-in-Forward-clause-err
-returns-in-Forward-clause-err c = still_refused _ _ _ (λ e. introduce_Forward _ _ _ _ _ _ refl c.in-Forward.is ∙ e) c.new_heading-in-Forward.ensures.err
-
-pub returns-in-Completion-clause-err : goal.returns-in-Completion-clause-err
-returns-in-Completion-clause-err c = λ told. introduce_Completion _ _ _ _ _ _ _ refl c.in-Completion.is
+pub returns-in_ok-rule-in-Completion : goal.returns-in_ok-rule-in-Completion
+returns-in_ok-rule-in-Completion c = told_as _ _ _ (introduce_Completion _ _ _ _ _ _ c.in-Completion.is) (search rules)

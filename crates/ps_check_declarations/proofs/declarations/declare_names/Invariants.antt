@@ -1,5 +1,5 @@
 use Rattle.ps_tree.specs.View.{type_of}
-use Rattle.ps_check_names.proofs.Lists.{Stepped}
+use Rattle.ps_check_judgement.proofs.Lists.{Stepped}
 use Rattle.ps_check_declarations.specs.Declarations.{declare_variable}
 use Rattle.ps_check_declarations.specs.Views.{declared_of}
 use Rattle.ps_check_declarations.proofs.declarations.declare_names.Given as goal

@@ -1,4 +1,4 @@
-use Rattle.ps_check_names.proofs.Lists.{Stepped}
+use Rattle.ps_check_judgement.proofs.Lists.{Stepped}
 use Rattle.ps_check_declarations.specs.Declarations.{define_type}
 use Rattle.ps_check_declarations.specs.Views.{frame_of, declared_of}
 use Rattle.ps_check_declarations.proofs.declarations.define_types.Given as goal

@@ -1,5 +1,5 @@
 use Rattle.std.proofs.Common.{◌≡◌}
-use Rattle.ps_check_names.proofs.Lists.{Stepped}
+use Rattle.ps_check_judgement.proofs.Lists.{Stepped}
 use Rattle.ps_check_declarations.specs.Declarations.{resolve_domain}
 use Rattle.ps_check_declarations.specs.Views.{frame_of, declared_of}
 use Rattle.ps_check_declarations.proofs.declarations.resolve_domains.Given as goal

@@ -1,19 +1,8 @@
-use Rattle.std.proofs.Common.{◌<◌, ◌≤◌, length, arith}
-use Rattle.ps_check_declarations.proofs.Walks.{walked_next_at, walked_fault_at, walked_end}
-use Rattle.ps_check_names.proofs.Refused.{refused}
+use Rattle.std.proofs.Common.{◌<◌, length, arith}
+use Rattle.ps_check_declarations.proofs.Walks.{at_own, walked_next}
 use Rattle.ps_check_declarations.proofs.points.add_constants.Goals as goal
 
 pub loop-definition-preserved : goal.loop-definition-preserved
 loop-definition-preserved c =
     let below : c.loop-definition.definition-index < length c.args.definitions.now = omega (arith, c.loop-definition-test.true) in
-    walked_next_at _ _ _ _ _ _ _ _ below c.loop-definition.invariant c.in_ok-add_constant.ensures.ok
-
-pub returns-in_err-add_constant-clause-err : goal.returns-in_err-add_constant-clause-err
-returns-in_err-add_constant-clause-err c =
-    let below : c.loop-definition.definition-index < length c.args.definitions.now = omega (arith, c.loop-definition-test.true) in
-    refused _ _ _ c.from_residual.ensures.1 (λ told. walked_fault_at _ _ _ _ _ _ _ below c.loop-definition.invariant (c.in_err-add_constant.ensures.err told))
-
-pub returns-clause-ok : goal.returns-clause-ok
-returns-clause-ok c =
-    let over : length c.args.definitions.now ≤ c.loop-definition.definition-index = omega (arith, c.loop-definition-test.false) in
-    walked_end _ _ _ _ _ _ over c.loop-definition.invariant
+    walked_next _ _ _ _ _ _ _ _ below (at_own _ _ _ below) c.loop-definition.invariant c.in_ok-add_constant.ensures

@@ -1,17 +1,8 @@
-use Rattle.std.proofs.Common.{refl, arith}
-use Rattle.ps_check_declarations.specs.Points.{variables_points}
-use Rattle.ps_check_declarations.proofs.Walks.{added_both, added_first, added_second}
-use Rattle.ps_check_names.proofs.Refused.{refused}
+use Rattle.std.proofs.Common.{sym, ap, ◌++◌}
+use Rattle.ps_check_declarations.specs.Points.{type_points, variables_points}
+use Rattle.ps_check_declarations.proofs.Walks.{both_added}
 use Rattle.ps_check_declarations.proofs.points.add_declaration.Goals as goal
 
-pub returns-in_err-add_type-clause-err : goal.returns-in_err-add_type-clause-err
+pub returns : goal.returns
 unfolding variables_points
-returns-in_err-add_type-clause-err c = refused _ _ _ c.from_residual.ensures.1 (λ told. added_first _ _ _ _ _ (c.in_err-add_type.ensures.err told) refl)
-
-pub returns-clause-ok : goal.returns-clause-ok
-unfolding variables_points
-returns-clause-ok c = grind (arith, added_both)
-
-pub returns-clause-err : goal.returns-clause-err
-unfolding variables_points
-returns-clause-err c = grind (arith, added_second)
+returns c = both_added _ _ _ _ _ _ _ _ c.in_ok-add_type.ensures c.add_points.ensures (ap (λ l. type_points c.args.declaration.now.ty ++ l) (sym c.as_slice.ensures))

@@ -1,370 +1,188 @@
-use Rattle.std.proofs.Common.{rules, ◌∙◌, sym, refl, arith}
+use Rattle.std.proofs.Common.{◌∙◌, sym, refl, arith}
 use Rattle.std.proofs.lemmas.Bool.{true≢false}
+use Rattle.ps_tree.specs.Tree as Tree
 use Rattle.ps_tree.specs.TypeView.{type_of}
 use Rattle.ps_tree.specs.View.{expr_of, argument_of, member_of}
-use Rattle.ps_tree.specs.Tree as Tree
-use Rattle.ps_check_names.specs.Views.{constant_of, meaning_of, section_of}
-use Rattle.ps_check_names.proofs.Lists.{stepped_next_map, stepped_fault_map}
+use Rattle.ps_check_judgement.proofs.Lists.{told_bind, handed_on}
+use Rattle.ps_check_judgement.proofs.Pairs.{pair_told, next_told}
+use Rattle.ps_check_names.specs.Views.{meaning_of, section_of}
 use Rattle.ps_check_names.proofs.ViewLemmas.{section_of_Routine}
 use Rattle.ps_check_expressions.specs.Values.{SimpleValue, argument_list}
 use Rattle.ps_check_expressions.specs.Calls.{actual, called}
-use Rattle.ps_check_expressions.specs.Expressions.{operand}
+use Rattle.ps_check_expressions.specs.Expressions.{constant_value, operand, simple_operand}
 use Rattle.ps_check_expressions.specs.View.{context_at, regions_at, value_of}
-use Rattle.ps_check_expressions.proofs.CallLemmas.{uneven_listed, fault_listed, both_added, made_of_both, gathered_next, no_member, unlike_member}
-use Rattle.ps_check_expressions.proofs.Equations.{operand_simple, operand_compare, factor_variable, factor_call, factor_number, factor_text, factor_nil, factor_set, factor_group, factor_not, select_index, select_field, select_content, add_term_is, multiply_factor_is, operand_first}
-use Rattle.ps_check_expressions.proofs.Judgement.{actuals_are, simple_value, term_value, variable_variable, value_alone, value_selected, member_one, member_range, term_variable, term_no_variable, simple_variable, simple_no_variable, signed_no_variable}
-use Rattle.ps_check_names.proofs.Refused.{refused, told_by, either_refused, both_refused}
+use Rattle.ps_check_expressions.proofs.CallLemmas.{fault_map, next_map, congruent_even, passed_next, passed_fault, passed_end, member_told, unlike_told, gathered_next}
+use Rattle.ps_check_expressions.proofs.RoutineLemmas.{still_answers, next_answers, next_passed, pair_answers, call_told}
+use Rattle.ps_check_expressions.proofs.RequiredLemmas.{only_one, of_input, of_value, factor_is_none}
+use Rattle.ps_check_expressions.proofs.FirstLemmas.{comparison_is_none, signed_is_none, sum_is_none}
+use Rattle.ps_check_expressions.proofs.Equations.{operand_simple, factor_variable, factor_call, factor_number, factor_nil, factor_set, factor_not, factor_first, operand_first}
+use Rattle.ps_check_expressions.proofs.Judgement.{compare_value, member_one, member_range, term_variable, term_no_variable, simple_variable}
 use Rattle.ps_check_expressions.proofs.expression.+expression.Goals as goal
 
-pub argument_all-returns-then-len-operands-clause-err : goal.argument_all-returns-then-len-operands-clause-err
-argument_all-returns-then-len-operands-clause-err t c = search (rules, uneven_listed)
+-- ---- operators and factors
 
-pub argument_all-loop-i-preserved : goal.argument_all-loop-i-preserved
-argument_all-loop-i-preserved t c =
-    both_added (λ s x. actual (context_at c.args.site) (regions_at c.args.site) s (operand (context_at c.args.site) (regions_at c.args.site) x)) (λ s. section_of s.now) argument_of c.in_ok-formals.formals.items c.args.operands.now c.loop-i.i c.loop-i.list.items c.index.result.now c.index-operands-i.result c.argument.result _ (omega arith) c.loop-i-test.true c.index.ensures c.index-operands-i.is c.loop-i.invariant c.argument.ensures.ok c.in_ok-push_answer.ensures.ok
+pub compared_value-returns-in_err-left-in-Compare : goal.compared_value-returns-in_err-left-in-Compare
+compared_value-returns-in_err-left-in-Compare t c =
+    handed_on _ _ _ _ c.from_residual.ensures.1 (rw (c.in-Compare.is, compare_value, ← c.get-right.ensures) (next_told _ _ (λ v. value_of v) (λ v. (value_of v, c.simple_value-in-Compare.new.changes.items)) c.simple_value-left.new.changes.items _ (simple_operand (context_at c.args.site) (regions_at c.args.site) c.get-right.result.now).value _ _ c.simple_value-left.ensures c.simple_value-in-Compare.ensures c.in_err-left-in-Compare.ensures))
 
-pub argument-returns-in_ok-found-in-Some-clause-ok : goal.argument-returns-in_ok-found-in-Some-clause-ok
-unfolding actual
-argument-returns-in_ok-found-in-Some-clause-ok t c = rw (c.in-Routine.is, section_of_Routine, c.name_alone.ensures (context_at c.args.site) (regions_at c.args.site), c.in-Some.is, c.in_ok-found-in-Some.ensures.ok, ← c.deref.ensures, ← c.deref-in-Some.ensures.value) c.by_routine.ensures.ok
+pub compared_value-returns-in_ok-left-in-Compare : goal.compared_value-returns-in_ok-left-in-Compare
+compared_value-returns-in_ok-left-in-Compare t c =
+    rw (c.in-Compare.is, compare_value, ← c.get-right.ensures, ← c.first_token.ensures, ← c.first_token-in-Compare.ensures) (next_answers _ _ _ _ (λ v. value_of v) (λ v. (value_of v, c.simple_value-in-Compare.new.changes.items)) c.simple_value-left.new.changes.items _ (simple_operand (context_at c.args.site) (regions_at c.args.site) c.get-right.result.now).value _ _ _ c.simple_value-left.ensures c.simple_value-in-Compare.ensures c.in_ok-left-in-Compare.ensures (still_answers _ _ _ _ c.compared.ensures))
 
-pub argument-returns-in_ok-found-in-Some-clause-err : goal.argument-returns-in_ok-found-in-Some-clause-err
-unfolding actual
-argument-returns-in_ok-found-in-Some-clause-err t c = rw (c.in-Routine.is, section_of_Routine, c.name_alone.ensures (context_at c.args.site) (regions_at c.args.site), c.in-Some.is, c.in_ok-found-in-Some.ensures.ok, ← c.deref.ensures, ← c.deref-in-Some.ensures.value) c.by_routine.ensures.err
+pub factor_value-returns-in_ok-found-in-Call : goal.factor_value-returns-in_ok-found-in-Call
+factor_value-returns-in_ok-found-in-Call t c = rw (c.in-Call.is, factor_call, c.in_ok-found-in-Call.ensures, ← c.as_slice.ensures) c.call_value.ensures
 
-pub index_all-returns-in_err-place-clause-err : goal.index_all-returns-in_err-place-clause-err
-index_all-returns-in_err-place-clause-err t c =
-    refused _ _ _ c.from_residual.ensures.1 (λ told. stepped_fault_map _ _ _ _ _ _ c.index-item.result c.loop-index-test.true c.index-item.is c.loop-index.invariant (c.in_err-place.ensures.err told))
+pub factor_value-returns-in-Number : goal.factor_value-returns-in-Number
+unfolding constant_value
+factor_value-returns-in-Number t c = rw (c.in-Number.is, factor_number, c.number_value.ensures) refl
+
+pub factor_value-returns-in-Nil : goal.factor_value-returns-in-Nil
+unfolding value_of type_of expr_of
+factor_value-returns-in-Nil t c = rw (c.in-Nil.is, factor_nil) refl
+
+pub factor_value-returns-in-Set : goal.factor_value-returns-in-Set
+factor_value-returns-in-Set t c = rw (c.in-Set.is, factor_set, ← c.as_slice-in-Set.ensures) c.set_value.ensures
+
+pub factor_value-returns-in-Not : goal.factor_value-returns-in-Not
+factor_value-returns-in-Not t c = rw (c.in-Not.is, factor_not, ← c.get-in-Not.ensures) c.negated_value.ensures
+
+pub negated_value-returns : goal.negated_value-returns
+negated_value-returns t c = rw (c.in_ok-operand.ensures, factor_first (context_at c.args.site) (regions_at c.args.site) c.args.x.now, ← c.first_token-at.ensures) (still_answers _ _ _ _ c.negated.ensures)
+
+-- ---- indices and members
+
+pub index_one-returns : goal.index_one-returns
+index_one-returns t c = rw (c.in_ok-value.ensures, operand_first, ← c.first_token-first.ensures, ← c.line-line.ensures) (still_answers _ _ _ _ c.element.ensures)
+
+pub index_all-returns-in_err-place : goal.index_all-returns-in_err-place
+index_all-returns-in_err-place t c =
+    handed_on _ _ _ _ c.from_residual.ensures.1 (fault_map _ _ _ _ _ _ c.index-item.result _ c.loop-index-test.true c.index-item.is c.loop-index.invariant c.in_err-place.ensures)
 
 pub index_all-loop-index-preserved : goal.index_all-loop-index-preserved
 index_all-loop-index-preserved t c =
-    stepped_next_map _ _ _ _ _ _ c.index-item.result _ c.loop-index-test.true c.index-item.is c.loop-index.invariant c.in_ok-place.ensures.ok
+    next_map _ _ _ _ _ _ c.index-item.result _ c.loop-index-test.true c.index-item.is c.loop-index.invariant c.in_ok-place.ensures
 
-pub set_value-returns-in_err-member-clause-err : goal.set_value-returns-in_err-member-clause-err
-set_value-returns-in_err-member-clause-err t c =
-    refused _ _ _ c.from_residual.ensures.1 (λ told. no_member (context_at c.args.site) (regions_at c.args.site) c.args.members.now c.loop-x.x-index c.loop-x.list.items c.loop-x.base c.x-item.result c.loop-x-test.true c.x-item.is c.loop-x.invariant (c.in_err-member.ensures.err told))
+pub set_value-returns-in_err-member : goal.set_value-returns-in_err-member
+set_value-returns-in_err-member t c =
+    handed_on _ _ _ _ c.from_residual.ensures.1 (member_told (context_at c.args.site) (regions_at c.args.site) c.args.members.now _ c.loop-x.x-index c.loop-x.list.items c.loop-x.base _ c.x-item.result _ c.loop-x-test.true c.x-item.is c.loop-x.invariant c.in_err-member.ensures)
 
-pub set_value-returns-in_err-joined-clause-err : goal.set_value-returns-in_err-joined-clause-err
-set_value-returns-in_err-joined-clause-err t c =
-    refused _ _ _ c.from_residual-in_err-joined.ensures.1 (λ told. unlike_member (context_at c.args.site) (regions_at c.args.site) c.args.members.now c.loop-x.x-index c.loop-x.list.items c.loop-x.base c.x-item.result _ _ c.loop-x-test.true c.x-item.is c.loop-x.invariant c.in_ok-member.ensures.ok (c.in_err-joined.ensures.err told))
+pub set_value-returns-in_err-joined : goal.set_value-returns-in_err-joined
+set_value-returns-in_err-joined t c =
+    handed_on _ _ _ _ c.from_residual-in_err-joined.ensures.1 (unlike_told (context_at c.args.site) (regions_at c.args.site) c.args.members.now _ c.loop-x.x-index c.loop-x.list.items c.loop-x.base _ _ c.x-item.result _ _ _ c.loop-x-test.true c.x-item.is c.loop-x.invariant c.in_ok-member.ensures (rw (← c.first_token.ensures) (c.in_err-joined.ensures _ _)))
 
 pub set_value-loop-x-preserved : goal.set_value-loop-x-preserved
 set_value-loop-x-preserved t c =
-    gathered_next (context_at c.args.site) (regions_at c.args.site) c.args.members.now c.loop-x.x-index c.loop-x.list.items c.push.new.self.items c.loop-x.base c.x-item.result c.in_ok-member.member c.in_ok-member.ordinal c.in_ok-joined.field-0 c.loop-x-test.true c.x-item.is c.loop-x.invariant c.in_ok-member.ensures.ok c.in_ok-joined.ensures.ok c.in_ok-push.ensures.items
+    gathered_next (context_at c.args.site) (regions_at c.args.site) c.args.members.now _ c.loop-x.x-index c.loop-x.list.items c.push.new.self.items c.loop-x.base _ _ c.x-item.result c.in_ok-member.member c.in_ok-member.ordinal c.in_ok-joined.field-0 c.loop-x-test.true c.x-item.is c.loop-x.invariant c.in_ok-member.ensures (rw (← c.first_token.ensures) (c.in_ok-joined.ensures _ _)) c.in_ok-push.ensures.items
 
-pub simple_value-returns-clause-err : goal.simple_value-returns-clause-err
-simple_value-returns-clause-err t c = rw (simple_value, c.in_ok-term.ensures.ok, c.in_ok-first.ensures.ok, ← c.as_slice.ensures) c.add_terms.ensures.err
-
-pub term_value-returns-clause-err : goal.term_value-returns-clause-err
-term_value-returns-clause-err t c = rw (term_value, c.in_ok-first.ensures.ok, ← c.as_slice.ensures) c.multiply_factors.ensures.err
-
-pub variable_place-returns-clause-err : goal.variable_place-returns-clause-err
-variable_place-returns-clause-err t c = rw (variable_variable, c.in_ok-found.ensures.ok, c.in_ok-entire.ensures.ok, ← c.as_slice.ensures) c.select_all.ensures.err
-
-pub simple_value-returns-clause-ok : goal.simple_value-returns-clause-ok
-simple_value-returns-clause-ok t c = rw (simple_value, c.in_ok-term.ensures.ok, c.in_ok-first.ensures.ok, ← c.as_slice.ensures) c.add_terms.ensures.ok
-
-pub term_value-returns-clause-ok : goal.term_value-returns-clause-ok
-term_value-returns-clause-ok t c = rw (term_value, c.in_ok-first.ensures.ok, ← c.as_slice.ensures) c.multiply_factors.ensures.ok
-
-pub variable_place-returns-clause-ok : goal.variable_place-returns-clause-ok
-variable_place-returns-clause-ok t c = rw (variable_variable, c.in_ok-found.ensures.ok, c.in_ok-entire.ensures.ok, ← c.as_slice.ensures) c.select_all.ensures.ok
-
-pub expr_value-returns-else-is_one_factor-clause-ok : goal.expr_value-returns-else-is_one_factor-clause-ok
-expr_value-returns-else-is_one_factor-clause-ok t c = rw (c.in-Simple.is, operand_simple) c.simple_value.ensures.ok
-
-pub expr_value-returns-else-is_one_factor-clause-err : goal.expr_value-returns-else-is_one_factor-clause-err
-expr_value-returns-else-is_one_factor-clause-err t c = rw (c.in-Simple.is, operand_simple) c.simple_value.ensures.err
-
-pub expr_value-returns-then-is_one_factor-clause-ok : goal.expr_value-returns-then-is_one_factor-clause-ok
-expr_value-returns-then-is_one_factor-clause-ok t c = rw (c.in-Simple.is, operand_simple, c.is_one_factor.ensures c.if-is_one_factor.true (context_at c.args.site) (regions_at c.args.site)) c.factor_value.ensures.ok
-
-pub expr_value-returns-then-is_one_factor-clause-err : goal.expr_value-returns-then-is_one_factor-clause-err
-expr_value-returns-then-is_one_factor-clause-err t c = rw (c.in-Simple.is, operand_simple, c.is_one_factor.ensures c.if-is_one_factor.true (context_at c.args.site) (regions_at c.args.site)) c.factor_value.ensures.err
-
-pub compared_value-returns-in-Simple-clause-ok : goal.compared_value-returns-in-Simple-clause-ok
-compared_value-returns-in-Simple-clause-ok t c = rw (c.in-Simple.is, operand_simple) c.simple_value.ensures.ok
-
-pub compared_value-returns-in-Simple-clause-err : goal.compared_value-returns-in-Simple-clause-err
-compared_value-returns-in-Simple-clause-err t c = rw (c.in-Simple.is, operand_simple) c.simple_value.ensures.err
-
-pub compared_value-returns-in_ok-left-in-Compare-clause-ok : goal.compared_value-returns-in_ok-left-in-Compare-clause-ok
-compared_value-returns-in_ok-left-in-Compare-clause-ok t c =
-    let h = rw c.in_ok-left-in-Compare.ensures.first at c.simple_value-in-Compare.ensures.ok in
-    let k = rw c.in_ok-left-in-Compare.ensures.second at c.simple_value-in-Compare-2.ensures.ok in
-    rw (c.in-Compare.is, operand_compare, ← c.get-right.ensures, h, k) c.compared.ensures.ok
-
-pub compared_value-returns-in_ok-left-in-Compare-clause-err : goal.compared_value-returns-in_ok-left-in-Compare-clause-err
-compared_value-returns-in_ok-left-in-Compare-clause-err t c =
-    let h = rw c.in_ok-left-in-Compare.ensures.first at c.simple_value-in-Compare.ensures.ok in
-    let k = rw c.in_ok-left-in-Compare.ensures.second at c.simple_value-in-Compare-2.ensures.ok in
-    rw (c.in-Compare.is, operand_compare, ← c.get-right.ensures, h, k) c.compared.ensures.err
-
-pub compared_value-returns-in_err-left-in-Compare-clause-err : goal.compared_value-returns-in_err-left-in-Compare-clause-err
-compared_value-returns-in_err-left-in-Compare-clause-err t c =
-    refused _ _ _ c.from_residual.ensures.1 (λ told. rw (c.in-Compare.is, operand_compare, ← c.get-right.ensures) (either_refused _ _ _ _ _ _ c.in_err-left-in-Compare.ensures.err c.simple_value-in-Compare.ensures.err c.simple_value-in-Compare-2.ensures.err told))
-
-pub simple_value-returns-in_err-first-clause-err : goal.simple_value-returns-in_err-first-clause-err
-simple_value-returns-in_err-first-clause-err t c = refused _ _ _ c.from_residual-in_err-first.ensures.1 (λ told. rw (simple_value, c.in_ok-term.ensures.ok, c.in_err-first.ensures.err told) refl)
-
-pub simple_value-returns-in_err-term-clause-err : goal.simple_value-returns-in_err-term-clause-err
-simple_value-returns-in_err-term-clause-err t c = refused _ _ _ c.from_residual.ensures.1 (λ told. rw (simple_value, c.in_err-term.ensures.err told) refl)
-
-pub add_term-returns-clause-ok : goal.add_term-returns-clause-ok
-add_term-returns-clause-ok t c = rw (add_term_is, c.in_ok-right.ensures.ok, ← c.line-line.ensures) c.added.ensures.ok
-
-pub add_term-returns-clause-err : goal.add_term-returns-clause-err
-add_term-returns-clause-err t c = rw (add_term_is, c.in_ok-right.ensures.ok, ← c.line-line.ensures) c.added.ensures.err
-
-pub add_term-returns-in_err-right-clause-err : goal.add_term-returns-in_err-right-clause-err
-add_term-returns-in_err-right-clause-err t c = refused _ _ _ c.from_residual.ensures.1 (λ told. rw (add_term_is, c.in_err-right.ensures.err told) refl)
-
-pub term_value-returns-in_err-first-clause-err : goal.term_value-returns-in_err-first-clause-err
-term_value-returns-in_err-first-clause-err t c = refused _ _ _ c.from_residual.ensures.1 (λ told. rw (term_value, c.in_err-first.ensures.err told) refl)
-
-pub multiply_factor-returns-clause-ok : goal.multiply_factor-returns-clause-ok
-multiply_factor-returns-clause-ok t c = rw (multiply_factor_is, c.in_ok-right.ensures.ok, ← c.line-line.ensures) c.multiplied.ensures.ok
-
-pub multiply_factor-returns-clause-err : goal.multiply_factor-returns-clause-err
-multiply_factor-returns-clause-err t c = rw (multiply_factor_is, c.in_ok-right.ensures.ok, ← c.line-line.ensures) c.multiplied.ensures.err
-
-pub multiply_factor-returns-in_err-right-clause-err : goal.multiply_factor-returns-in_err-right-clause-err
-multiply_factor-returns-in_err-right-clause-err t c = refused _ _ _ c.from_residual.ensures.1 (λ told. rw (multiply_factor_is, c.in_err-right.ensures.err told) refl)
-
-pub factor_value-returns-in-Group-clause-ok : goal.factor_value-returns-in-Group-clause-ok
-factor_value-returns-in-Group-clause-ok t c = rw (c.in-Group.is, factor_group, ← c.get.ensures) c.expr_value.ensures.ok
-
-pub factor_value-returns-in-Group-clause-err : goal.factor_value-returns-in-Group-clause-err
-factor_value-returns-in-Group-clause-err t c = rw (c.in-Group.is, factor_group, ← c.get.ensures) c.expr_value.ensures.err
-
-pub factor_value-returns-in-Not-clause-ok : goal.factor_value-returns-in-Not-clause-ok
-factor_value-returns-in-Not-clause-ok t c = rw (c.in-Not.is, factor_not, ← c.get-in-Not.ensures) c.negated_value.ensures.ok
-
-pub factor_value-returns-in-Not-clause-err : goal.factor_value-returns-in-Not-clause-err
-factor_value-returns-in-Not-clause-err t c = rw (c.in-Not.is, factor_not, ← c.get-in-Not.ensures) c.negated_value.ensures.err
-
-pub factor_value-returns-in-Set-clause-ok : goal.factor_value-returns-in-Set-clause-ok
-factor_value-returns-in-Set-clause-ok t c = rw (c.in-Set.is, factor_set, ← c.as_slice-in-Set.ensures) c.set_value.ensures.ok
-
-pub factor_value-returns-in-Set-clause-err : goal.factor_value-returns-in-Set-clause-err
-factor_value-returns-in-Set-clause-err t c = rw (c.in-Set.is, factor_set, ← c.as_slice-in-Set.ensures) c.set_value.ensures.err
-
-pub factor_value-returns-in-Variable-clause-ok : goal.factor_value-returns-in-Variable-clause-ok
-factor_value-returns-in-Variable-clause-ok t c = rw (c.in-Variable.is, factor_variable) c.variable_value.ensures.ok
-
-pub factor_value-returns-in-Variable-clause-err : goal.factor_value-returns-in-Variable-clause-err
-factor_value-returns-in-Variable-clause-err t c = rw (c.in-Variable.is, factor_variable) c.variable_value.ensures.err
-
-pub factor_value-returns-in_err-found-in-Call-clause-err : goal.factor_value-returns-in_err-found-in-Call-clause-err
-factor_value-returns-in_err-found-in-Call-clause-err t c = refused _ _ _ c.from_residual.ensures.1 (λ told. rw (c.in-Call.is, factor_call, c.in_err-found-in-Call.ensures.err told) refl)
-
-pub factor_value-returns-in_ok-found-in-Call-clause-ok : goal.factor_value-returns-in_ok-found-in-Call-clause-ok
-factor_value-returns-in_ok-found-in-Call-clause-ok t c = rw (c.in-Call.is, factor_call, c.in_ok-found-in-Call.ensures.ok, ← c.as_slice.ensures) c.call_value.ensures.ok
-
-pub factor_value-returns-in_ok-found-in-Call-clause-err : goal.factor_value-returns-in_ok-found-in-Call-clause-err
-factor_value-returns-in_ok-found-in-Call-clause-err t c = rw (c.in-Call.is, factor_call, c.in_ok-found-in-Call.ensures.ok, ← c.as_slice.ensures) c.call_value.ensures.err
-
-pub factor_value-returns-in_ok-text_at-in-Text-clause-ok : goal.factor_value-returns-in_ok-text_at-in-Text-clause-ok
-factor_value-returns-in_ok-text_at-in-Text-clause-ok t c = rw (c.in-Text.is, factor_text, ← c.in_ok-text_at-in-Text.ensures) c.of_constant-in-Text.ensures.ok
-
-pub factor_value-returns-in_ok-text_at-in-Text-clause-err : goal.factor_value-returns-in_ok-text_at-in-Text-clause-err
-factor_value-returns-in_ok-text_at-in-Text-clause-err t c = rw (c.in-Text.is, factor_text, ← c.in_ok-text_at-in-Text.ensures) c.of_constant-in-Text.ensures.err
-
-pub factor_value-returns-in-Number-clause-ok : goal.factor_value-returns-in-Number-clause-ok
-unfolding constant_of
-factor_value-returns-in-Number-clause-ok t c = grind (arith, factor_number)
-
-pub factor_value-returns-in-Number-clause-err : goal.factor_value-returns-in-Number-clause-err
-unfolding constant_of
-factor_value-returns-in-Number-clause-err t c = grind (arith, factor_number)
-
-pub member_value-returns-in_err-expr_value-in-One-clause-err : goal.member_value-returns-in_err-expr_value-in-One-clause-err
-member_value-returns-in_err-expr_value-in-One-clause-err t c = refused _ _ _ c.from_residual.ensures.1 (λ told. rw (c.in-One.is, member_one, ← c.get-only.ensures, c.in_err-expr_value-in-One.ensures.err told) refl)
-
-pub member_value-returns-in_err-value-in-One-clause-err : goal.member_value-returns-in_err-value-in-One-clause-err
-member_value-returns-in_err-value-in-One-clause-err t c = refused _ _ _ c.from_residual-in_err-value-in-One.ensures.1 (λ told. rw (c.in-One.is, member_one, ← c.get-only.ensures, c.in_ok-expr_value-in-One.ensures.ok, c.in_err-value-in-One.ensures.err told) refl)
-
-pub member_value-returns-in_ok-value-in-One-clause-ok : goal.member_value-returns-in_ok-value-in-One-clause-ok
+pub member_value-returns-in_ok-value-in-One : goal.member_value-returns-in_ok-value-in-One
 unfolding member_of
-member_value-returns-in_ok-value-in-One-clause-ok t c = rw (c.in-One.is, member_one, ← c.get-only.ensures, c.in_ok-expr_value-in-One.ensures.ok, c.in_ok-value-in-One.ensures.ok, ← c.first_token-at.ensures, ← c.line-line.ensures) refl
+member_value-returns-in_ok-value-in-One t c =
+    rw (c.in-One.is, member_one, ← c.get-only.ensures, c.in_ok-expr_value-in-One.ensures, ← c.first_token-at.ensures, c.in_ok-value-in-One.ensures, ← c.line-line.ensures) refl
 
-pub member_value-returns-in_err-from-in-Range-clause-err : goal.member_value-returns-in_err-from-in-Range-clause-err
-member_value-returns-in_err-from-in-Range-clause-err t c =
-    refused _ _ _ c.from_residual-in_err-from-in-Range.ensures.1 (λ told. rw (c.in-Range.is, member_range, ← c.get-from.ensures, ← c.get-to.ensures) (either_refused _ _ _ _ _ _ c.in_err-from-in-Range.ensures.err c.expr_value-in-Range.ensures.err c.expr_value-in-Range-2.ensures.err told))
+pub member_value-returns-in_err-from-in-Range : goal.member_value-returns-in_err-from-in-Range
+member_value-returns-in_err-from-in-Range t c =
+    handed_on _ _ _ _ c.from_residual-in_err-from-in-Range.ensures.1 (rw (c.in-Range.is, member_range, ← c.get-from.ensures, ← c.get-to.ensures) (next_told _ _ (λ v. value_of v) (λ v. (value_of v, c.expr_value-in-Range.new.changes.items)) c.expr_value-from.new.changes.items _ (operand (context_at c.args.site) (regions_at c.args.site) c.get-to.result.now).value _ _ c.expr_value-from.ensures c.expr_value-in-Range.ensures c.in_err-from-in-Range.ensures))
 
-pub member_value-returns-in_err-from-in-Range-2-clause-err : goal.member_value-returns-in_err-from-in-Range-2-clause-err
-member_value-returns-in_err-from-in-Range-2-clause-err t c =
-    let h = rw c.in_ok-from-in-Range.ensures.first at c.expr_value-in-Range.ensures.ok in
-    let k = rw c.in_ok-from-in-Range.ensures.second at c.expr_value-in-Range-2.ensures.ok in
-    refused _ _ _ c.from_residual-in_err-from-in-Range-2.ensures.1 (λ told. rw (c.in-Range.is, member_range, ← c.get-from.ensures, ← c.get-to.ensures, h, k) (either_refused _ _ _ _ _ _ c.in_err-from-in-Range-2.ensures.err c.ordinal_of-in-Range.ensures.err c.ordinal_of-in-Range-2.ensures.err told))
+pub member_value-returns-in_err-from-in-Range-2 : goal.member_value-returns-in_err-from-in-Range-2
+member_value-returns-in_err-from-in-Range-2 t c =
+    handed_on _ _ _ _ c.from_residual-in_err-from-in-Range-2.ensures.1 (rw (c.in-Range.is, member_range, ← c.get-from.ensures, ← c.get-to.ensures, ← c.first_token.ensures, ← c.first_token-in-Range.ensures) (next_passed _ _ _ (λ v. value_of v) (λ v. (value_of v, c.expr_value-in-Range.new.changes.items)) c.expr_value-from.new.changes.items _ (operand (context_at c.args.site) (regions_at c.args.site) c.get-to.result.now).value _ _ _ c.expr_value-from.ensures c.expr_value-in-Range.ensures c.in_ok-from-in-Range.ensures (told_bind _ _ _ (pair_told _ _ _ _ _ _ _ _ c.ordinal_of-in-Range.ensures c.ordinal_of-in-Range-2.ensures c.in_err-from-in-Range-2.ensures))))
 
-pub member_value-returns-in_ok-from-in-Range-2-clause-ok : goal.member_value-returns-in_ok-from-in-Range-2-clause-ok
-member_value-returns-in_ok-from-in-Range-2-clause-ok t c =
-    let h = rw c.in_ok-from-in-Range.ensures.first at c.expr_value-in-Range.ensures.ok in
-    let k = rw c.in_ok-from-in-Range.ensures.second at c.expr_value-in-Range-2.ensures.ok in
-    let first = rw c.in_ok-from-in-Range-2.ensures.first at c.ordinal_of-in-Range.ensures.ok in
-    let last = rw c.in_ok-from-in-Range-2.ensures.second at c.ordinal_of-in-Range-2.ensures.ok in
-    rw (c.in-Range.is, member_range, ← c.get-from.ensures, ← c.get-to.ensures, h, k, first, last, ← c.first_token.ensures) c.range.ensures.ok
+pub member_value-returns-in_ok-from-in-Range-2 : goal.member_value-returns-in_ok-from-in-Range-2
+member_value-returns-in_ok-from-in-Range-2 t c =
+    rw (c.in-Range.is, member_range, ← c.get-from.ensures, ← c.get-to.ensures, ← c.first_token.ensures, ← c.first_token-in-Range.ensures) (next_answers _ _ _ _ (λ v. value_of v) (λ v. (value_of v, c.expr_value-in-Range.new.changes.items)) c.expr_value-from.new.changes.items _ (operand (context_at c.args.site) (regions_at c.args.site) c.get-to.result.now).value _ _ _ c.expr_value-from.ensures c.expr_value-in-Range.ensures c.in_ok-from-in-Range.ensures (still_answers _ _ _ _ (pair_answers _ _ _ _ _ _ _ _ _ _ _ c.ordinal_of-in-Range.ensures c.ordinal_of-in-Range-2.ensures c.in_ok-from-in-Range-2.ensures c.range.ensures)))
 
-pub member_value-returns-in_ok-from-in-Range-2-clause-err : goal.member_value-returns-in_ok-from-in-Range-2-clause-err
-member_value-returns-in_ok-from-in-Range-2-clause-err t c =
-    let h = rw c.in_ok-from-in-Range.ensures.first at c.expr_value-in-Range.ensures.ok in
-    let k = rw c.in_ok-from-in-Range.ensures.second at c.expr_value-in-Range-2.ensures.ok in
-    let first = rw c.in_ok-from-in-Range-2.ensures.first at c.ordinal_of-in-Range.ensures.ok in
-    let last = rw c.in_ok-from-in-Range-2.ensures.second at c.ordinal_of-in-Range-2.ensures.ok in
-    rw (c.in-Range.is, member_range, ← c.get-from.ensures, ← c.get-to.ensures, h, k, first, last, ← c.first_token.ensures) c.range.ensures.err
+-- ---- what is a variable alone
 
-pub variable_value-returns-in_err-found-clause-err : goal.variable_value-returns-in_err-found-clause-err
-variable_value-returns-in_err-found-clause-err t c = refused _ _ _ c.from_residual.ensures.1 (λ told. rw (value_alone (context_at c.args.site) (regions_at c.args.site) c.args.x.now (c.is_empty.ensures.0 c.if-is_empty.true), c.in_err-found.ensures.err told) refl)
+pub referent-returns-in-Compare : goal.referent-returns-in-Compare
+referent-returns-in-Compare t c = rw (c.broken.ensures, comparison_is_none (context_at c.args.site) (regions_at c.args.site) c.args.x.now _ _ _ _ c.in-Compare.is, ← c.first_token.ensures) refl
 
-pub variable_value-returns-in_ok-found-clause-ok : goal.variable_value-returns-in_ok-found-clause-ok
-variable_value-returns-in_ok-found-clause-ok t c = rw (value_alone (context_at c.args.site) (regions_at c.args.site) c.args.x.now (c.is_empty.ensures.0 c.if-is_empty.true), c.in_ok-found.ensures.ok) c.standing.ensures.ok
+pub referent-returns-in-Some : goal.referent-returns-in-Some
+referent-returns-in-Some t c = rw (c.broken-in-Some.ensures, signed_is_none (context_at c.args.site) (regions_at c.args.site) c.args.x.now _ _ c.in-Simple.is c.in-Some.is, ← c.first_token-in-Some.ensures) refl
 
-pub variable_value-returns-in_ok-found-clause-err : goal.variable_value-returns-in_ok-found-clause-err
-variable_value-returns-in_ok-found-clause-err t c = rw (value_alone (context_at c.args.site) (regions_at c.args.site) c.args.x.now (c.is_empty.ensures.0 c.if-is_empty.true), c.in_ok-found.ensures.ok) c.standing.ensures.err
+pub referent-returns-then-is_empty : goal.referent-returns-then-is_empty
+referent-returns-then-is_empty t c =
+    rw (c.in-Simple.is, operand_simple, simple_variable (context_at c.args.site) (regions_at c.args.site) c.in-Simple.simple c.in-None.is (c.is_empty.ensures.0 c.if-is_empty.true)) c.term_referent.ensures
 
-pub variable_value-returns-in_err-variable-clause-err : goal.variable_value-returns-in_err-variable-clause-err
-variable_value-returns-in_err-variable-clause-err t c = refused _ _ _ c.from_residual-in_err-variable.ensures.1 (λ told. rw (value_selected (context_at c.args.site) (regions_at c.args.site) c.args.x.now (λ none. true≢false (sym (c.is_empty.ensures.1 none) ∙ c.if-is_empty.false)), c.in_err-variable.ensures.err told) refl)
+pub referent-returns-else-is_empty : goal.referent-returns-else-is_empty
+referent-returns-else-is_empty t c =
+    rw (c.broken-else-is_empty.ensures, sum_is_none (context_at c.args.site) (regions_at c.args.site) c.args.x.now _ c.in-Simple.is (λ none. true≢false (sym (c.is_empty.ensures.1 none) ∙ c.if-is_empty.false)), ← c.first_token-else-is_empty.ensures) refl
 
-pub variable_value-returns-in_ok-variable-clause-ok : goal.variable_value-returns-in_ok-variable-clause-ok
-variable_value-returns-in_ok-variable-clause-ok t c = rw (value_selected (context_at c.args.site) (regions_at c.args.site) c.args.x.now (λ none. true≢false (sym (c.is_empty.ensures.1 none) ∙ c.if-is_empty.false)), c.in_ok-variable.ensures.ok) c.loaded.ensures.ok
+pub term_referent-returns-in-Variable : goal.term_referent-returns-in-Variable
+term_referent-returns-in-Variable t c =
+    rw (term_variable (context_at c.args.site) (regions_at c.args.site) c.args.x.now (c.is_empty.ensures.0 c.if-not-is_empty.false), c.in-Variable.is, factor_variable) c.variable_place.ensures
 
-pub variable_value-returns-in_ok-variable-clause-err : goal.variable_value-returns-in_ok-variable-clause-err
-variable_value-returns-in_ok-variable-clause-err t c = rw (value_selected (context_at c.args.site) (regions_at c.args.site) c.args.x.now (λ none. true≢false (sym (c.is_empty.ensures.1 none) ∙ c.if-is_empty.false)), c.in_ok-variable.ensures.ok) c.loaded.ensures.err
+pub term_referent-returns-then-not-is_empty : goal.term_referent-returns-then-not-is_empty
+term_referent-returns-then-not-is_empty t c =
+    rw (c.broken.ensures, term_no_variable (context_at c.args.site) (regions_at c.args.site) c.args.x.now (λ none. true≢false (sym (c.is_empty.ensures.1 none) ∙ c.if-not-is_empty.true)), ← c.first_token.ensures) refl
 
-pub variable_place-returns-in_err-entire-clause-err : goal.variable_place-returns-in_err-entire-clause-err
-variable_place-returns-in_err-entire-clause-err t c = refused _ _ _ c.from_residual-in_err-entire.ensures.1 (λ told. rw (variable_variable, c.in_ok-found.ensures.ok, c.in_err-entire.ensures.err told) refl)
+pub term_referent-returns-in-Call : goal.term_referent-returns-in-Call
+term_referent-returns-in-Call t c =
+    rw (c.broken-in-Call.ensures, factor_is_none (context_at c.args.site) (regions_at c.args.site) c.args.x.now (c.is_empty.ensures.0 c.if-not-is_empty.false) c.in-Call.is, ← c.first_token-in-Call.ensures) refl
 
-pub variable_place-returns-in_err-found-clause-err : goal.variable_place-returns-in_err-found-clause-err
-variable_place-returns-in_err-found-clause-err t c = refused _ _ _ c.from_residual.ensures.1 (λ told. rw (variable_variable, c.in_err-found.ensures.err told) refl)
+-- ---- actual parameters
 
-pub select-returns-in-Content-clause-ok : goal.select-returns-in-Content-clause-ok
-select-returns-in-Content-clause-ok t c = rw (c.in-Content.is, select_content, ← c.line-line.ensures) c.target.ensures.ok
-
-pub select-returns-in-Content-clause-err : goal.select-returns-in-Content-clause-err
-select-returns-in-Content-clause-err t c = rw (c.in-Content.is, select_content, ← c.line-line.ensures) c.target.ensures.err
-
-pub select-returns-in-Index-clause-ok : goal.select-returns-in-Index-clause-ok
-select-returns-in-Index-clause-ok t c = rw (c.in-Index.is, select_index, ← c.as_slice.ensures) c.index_all.ensures.ok
-
-pub select-returns-in-Index-clause-err : goal.select-returns-in-Index-clause-err
-select-returns-in-Index-clause-err t c = rw (c.in-Index.is, select_index, ← c.as_slice.ensures) c.index_all.ensures.err
-
-pub select-returns-in_ok-spelling-in-Field-clause-ok : goal.select-returns-in_ok-spelling-in-Field-clause-ok
-select-returns-in_ok-spelling-in-Field-clause-ok t c = rw (c.in-Field.is, select_field, ← c.in_ok-spelling-in-Field.ensures, ← c.as_slice-in-Field.ensures) c.component.ensures.ok
-
-pub select-returns-in_ok-spelling-in-Field-clause-err : goal.select-returns-in_ok-spelling-in-Field-clause-err
-select-returns-in_ok-spelling-in-Field-clause-err t c = rw (c.in-Field.is, select_field, ← c.in_ok-spelling-in-Field.ensures, ← c.as_slice-in-Field.ensures) c.component.ensures.err
-
-pub index_one-returns-clause-ok : goal.index_one-returns-clause-ok
-index_one-returns-clause-ok t c = rw (c.in_ok-value.ensures.ok, operand_first, ← c.first_token-first.ensures, ← c.line-line.ensures) c.element.ensures.ok
-
-pub index_one-returns-clause-err : goal.index_one-returns-clause-err
-index_one-returns-clause-err t c = rw (c.in_ok-value.ensures.ok, operand_first, ← c.first_token-first.ensures, ← c.line-line.ensures) c.element.ensures.err
-
-pub referent-returns-else-is_empty-clause-err : goal.referent-returns-else-is_empty-clause-err
-referent-returns-else-is_empty-clause-err t c = λ told. rw (c.in-Simple.is, operand_simple, simple_no_variable (context_at c.args.site) (regions_at c.args.site) c.in-Simple.simple (λ none. true≢false (sym (c.is_empty.ensures.1 none) ∙ c.if-is_empty.false))) refl
-
-pub referent-returns-in-Compare-clause-err : goal.referent-returns-in-Compare-clause-err
-referent-returns-in-Compare-clause-err t c = λ told. rw (c.in-Compare.is, operand_compare) refl
-
-pub referent-returns-in-Some-clause-err : goal.referent-returns-in-Some-clause-err
-referent-returns-in-Some-clause-err t c = λ told. rw (c.in-Simple.is, operand_simple, signed_no_variable (context_at c.args.site) (regions_at c.args.site) c.in-Simple.simple _ c.in-Some.is) refl
-
-pub referent-returns-then-is_empty-clause-ok : goal.referent-returns-then-is_empty-clause-ok
-referent-returns-then-is_empty-clause-ok t c = grind (arith, operand_simple, simple_variable)
-
-pub referent-returns-then-is_empty-clause-err : goal.referent-returns-then-is_empty-clause-err
-referent-returns-then-is_empty-clause-err t c = grind (arith, operand_simple, simple_variable)
-
-pub term_referent-returns-in-Variable-clause-ok : goal.term_referent-returns-in-Variable-clause-ok
-term_referent-returns-in-Variable-clause-ok t c = rw (term_variable (context_at c.args.site) (regions_at c.args.site) c.args.x.now (c.is_empty.ensures.0 c.if-not-is_empty.false), c.in-Variable.is, factor_variable) c.variable_place.ensures.ok
-
-pub term_referent-returns-in-Variable-clause-err : goal.term_referent-returns-in-Variable-clause-err
-term_referent-returns-in-Variable-clause-err t c = rw (term_variable (context_at c.args.site) (regions_at c.args.site) c.args.x.now (c.is_empty.ensures.0 c.if-not-is_empty.false), c.in-Variable.is, factor_variable) c.variable_place.ensures.err
-
-pub term_referent-returns-then-not-is_empty-clause-err : goal.term_referent-returns-then-not-is_empty-clause-err
-term_referent-returns-then-not-is_empty-clause-err t c = λ told. rw (term_no_variable (context_at c.args.site) (regions_at c.args.site) c.args.x.now (λ none. true≢false (sym (c.is_empty.ensures.1 none) ∙ c.if-not-is_empty.true))) refl
-
-pub factor_value-returns-in-Nil-clause-ok : goal.factor_value-returns-in-Nil-clause-ok
-unfolding value_of type_of expr_of
-factor_value-returns-in-Nil-clause-ok t c = rw (c.in-Nil.is, factor_nil) refl
-
-pub index_one-returns-in_err-value-clause-err : goal.index_one-returns-in_err-value-clause-err
-index_one-returns-in_err-value-clause-err t c = refused _ _ _ c.from_residual.ensures.1 (λ told. rw (c.in_err-value.ensures.err told) refl)
-
-pub argument-returns-in_err-value-in-Value-clause-err : goal.argument-returns-in_err-value-in-Value-clause-err
+pub argument-returns-in_err-value-in-Value : goal.argument-returns-in_err-value-in-Value
 unfolding actual section_of
-argument-returns-in_err-value-in-Value-clause-err t c = refused _ _ _ c.from_residual.ensures.1 (λ told. rw (c.in-Value.is, c.in_err-value-in-Value.ensures.err told) refl)
+argument-returns-in_err-value-in-Value t c = handed_on _ _ _ _ c.from_residual.ensures.1 (rw (c.in-Value.is) (told_bind _ _ _ c.in_err-value-in-Value.ensures))
 
-pub argument-returns-in_ok-value-in-Value-clause-ok : goal.argument-returns-in_ok-value-in-Value-clause-ok
+pub argument-returns-in_ok-value-in-Value : goal.argument-returns-in_ok-value-in-Value
 unfolding actual section_of
-argument-returns-in_ok-value-in-Value-clause-ok t c = rw (c.in-Value.is, c.in_ok-value-in-Value.ensures.ok, operand_first, ← c.first_token-at.ensures, ← c.line.ensures) c.by_value.ensures.ok
+argument-returns-in_ok-value-in-Value t c =
+    rw (c.in-Value.is, c.in_ok-value-in-Value.ensures, operand_first, ← c.first_token-at.ensures, ← c.line.ensures) (still_answers _ _ _ _ c.by_value.ensures)
 
-pub argument-returns-in_ok-value-in-Value-clause-err : goal.argument-returns-in_ok-value-in-Value-clause-err
+pub argument-returns-in_err-variable-in-Variable : goal.argument-returns-in_err-variable-in-Variable
 unfolding actual section_of
-argument-returns-in_ok-value-in-Value-clause-err t c = rw (c.in-Value.is, c.in_ok-value-in-Value.ensures.ok, operand_first, ← c.first_token-at.ensures, ← c.line.ensures) c.by_value.ensures.err
+argument-returns-in_err-variable-in-Variable t c =
+    handed_on _ _ _ _ c.from_residual-in_err-variable-in-Variable.ensures.1 (rw (c.in-Variable.is) (told_bind _ _ _ c.in_err-variable-in-Variable.ensures))
 
-pub argument-returns-in_err-variable-in-Variable-clause-err : goal.argument-returns-in_err-variable-in-Variable-clause-err
+pub argument-returns-in_ok-variable-in-Variable : goal.argument-returns-in_ok-variable-in-Variable
 unfolding actual section_of
-argument-returns-in_err-variable-in-Variable-clause-err t c = refused _ _ _ c.from_residual-in_err-variable-in-Variable.ensures.1 (λ told. rw (c.in-Variable.is, c.in_err-variable-in-Variable.ensures.err told) refl)
+argument-returns-in_ok-variable-in-Variable t c =
+    rw (c.in-Variable.is, c.in_ok-variable-in-Variable.ensures, operand_first, ← c.first_token-at.ensures) c.passed.ensures
 
-pub argument-returns-in_ok-variable-in-Variable-clause-ok : goal.argument-returns-in_ok-variable-in-Variable-clause-ok
-unfolding actual section_of
-argument-returns-in_ok-variable-in-Variable-clause-ok t c = rw (c.in-Variable.is, c.in_ok-variable-in-Variable.ensures.ok) c.by_variable.ensures.ok
-
-pub argument-returns-in_ok-variable-in-Variable-clause-err : goal.argument-returns-in_ok-variable-in-Variable-clause-err
-unfolding actual section_of
-argument-returns-in_ok-variable-in-Variable-clause-err t c = rw (c.in-Variable.is, c.in_ok-variable-in-Variable.ensures.ok) c.by_variable.ensures.err
-
-pub argument-returns-in-None-clause-err : goal.argument-returns-in-None-clause-err
+pub argument-returns-in-None : goal.argument-returns-in-None
 unfolding actual
-argument-returns-in-None-clause-err t c = λ told. rw (c.in-Routine.is, section_of_Routine, c.name_alone.ensures (context_at c.args.site) (regions_at c.args.site), c.in-None.is) refl
+argument-returns-in-None t c =
+    rw (c.broken.ensures, c.in-Routine.is, section_of_Routine, c.name_alone.ensures (context_at c.args.site) (regions_at c.args.site), c.in-None.is, operand_first, ← c.first_token-at.ensures) refl
 
-pub argument-returns-in_err-found-in-Some-clause-err : goal.argument-returns-in_err-found-in-Some-clause-err
+pub argument-returns-in_err-found-in-Some : goal.argument-returns-in_err-found-in-Some
 unfolding actual
-argument-returns-in_err-found-in-Some-clause-err t c = refused _ _ _ c.from_residual-in_err-found-in-Some.ensures.1 (λ told. rw (c.in-Routine.is, section_of_Routine, c.name_alone.ensures (context_at c.args.site) (regions_at c.args.site), c.in-Some.is, c.in_err-found-in-Some.ensures.err told) refl)
+argument-returns-in_err-found-in-Some t c =
+    handed_on _ _ _ _ c.from_residual-in_err-found-in-Some.ensures.1 (rw (c.in-Routine.is, section_of_Routine, c.name_alone.ensures (context_at c.args.site) (regions_at c.args.site), c.in-Some.is) (told_bind _ _ _ (told_bind _ _ _ c.in_err-found-in-Some.ensures)))
 
-pub call_value-returns-in-Field-clause-err : goal.call_value-returns-in-Field-clause-err
+pub argument-returns-in_ok-found-in-Some : goal.argument-returns-in_ok-found-in-Some
+unfolding actual
+argument-returns-in_ok-found-in-Some t c =
+    rw (c.in-Routine.is, section_of_Routine, c.name_alone.ensures (context_at c.args.site) (regions_at c.args.site), c.in-Some.is, c.in_ok-found-in-Some.ensures, ← c.deref.ensures, ← c.deref-in-Some.ensures.value) (still_answers _ _ _ _ c.by_routine.ensures)
+
+pub argument_all-returns-in_err-push_answer : goal.argument_all-returns-in_err-push_answer
+argument_all-returns-in_err-push_answer t c =
+    handed_on _ _ _ _ c.from_residual-in_err-push_answer.ensures.1 (rw (congruent_even _ (actual (context_at c.args.site) (regions_at c.args.site)) (λ s. section_of s.now) (operand (context_at c.args.site) (regions_at c.args.site)) _ c.in_ok-formals.formals.items c.args.operands.now _ c.in_ok-formals.ensures (omega arith)) (passed_fault (actual (context_at c.args.site) (regions_at c.args.site)) (λ s. section_of s.now) (operand (context_at c.args.site) (regions_at c.args.site)) argument_of c.in_ok-formals.formals.items c.args.operands.now _ c.loop-i.i c.loop-i.list.items _ _ c.index.result.now c.index-operands-i.result c.argument.result _ (omega arith) (omega arith) c.index.ensures c.index-operands-i.is c.loop-i.invariant c.argument.ensures c.in_err-push_answer.ensures.err))
+
+pub argument_all-loop-i-preserved : goal.argument_all-loop-i-preserved
+argument_all-loop-i-preserved t c =
+    passed_next (actual (context_at c.args.site) (regions_at c.args.site)) (λ s. section_of s.now) (operand (context_at c.args.site) (regions_at c.args.site)) argument_of c.in_ok-formals.formals.items c.args.operands.now _ c.loop-i.i c.loop-i.list.items _ _ _ c.index.result.now c.index-operands-i.result c.argument.result (omega arith) (omega arith) c.index.ensures c.index-operands-i.is c.loop-i.invariant c.argument.ensures c.in_ok-push_answer.ensures.ok
+
+pub argument_all-returns : goal.argument_all-returns
+argument_all-returns t c =
+    rw (congruent_even _ (actual (context_at c.args.site) (regions_at c.args.site)) (λ s. section_of s.now) (operand (context_at c.args.site) (regions_at c.args.site)) _ c.in_ok-formals.formals.items c.args.operands.now _ c.in_ok-formals.ensures (omega arith)) (passed_end (actual (context_at c.args.site) (regions_at c.args.site)) (λ s. section_of s.now) (operand (context_at c.args.site) (regions_at c.args.site)) argument_of c.in_ok-formals.formals.items c.args.operands.now _ c.loop-i.i c.loop-i.list.items _ (omega arith) (omega arith) c.loop-i.invariant)
+
+-- ---- calls
+
+pub call_value-returns-in_err-ty-in-Routine : goal.call_value-returns-in_err-ty-in-Routine
 unfolding called meaning_of
-call_value-returns-in-Field-clause-err t c = λ told. rw (c.in-Field.is) refl
+call_value-returns-in_err-ty-in-Routine t c =
+    handed_on _ _ _ _ c.from_residual.ensures.1 (rw (c.in-Name.is, c.in-Routine.is, ← c.deref.ensures, ← c.deref-in-Routine.ensures.value, ← c.line-line.ensures) (call_told (λ t xs. SimpleValue (Tree.Call c.in-Routine.heading.number c.in-Name.up (argument_list xs) c.line-line.result.number) t) _ _ _ _ _ _ _ c.result_type-ty.ensures c.argument_all-arguments.ensures c.in_err-ty-in-Routine.ensures))
 
-pub call_value-returns-in-Required-clause-ok : goal.call_value-returns-in-Required-clause-ok
+pub call_value-returns-in_err-ty-in-RoutineParameter : goal.call_value-returns-in_err-ty-in-RoutineParameter
 unfolding called meaning_of
-call_value-returns-in-Required-clause-ok t c = rw (c.in-Name.is, c.in-Required.is) c.required_call.ensures.ok
+call_value-returns-in_err-ty-in-RoutineParameter t c =
+    handed_on _ _ _ _ c.from_residual-in_err-ty-in-RoutineParameter.ensures.1 (rw (c.in-Name.is, c.in-RoutineParameter.is, ← c.deref-in-RoutineParameter.ensures, ← c.deref-in-RoutineParameter-2.ensures.value, ← c.line-line.ensures) (call_told (λ t xs. SimpleValue (Tree.CallFormal c.in-Name.up c.in-RoutineParameter.entry (argument_list xs) c.line-line.result.number) t) _ _ _ _ _ _ _ c.result_type-ty-in-RoutineParameter.ensures c.argument_all-arguments-in-RoutineParameter.ensures c.in_err-ty-in-RoutineParameter.ensures))
 
-pub call_value-returns-in-Required-clause-err : goal.call_value-returns-in-Required-clause-err
-unfolding called meaning_of
-call_value-returns-in-Required-clause-err t c = rw (c.in-Name.is, c.in-Required.is) c.required_call.ensures.err
+pub required_call-returns-then-branch : goal.required_call-returns-then-branch
+required_call-returns-then-branch t c =
+    rw (only_one c.args.operands.now c.only-item.result (omega arith) (omega arith) c.only-item.is, of_input (context_at c.args.site) (regions_at c.args.site) c.args.name.from c.args.required (operand (context_at c.args.site) (regions_at c.args.site) c.only-item.result) _ (sym c.is_procedure.ensures ∙ c.if-is_procedure.false) (sym c.in_ok-is_the_input-in-len1.ensures ∙ c.if-branch.true), operand_first, ← c.first_token-first.ensures, ← c.line-line.ensures) (still_answers _ _ _ _ c.look_at_name.ensures)
 
-pub negated_value-returns-in_err-operand-clause-err : goal.negated_value-returns-in_err-operand-clause-err
-negated_value-returns-in_err-operand-clause-err t c = refused _ _ _ c.from_residual.ensures.1 (λ told. rw (c.in_err-operand.ensures.err told) refl)
-
-pub negated_value-returns-clause-ok : goal.negated_value-returns-clause-ok
-negated_value-returns-clause-ok t c = rw (c.in_ok-operand.ensures.ok) c.negated.ensures.ok
-
-pub negated_value-returns-clause-err : goal.negated_value-returns-clause-err
-negated_value-returns-clause-err t c = rw (c.in_ok-operand.ensures.ok) c.negated.ensures.err
-
-pub argument_all-returns-in_err-push_answer-clause-err : goal.argument_all-returns-in_err-push_answer-clause-err
-argument_all-returns-in_err-push_answer-clause-err t c =
-    refused _ _ _ c.from_residual-in_err-push_answer.ensures.1 (λ told. fault_listed (λ s x. actual (context_at c.args.site) (regions_at c.args.site) s (operand (context_at c.args.site) (regions_at c.args.site) x)) (λ s. section_of s.now) c.in_ok-formals.formals.items _ c.args.operands.now c.loop-i.i _ c.index.result.now c.index-operands-i.result c.in_ok-formals.ensures (omega arith) c.loop-i-test.true c.index.ensures c.index-operands-i.is c.loop-i.invariant (told_by _ _ _ c.argument.ensures.err (c.in_err-push_answer.ensures.err told) told))
-
-pub call_value-returns-in-Routine-clause-ok : goal.call_value-returns-in-Routine-clause-ok
-unfolding called meaning_of
-call_value-returns-in-Routine-clause-ok t c =
-    rw (c.in-Name.is, c.in-Routine.is, ← c.deref.ensures, ← c.deref-in-Routine.ensures.value, actuals_are, ← c.line-line.ensures) (made_of_both _ _ (λ t xs. SimpleValue (Tree.Call c.in-Routine.heading.number c.in-Name.up (argument_list xs) c.line-line.result.number) t) _ _ _ c.result_type.ensures.ok c.argument_all.ensures.ok c.declared_call.ensures.ok)
-
-pub call_value-returns-in-Routine-clause-err : goal.call_value-returns-in-Routine-clause-err
-unfolding called meaning_of
-call_value-returns-in-Routine-clause-err t c =
-    rw (c.in-Name.is, c.in-Routine.is, ← c.deref.ensures, ← c.deref-in-Routine.ensures.value, actuals_are, ← c.line-line.ensures) (both_refused _ _ _ _ _ _ c.declared_call.ensures.err c.result_type.ensures.err c.argument_all.ensures.err)
-
-pub call_value-returns-in-RoutineParameter-clause-ok : goal.call_value-returns-in-RoutineParameter-clause-ok
-unfolding called meaning_of
-call_value-returns-in-RoutineParameter-clause-ok t c =
-    rw (c.in-Name.is, c.in-RoutineParameter.is, ← c.deref-in-RoutineParameter.ensures, ← c.deref-in-RoutineParameter-2.ensures.value, actuals_are, ← c.line-line.ensures) (made_of_both _ _ (λ t xs. SimpleValue (Tree.CallFormal c.in-Name.up c.in-RoutineParameter.entry (argument_list xs) c.line-line.result.number) t) _ _ _ c.result_type-in-RoutineParameter.ensures.ok c.argument_all-in-RoutineParameter.ensures.ok c.formal_call.ensures.ok)
-
-pub call_value-returns-in-RoutineParameter-clause-err : goal.call_value-returns-in-RoutineParameter-clause-err
-unfolding called meaning_of
-call_value-returns-in-RoutineParameter-clause-err t c =
-    rw (c.in-Name.is, c.in-RoutineParameter.is, ← c.deref-in-RoutineParameter.ensures, ← c.deref-in-RoutineParameter-2.ensures.value, actuals_are, ← c.line-line.ensures) (both_refused _ _ _ _ _ _ c.formal_call.ensures.err c.result_type-in-RoutineParameter.ensures.err c.argument_all-in-RoutineParameter.ensures.err)
+pub required_call-returns-in_ok-operand-in-len1 : goal.required_call-returns-in_ok-operand-in-len1
+required_call-returns-in_ok-operand-in-len1 t c =
+    rw (only_one c.args.operands.now c.only-item.result (omega arith) (omega arith) c.only-item.is, of_value (context_at c.args.site) (regions_at c.args.site) c.args.name.from c.args.required (operand (context_at c.args.site) (regions_at c.args.site) c.only-item.result) _ (sym c.is_procedure.ensures ∙ c.if-is_procedure.false) (sym c.in_ok-is_the_input-in-len1.ensures ∙ c.if-branch.false), c.in_ok-operand-in-len1.ensures, operand_first, ← c.first_token-first.ensures, ← c.line-line.ensures) (still_answers _ _ _ _ c.required_value.ensures)

@@ -1,40 +1,27 @@
-use Rattle.std.proofs.Common.{refl}
 use Rattle.ps_tree.specs.Tree as Tree
+use Rattle.ps_check_judgement.proofs.Lists.{handed_on}
 use Rattle.ps_check_names.specs.Views.{meaning_of}
 use Rattle.ps_check_expressions.specs.Calls.{called}
 use Rattle.ps_check_expressions.specs.Values.{SimpleValue, argument_list}
-use Rattle.ps_check_expressions.proofs.CallLemmas.{made_of_both}
-use Rattle.ps_check_names.proofs.Refused.{both_refused}
+use Rattle.ps_check_expressions.proofs.RoutineLemmas.{call_told, call_yes}
 use Rattle.ps_check_expressions.proofs.expression.call_alone.Goals as goal
 
-pub returns-in-Routine-clause-ok : goal.returns-in-Routine-clause-ok
+pub returns-in_err-ty-in-Routine : goal.returns-in_err-ty-in-Routine
 unfolding called meaning_of
-returns-in-Routine-clause-ok c =
-    rw (c.in-Name.is, c.in-Routine.is, ← c.deref.ensures, ← c.deref-in-Routine.ensures.value, ← c.line-line.ensures) (made_of_both _ _ (λ t xs. SimpleValue (Tree.Call c.in-Routine.heading.number c.in-Name.up (argument_list xs) c.line-line.result.number) t) _ _ _ c.result_type.ensures.ok c.no_arguments.ensures.ok c.declared_call.ensures.ok)
+returns-in_err-ty-in-Routine c =
+    λ cs. handed_on _ _ _ _ c.from_residual.ensures.1 (rw (c.in-Name.is, c.in-Routine.is, ← c.deref.ensures, ← c.deref-in-Routine.ensures.value, ← c.line-line.ensures) (call_told (λ t xs. SimpleValue (Tree.Call c.in-Routine.heading.number c.in-Name.up (argument_list xs) c.line-line.result.number) t) _ _ cs cs _ _ _ c.result_type-ty.ensures (c.no_arguments-arguments.ensures cs) c.in_err-ty-in-Routine.ensures))
 
-pub returns-in-Routine-clause-err : goal.returns-in-Routine-clause-err
+pub returns-in_err-ty-in-RoutineParameter : goal.returns-in_err-ty-in-RoutineParameter
 unfolding called meaning_of
-returns-in-Routine-clause-err c =
-    rw (c.in-Name.is, c.in-Routine.is, ← c.deref.ensures, ← c.deref-in-Routine.ensures.value, ← c.line-line.ensures) (both_refused _ _ _ _ _ _ c.declared_call.ensures.err c.result_type.ensures.err c.no_arguments.ensures.err)
+returns-in_err-ty-in-RoutineParameter c =
+    λ cs. handed_on _ _ _ _ c.from_residual-in_err-ty-in-RoutineParameter.ensures.1 (rw (c.in-Name.is, c.in-RoutineParameter.is, ← c.deref-in-RoutineParameter.ensures, ← c.deref-in-RoutineParameter-2.ensures.value, ← c.line-line.ensures) (call_told (λ t xs. SimpleValue (Tree.CallFormal c.in-Name.up c.in-RoutineParameter.entry (argument_list xs) c.line-line.result.number) t) _ _ cs cs _ _ _ c.result_type-ty-in-RoutineParameter.ensures (c.no_arguments-arguments-in-RoutineParameter.ensures cs) c.in_err-ty-in-RoutineParameter.ensures))
 
-pub returns-in-RoutineParameter-clause-ok : goal.returns-in-RoutineParameter-clause-ok
+pub returns-in_ok-ty-in-Routine : goal.returns-in_ok-ty-in-Routine
 unfolding called meaning_of
-returns-in-RoutineParameter-clause-ok c =
-    rw (c.in-Name.is, c.in-RoutineParameter.is, ← c.deref-in-RoutineParameter.ensures, ← c.deref-in-RoutineParameter-2.ensures.value, ← c.line-line.ensures) (made_of_both _ _ (λ t xs. SimpleValue (Tree.CallFormal c.in-Name.up c.in-RoutineParameter.entry (argument_list xs) c.line-line.result.number) t) _ _ _ c.result_type-in-RoutineParameter.ensures.ok c.no_arguments-in-RoutineParameter.ensures.ok c.formal_call.ensures.ok)
+returns-in_ok-ty-in-Routine c =
+    λ cs. rw (c.in-Name.is, c.in-Routine.is, ← c.deref.ensures, ← c.deref-in-Routine.ensures.value, ← c.line-line.ensures, c.declared_call.ensures) (call_yes (λ t xs. SimpleValue (Tree.Call c.in-Routine.heading.number c.in-Name.up (argument_list xs) c.line-line.result.number) t) _ _ cs cs _ _ _ _ c.result_type-ty.ensures (c.no_arguments-arguments.ensures cs) c.in_ok-ty-in-Routine.ensures)
 
-pub returns-in-RoutineParameter-clause-err : goal.returns-in-RoutineParameter-clause-err
+pub returns-in_ok-ty-in-RoutineParameter : goal.returns-in_ok-ty-in-RoutineParameter
 unfolding called meaning_of
-returns-in-RoutineParameter-clause-err c =
-    rw (c.in-Name.is, c.in-RoutineParameter.is, ← c.deref-in-RoutineParameter.ensures, ← c.deref-in-RoutineParameter-2.ensures.value, ← c.line-line.ensures) (both_refused _ _ _ _ _ _ c.formal_call.ensures.err c.result_type-in-RoutineParameter.ensures.err c.no_arguments-in-RoutineParameter.ensures.err)
-
-pub returns-in-Required-clause-ok : goal.returns-in-Required-clause-ok
-unfolding called meaning_of
-returns-in-Required-clause-ok c = rw (c.in-Name.is, c.in-Required.is) c.look_at_input.ensures.ok
-
-pub returns-in-Required-clause-err : goal.returns-in-Required-clause-err
-unfolding called meaning_of
-returns-in-Required-clause-err c = rw (c.in-Name.is, c.in-Required.is) c.look_at_input.ensures.err
-
-pub returns-in-Field-clause-err : goal.returns-in-Field-clause-err
-unfolding called meaning_of
-returns-in-Field-clause-err c = λ told. rw (c.in-Field.is) refl
+returns-in_ok-ty-in-RoutineParameter c =
+    λ cs. rw (c.in-Name.is, c.in-RoutineParameter.is, ← c.deref-in-RoutineParameter.ensures, ← c.deref-in-RoutineParameter-2.ensures.value, ← c.line-line.ensures, c.formal_call.ensures) (call_yes (λ t xs. SimpleValue (Tree.CallFormal c.in-Name.up c.in-RoutineParameter.entry (argument_list xs) c.line-line.result.number) t) _ _ cs cs _ _ _ _ c.result_type-ty-in-RoutineParameter.ensures (c.no_arguments-arguments-in-RoutineParameter.ensures cs) c.in_ok-ty-in-RoutineParameter.ensures)

@@ -1,8 +1,8 @@
-use Rattle.std.proofs.Common.{◌≡◌}
+use Rattle.std.proofs.Common.{◌≡◌, ℕ}
 use Rattle.ps_check_names.specs.Regions.{find_past, find}
 use Rattle.ps_check_names.specs.Views.{scope_of}
 use Rattle.ps_check_names.proofs.scope.find.Given as goal
 
 -- what is left of the regions is searched as all of them are
 abbrev pub invariant-loop-here : goal.invariant-loop-here
-invariant-loop-here l = find_past l.up l.which (scope_of l.here) l.name ≡ find (scope_of l.scope) l.name
+invariant-loop-here l = (at : ℕ) → find_past l.up l.which (scope_of l.here) l.name at ≡ find (scope_of l.scope) l.name at

@@ -1,10 +1,9 @@
-use Rattle.std.proofs.Common.{map}
 use Rattle.ps_tree.specs.View.{argument_of}
 use Rattle.ps_check_names.specs.Views.{section_of}
-use Rattle.ps_check_names.proofs.Lists.{ReachedBoth}
 use Rattle.ps_check_expressions.specs.View.{context_at, regions_at}
+use Rattle.ps_check_expressions.proofs.CallLemmas.{Passed}
 use Rattle.ps_check_statements.specs.Procedures.{actual_parameter}
 use Rattle.ps_check_statements.proofs.argument.actual_parameters.Given as goal
 
 abbrev pub invariant-loop-i : goal.invariant-loop-i
-invariant-loop-i l = ReachedBoth (actual_parameter (context_at l.site) (regions_at l.site)) (map (λ s. section_of s.now) l.formals.items) l.list l.i (map argument_of l.arguments.items)
+invariant-loop-i l = Passed (actual_parameter (context_at l.site) (regions_at l.site)) (λ s. section_of s.now) (λ p. p) argument_of l.formals.items l.list l.fn.changes.items l.i l.arguments.items l.changes.items

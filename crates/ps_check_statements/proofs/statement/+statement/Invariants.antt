@@ -1,17 +1,16 @@
-use Rattle.std.proofs.Common.{◌+◌, ◌*◌, map, max}
+use Rattle.std.proofs.Common.{◌+◌, ◌*◌, max}
 use Rattle.ps_syntax.specs.declared.statement.Statement.{size-Statement}
 use Rattle.ps_tree.specs.View.{statement_of}
-use Rattle.ps_check_names.proofs.Lists.{Reached}
 use Rattle.ps_check_expressions.specs.View.{context_at, regions_at}
-use Rattle.ps_check_statements.specs.Statements.{statement, element}
-use Rattle.ps_check_statements.specs.View.{element_of}
+use Rattle.ps_check_statements.specs.Statements as spec
+use Rattle.ps_check_statements.proofs.Loops.{Added, Collected}
 use Rattle.ps_check_statements.proofs.statement.+statement.Given as goal
 
 abbrev pub invariant-statements-loop-x : goal.invariant-statements-loop-x
-invariant-statements-loop-x l = Reached (λ s. statement (context_at l.site) s (regions_at l.site)) l.list l.x-index (map statement_of l.typed.items)
+invariant-statements-loop-x l = Added (λ s. spec.statement s (context_at l.site) (regions_at l.site)) statement_of l.list l.fn.changes.items l.x-index l.typed.items l.changes.items
 
 abbrev pub invariant-elements-loop-x : goal.invariant-elements-loop-x
-invariant-elements-loop-x l = Reached (λ e. element (context_at l.site) e (regions_at l.site) l.index) l.list l.x-index (map element_of l.typed.items)
+invariant-elements-loop-x l = Collected (context_at l.site) (regions_at l.site) l.index l.list l.fn.changes.items l.x-index l.seen.keys l.typed.items l.changes.items
 
 -- The depth of the statement, and then what is called for one of the same depth.
 
@@ -28,7 +27,7 @@ abbrev pub decreases-governed : goal.decreases-governed
 decreases-governed l = goal.size-governed l * 4 + 2
 
 abbrev pub decreases-if_else_statement : goal.decreases-if_else_statement
-decreases-if_else_statement l = max (goal.size-if_else_statement l) (size-Statement l.otherwise.now) * 4 + 2
+decreases-if_else_statement l = max (goal.size-if_else_statement l) (size-Statement l.otherwise.now) * 4 + 3
 
 abbrev pub decreases-repeat_statement : goal.decreases-repeat_statement
 decreases-repeat_statement l = goal.size-repeat_statement l * 4 + 2

@@ -1,10 +1,12 @@
+use Rattle.std.proofs.Common.{map}
+use Rattle.ps_tree.specs.View.{place_of}
 use Rattle.ps_check_names.specs.Views.{scope_of}
 use Rattle.ps_check_expressions.specs.View.{context_at, regions_at}
 use Rattle.ps_check_statements.proofs.Opening.{opened_next}
 use Rattle.ps_check_statements.proofs.with_statements.open_next.Goals as goal
 
-pub returns-clause-ok : goal.returns-clause-ok
+pub returns : goal.returns
 unfolding scope_of
-returns-clause-ok c =
-    let h = rw c.as_slice.ensures.value at c.in_ok-place.ensures.ok in
-    opened_next (context_at c.args.site) (regions_at c.args.site) c.args.x.now c.args.places.now.items c.push.new.self.items c.args.types.now.items c.push-2.new.self.items c.in_ok-place.place c.in_ok-place.ty h c.in_ok-push.ensures.items c.in_ok-push-2.ensures.items
+returns c =
+    let h = rw (c.within.ensures.context, c.within.ensures.regions, c.as_slice.ensures.value) at (c.in_ok-place.ensures (map place_of c.args.places.now.items)) in
+    opened_next (context_at c.args.site) (regions_at c.args.site) c.args.x.now c.args.places.now.items c.push.new.self.items c.args.types.now.items c.push-2.new.self.items c.in_ok-place.place c.in_ok-place.ty _ _ h c.in_ok-push.ensures.items c.in_ok-push-2.ensures.items

@@ -1,5 +1,5 @@
 use Rattle.std.proofs.Common.{sym, ap, ◌∙◌, ⊎_elim}
-use Rattle.ps_tree.specs.View.{place_of, selector_of, expr_of}
+use Rattle.ps_tree.specs.View.{place_of, selector_of, expr_of, set_of}
 use Rattle.ps_tree.proofs.TreeLemmas.{expr_of_Load, expr_of_Arithmetic, expr_of_Logic}
 use Rattle.ps_lower_code.specs.Calling as code
 use Rattle.ps_lower.proofs.Searches.{passed_start, passed_next, passed_found, passed_all, or_first, or_second, selectors_in, selectors_none, selectors_more, step_in, steps_in, steps_none, steps_more, operands_in, operands_none, operands_more}
@@ -63,17 +63,28 @@ expr_calls-returns-then-expr_calls-2 t c = c.if-expr_calls-2.true ∙ or_first (
 pub expr_calls-returns-then-expr_calls-3 : goal.expr_calls-returns-then-expr_calls-3
 unfolding expr_of
 expr_calls-returns-then-expr_calls-3 t c =
-    let hit = sym (c.expr_calls-in-Compare.ensures ∙ ap (λ x. code.expr_calls (expr_of x)) c.deref-in-Compare.ensures) ∙ c.if-expr_calls-3.true in
-    ⊎_elim
-    (λ w. c.if-expr_calls-3.true ∙ or_first (code.expr_calls (expr_of c.in-Compare.left.value)) (code.expr_calls (expr_of c.in-Compare.right.value)) _ hit (sym (ap (λ x. code.expr_calls (expr_of x)) w.1)))
-    (λ w. c.if-expr_calls-3.true ∙ or_first (code.expr_calls (expr_of c.in-Compare.left.value)) (code.expr_calls (expr_of c.in-Compare.right.value)) _ hit (sym (ap (λ x. code.expr_calls (expr_of x)) w.1)))
-    c.in-Compare.is
+    c.if-expr_calls-3.true ∙ or_first (code.expr_calls (expr_of c.in-In.left.value)) (code.asked_calls (set_of c.in-In.right.value)) _ (sym (c.expr_calls-in-In.ensures ∙ ap (λ x. code.expr_calls (expr_of x)) c.deref-in-In.ensures) ∙ c.if-expr_calls-3.true) (sym (ap (λ x. code.expr_calls (expr_of x)) c.in-In.is))
 
 pub expr_calls-returns-else-expr_calls-3 : goal.expr_calls-returns-else-expr_calls-3
 unfolding expr_of
 expr_calls-returns-else-expr_calls-3 t c =
-    let missed = sym (c.expr_calls-in-Compare.ensures ∙ ap (λ x. code.expr_calls (expr_of x)) c.deref-in-Compare.ensures) ∙ c.if-expr_calls-3.false in
-    let second = c.expr_calls-else-expr_calls-3.ensures ∙ ap (λ x. code.expr_calls (expr_of x)) c.deref-else-expr_calls-3.ensures in
+    c.asked_calls.ensures ∙ ap (λ x. code.asked_calls (set_of x)) c.deref-else-expr_calls-3.ensures
+    ∙ or_second (code.expr_calls (expr_of c.in-In.left.value)) (code.asked_calls (set_of c.in-In.right.value)) _ (sym (c.expr_calls-in-In.ensures ∙ ap (λ x. code.expr_calls (expr_of x)) c.deref-in-In.ensures) ∙ c.if-expr_calls-3.false) (sym (ap (λ x. code.expr_calls (expr_of x)) c.in-In.is))
+
+pub expr_calls-returns-then-expr_calls-4 : goal.expr_calls-returns-then-expr_calls-4
+unfolding expr_of
+expr_calls-returns-then-expr_calls-4 t c =
+    let hit = sym (c.expr_calls-in-Compare.ensures ∙ ap (λ x. code.expr_calls (expr_of x)) c.deref-in-Compare.ensures) ∙ c.if-expr_calls-4.true in
+    ⊎_elim
+    (λ w. c.if-expr_calls-4.true ∙ or_first (code.expr_calls (expr_of c.in-Compare.left.value)) (code.expr_calls (expr_of c.in-Compare.right.value)) _ hit (sym (ap (λ x. code.expr_calls (expr_of x)) w.1)))
+    (λ w. c.if-expr_calls-4.true ∙ or_first (code.expr_calls (expr_of c.in-Compare.left.value)) (code.expr_calls (expr_of c.in-Compare.right.value)) _ hit (sym (ap (λ x. code.expr_calls (expr_of x)) w.1)))
+    c.in-Compare.is
+
+pub expr_calls-returns-else-expr_calls-4 : goal.expr_calls-returns-else-expr_calls-4
+unfolding expr_of
+expr_calls-returns-else-expr_calls-4 t c =
+    let missed = sym (c.expr_calls-in-Compare.ensures ∙ ap (λ x. code.expr_calls (expr_of x)) c.deref-in-Compare.ensures) ∙ c.if-expr_calls-4.false in
+    let second = c.expr_calls-else-expr_calls-4.ensures ∙ ap (λ x. code.expr_calls (expr_of x)) c.deref-else-expr_calls-4.ensures in
     ⊎_elim
     (λ w. second ∙ or_second (code.expr_calls (expr_of c.in-Compare.left.value)) (code.expr_calls (expr_of c.in-Compare.right.value)) _ missed (sym (ap (λ x. code.expr_calls (expr_of x)) w.1)))
     (λ w. second ∙ or_second (code.expr_calls (expr_of c.in-Compare.left.value)) (code.expr_calls (expr_of c.in-Compare.right.value)) _ missed (sym (ap (λ x. code.expr_calls (expr_of x)) w.1)))

@@ -11,14 +11,15 @@ use Rattle.ps_tree.specs.View.{type_of, base_of, selector_of, selectors_of, plac
 use Rattle.tac_code.specs.declared.code.Instruction.TheVariants as i
 use Rattle.ps_lower_code.specs.Scopes.{kept, held, beside, even_from, unless_known, helper, CompareBytes}
 use Rattle.ps_lower_code.specs.Statements.{expr_code}
-use Rattle.ps_lower_code.specs.Values.{literal_of, element_site, index_code, truth_finish, is_byte, text_length, structure_code, argument_code, argument_end, argument_scratch, arguments_end, selectors_code, selectors_site, set_code, member_code}
+use Rattle.ps_lower_code.proofs.Masks.{IsMember, known_small}
+use Rattle.ps_lower_code.specs.Values.{literal_of, element_site, index_code, truth_finish, is_byte, text_length, structure_code, argument_code, argument_end, argument_scratch, arguments_end, selectors_code, selectors_site, asked_code, set_code, member_code}
 use Rattle.ps_lower.specs.Levels.{scope_of, site_of}
 use Rattle.ps_lower.specs.Sites.{selector_code, selector_site, site_behind}
 use Rattle.ps_lower.proofs.Selecting.{led_start, led_next, led_code, led_site}
 use Rattle.ps_lower.proofs.Placing.{place_told, site_told, element_told, load_told}
 use Rattle.ps_lower.proofs.Arms.{number_is, nil_is, load_is, plus_is, minus_is, not_is, apply_is, arithmetic_is, logic_is, compare_is, compare_pointers_is, arm, behind, minus_made, sum_made, truth_made, pair_made}
 use Rattle.ps_lower.proofs.Actuals.{handed_start, handed_next, handed_all}
-use Rattle.ps_lower.proofs.Gathering.{compare_sets_is, in_is, load_set_is, constructor_is, combine_is, set_arm, members_added, members_nothing, members_further, one_made, several_made, set_steps_added, set_step_added, set_steps_nothing, set_steps_further, load_set_made, constructor_made, compared_made, in_made, set_handed, value_handed, variable_handed}
+use Rattle.ps_lower.proofs.Gathering.{compare_sets_is, in_is, load_set_is, constructor_is, combine_is, set_arm, members_added, members_nothing, members_further, one_arm, one_known, one_worked, several_made, set_steps_added, set_step_added, set_steps_nothing, set_steps_further, step_adding, step_joined, load_set_made, asked_arm, asked_load_made, asked_made, constructor_made, compared_made, in_made, set_handed, value_handed, variable_handed}
 use Rattle.ps_lower.proofs.Handing.{contents_made, compare_strings_is, strings_made, call_is, call_made, call_formal_is, call_formal_made}
 use Rattle.ps_lower.proofs.Looking.{eof_is, eoln_is}
 use Rattle.ps_lower.proofs.Appends.{and_then, unchanged, added_start, added_next, added_all}
@@ -265,12 +266,19 @@ front-returns-in_ok-set-in-CompareSets-2 t c =
     (compared_made (scope_of c.args.k.now) c.in-CompareSets.relation (set_of c.deref-in-CompareSets.result.now) (set_of c.deref-in-CompareSets-2.result.now) c.args.d c.args.x c.even_from-t.result c.above-behind.result c.compare_sets.result c.compare_sets.new.out c.set-in-CompareSets.new.out c.set.new.out c.args.out.now
     c.even_from-t.ensures.value c.above-behind.ensures c.in_ok-set-in-CompareSets.ensures c.in_ok-set-in-CompareSets-2.ensures c.compare_sets.ensures)
 
-pub front-returns-in_ok-set-in-In : goal.front-returns-in_ok-set-in-In
-front-returns-in_ok-set-in-In t c =
+pub front-returns-in_ok-asked-in-In : goal.front-returns-in_ok-asked-in-In
+front-returns-in_ok-asked-in-In t c =
     arm (scope_of c.args.k.now) c.args.e.now _ c.args.d c.args.x c.is_member.result c.is_member.new.out c.args.out.now
-    (in_is c.args.e.now c.in-In.left c.deref-in-In.result.now c.in-In.right c.deref-in-In-2.result.now c.in-In.is c.deref-in-In.ensures c.deref-in-In-2.ensures)
-    (in_made (scope_of c.args.k.now) (expr_of c.deref-in-In.result.now) (set_of c.deref-in-In-2.result.now) c.args.d c.args.x c.held-member.result c.even_above-t.result c.is_member.result c.is_member.new.out c.set-in-In.new.out c.value-in-In.new.out c.args.out.now
-    c.held-member.ensures.value c.even_above-t.ensures.value c.in_ok-value-in-In.ensures c.in_ok-set-in-In.ensures c.is_member.ensures)
+    (in_is c.args.e.now c.in-In.left c.deref-in-In-2.result.now c.in-In.right c.deref-in-In.result.now c.in-In.is c.deref-in-In-2.ensures c.deref-in-In.ensures)
+    (in_made (scope_of c.args.k.now) (expr_of c.deref-in-In-2.result.now) (set_of c.deref-in-In.result.now) c.args.d c.args.x c.kept-member.result c.even_above-t.result c.is_member.result c.is_member.new.out c.asked.new.out c.value-in-In.new.out c.args.out.now
+    (c.kept-member.ensures.value ∙ ap (λ b. kept b c.args.d) c.asked_calls.ensures) c.even_above-t.ensures.value c.in_ok-value-in-In.ensures
+    (c.in_ok-asked-in-In.ensures ∙ ap (λ y. c.value-in-In.new.out ++ asked_code (scope_of c.args.k.now) (set_of y) c.even_above-t.result c.args.x) (c.deref-in-In-3.ensures ∙ sym c.deref-in-In.ensures))
+    c.is_member.ensures)
+
+pub asked-returns-in_ok-site-in-Load : goal.asked-returns-in_ok-site-in-Load
+asked-returns-in_ok-site-in-Load t c =
+    asked_arm (scope_of c.args.k.now) c.args.e.now _ c.args.t c.args.x c.address.result c.address.new.out c.args.out.now (load_set_is _ _ _ c.in-Load.is c.deref.ensures)
+    (asked_load_made (scope_of c.args.k.now) (place_of c.deref.result.now) c.args.t c.args.x (site_of c.in_ok-site-in-Load.site) c.address.result c.address.new.out c.place.new.out c.args.out.now c.in_ok-site-in-Load.ensures.code c.in_ok-site-in-Load.ensures.site c.address.ensures)
 
 pub set-returns-in_ok-site-in-Load : goal.set-returns-in_ok-site-in-Load
 set-returns-in_ok-site-in-Load t c =
@@ -293,8 +301,15 @@ combine-loop-step-init t c = added_start (set_steps_added (scope_of c.args.k.now
 pub combine-loop-step-preserved : goal.combine-loop-step-preserved
 combine-loop-step-preserved t c =
     added_next (set_steps_added (scope_of c.args.k.now) c.args.d c.args.x) (set_step_added (scope_of c.args.k.now) c.args.d c.args.x) (set_steps_further (scope_of c.args.k.now) c.args.d c.args.x) _ _ _ _ _ c.step-item.result c.loop-step-test.true c.loop-step.invariant
-    (and_then _ _ _ _ _ (c.in_ok-set.ensures ∙ ap (λ n. c.loop-step.out ++ set_code (scope_of c.args.k.now) (set_of (out-SetStep c.step-item.result).operand) c.args.d n) c.above-behind.ensures) c.in_ok-combined.ensures
-    ∙ ap (λ s. c.loop-step.out ++ set_step_added (scope_of c.args.k.now) c.args.d c.args.x s) c.step-item.is)
+    (c.in_ok-join.ensures ∙ ap (λ s. c.loop-step.out ++ set_step_added (scope_of c.args.k.now) c.args.d c.args.x s) c.step-item.is)
+
+pub join-returns-then-adds : goal.join-returns-then-adds
+join-returns-then-adds t c = step_adding (scope_of c.args.k.now) c.args.operator (set_of c.args.e.now) c.args.d c.args.x c.adding.result c.adding.new.out c.args.out.now (sym c.adds.ensures ∙ c.if-adds.true) c.adding.ensures
+
+pub join-returns : goal.join-returns
+join-returns t c =
+    step_joined (scope_of c.args.k.now) c.args.operator (set_of c.args.e.now) c.args.d c.args.x c.even_from-t.result c.beside-second.result c.above-behind.result c.combined.result c.combined.new.out c.asked.new.out c.args.out.now
+    (sym c.adds.ensures ∙ c.if-adds.false) c.even_from-t.ensures.value c.beside-second.ensures.value c.above-behind.ensures c.in_ok-asked.ensures c.combined.ensures
 
 pub combine-returns : goal.combine-returns
 combine-returns t c = added_all (set_steps_added (scope_of c.args.k.now) c.args.d c.args.x) (set_steps_nothing (scope_of c.args.k.now) c.args.d c.args.x) _ _ _ _ c.loop-step-test.false c.loop-step.invariant
@@ -310,14 +325,22 @@ members-loop-one-preserved t c =
 pub members-returns : goal.members-returns
 members-returns t c = added_all (members_added (scope_of c.args.k.now) c.args.d c.args.x) (members_nothing (scope_of c.args.k.now) c.args.d c.args.x) _ _ _ _ c.loop-one-test.false c.loop-one.invariant
 
-pub member-returns-in_ok-value-in-One : goal.member-returns-in_ok-value-in-One
-member-returns-in_ok-value-in-One t c =
-    one_made (scope_of c.args.k.now) c.args.one.now _ _ c.args.d c.args.x c.even_from-t.result c.above-behind.result c.add_member.result c.add_member.new.out c.value.new.out c.args.out.now
-    c.in-One.is c.even_from-t.ensures.value c.above-behind.ensures c.in_ok-value-in-One.ensures c.add_member.ensures
+pub member-returns-in-One : goal.member-returns-in-One
+member-returns-in-One t c = one_arm (scope_of c.args.k.now) c.args.one.now _ _ c.args.d c.args.x c.one_member.result c.one_member.new.out c.args.out.now c.in-One.is c.one_member.ensures
+
+pub one_member-returns-in-Some : goal.one_member-returns-in-Some
+one_member-returns-in-Some t c =
+    one_known (scope_of c.args.k.now) (expr_of c.args.e.now) c.args.line c.args.d c.args.x c.even_from-t.result c.in-Some.number c.add_bit.result c.add_bit.new.out c.args.out.now
+    (sym c.in-Some.is ∙ c.known_member.ensures) c.even_from-t.ensures.value c.add_bit.ensures
+
+pub one_member-returns-in_ok-value-in-None : goal.one_member-returns-in_ok-value-in-None
+one_member-returns-in_ok-value-in-None t c =
+    one_worked (scope_of c.args.k.now) (expr_of c.args.e.now) c.args.line c.args.d c.args.x c.even_from-t.result c.above-behind.result c.add_member.result c.add_member.new.out c.value.new.out c.args.out.now
+    (sym c.in-None.is ∙ c.known_member.ensures) c.even_from-t.ensures.value c.above-behind.ensures c.in_ok-value-in-None.ensures c.add_member.ensures
 
 pub member-returns-in_ok-value-in-Range-2 : goal.member-returns-in_ok-value-in-Range-2
 member-returns-in_ok-value-in-Range-2 t c =
-    several_made (scope_of c.args.k.now) c.args.one.now _ _ _ c.args.d c.args.x c.held-first.result c.even_above-last.result c.above-behind.result c.add_members.result c.add_members.new.out c.value-in-Range-2.new.out c.value-in-Range.new.out c.args.out.now
+    several_made (scope_of c.args.k.now) c.args.one.now _ _ _ c.args.d c.args.x c.held-first.result c.even_above-last.result c.above-behind.result c.add_members.result c.add_members.new.out c.value-in-Range.new.out c.value.new.out c.args.out.now
     c.in-Range.is (c.held-first.ensures.value ∙ ap (λ b. held b c.args.d) c.expr_calls.ensures) c.even_above-last.ensures.value c.above-behind.ensures c.in_ok-value-in-Range.ensures c.in_ok-value-in-Range-2.ensures c.add_members.ensures
 
 -- ---- room for what is called
@@ -337,12 +360,28 @@ arguments-argument-requires t c = (search (rules, the_lemmas, get_or_read), (han
 pub arguments-scratch_end-scratch-requires : goal.arguments-scratch_end-scratch-requires
 arguments-scratch_end-scratch-requires t c = (handing_one (scope_of c.args.k.now) c.args.arguments.now c.loop-one.one-index c.loop-one.depth c.loop-one.scratch c.held-t.result c.one-item.result c.loop-one-test.true c.one-item.is c.loop-one.invariant.1 c.held-t.ensures.small).1
 
-pub combine-set-requires : goal.combine-set-requires
-combine-set-requires t c =
+pub combine-join-requires : goal.combine-join-requires
+combine-join-requires t c =
     let l = set_step_in (scope_of c.args.k.now) c.args.steps.now c.loop-step.step-index c.step-item.result c.loop-step-test.true c.step-item.is in
+    let r = c.requires in
+    (search (rules, the_lemmas, get_or_read), omega (arith, l, r))
+
+pub join-asked-requires : goal.join-asked-requires
+join-asked-requires t c =
+    let h = c.even_from-t.ensures.small in
+    let s = c.beside-second.ensures.small in
     let b = c.above-behind.ensures in
     let r = c.requires in
-    (search (rules, the_lemmas, get_or_read), omega (arith, l, b, r))
+    (search (rules, the_lemmas, get_or_read), omega (arith, h, s, b, r))
+
+pub join-adding-requires : goal.join-adding-requires
+join-adding-requires t c = let r = c.requires in (search (rules, the_lemmas, get_or_read), omega (arith, r))
+
+pub adding-members-requires : goal.adding-members-requires
+adding-members-requires t c =
+    let e = ap (set_weight (scope_of c.args.k.now)) (constructor_is _ _ _ c.in-Constructor.is c.deref.ensures.value) in
+    let r = c.requires in
+    (search (rules, the_lemmas, get_or_read), omega (arith, e, r))
 
 pub front-place-requires : goal.front-place-requires
 front-place-requires t c =
@@ -432,19 +471,19 @@ front-set-requires-in-CompareSets t c =
 
 pub front-value-requires-in-In : goal.front-value-requires-in-In
 front-value-requires-in-In t c =
-    let e = ap (expr_weight (scope_of c.args.k.now)) (in_is c.args.e.now c.in-In.left c.deref-in-In.result.now c.in-In.right c.in-In.right.value c.in-In.is c.deref-in-In.ensures refl) in
-    let h0 = c.held-member.ensures.small in
+    let e = ap (expr_weight (scope_of c.args.k.now)) (in_is c.args.e.now c.in-In.left c.deref-in-In-2.result.now c.in-In.right c.deref-in-In.result.now c.in-In.is c.deref-in-In-2.ensures c.deref-in-In.ensures) in
+    let h0 = c.kept-member.ensures.small in
     let r = c.requires in
-    let room : c.held-member.result + c.args.x + expr_weight (scope_of c.args.k.now) (expr_of c.deref-in-In.result.now) ≤ 2147483647 = omega (arith, e, h0, r) in
+    let room : c.kept-member.result + c.args.x + expr_weight (scope_of c.args.k.now) (expr_of c.deref-in-In-2.result.now) ≤ 2147483647 = omega (arith, e, h0, r) in
     search (rules, the_lemmas, get_or_read)
 
-pub front-set-requires-in-In : goal.front-set-requires-in-In
-front-set-requires-in-In t c =
-    let e = ap (expr_weight (scope_of c.args.k.now)) (in_is c.args.e.now c.in-In.left c.deref-in-In.result.now c.in-In.right c.deref-in-In-2.result.now c.in-In.is c.deref-in-In.ensures c.deref-in-In-2.ensures) in
-    let h0 = c.held-member.ensures.small in
+pub front-asked-requires : goal.front-asked-requires
+front-asked-requires t c =
+    let e = ap (expr_weight (scope_of c.args.k.now)) (in_is c.args.e.now c.in-In.left c.deref-in-In-2.result.now c.in-In.right c.deref-in-In-3.result.now c.in-In.is c.deref-in-In-2.ensures c.deref-in-In-3.ensures) in
+    let h0 = c.kept-member.ensures.small in
     let h1 = c.even_above-t.ensures.small in
     let r = c.requires in
-    let room : c.even_above-t.result + c.args.x + set_weight (scope_of c.args.k.now) (set_of c.deref-in-In-2.result.now) ≤ 2147483647 = omega (arith, e, h0, h1, r) in
+    let room : c.even_above-t.result + c.args.x + set_weight (scope_of c.args.k.now) (set_of c.deref-in-In-3.result.now) ≤ 2147483647 = omega (arith, e, h0, h1, r) in
     search (rules, the_lemmas, get_or_read)
 
 pub front-structure-requires : goal.front-structure-requires
@@ -520,6 +559,12 @@ set-place-requires t c =
     let r = c.requires in
     (search (rules, the_lemmas, get_or_read), omega (arith, e, r))
 
+pub asked-place-requires : goal.asked-place-requires
+asked-place-requires t c =
+    let e = ap (set_weight (scope_of c.args.k.now)) (load_set_is _ _ _ c.in-Load.is c.deref.ensures) in
+    let r = c.requires in
+    (search (rules, the_lemmas, get_or_read), omega (arith, e, r))
+
 pub set-members-requires : goal.set-members-requires
 set-members-requires t c =
     let e = ap (set_weight (scope_of c.args.k.now)) (constructor_is _ _ _ c.in-Constructor.is c.deref-in-Constructor.ensures.value) in
@@ -550,14 +595,17 @@ front-look_on-requires t c = depth_near c.args.d c.args.x _ c.requires
 pub value-finish-requires : goal.value-finish-requires
 value-finish-requires t c = depth_near c.args.d c.args.x _ c.requires
 
-pub set-copied_set-requires : goal.set-copied_set-requires
-set-copied_set-requires t c = depth_near c.args.d c.args.x _ c.requires
+pub set-copied_set-requires-clause-depth : goal.set-copied_set-requires-clause-depth
+set-copied_set-requires-clause-depth t c = depth_near c.args.d c.args.x _ c.requires
+
+pub set-copied_set-requires-clause-place : goal.set-copied_set-requires-clause-place
+set-copied_set-requires-clause-place t c = scratch_near c.args.d c.args.x _ c.requires
 
 pub front-held-first-requires : goal.front-held-first-requires
 front-held-first-requires t c = depth_far c.args.d c.args.x _ c.requires
 
-pub front-held-member-requires : goal.front-held-member-requires
-front-held-member-requires t c = depth_far c.args.d c.args.x _ c.requires
+pub front-kept-member-requires : goal.front-kept-member-requires
+front-kept-member-requires t c = depth_far c.args.d c.args.x _ c.requires
 
 pub front-kept-held-requires : goal.front-kept-held-requires
 front-kept-held-requires t c = depth_far c.args.d c.args.x _ c.requires
@@ -577,8 +625,8 @@ place-place_temporary-t-requires t c = depth_far c.args.d c.args.x _ c.requires
 pub front-even_from-t-requires : goal.front-even_from-t-requires
 front-even_from-t-requires t c = depth_farther c.args.d c.args.x _ c.requires
 
-pub member-even_from-t-requires : goal.member-even_from-t-requires
-member-even_from-t-requires t c = depth_farther c.args.d c.args.x _ c.requires
+pub one_member-even_from-t-requires : goal.one_member-even_from-t-requires
+one_member-even_from-t-requires t c = depth_farther c.args.d c.args.x _ c.requires
 
 pub set-even_from-requires : goal.set-even_from-requires
 set-even_from-requires t c = depth_farther c.args.d c.args.x _ c.requires
@@ -586,8 +634,16 @@ set-even_from-requires t c = depth_farther c.args.d c.args.x _ c.requires
 pub front-above-behind-requires : goal.front-above-behind-requires
 front-above-behind-requires t c = scratch_near c.args.d c.args.x _ c.requires
 
-pub combine-above-behind-requires : goal.combine-above-behind-requires
-combine-above-behind-requires t c = scratch_near c.args.d c.args.x _ c.requires
+pub one_member-above-behind-requires : goal.one_member-above-behind-requires
+one_member-above-behind-requires t c = scratch_near c.args.d c.args.x _ c.requires
+
+pub one_member-add_bit-requires-clause-number : goal.one_member-add_bit-requires-clause-number
+one_member-add_bit-requires-clause-number t c =
+    let s = subst IsMember (sym c.known_member.ensures ∙ c.in-Some.is) (known_small (literal_of (expr_of c.args.e.now))) in
+    omega (arith, s)
+
+pub one_member-add_bit-requires-clause-place : goal.one_member-add_bit-requires-clause-place
+one_member-add_bit-requires-clause-place t c = scratch_near c.args.d c.args.x _ c.requires
 
 pub member-above-behind-requires : goal.member-above-behind-requires
 member-above-behind-requires t c = scratch_near c.args.d c.args.x _ c.requires
@@ -621,12 +677,6 @@ element-known_steps-requires-clause-width t c = c.requires.width
 
 pub element-indexed-requires : goal.element-indexed-requires
 element-indexed-requires t c = c.requires.width
-
-pub combine-combined-requires-clause-depth : goal.combine-combined-requires-clause-depth
-combine-combined-requires-clause-depth t c = depth_near c.args.d c.args.x _ c.requires
-
-pub combine-combined-requires-clause-place : goal.combine-combined-requires-clause-place
-combine-combined-requires-clause-place t c = scratch_near c.args.d c.args.x _ c.requires
 
 pub set-clear-requires : goal.set-clear-requires
 set-clear-requires t c = scratch_near c.args.d c.args.x _ c.requires
@@ -663,7 +713,7 @@ front-even_above-second-requires t c =
 
 pub front-even_above-t-requires : goal.front-even_above-t-requires
 front-even_above-t-requires t c =
-    let h = c.held-member.ensures.small in
+    let h = c.kept-member.ensures.small in
     let r = c.requires in
     omega (arith, h, r)
 
@@ -692,8 +742,8 @@ member-even_above-last-requires t c =
     let r = c.requires in
     omega (arith, h, r)
 
-pub member-add_member-requires : goal.member-add_member-requires
-member-add_member-requires t c =
+pub one_member-add_member-requires : goal.one_member-add_member-requires
+one_member-add_member-requires t c =
     let h = c.even_from-t.ensures.small in
     let r = c.requires in
     omega (arith, h, r)

@@ -54,7 +54,7 @@ any_block-returns-in_err-statements t c = refused _ _ _ _ c.from_residual-in_err
 
 pub block-returns-then-depth-eq0 : goal.block-returns-then-depth-eq0
 unfolding program.read_block
-block-returns-then-depth-eq0 t c = rw (c.if-depth-eq0.true, c.too_deep.ensures.left) (λ ne. refl)
+block-returns-then-depth-eq0 t c = rw (c.if-depth-eq0.true, c.refusal.ensures.left) (λ ne. refl)
 
 pub function_routine-returns-in_err-name : goal.function_routine-returns-in_err-name
 unfolding program.function_routine

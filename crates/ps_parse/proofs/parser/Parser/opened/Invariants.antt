@@ -1,7 +1,6 @@
-use Rattle.std.proofs.Common.{◌≡◌}
 use Rattle.ps_parse.proofs.Parentheses.{Taken}
 use Rattle.ps_parse.proofs.parser.Parser.opened.Given as goal
 
 abbrev pub invariant-loop-count : goal.invariant-loop-count
 invariant-loop-count l =
-    Taken l.most l.fn.self.rest.now l.count l.self.rest.now × (l.self.left_out ≡ l.fn.self.left_out)
+    Taken l.most l.fn.self.rest.now l.count l.self.rest.now

@@ -1,0 +1,64 @@
+-- The statuses of jobs.
+use Rattle.std.proofs.Common.{◌≡◌, ◌⊎◌, ◌≤◌, ◌||◌, ◌∙◌, refl, sym, subst, ℕ, Bool, true, false, zero, suc, List, [], ◌∷◌, Some, None, inl, inr, arith, cond, map}
+use Rattle.std.specs.Prelude.{codes}
+use Rattle.std.specs.List.{list_any}
+use Rattle.std.specs.Str.{bytes_eq}
+use Rattle.pascal_pages.specs.Asked.{asks, names_of}
+use Rattle.pascal_pages.specs.declared.Page.{Page}
+use Rattle.pascal_cli.specs.Command.{Request, Text, Work, request_of}
+use Rattle.pascal_cli.specs.Explain.{AreThePages, asked_pages, has_page, shown}
+use Rattle.pascal_cli.specs.Jobs.{IsDone, IsStatus}
+use Rattle.pascal_cli.specs.Session.{asks_version}
+use Rattle.pascal_cli.proofs.GivenRows.{same_text}
+
+-- a job that failed, or did its work
+pub did : (request : Request) (work : Work) (status : ℕ) → request.work ≡ work → (status ≡ 1) ⊎ IsDone work request.limits status → IsStatus request status
+did request work status e done = subst (λ w. (status ≡ 1) ⊎ IsDone w request.limits status) (sym e) done
+
+pub one_of_two : (status : ℕ) (fact : Type 0) → status ≤ 1 → (status ≡ 0 → fact) → (status ≡ 1) ⊎ ((status ≡ 0) × fact)
+one_of_two zero fact most known = inr (refl, known refl)
+one_of_two (suc zero) fact most known = inl refl
+one_of_two (suc (suc n)) fact most known = absurd (omega (arith, most))
+
+-- where something is shown, a page is asked for
+asked_somewhere : (topic : List ℕ) (all : List Page) → (shown (asked_pages topic all) ≡ [] → ⊥) → list_any (λ names. asks names topic) (map names_of all) ≡ true
+asked_somewhere topic [] some = absurd (some refl)
+asked_somewhere topic (page ∷ rest) some = go (asks (names_of page) topic) some (asked_somewhere topic rest)
+  where
+    go : (b : Bool) → (shown (cond b (page ∷ asked_pages topic rest) (asked_pages topic rest)) ≡ [] → ⊥)
+        → ((shown (asked_pages topic rest) ≡ [] → ⊥) → list_any (λ names. asks names topic) (map names_of rest) ≡ true)
+        → (b || list_any (λ names. asks names topic) (map names_of rest)) ≡ true
+    go true some later = refl
+    go false some later = later some
+
+pub page_is_there : (topic : List ℕ) (all : List Page) → AreThePages all → (shown (asked_pages topic all) ≡ [] → ⊥) → has_page topic ≡ true
+unfolding has_page
+page_is_there topic all are some = subst (λ names. list_any (λ n. asks n topic) names ≡ true) are (asked_somewhere topic all some)
+
+-- ---- words
+
+-- words that ask for nothing fail, or end well
+pub ended : (words : List Text) (request : Request) (status : ℕ) → status ≤ 1 → (status ≡ 0 → request_of words ≡ None) → request_of words ≡ Some request
+    → IsStatus request status
+ended words request zero most none some = absurd (let e = sym (none refl) ∙ some in cc)
+ended words request (suc zero) most none some = inl refl
+ended words request (suc (suc n)) most none some = absurd (omega (arith, most))
+
+-- a request is that of its words
+pub of_words : (words : List Text) (asked request : Request) (status : ℕ) → request_of words ≡ Some asked → request_of words ≡ Some request
+    → IsStatus asked status → IsStatus request status
+of_words words asked request status one other done = subst (λ r. IsStatus r status) (same (sym one ∙ other)) done
+  where
+    same : Some asked ≡ Some request → asked ≡ request
+    same e = cc
+
+-- who asks for the version asks for nothing else
+pub version_alone : (words : List Text) → asks_version words ≡ true → request_of words ≡ None
+version_alone [] e = absurd (cc)
+version_alone (word ∷ other ∷ rest) e = absurd (cc)
+version_alone (word ∷ []) e = go (bytes_eq word (codes "--version")) refl (bytes_eq word (codes "-V")) refl e
+  where
+    go : (a : Bool) → bytes_eq word (codes "--version") ≡ a → (b : Bool) → bytes_eq word (codes "-V") ≡ b → (a || b) ≡ true → request_of (word ∷ []) ≡ None
+    go true long b short e = subst (λ w. request_of (w ∷ []) ≡ None) (sym (same_text word (codes "--version") long)) refl
+    go false long true short e = subst (λ w. request_of (w ∷ []) ≡ None) (sym (same_text word (codes "-V") short)) refl
+    go false long false short e = absurd (cc)

@@ -1,6 +1,0 @@
-pub mod Marking
-pub mod Walks
-pub mod Lists
-pub mod Examples
-pub mod Places
-pub mod Chains

@@ -1,0 +1,82 @@
+//! What is changed: variables that are assigned to, read, counted or passed as variable parameters (ISO 7185, 6.8.3.9), and
+//! results of functions (6.6.2).
+
+ghost use Rattle.std.specs.Prelude.{◌≡◌, ◌==◌};
+ghost use Rattle.std.specs.List.{list_any};
+ghost use Rattle.ps_tree.specs.View.{place_of};
+ghost use Rattle.ps_check_judgement.specs.Judged.{Answers};
+ghost use Rattle.ps_check_expressions.specs.Changed.{changed_entry, changed};
+ghost use Rattle.ps_check_expressions.specs.View.{context_at, controls_of};
+
+use crate::site::Site;
+use ps_check_judgement::answer::broken;
+use ps_check_judgement::change::Change;
+use ps_check_judgement::refusal::{Fault, Rule};
+use ps_tree::tree::{Place, PlaceBase};
+
+/// The control variables of the `for` statements round a place, by their entries, the innermost first.
+#[derive(Clone, Copy)]
+pub enum Controls<'a> {
+    Outside,
+    Inside { entry: u32, outer: &'a Controls<'a> },
+}
+
+/// Whether an entry is that of a control variable.
+#[tactic(auto, unfolding(crate::specs::View::controls_of))]
+fn has_entry(controls: &Controls, entry: u32) -> bool
+    ensures { result ≡ list_any (λ e. e == entry) (controls_of controls.now) }
+{
+    let mut here = controls;
+    loop {
+        match here {
+            Controls::Outside => return false,
+            Controls::Inside {
+                entry: control,
+                outer,
+            } => {
+                if *control == entry {
+                    return true;
+                }
+                here = outer;
+            }
+        }
+    }
+}
+
+/// Adds the change of an entry, which is that of no control variable of a `for` statement round the place.
+#[tactic(auto, unfolding(crate::specs::Changed::changed_entry))]
+pub fn changed_entry(site: Site<'_>, changes: &mut Vec<Change>, change: Change) -> Result<(), Fault>
+    ensures { Answers result (λ _. (tt, changes.new.items)) (changed_entry (context_at site.entry) change.up change.entry change.at changes.old.items) }
+{
+    if change.up == 0 && has_entry(site.controls, change.entry) {
+        return Err(broken(Rule::ControlVariable, change.at));
+    }
+    changes.push(change)?;
+    Ok(())
+}
+
+/// Adds the change of a variable that is changed at `at`, where it is a whole one.
+#[tactic(auto, using(crate::proofs::ChangeLemmas::changed_part, crate::proofs::ChangeLemmas::changed_whole), unfolding(crate::specs::Changed::changed))]
+pub fn changed(
+    site: Site<'_>,
+    changes: &mut Vec<Change>,
+    place: &Place,
+    at: u32,
+) -> Result<(), Fault>
+    ensures { Answers result (λ _. (tt, changes.new.items)) (changed (context_at site.entry) (place_of place.now) at changes.old.items) }
+{
+    if !place.selectors.is_empty() {
+        return Ok(());
+    }
+    match &place.base {
+        PlaceBase::Opened { .. } => Ok(()),
+        PlaceBase::Entry { up, index } => {
+            let change = Change {
+                up: *up,
+                entry: *index,
+                at,
+            };
+            changed_entry(site, changes, change)
+        }
+    }
+}

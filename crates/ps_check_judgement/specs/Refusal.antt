@@ -1,0 +1,44 @@
+-- The numbers and lines of the checker's refusals (this project's format).
+use Rattle.std.specs.Prelude.{◌≡◌, ℕ, Option, Some, None}
+use Rattle.ps_check_judgement.specs.declared.refusal.Rule.{Rule}
+use Rattle.ps_check_judgement.specs.declared.refusal.Rule.TheVariants.{NotInProfile, Unknown, Twice, UsedBefore, WrongKind, WrongType, NotAssignable, BadSubrange, SetBase, CaseTwice, ControlVariable, PackedVariable, NotCongruous, ForwardOpen, NoResultAssigned, NoInputOutput, Limit}
+use Rattle.ps_check_judgement.specs.declared.refusal.Fault.{Fault}
+use Rattle.ps_check_judgement.specs.declared.refusal.Fault.TheVariants as fault
+use Rattle.ps_check_judgement.specs.declared.refusal.CheckRefusal.{CheckRefusal}
+use Rattle.ps_check_judgement.specs.declared.refusal.CheckRefusal.TheVariants as refusal
+
+abbrev pub number_of_rule : Rule → ℕ
+number_of_rule NotInProfile = 22
+number_of_rule Unknown = 30
+number_of_rule Twice = 31
+number_of_rule UsedBefore = 32
+number_of_rule WrongKind = 33
+number_of_rule WrongType = 34
+number_of_rule NotAssignable = 35
+number_of_rule BadSubrange = 36
+number_of_rule SetBase = 37
+number_of_rule CaseTwice = 38
+number_of_rule ControlVariable = 39
+number_of_rule PackedVariable = 40
+number_of_rule NotCongruous = 41
+number_of_rule ForwardOpen = 42
+number_of_rule NoResultAssigned = 43
+number_of_rule NoInputOutput = 44
+number_of_rule Limit = 45
+
+abbrev pub number_of : CheckRefusal → ℕ
+number_of refusal.OutOfMemory = 9
+number_of (refusal.Broken rule at line) = number_of_rule rule
+
+abbrev pub line_of : CheckRefusal → Option ℕ
+line_of refusal.OutOfMemory = None
+line_of (refusal.Broken rule at line) = Some line
+
+-- a fault of the program, and not want of memory
+abbrev pub IsFault : Fault → Type 0
+IsFault fault.OutOfMemory = ⊥
+IsFault (fault.Broken rule at) = Unit {0}
+
+abbrev pub IsRefusal : CheckRefusal → Type 0
+IsRefusal refusal.OutOfMemory = ⊥
+IsRefusal (refusal.Broken rule at line) = Unit {0}

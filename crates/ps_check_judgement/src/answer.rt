@@ -1,0 +1,48 @@
+//! Answers of calls that may fail, put together. What an answer holds goes on as it is, whatever its type.
+
+ghost use Rattle.std.specs.Prelude.{◌≡◌, ◌++◌, ◌∷◌, [], IfOk, IfErr, Ok, Err};
+ghost use Rattle.std.specs.Result.{IsOkAnd};
+ghost use Rattle.ps_check_judgement.specs.Judged.{both};
+ghost use Rattle.ps_check_judgement.specs.Refusal.{IsFault};
+ghost use Rattle.ps_check_judgement.specs.declared.refusal.Fault.TheVariants.{Broken};
+
+use crate::refusal::{Fault, Rule};
+use std::alloc::Global;
+
+/// The fault of a rule that is broken, by the offset of the token that it is told at.
+pub fn broken(rule: Rule, at: u32) -> Fault
+    ensures { result ≡ Broken rule at }
+{
+    Fault::Broken { rule, at }
+}
+
+/// Two answers as one: both values, or else the first error.
+pub fn paired<A: Drop, B: Drop, E: Drop>(
+    first: Result<A, E>,
+    second: Result<B, E>,
+) -> Result<(A, B), E>
+    ensures { result ≡ both first second }
+{
+    match (first, second) {
+        (Ok(first), Ok(second)) => Ok((first, second)),
+        (Err(error), _) | (Ok(_), Err(error)) => Err(error),
+    }
+}
+
+/// What an answer holds, on the heap.
+pub fn boxed_answer<A: Drop>(alloc: Global, answer: Result<A, Fault>) -> Result<Box<A>, Fault>
+    ensures ok { IfOk result (λ part. answer ≡ Ok part.value) }
+    ensures err { IfErr result (λ fault. IsFault fault → answer ≡ Err fault) }
+{
+    Ok(Box::new(alloc, answer?)?)
+}
+
+/// Adds what an answer holds to a list, which stays as it was where that fails.
+pub fn push_answer<A: Drop>(list: &mut Vec<A>, answer: Result<A, Fault>) -> Result<(), Fault>
+    ensures ok { IfOk result (λ _. IsOkAnd answer (λ part. list.new.items ≡ list.old.items ++ part ∷ [])) }
+    ensures err { IfErr result (λ fault. IsFault fault → answer ≡ Err fault) }
+    ensures kept { IfErr result (λ _. list.new.items ≡ list.old.items) }
+{
+    list.push(answer?)?;
+    Ok(())
+}

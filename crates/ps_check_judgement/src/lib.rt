@@ -1,0 +1,6 @@
+//! Code: why the checker refuses a program, and answers that say what a judgement of the language says.
+#![tactic(auto)]
+
+pub mod answer;
+pub mod change;
+pub mod refusal;

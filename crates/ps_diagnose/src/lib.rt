@@ -1,0 +1,15 @@
+//! Code: what a diagnostic tells beside the place of a refusal: the kinds of tokens that could stand there, names near by spelling, changes of the text.
+#![tactic(auto)]
+
+mod begun;
+mod changes;
+mod expected;
+mod groups;
+mod kinds;
+mod near;
+
+pub use begun::{Answer, begins};
+pub use changes::changed;
+pub use expected::{could_stand, expected_at};
+pub use groups::grouped;
+pub use near::nearest;

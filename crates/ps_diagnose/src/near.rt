@@ -1,0 +1,29 @@
+//! Names that are near by spelling.
+
+ghost use Rattle.std.specs.Prelude.{◌<◌, length, IfOk, IfSome};
+
+use std::alloc::{AllocError, Global};
+use strsim::damerau_levenshtein;
+
+// How far a name may lie from another one: a third of its length, and at least one letter.
+fn reach_of(name: &str) -> usize {
+    (name.len() / 3).max(1)
+}
+
+/// Which of several names is the nearest by its spelling, by its number from 0: the one with the fewest letters left out, put in, exchanged or
+/// changed in their places; none where all lie further than a third of the length. Of those that are equally near it is the last one. Names are in
+/// small letters.
+pub fn nearest(alloc: Global, name: &str, names: &[&str]) -> Result<Option<usize>, AllocError>
+    ensures { IfOk result (λ best. IfSome best (λ at. at < length names.now)) }
+{
+    let mut best = None;
+    let mut least = reach_of(name);
+    for (at, other) in names.iter().enumerate() {
+        let distance = damerau_levenshtein(alloc, name, other)?;
+        if distance <= least {
+            least = distance;
+            best = Some(at);
+        }
+    }
+    Ok(best)
+}
