@@ -10,6 +10,7 @@ use Rattle.ps_parse.specs.Begun.{Begins}
 use Rattle.ps_text.specs.declared.Span.{Span}
 use Rattle.ps_parse.specs.Untaken.{IsFault, IsRefusedAt, IsToldAt, IsTold, IsTooHigh}
 use Rattle.ps_parse.specs.declared.error.ParseFault.{ParseFault}
+use Rattle.ps_diagnose.specs.Begun.{LieTooDeep}
 use Rattle.ps_parse.specs.declared.error.ParseRefusal.{ParseRefusal}
 use Rattle.ps_parse.specs.declared.error.ParseRefusal.TheVariants.{Faulty}
 use Rattle.ps_parse.specs.declared.error.ParseFault.TheVariants.{NotAProgram, TooDeep, NotInProfile}
@@ -70,3 +71,6 @@ module _ (text : List ℕ) (ts : Tokens) (at : ℕ) (fault : ParseFault) (refuse
 
   pub too_deep : fault ≡ TooDeep → at + 1 ≡ length ts → Begins text ts
   too_deep is last = begun_at_last (subst (λ f. IsFault text (take at ts) (drop at ts) f) is refused.is_fault) last
+
+  pub deep_before : fault ≡ TooDeep → at + 1 < length ts → LieTooDeep text ts
+  deep_before is lt = (at, lt, subst (IsRefusedAt text ts at) is refused)

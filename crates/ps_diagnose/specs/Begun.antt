@@ -1,17 +1,23 @@
 -- Whether tokens begin a program (ISO 7185 6.2 to 6.10).
-use Rattle.std.specs.Prelude.{List, ℕ, [], ◌∷◌, ◌++◌}
+use Rattle.std.specs.Prelude.{ℕ, ◌+◌, ◌<◌, List, [], ◌∷◌, ◌++◌, length}
 use Rattle.ps_text.specs.declared.Span.{Span}
 use Rattle.ps_scan.specs.declared.token.Kind.{Kind}
 use Rattle.ps_parse_grammar.specs.Symbols.{Tokens, token}
 use Rattle.ps_parse.specs.Begun.{Begins}
+use Rattle.ps_parse.specs.Untaken.{IsRefusedAt}
+use Rattle.ps_parse.specs.declared.error.ParseFault.TheVariants.{TooDeep}
 use Rattle.ps_diagnose.specs.declared.begun.Answer.{Answer}
 use Rattle.ps_diagnose.specs.declared.begun.Answer.TheVariants.{Begun, NotBegun, Unknown}
+
+-- before the last token one lies too deep: with it and those before it a program begins, which is too high
+abbrev pub LieTooDeep : List ℕ → Tokens → Type 0
+LieTooDeep text ts = (at : ℕ) × (at + 1 < length ts) × IsRefusedAt text ts at TooDeep
 
 -- what an answer tells of tokens
 abbrev pub Tells : List ℕ → Tokens → Answer → Type 0
 Tells text ts Begun = Begins text ts
 Tells text ts NotBegun = Begins text ts → ⊥
-Tells text ts Unknown = Unit {0}
+Tells text ts Unknown = LieTooDeep text ts
 
 -- where a token stands that is in no text
 abbrev pub nowhere : Span
