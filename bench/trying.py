@@ -9,7 +9,6 @@ TOP = os.path.dirname(HERE)
 # what each of them stands on
 CRATES = {
     "runs_codes": "tac_code tac_code_runner risc_alloc risc_emit risc_image risc_load risc_machine risc_emit_trail",
-    "runs_places": "ps_text ps_scan ps_parse ps_tree ps_check ps_lower tac_code risc_alloc risc_image risc_emit ps_build pascal_cli",
 }
 SECONDS = "120"
 

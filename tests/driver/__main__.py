@@ -22,8 +22,10 @@ from typing import Callable, List, NoReturn, Optional
 
 sys.dont_write_bytecode = True
 
+import damaged  # noqa: E402
 import explained  # noqa: E402
 import others  # noqa: E402
+import placed  # noqa: E402
 import runs  # noqa: E402
 import scripts  # noqa: E402
 from cases import TESTS, TOP, Case, cases_of, files_of  # noqa: E402
@@ -38,13 +40,15 @@ FOLDERS = {
     "stops": ("pascal", "pascal_slots"),
     "exact": ("pascal",),
     "shapes": ("pascal",),
+    "damaged": ("pascal",),
     "phases": ("pascal_reference",),
+    "places": ("pascal_reference",),
     "explain": ("pascal",),
     "others": ("pascal",),
     "scripts": ("pascal",),
 }
-# what is tried of a page of docs/ that is data
-TRIALS = {"explain": explained.trials, "others": others.trials}
+# what is tried of a page of docs/ that is data, of damaged images, and of homes of temporaries
+TRIALS = {"explain": explained.trials, "others": others.trials, "damaged": damaged.trials, "places": placed.trials}
 INTERRUPTED = 130
 PROCESSORS = int(os.environ.get("RT_JOBS") or 0) or len(os.sched_getaffinity(0))
 

@@ -22,6 +22,8 @@ class Image:
         code, frames, objects, traps = counts[:4]
         self.code = [word for word, in self.rows(code, 1)]
         self.frames, self.objects, self.traps = self.rows(frames, 2), self.rows(objects, 2), self.rows(traps, 3)
+        # (version 1 has no table of calls)
+        self.calls = self.rows(counts[4], 2) if fields == 6 else []
 
     def rows(self, count, width):
         rows = list(struct.iter_unpack(f"<{width}I", self.data[self.at : self.at + 4 * count * width]))

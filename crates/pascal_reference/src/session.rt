@@ -1,6 +1,7 @@
 // One call of the program: its words, its files, and what it tells.
 
 use crate::phases::take_standard_input;
+use crate::places::tell_of_standard_input;
 use crate::rows::answer_all;
 use crate::runs::{Fault, Limits, Runner, Shown, run_text};
 use pascal_cli::{
@@ -36,6 +37,7 @@ fn run_texts<R: Files + Print + Eprint + Input + AllocGlobal>(rt: &R, texts: &[&
         ["code", others @ ..] => run_job(rt, Runner::Code, others),
         ["slots", others @ ..] => run_job(rt, Runner::Slots, others),
         ["phases", last] => take_standard_input(rt, last),
+        ["places"] => tell_of_standard_input(rt),
         ["tables"] => match answer_all(rt) {
             Ok(()) => 0,
             Err(_) => FAILED,

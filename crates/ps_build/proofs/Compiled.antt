@@ -1,5 +1,6 @@
 -- The text is accepted as one program alone, or why it is refused.
-use Rattle.std.proofs.Common.{min, ◌≡◌, ◌≢◌, ℕ, ◌<◌, List, length, drop, get_or, Result, Ok, Err, IfErr, refl, sym, ap, ◌∙◌, subst, arith}
+use Rattle.std.proofs.Common.{min, ◌≡◌, ◌≢◌, ◌⊎◌, inl, inr, ℕ, ◌<◌, List, length, drop, get_or, Result, Ok, Err, IfErr, refl, sym, ap, ◌∙◌, subst, arith}
+use Rattle.std.specs.Prelude.{IsErrAnd}
 use Rattle.std.proofs.lemmas.Grind.{get_or_default_zero}
 use Rattle.behavior.specs.Transcripts.{AreBytes}
 use Rattle.ps_tree.specs.Tree as Tree
@@ -11,6 +12,8 @@ use Rattle.ps_check_judgement.proofs.Binds.{no_yes}
 use Rattle.ps_check.specs.Checked.{IsRefusalOf}
 use Rattle.ps_check.specs.Programs.{program}
 use Rattle.ps_text.specs.declared.Span.{Span}
+use Rattle.ps_text.specs.declared.TextRefusal.{TextRefusal}
+use Rattle.ps_text.specs.declared.TextRefusal.TheVariants as t
 use Rattle.ps_scan.specs.declared.refusal.ScanRefusal.{ScanRefusal}
 use Rattle.ps_scan.specs.declared.refusal.ScanRefusal.TheVariants as s
 use Rattle.ps_scan.specs.declared.token.Token.{Token}
@@ -33,7 +36,7 @@ use Rattle.ps_lower_accepted.specs.Formed.{IsFormed}
 use Rattle.ps_lower_accepted.specs.Laws.{AcceptedFit, AcceptedFormed}
 use Rattle.ps_build.specs.declared.refusal.Refusal.{Refusal}
 use Rattle.ps_build.specs.declared.refusal.Refusal.TheVariants.{TooLong, TooManyLines, OutOfMemory, Scan, Parse, Check, CodeTooLarge}
-use Rattle.ps_build.specs.Refusals.{of_scan, of_parse, of_check, OnlyTooLarge}
+use Rattle.ps_build.specs.Refusals.{of_text, of_scan, of_parse, of_check, OnlyTooLarge}
 use Rattle.ps_build.specs.Accepts.{IsParsed, Accepts, IsProgramOf, span_of, HasFault, HasNoTree, HasNoProgram, HasNoRoom, IsRefused, IsFaulty, IsNotAccepted}
 use Rattle.ps_build.proofs.Short.{tokens_within}
 
@@ -85,10 +88,13 @@ module _ (text : List ℕ) (checked : Tree.Program) (of_text : IsProgramOf text 
 all_bytes : (bytes : List ℕ) → ((k : ℕ) → get_or bytes k 0 < 256) → AreBytes bytes
 all_bytes bytes h k d lt = subst (λ b. b < 256) (sym (get_or_default_zero bytes k d lt)) (h k)
 
-pub fits : AcceptedFit → (text : List ℕ) (checked : Tree.Program) → ((k : ℕ) → get_or text k 0 < 256) → IsProgramOf text checked → ProgramFits checked
-fits accepted_fit text checked narrow of_text =
+pub fits_bytes : AcceptedFit → (text : List ℕ) (checked : Tree.Program) → AreBytes text → IsProgramOf text checked → ProgramFits checked
+fits_bytes accepted_fit text checked bytes of_text =
     let a = of_text.accepts in
-    accepted_fit text a.tokens a.tree checked (all_bytes text narrow) a.parsed.limits a.parsed.scanned a.parsed.derived a.checks
+    accepted_fit text a.tokens a.tree checked bytes a.parsed.limits a.parsed.scanned a.parsed.derived a.checks
+
+pub fits : AcceptedFit → (text : List ℕ) (checked : Tree.Program) → ((k : ℕ) → get_or text k 0 < 256) → IsProgramOf text checked → ProgramFits checked
+fits accepted_fit text checked narrow of_text = fits_bytes accepted_fit text checked (all_bytes text narrow) of_text
 
 pub formed : AcceptedFormed → (text : List ℕ) (checked : Tree.Program) → ((k : ℕ) → get_or text k 0 < 256) → IsProgramOf text checked → IsFormed checked
 formed accepted_are_formed text checked narrow of_text =
@@ -130,6 +136,37 @@ module _ (text : List ℕ) (tokens : List Token) (source : IsSource text) (scann
   no_tree (p.Faulty why line token from to) told =
       subst (λ n. HasNoTree text why n (record { line = line; from = from; to = to })) (counted why line token _ told)
       (without_tree why line from to told.at told.refused told.on_line told.placed)
+
+-- ---- what is told before code is made of a text: a fault of it, or the want of memory
+
+abbrev pub IsFaultyOrMemory : Refusal → Type 0
+IsFaultyOrMemory refusal = IsFaulty refusal ⊎ (refusal ≡ OutOfMemory)
+
+faulty_text : (refusal : TextRefusal) → IsFaultyOrMemory (of_text refusal)
+faulty_text t.TooLong = inl tt
+faulty_text t.TooManyLines = inl tt
+
+faulty_tokens : (refusal : ScanRefusal) → IsFaultyOrMemory (of_scan refusal)
+faulty_tokens s.OutOfMemory = inr refl
+faulty_tokens (s.Faulty why line from to) = inl tt
+
+pub faulty_tree : (refusal : ParseRefusal) → IsFaultyOrMemory (of_parse refusal)
+faulty_tree p.OutOfMemory = inr refl
+faulty_tree (p.Faulty why line token from to) = inl tt
+
+pub faulty_program : (tokens : List Token) (refusal : CheckRefusal) → IsFaultyOrMemory (of_check tokens refusal)
+faulty_program tokens k.OutOfMemory = inr refl
+faulty_program tokens (k.Broken rule at line) = inl tt
+
+handed_on : {X : Type 0} (answer : Result X Refusal) (refusal : Refusal) → IsErrAnd answer (λ e. e ≡ refusal) → IsFaultyOrMemory refusal → IfErr answer IsFaultyOrMemory
+handed_on (Ok x) refusal is h = absurd is
+handed_on (Err e) refusal is h = subst IsFaultyOrMemory (sym is) h
+
+pub text_refused : {X : Type 0} (answer : Result X Refusal) (refusal : TextRefusal) → IsErrAnd answer (λ e. e ≡ of_text refusal) → IfErr answer IsFaultyOrMemory
+text_refused answer refusal is = handed_on answer (of_text refusal) is (faulty_text refusal)
+
+pub tokens_refused : {X : Type 0} (answer : Result X Refusal) (refusal : ScanRefusal) → IsErrAnd answer (λ e. e ≡ of_scan refusal) → IfErr answer IsFaultyOrMemory
+tokens_refused answer refusal is = handed_on answer (of_scan refusal) is (faulty_tokens refusal)
 
 -- ---- what a refusal of a fault says: that the text is not accepted
 

@@ -1,16 +1,22 @@
 -- What the promises don't allow, by examples that are worked out by hand: consoles whose output was held back or lost, and a table that charges
--- too much.
-use Rattle.std.proofs.Common.{◌≡◌, ◌<◌, ◌≤◌, ℕ, zero, suc, ◌+◌, ◌*◌, List, [], ◌∷◌, ◌++◌, Some, None, refl, arith}
-use Rattle.behavior.specs.Transcripts.{output}
+-- too much; and images that fault, which are none that was built.
+use Rattle.std.proofs.Common.{◌≡◌, ◌<◌, ◌≤◌, ℕ, zero, suc, ◌+◌, ◌*◌, List, [], ◌∷◌, ◌++◌, Some, None, refl, sym, subst, arith}
+use Rattle.behavior.specs.Endings as ending
+use Rattle.behavior.specs.Transcripts.{AreBytes, output}
 use Rattle.risc_machine.specs.Console.{World}
 use Rattle.risc_image.specs.Image.{Image}
 use Rattle.risc_load.specs.declared.budget.Budget.{Budget}
+use Rattle.risc_load.specs.Shows.{IsBudget}
 use Rattle.risc_emit_laws.specs.Outcome.{image_outcome}
 use Rattle.ps_tree.specs.Tree.{Program, no_routine, routine_at}
 use Rattle.ps_tree.specs.Counts.{routine_cells, routine_nodes, routine_extent, formals_extent, result_extent, variables_extent, statements_extent}
 use Rattle.ps_meaning.specs.Costs.{Bounded}
+use Rattle.ps_build.specs.declared.outcome.FaultKind.TheVariants as fault
+use Rattle.ps_build.specs.declared.outcome.Outcome.TheVariants.{Fault}
 use Rattle.ps_build.specs.Devices.{AsksInput, AsksOutput}
-use Rattle.ps_build.specs.Runs.{stands_at, Breaks}
+use Rattle.ps_build.specs.Headline.{Compiles}
+use Rattle.ps_build.specs.Laws.{NeverFaults}
+use Rattle.ps_build.specs.Runs.{stands_at, Breaks, Ends}
 
 -- ---- devices that fail
 
@@ -54,6 +60,38 @@ prompted = record { steps = 3; fewer = omega arith; running = refl; asking = tt;
 
 answered : Breaks AsksOutput echo none 6 (7 ∷ []) [] (record { input = Some []; output = Some (97 ∷ []); faults = 1 })
 answered = record { steps = 4; fewer = omega arith; running = refl; asking = tt; moved = record { written = refl; left = refl } }
+
+-- ---- machine faults
+
+-- MOV R0, 97: the word behind it is none of the image
+abbrev falling : Image
+falling = record { global = 0; code = 0x40000061 ∷ []; frames = []; objects = []; traps = []; calls = None }
+
+-- MOV R6, -64; ST R0, R6, 4: stops with a link that the trap table, which is empty, doesn't have
+abbrev stopping : Image
+stopping = record { global = 0; code = 0x5600FFC0 ∷ 0xA0600004 ∷ []; frames = []; objects = []; traps = []; calls = None }
+
+falls : image_outcome falling 0 0 [] 2 ≡ ([], ending.Fault ending.BadJump)
+falls = refl
+
+stops : image_outcome stopping 0 0 [] 2 ≡ ([], ending.Fault ending.UnknownTrap)
+stops = refl
+
+-- a run of such an image is told as a fault
+told_as_fault : Ends stopping none 2 [] [] (record { input = Some []; output = Some []; faults = 0 }) (Fault fault.UnknownTrap)
+told_as_fault = record { moved = record { written = refl; left = refl }; ending = refl }
+
+module _ (never_faults : NeverFaults) (text bytes : List ℕ) (are : AreBytes text) (compiles : Compiles text bytes) where
+  unbuilt : (image : Image) (kind : ending.FaultKind) → IsBudget image 0 0 → (image_outcome image 0 0 [] 2).1 ≡ ending.Fault kind → compiles.image ≡ image → ⊥
+  unbuilt image kind budget e same =
+      never_faults text bytes are compiles 0 0 (subst (λ i. IsBudget i 0 0) (sym same) budget) [] (λ k d lt. absurd (omega (arith, lt))) 2 kind (subst (λ i. (image_outcome i 0 0 [] 2).1 ≡ ending.Fault kind) (sym same) e)
+
+  -- no text has such an image
+  never_falls : compiles.image ≡ falling → ⊥
+  never_falls = unbuilt falling ending.BadJump (record { heap_even = refl; stack_even = refl; fits = omega arith }) refl
+
+  never_stops : compiles.image ≡ stopping → ⊥
+  never_stops = unbuilt stopping ending.UnknownTrap (record { heap_even = refl; stack_even = refl; fits = omega arith }) refl
 
 -- ---- costs
 

@@ -74,6 +74,7 @@ image_kept bytes budget n first old new outcome same r = record {
 pub go_kept : (text : List ℕ) (budget : Budget) (n : ℕ) (first old new : World) (outcome : Outcome) → Same old new → Goes text budget n first old outcome → Goes text budget n first new outcome
 go_kept text budget n first old new outcome same g = record {
   bytes = g.bytes;
+  built = g.built;
   compiles = g.compiles;
   runs = runs_kept g.compiles.image budget n first old new outcome same g.runs;
 }

@@ -9,6 +9,7 @@ pub mod Results
 pub mod InSlices
 pub mod Kept
 pub mod Unbudgeted
+pub mod Faultless
 pub mod Charged
 pub mod Lowered
 pub mod Made

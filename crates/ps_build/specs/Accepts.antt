@@ -46,6 +46,11 @@ pub record IsProgramOf (text : List ℕ) (checked : Tree.Program) : Type 0 where
   pub accepts : Accepts text checked
   pub only : (other : Tree.Program) → Accepts text other → other ≡ checked
 
+-- the text is accepted
+pub record IsAccepted (text : List ℕ) : Type 0 where
+  pub checked : Tree.Program
+  pub is_program : IsProgramOf text checked
+
 -- the code of the program that the text is accepted as
 pub record IsCodeOfText (text : List ℕ) (code : Code) : Type 0 where
   pub checked : Tree.Program

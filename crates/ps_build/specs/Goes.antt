@@ -6,17 +6,20 @@ use Rattle.ps_build.specs.declared.refusal.Refusal.{Refusal}
 use Rattle.ps_build.specs.declared.outcome.Outcome.{Outcome}
 use Rattle.ps_build.specs.Accepts.{IsRefused}
 use Rattle.ps_build.specs.Headline.{Compiles}
+use Rattle.ps_build.specs.Made.{IsBuilt}
 use Rattle.ps_build.specs.Runs.{Runs, IsLoadRefused}
 
--- The text has an image that does what its program means, and this image was run.
+-- The text has an image that was made of it as `build` makes one, and that does what its program means; and this image was run.
 pub record Goes (text : List ℕ) (budget : Budget) (n : ℕ) (old new : World) (outcome : Outcome) : Type 0 where
   pub bytes : List ℕ
+  pub built : IsBuilt text bytes
   pub compiles : Compiles text bytes
   pub runs : Runs compiles.image budget n old new outcome
 
--- the text has an image, which isn't loaded under the budget
+-- the text has such an image, which isn't loaded under the budget
 pub record IsUnloaded (text : List ℕ) (budget : Budget) (refusal : Refusal) : Type 0 where
   pub bytes : List ℕ
+  pub built : IsBuilt text bytes
   pub compiles : Compiles text bytes
   pub refused : IsLoadRefused compiles.image budget refusal
 

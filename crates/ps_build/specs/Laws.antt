@@ -1,8 +1,11 @@
--- The headline over the meaning without budgets.
-use Rattle.std.specs.Prelude.{ℕ, List}
+-- The headline over the meaning without budgets, and what follows from it for the machine.
+use Rattle.std.specs.Prelude.{◌≡◌, ◌≢◌, ℕ, List, Some}
+use Rattle.behavior.specs.Endings as ending
 use Rattle.behavior.specs.Transcripts.{AreBytes}
 use Rattle.behavior.specs.Laws.{Stopped}
+use Rattle.risc_machine.specs.Console.{World}
 use Rattle.risc_image.specs.Image.{Image}
+use Rattle.risc_load.specs.declared.budget.Budget.{Budget}
 use Rattle.risc_load.specs.Shows.{IsBudget}
 use Rattle.risc_emit_laws.specs.Outcome.{image_outcome}
 use Rattle.ps_tree.specs.Tree.{Program}
@@ -12,6 +15,10 @@ use Rattle.ps_lower_code.specs.Programs.{code_of}
 use Rattle.ps_lower_laws.specs.Fits.{ProgramFits}
 use Rattle.tac_rt.specs.Bodies.{run_time_routines}
 use Rattle.ps_build.specs.Accepts.{IsProgramOf}
+use Rattle.ps_build.specs.declared.outcome.FaultKind.{FaultKind}
+use Rattle.ps_build.specs.declared.outcome.Outcome.{Outcome}
+use Rattle.ps_build.specs.declared.outcome.Outcome.TheVariants.{Fault}
+use Rattle.ps_build.specs.Goes.{Goes}
 use Rattle.ps_build.specs.Headline.{DoesAsMeant, Compiles}
 use Rattle.ps_build.specs.Made.{IsCodeOf, IsMadeOf}
 
@@ -20,6 +27,23 @@ use Rattle.ps_build.specs.Made.{IsCodeOf, IsMadeOf}
 -- shows just what the program shows.
 abbrev pub ComesToTheMeaning : Type 0
 ComesToTheMeaning = (checked : Program) (image : Image) → DoesAsMeant checked image → (heap stack : ℕ) → IsBudget image heap stack → (input : List ℕ) → AreBytes input → Stopped (run checked input) (image_outcome image heap stack input)
+
+-- An image that does what the program of a text means never comes to a machine fault, under any budget and on any input of bytes: the
+-- processor can always go on, and no stop has a link that the image's trap table doesn't have.
+abbrev pub NeverFaults : Type 0
+NeverFaults = (text bytes : List ℕ) → AreBytes text → (compiles : Compiles text bytes) → (heap stack : ℕ) → IsBudget compiles.image heap stack → (input : List ℕ) → AreBytes input → (steps : ℕ) (kind : ending.FaultKind) → (image_outcome compiles.image heap stack input steps).1 ≢ ending.Fault kind
+
+-- the console tells its bytes
+pub record TellsBytes (world : World) : Type 0 where
+  pub input : List ℕ
+  pub bytes : AreBytes input
+  pub left : world.input ≡ Some input
+  pub before : List ℕ
+  pub written : world.output ≡ Some before
+
+-- So no text that was built and run over such a console comes to one.
+abbrev pub GoesWithoutFault : Type 0
+GoesWithoutFault = (text : List ℕ) (budget : Budget) (n : ℕ) (old new : World) (outcome : Outcome) → AreBytes text → Goes text budget n old new outcome → TellsBytes old → (kind : FaultKind) → outcome ≢ Fault kind
 
 -- The three-address code of a program that has all that the lowering needs, with the run-time routines behind it, does what the program
 -- means.

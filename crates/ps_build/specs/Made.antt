@@ -15,6 +15,8 @@ use Rattle.risc_image.specs.Image.{Image}
 use Rattle.risc_image.specs.Format.{IsImage}
 use Rattle.risc_load.specs.Shows.{frame_bytes, object_bytes}
 use Rattle.risc_emit_laws.specs.Emits.{Emits}
+use Rattle.risc_emit.specs.Emitted.{HasBounds}
+use Rattle.ps_build.specs.Accepts.{IsCodeOfText}
 
 -- The code does what the program means, under any costs and budgets and on any input of bytes, and there is a next step wherever it has
 -- not come to its end.
@@ -39,6 +41,19 @@ pub record IsEmitted (code : Code) (image : Image) : Type 0 where
   pub homes : List Home
   pub placed : Valid code homes
   pub emitted : Emits code homes image
+
+-- the bytes are an image of the code, within the bounds on frames and objects
+pub record AreEmitted (code : Code) (bytes : List ℕ) : Type 0 where
+  pub image : Image
+  pub is_image : IsImage bytes image
+  pub emitted : IsEmitted code image
+  pub bounds : HasBounds code image
+
+-- What `build` gives of a text: the bytes are an image of the three-address code of its program.
+pub record IsBuilt (text bytes : List ℕ) : Type 0 where
+  pub code : Code
+  pub is_code : IsCodeOfText text code
+  pub emitted : AreEmitted code bytes
 
 -- the bytes are an image that was made so of the program
 pub record AreMadeOf (checked : Program) (bytes : List ℕ) : Type 0 where

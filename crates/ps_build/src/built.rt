@@ -1,12 +1,14 @@
 //! Programs as images.
 
-ghost use Rattle.std.specs.Prelude.{◌≡◌, ℕ, ◌<◌, slice_index, IfOk, IfErr};
+ghost use Rattle.std.specs.Prelude.{◌≡◌, ◌⊎◌, ℕ, ◌<◌, slice_index, IfOk, IfErr, OnOk};
 ghost use Rattle.risc_image.specs.Format.{IsImage};
 ghost use Rattle.ps_lower_accepted.specs.Formed.{IsFormed};
 ghost use Rattle.ps_lower_laws.specs.Fits.{ProgramFits};
 ghost use Rattle.ps_tree.specs.Checked.{program_in};
-ghost use Rattle.ps_build.specs.Accepts.{IsProgramOf, IsCodeOfText, IsRefused, IsFaulty, IsNotAccepted};
+ghost use Rattle.ps_build.specs.Accepts.{IsProgramOf, IsAccepted, IsCodeOfText, IsRefused, IsFaulty, IsNotAccepted};
 ghost use Rattle.ps_build.specs.Headline.{Compiles};
+ghost use Rattle.ps_build.specs.Made.{IsBuilt};
+ghost use Rattle.ps_build.specs.declared.refusal.Refusal.TheVariants.{OutOfMemory};
 
 use crate::making::{code_made, image_made};
 use crate::refusal::Refusal;
@@ -63,6 +65,7 @@ impl Built {
 fn program_of(alloc: Global, text: &[u8]) -> Result<Checked, Refusal>
     ensures ok { IfOk result (λ checked. IsProgramOf text.now (program_in checked)) }
     ensures err { IfErr result (IsRefused text.now) }
+    ensures faulty { IfErr result (λ refusal. IsFaulty refusal ⊎ (refusal ≡ OutOfMemory)) }
 {
     let source = Source::new(text)?;
     let tokens = scan(alloc, &source)?;
@@ -100,6 +103,7 @@ fn has_what_is_needed(text: &[u8], checked: &Checked)
 // The bytes of the image of a text.
 fn image_built<P: Placer>(alloc: Global, text: &[u8], placer: &P) -> Result<Vec<u8>, Refusal>
     ensures ok { IfOk result (λ bytes. Compiles text.now bytes.items) }
+    ensures built { IfOk result (λ bytes. IsBuilt text.now bytes.items) }
     ensures err { IfErr result (IsRefused text.now) }
 {
     let checked = program_of(alloc, text)?;
@@ -107,11 +111,27 @@ fn image_built<P: Placer>(alloc: Global, text: &[u8], placer: &P) -> Result<Vec<
     image_made(alloc, &checked, placer)
 }
 
+/// Whether a text is accepted: it is read and checked as `build` does, and no code is made of it.
+///
+/// Refused is a text that isn't accepted, as `build` refuses it: with a refusal of 1, 2 or 10 to 45.
+pub fn accepted(alloc: Global, text: &[u8]) -> Result<(), Refusal>
+    ensures accepted { OnOk result (IsAccepted text.now) }
+    ensures refused { IfErr result (IsRefused text.now) }
+    ensures faulty { IfErr result (λ refusal. IsFaulty refusal ⊎ (refusal ≡ OutOfMemory)) }
+    ensures accepts { IfErr result (λ refusal. IsFaulty refusal → IsNotAccepted text.now) }
+{
+    let accepted_as = program_of(alloc, text)?;
+    drop(accepted_as);
+    Ok(())
+}
+
 /// The three-address code of the program of a text, from which its image is built.
 ///
-/// Refused is a text that isn't accepted, and one whose code is too large whatever homes its temporaries have.
+/// Refused are a text that isn't accepted, as `build` refuses it, and one whose code is too large whatever homes its temporaries have.
 pub fn code_of_text(alloc: Global, text: &[u8]) -> Result<Tac, Refusal>
-    ensures { IfOk result (IsCodeOfText text.now) }
+    ensures code { IfOk result (IsCodeOfText text.now) }
+    ensures refused { IfErr result (IsRefused text.now) }
+    ensures accepts { IfErr result (λ refusal. IsFaulty refusal → IsNotAccepted text.now) }
 {
     let program = program_of(alloc, text)?;
     has_what_is_needed(text, &program);
@@ -124,6 +144,7 @@ pub fn code_of_text(alloc: Global, text: &[u8]) -> Result<Tac, Refusal>
 /// Refused are a text that isn't accepted, with a refusal of 1, 2 or 10 to 45, and one whose code would be too large.
 pub fn build_with<P: Placer>(alloc: Global, text: &[u8], placer: &P) -> Result<Built, Refusal>
     ensures compiles { IfOk result (Compiles text.now) }
+    ensures built { IfOk result (IsBuilt text.now) }
     ensures refused { IfErr result (IsRefused text.now) }
     ensures accepts { IfErr result (λ refusal. IsFaulty refusal → IsNotAccepted text.now) }
 {
@@ -134,6 +155,7 @@ pub fn build_with<P: Placer>(alloc: Global, text: &[u8], placer: &P) -> Result<B
 /// Builds the program of a text as `build_with` does, with registers for the temporaries that have room there.
 pub fn build(alloc: Global, text: &[u8]) -> Result<Built, Refusal>
     ensures compiles { IfOk result (Compiles text.now) }
+    ensures built { IfOk result (IsBuilt text.now) }
     ensures refused { IfErr result (IsRefused text.now) }
     ensures accepts { IfErr result (λ refusal. IsFaulty refusal → IsNotAccepted text.now) }
 {

@@ -11,7 +11,7 @@ mod refusal;
 mod run;
 mod slices;
 
-pub use built::{Built, build, build_with, code_of_text};
+pub use built::{Built, accepted, build, build_with, code_of_text};
 pub use listing::list;
 pub use outcome::{FaultKind, Outcome};
 pub use ps_check_judgement::refusal::Rule;

@@ -8,7 +8,7 @@ ghost use Rattle.ps_tree.specs.Checked.{program_in};
 ghost use Rattle.risc_emit.specs.Emitted.{HasBounds};
 ghost use Rattle.tac_rt.specs.Bodies.{run_time_routines};
 ghost use Rattle.ps_build.specs.Accepts.{HasNoRoom};
-ghost use Rattle.ps_build.specs.Made.{IsEmitted, AreMadeOf};
+ghost use Rattle.ps_build.specs.Made.{IsEmitted, AreEmitted, AreMadeOf};
 ghost use Rattle.ps_build.specs.Refusals.{OnlyTooLarge};
 
 use crate::laws::code_does;
@@ -56,6 +56,7 @@ pub(crate) fn image_made<P: Placer>(
     requires fits { ProgramFits (program_in checked.now) }
     requires formed { IsFormed (program_in checked.now) }
     ensures ok { IfOk result (λ bytes. AreMadeOf (program_in checked.now) bytes.items) }
+    ensures emitted { IfOk result (λ bytes. AreEmitted (code_of run_time_routines (program_in checked.now)) bytes.items) }
     ensures err { IfErr result (λ e. OnlyTooLarge e (HasNoRoom (code_of run_time_routines (program_in checked.now)))) }
 {
     let tac = code_made(alloc, checked)?;

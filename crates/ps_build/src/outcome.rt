@@ -45,7 +45,7 @@ pub enum Outcome {
     InputFault,
     /// The console took no byte.
     OutputFault,
-    /// The processor could not go on. No image that `build` makes comes to this.
+    /// The processor could not go on. No image that `build` makes comes to this (`laws::never_faults`).
     Fault(FaultKind),
 }
 

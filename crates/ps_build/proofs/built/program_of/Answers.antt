@@ -7,7 +7,7 @@ use Rattle.ps_scan.proofs.OneAnswer.{tokens_only}
 use Rattle.ps_build.specs.Refusals.{of_scan, of_parse, of_check}
 use Rattle.ps_tree.specs.Checked.{program_in}
 use Rattle.ps_build.specs.Accepts.{IsProgramOf, IsRefused}
-use Rattle.ps_build.proofs.Compiled.{program_of_text, no_tokens, no_tree, no_program}
+use Rattle.ps_build.proofs.Compiled.{program_of_text, no_tokens, no_tree, no_program, IsFaultyOrMemory, text_refused, tokens_refused, faulty_tree, faulty_program}
 use Rattle.ps_build.proofs.built.program_of.Goals as goal
 
 pub returns-in_err-tokens-clause-err : goal.returns-in_err-tokens-clause-err
@@ -73,3 +73,15 @@ returns-in-Ok-checked-clause-ok c =
     (program_in c.in-Ok-checked.checked)
     c.in-Ok-checked.ensures
     )
+
+pub returns-in_err-source-clause-faulty : goal.returns-in_err-source-clause-faulty
+returns-in_err-source-clause-faulty c = text_refused c.from_residual.result _ c.from_residual.ensures.1
+
+pub returns-in_err-tokens-clause-faulty : goal.returns-in_err-tokens-clause-faulty
+returns-in_err-tokens-clause-faulty c = tokens_refused c.from_residual-in_err-tokens.result _ c.from_residual-in_err-tokens.ensures.1
+
+pub returns-in-Err-clause-faulty : goal.returns-in-Err-clause-faulty
+returns-in-Err-clause-faulty c = subst IsFaultyOrMemory (sym c.from.ensures) (faulty_tree c.in-Err.refusal)
+
+pub returns-clause-faulty : goal.returns-clause-faulty
+returns-clause-faulty c = subst IsFaultyOrMemory (sym c.of_check.ensures) (faulty_program c.deref-in-Err-checked.result.now c.in-Err-checked.refusal)

@@ -2,7 +2,7 @@
 use Rattle.std.proofs.Common.{sym, subst}
 use Rattle.ps_tree.specs.Checked.{program_in}
 use Rattle.risc_emit.specs.Emitted.{HasBounds}
-use Rattle.ps_build.specs.Made.{IsCodeOf}
+use Rattle.ps_build.specs.Made.{IsCodeOf, IsEmitted}
 use Rattle.ps_build.proofs.Charged.{charged}
 use Rattle.ps_build.proofs.Made.{made_of}
 use Rattle.ps_build.proofs.making.image_made.Goals as goal
@@ -16,3 +16,11 @@ returns-clause-ok g c =
     c.keeps_invariant.ensures c.in_ok-parts.ensures.ok
     (charged c.routines_are_bounded.ensures c.objects_are_bounded.ensures checked image (subst (λ code. HasBounds code image) c.in_ok-tac.ensures.ok c.in_ok-parts.ensures.bounds))
     c.in_ok-bytes.ensures
+
+pub returns-clause-emitted : goal.returns-clause-emitted
+returns-clause-emitted g c = record {
+  image = c.in_ok-parts.parts;
+  is_image = c.in_ok-bytes.ensures;
+  emitted = subst (λ code. IsEmitted code c.in_ok-parts.parts) c.in_ok-tac.ensures.ok c.in_ok-parts.ensures.ok;
+  bounds = subst (λ code. HasBounds code c.in_ok-parts.parts) c.in_ok-tac.ensures.ok c.in_ok-parts.ensures.bounds;
+}

@@ -22,7 +22,7 @@ returns-clause-runs g c =
     let old = g.C.Console.world c.args.console.now in
     let new = g.C.Console.world c.run_view_in_slices.new.console in
     let same = c.in-Ok-read.ensures.exact made.image (subst (λ bytes. IsImage bytes made.image) (sym c.bytes.ensures) made.is_image) in
-    if_ended c.run_view_in_slices.result (Runs c.in-Ok-read.view c.args.budget c.args.max_steps old new) (Goes c.args.text.now c.args.budget c.args.max_steps old new) (λ outcome runs. record { bytes = c.in-Ok.built; compiles = made; runs = subst (λ image. Runs image c.args.budget c.args.max_steps old new outcome) same runs }) c.run_view_in_slices.ensures.runs
+    if_ended c.run_view_in_slices.result (Runs c.in-Ok-read.view c.args.budget c.args.max_steps old new) (Goes c.args.text.now c.args.budget c.args.max_steps old new) (λ outcome runs. record { bytes = c.in-Ok.built; built = c.in-Ok.ensures.built; compiles = made; runs = subst (λ image. Runs image c.args.budget c.args.max_steps old new outcome) same runs }) c.run_view_in_slices.ensures.runs
 
 pub returns-clause-left : goal.returns-clause-left
 returns-clause-left g c =
@@ -33,11 +33,11 @@ returns-clause-left g c =
     if_left c.run_view_in_slices.result (IsRunLeft c.in-Ok-read.view c.args.budget c.args.max_steps old new) (IsGoLeft c.args.text.now c.args.budget c.args.max_steps old new) (λ h. record {
       steps = h.steps;
       fewer = h.fewer;
-      goes = record { bytes = c.in-Ok.built; compiles = made; runs = subst (λ image. Runs image c.args.budget h.steps old new Steps) same h.runs };
+      goes = record { bytes = c.in-Ok.built; built = c.in-Ok.ensures.built; compiles = made; runs = subst (λ image. Runs image c.args.budget h.steps old new Steps) same h.runs };
     }) c.run_view_in_slices.ensures.left
 
 pub returns-clause-refused : goal.returns-clause-refused
 returns-clause-refused g c =
     let made = c.in-Ok.ensures.compiles in
     let same = c.in-Ok-read.ensures.exact made.image (subst (λ bytes. IsImage bytes made.image) (sym c.bytes.ensures) made.is_image) in
-    if_err c.run_view_in_slices.result (IsLoadRefused c.in-Ok-read.view c.args.budget) (IsGoRefused c.args.text.now c.args.budget) (λ refusal h. inr (record { bytes = c.in-Ok.built; compiles = made; refused = subst (λ image. IsLoadRefused image c.args.budget refusal) same h })) c.run_view_in_slices.ensures.refused
+    if_err c.run_view_in_slices.result (IsLoadRefused c.in-Ok-read.view c.args.budget) (IsGoRefused c.args.text.now c.args.budget) (λ refusal h. inr (record { bytes = c.in-Ok.built; built = c.in-Ok.ensures.built; compiles = made; refused = subst (λ image. IsLoadRefused image c.args.budget refusal) same h })) c.run_view_in_slices.ensures.refused
