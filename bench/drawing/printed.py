@@ -73,7 +73,7 @@ def instruction(line):
     """A printed instruction as numbers."""
     for kind, (fields, form) in enumerate(PATTERNS):
         if found := form.fullmatch(line):
-            return [kind, *(number for it in fields for number in field(it.strip("{}"), found[it.strip("{}")]))]
+            return [kind, *(number for name in fields for number in field(name.strip("{}"), found[name.strip("{}")]))]
     raise ValueError(f"no instruction: {line}")
 
 
@@ -81,7 +81,7 @@ def routine(lines):
     """A routine as numbers: its counts, and its instructions."""
     counts = [int(line.removeprefix(name)) for name, line in zip(HEAD, lines)]
     body = [instruction(line.partition(": ")[2]) for line in lines[len(HEAD) :]]
-    return [*counts, len(body), *(number for it in body for number in it)]
+    return [*counts, len(body), *(number for item in body for number in item)]
 
 
 def code(lines):
@@ -97,5 +97,5 @@ def code(lines):
             last.append(line)
     numbers = []
     for routines in lists.values():
-        numbers += [len(routines), *(number for it in routines for number in routine(it))]
+        numbers += [len(routines), *(number for part in routines for number in routine(part))]
     return [*numbers, len(objects), *objects]

@@ -94,18 +94,18 @@ def shapes_jobs(program: str) -> List[Job]:
     shapes = module_from_spec(spec_from_loader(loader.name, loader))
     sys.modules[loader.name] = shapes
     loader.exec_module(shapes)
-    notes.extend(f"left out, not yet as it must be: tests/shapes: {it.shape}: {it.reason}" for it in shapes.LATER)
+    notes.extend(f"left out, not yet as it must be: tests/shapes: {case.shape}: {case.reason}" for case in shapes.LATER)
     return [shapes_job(shapes, case, program) for case in shapes.CASES]
 
 
 def jobs_of(folder: str, program: str, has_terminals: bool) -> List[Job]:
     """What a folder has to try over a program."""
     if folder == "scripts":
-        return [Job(folder, "tests/driver/scripts.py", it.__name__.replace("_", " "), it) for it in scripts.CONDITIONS]
+        return [Job(folder, "tests/driver/scripts.py", condition.__name__.replace("_", " "), condition) for condition in scripts.CONDITIONS]
     if folder == "shapes":
         return shapes_jobs(program)
     if folder in TRIALS:
-        return [Job(folder, it.place, it.name, it.run) for it in TRIALS[folder](program)]
+        return [Job(folder, trial.place, trial.name, trial.run) for trial in TRIALS[folder](program)]
     return [job_of(folder, case, program, has_terminals) for path in files_of(folder) for case in cases_of(path)]
 
 
@@ -177,16 +177,16 @@ INTERRUPTIONS = (signal.SIGINT, signal.SIGTERM, signal.SIGHUP)
 
 def handle(what: object) -> None:
     """Sets what is done where this process is interrupted."""
-    for it in INTERRUPTIONS:
-        signal.signal(it, what)
+    for interruption in INTERRUPTIONS:
+        signal.signal(interruption, what)
 
 
 def interrupt(room: str) -> None:
     """Ends the run at once, with the processes that run cases, and leaves nothing behind."""
     handle(signal.SIG_IGN)
-    for it in multiprocessing.active_children():
-        it.kill()
-        it.join()
+    for child in multiprocessing.active_children():
+        child.kill()
+        child.join()
     shutil.rmtree(room, ignore_errors=True)
     print("\ntest: interrupted", file=sys.stderr, flush=True)
     os._exit(INTERRUPTED)
@@ -201,17 +201,17 @@ def run_all(progress: Progress, processes: int) -> bool:
     """Tries all jobs, and tells whether none failed."""
     with ProcessPoolExecutor(processes, multiprocessing.get_context("fork"), handle, (signal.SIG_DFL,)) as many:
         begun = {many.submit(tried, at): job for at, job in enumerate(jobs)}
-        for it in as_completed(begun):
-            job = begun[it]
-            progress.ended(job.folder, job.place, job.name, it.result())
+        for done in as_completed(begun):
+            job = begun[done]
+            progress.ended(job.folder, job.place, job.name, done.result())
     return progress.end()
 
 
 def terminals() -> bool:
     """Whether there are terminals to hold conversations at."""
     try:
-        for it in pty.openpty():
-            os.close(it)
+        for terminal in pty.openpty():
+            os.close(terminal)
     except OSError:
         return False
     return True
@@ -223,9 +223,9 @@ def introduce(program: str, kind: str, choice: Choice, has_terminals: bool) -> N
     print(f"{len(jobs)} case{'' if len(jobs) == 1 else 's'} over {told}", flush=True)
     if program == RELEASED and is_of_other_sources():
         print("it was built of other sources than those in the tree")
-    others = [it for it, kinds in FOLDERS.items() if kind not in kinds and choice.has_folder(it)]
+    others = [folder for folder, kinds in FOLDERS.items() if kind not in kinds and choice.has_folder(folder)]
     if others:
-        told = ", ".join(f"tests/{it} (for {FOLDERS[it][0]})" for it in others)
+        told = ", ".join(f"tests/{other} (for {FOLDERS[other][0]})" for other in others)
         print(f"left out, since {kind} does not run them: {told}")
     if not has_terminals:
         print("left out, since there are no terminals here: conversations at one")
@@ -253,14 +253,14 @@ def main() -> int:
     has_terminals = terminals()
     for folder, kinds in FOLDERS.items():
         if kind in kinds:
-            jobs.extend(it for it in jobs_of(folder, choice.program, has_terminals) if choice.has(it))
+            jobs.extend(job for job in jobs_of(folder, choice.program, has_terminals) if choice.has(job))
     introduce(choice.program, kind, choice, has_terminals)
     # (the folders of all cases lie in one, so that what an interrupted run leaves there can be removed)
     with tempfile.TemporaryDirectory(prefix="cases-") as room:
         tempfile.tempdir = room
         handle(lambda *_: interrupt(room))
         try:
-            return 0 if run_all(Progress(it.folder for it in jobs), max(given.jobs, 1)) else 1
+            return 0 if run_all(Progress(job.folder for job in jobs), max(given.jobs, 1)) else 1
         except BrokenPipeError:
             # nobody reads what is told
             interrupt(room)

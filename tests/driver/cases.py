@@ -200,4 +200,4 @@ def take_line(cases: List[Case], head: str, rest: str, fault: str) -> None:
 
 def files_of(folder: str) -> List[str]:
     """The files of cases in a folder of tests/."""
-    return [f"{TESTS}/{folder}/{it}" for it in sorted(os.listdir(f"{TESTS}/{folder}")) if it.endswith(".txt")]
+    return [f"{TESTS}/{folder}/{name}" for name in sorted(os.listdir(f"{TESTS}/{folder}")) if name.endswith(".txt")]

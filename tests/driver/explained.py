@@ -23,17 +23,17 @@ STATUS = ((r"refused", 1), (r"line \d+: out of (stack|heap)", 3), (r"line \d+: "
 SECTIONS = {
     "1.2": [""],
     "3.1": [""],
-    "6.1": ["", *(f".{it}" for it in range(1, 10))],
-    "6.2": ["", ".1", ".2", ".3", *(f".2.{it}" for it in range(1, 14))],
+    "6.1": ["", *(f".{number}" for number in range(1, 10))],
+    "6.2": ["", ".1", ".2", ".3", *(f".2.{number}" for number in range(1, 14))],
     "6.3": [""],
-    "6.4": ["", ".1", ".2", *(f".2.{it}" for it in range(1, 5)), ".3", *(f".3.{it}" for it in range(1, 6))]
+    "6.4": ["", ".1", ".2", *(f".2.{number}" for number in range(1, 5)), ".3", *(f".3.{number}" for number in range(1, 6))]
     + [".4", ".5", ".6", ".7"],
     "6.5": ["", ".1", ".2", ".3", ".3.1", ".3.2", ".3.3", ".4", ".5"],
-    "6.6": ["", ".1", ".2", ".3", *(f".3.{it}" for it in range(1, 9)), ".4", ".5", *(f".5.{it}" for it in range(1, 5))]
-    + [".6", *(f".6.{it}" for it in range(1, 6))],
-    "6.7": ["", ".1", ".2", *(f".2.{it}" for it in range(1, 6)), ".3"],
-    "6.8": ["", ".1", ".2", *(f".2.{it}" for it in range(1, 5)), ".3", *(f".3.{it}" for it in range(1, 11))],
-    "6.9": ["", ".1", ".2", ".3", *(f".3.{it}" for it in range(1, 7)), ".4", ".5"],
+    "6.6": ["", ".1", ".2", ".3", *(f".3.{number}" for number in range(1, 9)), ".4", ".5", *(f".5.{number}" for number in range(1, 5))]
+    + [".6", *(f".6.{number}" for number in range(1, 6))],
+    "6.7": ["", ".1", ".2", *(f".2.{number}" for number in range(1, 6)), ".3"],
+    "6.8": ["", ".1", ".2", *(f".2.{number}" for number in range(1, 5)), ".3", *(f".3.{number}" for number in range(1, 11))],
+    "6.9": ["", ".1", ".2", ".3", *(f".3.{number}" for number in range(1, 7)), ".4", ".5"],
     "6.10": [""],
 }
 
@@ -82,7 +82,7 @@ def lines_of_block(lines: List[str], at: int) -> List[str]:
     end = at
     while end < len(lines) and (not lines[end] or lines[end].startswith("    ")):
         end += 1
-    return "\n".join(it[4:] for it in lines[at:end]).strip("\n").split("\n")
+    return "\n".join(line[4:] for line in lines[at:end]).strip("\n").split("\n")
 
 
 def pages() -> List[Page]:
@@ -94,7 +94,7 @@ def pages() -> List[Page]:
         if line.startswith("## "):
             found.append(Page(line[3:], number))
         elif found and label:
-            text = "".join(f"{it}\n" for it in lines_of_block(lines, number))
+            text = "".join(f"{line}\n" for line in lines_of_block(lines, number))
             found[-1].blocks.append(Block(label[1], text, number))
         elif found and line and not line.startswith("    "):
             found[-1].prose.append((number, line))
@@ -121,7 +121,7 @@ def status_of(said: str) -> int:
 def case_of(page: Page, blocks: List[Block]) -> Case:
     """The case of a program and what belongs to it."""
     case = Case(page.title, page.place(blocks[0].line), files={"program.pas": written_out(blocks[0].text)})
-    told = {it.label: it.text for it in blocks[1:]}
+    told = {block.label: block.text for block in blocks[1:]}
     case.input = told.get("Input", "").encode()
     case.output = told.get("Writes", "").encode()
     case.error = told.get("Says", "").encode()
@@ -132,19 +132,19 @@ def case_of(page: Page, blocks: List[Block]) -> Case:
 def programs_of(page: Page) -> List[List[Block]]:
     """Each program of a page, with its input, what it writes and what is said of it."""
     found: List[List[Block]] = []
-    for it in page.blocks:
-        if it.label in ("Wrong", "Right"):
-            found.append([it])
-        elif it.label in ("Input", "Writes", "Says") and found:
-            found[-1].append(it)
+    for block in page.blocks:
+        if block.label in ("Wrong", "Right"):
+            found.append([block])
+        elif block.label in ("Input", "Writes", "Says") and found:
+            found[-1].append(block)
     return found
 
 
 def faults_of_form(page: Page, blocks: List[Block]) -> List[str]:
     """What is said just of what is wrong, and of no part twice."""
-    labels = [it.label for it in blocks]
+    labels = [block.label for block in blocks]
     wrong = [] if ("Says" in labels) == (labels[0] == "Wrong") else ["what is wrong has `Says:`, what is right has none"]
-    return wrong + [f"`{it}:` twice" for it in set(labels) if labels.count(it) > 1]
+    return wrong + [f"`{label}:` twice" for label in set(labels) if labels.count(label) > 1]
 
 
 # ---- sessions
@@ -153,12 +153,12 @@ def faults_of_form(page: Page, blocks: List[Block]) -> List[str]:
 def files_of(page: Page) -> Dict[str, bytes]:
     """The files that lie where a page's sessions are held."""
     files = {}
-    for it in page.blocks:
-        kind, _, name = it.label.partition(" ")
+    for block in page.blocks:
+        kind, _, name = block.label.partition(" ")
         if kind == "File":
-            files[name] = it.text.encode()
+            files[name] = block.text.encode()
         elif kind == "Bytes":
-            files[name] = bytes.fromhex(it.text)
+            files[name] = bytes.fromhex(block.text)
     return files
 
 
@@ -195,28 +195,28 @@ def wanted_titles() -> Set[str]:
     titles |= {f"{number} {name}" for number, name in enumerate(names.split(", "), int(first))}
     errors = re.findall(r"(?m)^\| (\d+) \| ([a-z ]+) \|", language[language.index("## Errors") :])
     titles |= {f"{'Stop' if int(number) > 11 else 'Error'} {number}: {words}" for number, words in errors}
-    return titles | {f"Machine fault: {it}" for it in ("BadWord", "BadAddress", "BadDivisor", "BadJump", "UnknownTrap")}
+    return titles | {f"Machine fault: {fault}" for fault in ("BadWord", "BadAddress", "BadDivisor", "BadJump", "UnknownTrap")}
 
 
 def wanted_statuses() -> Set[str]:
     refusals = text_of("docs/REFUSALS.md")
-    return {f"Status {it}" for it in re.findall(r"(?m)^\| (\d) \|", refusals[refusals.index("| Status | Ending |") :])}
+    return {f"Status {match}" for match in re.findall(r"(?m)^\| (\d) \|", refusals[refusals.index("| Status | Ending |") :])}
 
 
 def all_are_there() -> List[str]:
     """Each refusal, error, stop, status and fault has a page, and no page is of something else."""
-    titles = [it.title for it in pages()]
-    others = {it for it in titles if re.match(r"Status \d: |Fault: ", it)}
-    wrong = [f"no page of {it}" for it in sorted(wanted_titles() - set(titles))]
-    wrong += [f"a page of what there isn't: {it}" for it in sorted(set(titles) - wanted_titles() - others)]
-    wrong += [f"two pages {it}" for it in sorted(set(titles)) if titles.count(it) > 1]
-    statuses = {it.split(":")[0] for it in titles if it.startswith("Status")}
-    return wrong + [f"no page of {it}" for it in sorted(wanted_statuses() - statuses)]
+    titles = [page.title for page in pages()]
+    others = {title for title in titles if re.match(r"Status \d: |Fault: ", title)}
+    wrong = [f"no page of {title}" for title in sorted(wanted_titles() - set(titles))]
+    wrong += [f"a page of what there isn't: {title}" for title in sorted(set(titles) - wanted_titles() - others)]
+    wrong += [f"two pages {title}" for title in sorted(set(titles)) if titles.count(title) > 1]
+    statuses = {title.split(":")[0] for title in titles if title.startswith("Status")}
+    return wrong + [f"no page of {status}" for status in sorted(wanted_statuses() - statuses)]
 
 
 def parts_of(page: Page) -> List[str]:
     """What is missing of a page: a program or a session of what is wrong and of what is right, how to mend it, the rule."""
-    labels = [it.label for it in page.blocks]
+    labels = [block.label for block in page.blocks]
     starts = [line.split(":")[0] for _, line in page.prose]
     is_shown = page.title in SHOWN_BY_NOTHING or {"Wrong", "Right"} <= set(labels) or labels.count("Session") > 1
     is_status = page.title.startswith("Status")
@@ -239,13 +239,13 @@ def is_section(name: str) -> bool:
 
 def names_of(page: Page) -> List[str]:
     """What a page names that there isn't: refusals, errors, sections and documents; and lines that are too long."""
-    titles, wrong = {it.title for it in pages()}, []
+    titles, wrong = {page.title for page in pages()}, []
     for number, line in page.prose:
         told = re.findall(r"\b\d\d? [A-Z][a-z]+[A-Z]\w+|\b\d\d? (?:Unknown|Twice|Limit|Magic|Truncated|Trailing)\b", line)
-        wrong += [f"line {number}: no page {it}" for it in told if it not in titles]
-        wrong += [f"line {number}: no section {it}" for it in sections_in(line) if not is_section(it)]
+        wrong += [f"line {number}: no page {title}" for title in told if title not in titles]
+        wrong += [f"line {number}: no section {section}" for section in sections_in(line) if not is_section(section)]
         files = re.findall(r"\bdocs/\w+\.md\b", line)
-        wrong += [f"line {number}: no file {it}" for it in files if not os.path.isfile(f"{TOP}/{it}")]
+        wrong += [f"line {number}: no file {file}" for file in files if not os.path.isfile(f"{TOP}/{file}")]
         wrong += [f"line {number}: more than {WIDTH} signs"] if len(line) > WIDTH else []
     return wrong
 
@@ -259,16 +259,16 @@ def trials_of(page: Page, program: str) -> Iterator[Trial]:
         case, wrong = case_of(page, blocks), faults_of_form(page, blocks)
         name = f"{page.title}: {blocks[0].label.lower()}"
         yield Trial(name, case.place, lambda case=case, wrong=wrong: wrong or runs.run(case, program, False))
-    for it in page.blocks:
-        if it.label == "Session":
+    for block in page.blocks:
+        if block.label == "Session":
             name = f"{page.title}: session"
-            yield Trial(name, page.place(it.line), lambda it=it: held(page, it, program))
+            yield Trial(name, page.place(block.line), lambda block=block: held(page, block, program))
 
 
 def trials(program: str) -> List[Trial]:
     """All that the pages have to try over a program."""
     found = [Trial("each refusal, error, status and fault has a page", PAGES, all_are_there)]
     for page in pages():
-        found.append(Trial(f"{page.title}: form", page.place(page.line), lambda it=page: parts_of(it) + names_of(it)))
+        found.append(Trial(f"{page.title}: form", page.place(page.line), lambda page=page: parts_of(page) + names_of(page)))
         found.extend(trials_of(page, program))
     return found

@@ -52,7 +52,7 @@ def code(cell: str) -> str:
 
 
 def row_of(frame: str, line: int, text: str) -> Row:
-    cells = [it.strip() for it in CELL.split(text)[1:-1]]
+    cells = [word.strip() for word in CELL.split(text)[1:-1]]
     if len(cells) != 7:
         raise SystemExit(f"{TABLE}:{line}: no row of seven cells")
     within, word = re.fullmatch(r"(?:([a-z]+): )?(.+)", code(cells[0])).groups()
@@ -83,7 +83,7 @@ def rows() -> List[Row]:
 
 def found_in(row: Row) -> Optional[Match[str]]:
     """Where the word stands in what is there, with the token behind it."""
-    inner = r"\s*".join(re.escape(it) for it in row.word)
+    inner = r"\s*".join(re.escape(token) for token in row.word)
     if row.word[0][0].isalpha():
         inner = rf"(?<![A-Za-z0-9]){inner}"
     if row.word[-1][-1].isalnum():
@@ -134,20 +134,20 @@ def names_that_there_are() -> Set[str]:
     language = text_of("docs/LANGUAGE.md")
     words = re.search(r"(?s)Word-symbols: (.*?)\.\n", language)[1].split()
     required = re.search(r"(?s)## Required routines.*?## Text", language)[0] + "integer maxint char Boolean false true"
-    return {it.lower() for it in words + re.findall(r"[a-zA-Z]+", required)} | {"write", "writeln", "input", "output"}
+    return {word.lower() for word in words + re.findall(r"[a-zA-Z]+", required)} | {"write", "writeln", "input", "output"}
 
 
 def names_in(text: str) -> Set[str]:
     """The names and word-symbols of a piece of a program."""
-    return {it.lower() for it in re.findall(TOKEN, text) if it[0].isalpha() and len(it) > 1 or it.isalpha()}
+    return {token.lower() for token in re.findall(TOKEN, text) if token[0].isalpha() and len(token) > 1 or token.isalpha()}
 
 
 def faults_of_names(row: Row) -> List[str]:
     """What the advice names that there isn't."""
-    known = names_that_there_are() | FREE_NAMES | names_in(row.frame) | {it.lower() for it in row.word}
-    pieces = [it for it in re.findall(r"`([^`]+)`", row.advice) if not it.startswith("pascal ")]
-    others = {name for it in pieces for name in names_in(it)} - known - names_in(row.here)
-    return [f"the advice names {it}" for it in sorted(others)]
+    known = names_that_there_are() | FREE_NAMES | names_in(row.frame) | {token.lower() for token in row.word}
+    pieces = [piece for piece in re.findall(r"`([^`]+)`", row.advice) if not piece.startswith("pascal ")]
+    others = {name for piece in pieces for name in names_in(piece)} - known - names_in(row.here)
+    return [f"the advice names {other}" for other in sorted(others)]
 
 
 def faults_of_mend(row: Row, program: str) -> List[str]:

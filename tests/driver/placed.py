@@ -50,7 +50,7 @@ def faults_of(program: str, name: str, text: bytes) -> List[str]:
         return [f"status {ran.returncode}, and nothing is told of the homes"]
     slots, registers = int(told[1]), int(told[3])
     wrong = [f"{slots} words with slots, {registers} with registers"] if max(slots, registers) >= MOST or name == FEWER and registers >= slots else []
-    return wrong + [f"a copy of the homes is {it}" for it in (told[2], told[4]) if it != "taken"]
+    return wrong + [f"a copy of the homes is {word}" for word in (told[2], told[4]) if word != "taken"]
 
 
 def trials(program: str) -> Iterator[Trial]:

@@ -45,8 +45,8 @@ class Progress:
     def tell(self, what: str, wrong: List[str]) -> None:
         """Tells of a case that failed."""
         self.say(what)
-        for it in wrong[:MOST_FAULTS]:
-            self.say("    " + it.replace("\n", "\n    "))
+        for fault in wrong[:MOST_FAULTS]:
+            self.say("    " + fault.replace("\n", "\n    "))
         if len(wrong) > MOST_FAULTS:
             self.say(f"    and {len(wrong) - MOST_FAULTS} more")
 

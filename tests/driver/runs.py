@@ -119,8 +119,8 @@ class Talk:
                 self.types_to.close()
 
     def close(self) -> None:
-        for it in (self.types_to, self.hears, self.process.stderr):
-            it.close()
+        for stream in (self.types_to, self.hears, self.process.stderr):
+            stream.close()
 
 
 def begun(words: List[bytes], folder: str, its: int) -> subprocess.Popen:
@@ -196,7 +196,7 @@ def awaited(file: io.RawIOBase, length: int, seconds: float) -> bytes:
 def answers(talk: Talk) -> Tuple[bytes, bytes]:
     """The rest of what a run writes, once its input has ended."""
     until = time.monotonic() + SECONDS_TO_ANSWER
-    written = {it: b"" for it in (talk.hears, talk.process.stderr) if not it.closed}
+    written = {stream: b"" for stream in (talk.hears, talk.process.stderr) if not stream.closed}
     unread = list(written)
     while unread:
         for file in (ready := select.select(unread, [], [], max(0, until - time.monotonic()))[0]):
@@ -239,7 +239,7 @@ def started(case: Case, words: List[bytes], folder: str) -> Ran:
     path = os.path.join(folder, STANDARD_OUTPUT) if case.room is not None else case.writes_to
     how = {"stdout": subprocess.PIPE, "stderr": subprocess.PIPE, "timeout": SECONDS}
     # (a process begins sooner where nothing is to be done within it)
-    is_limited = any(it is not None for it in (case.room, case.memory, case.processor))
+    is_limited = any(limit is not None for limit in (case.room, case.memory, case.processor))
     if is_limited or NOTHING in (case.reads_from, case.writes_to):
         how["preexec_fn"] = lambda: prepare(case)
     if path and path != NOTHING:
@@ -257,7 +257,7 @@ def started(case: Case, words: List[bytes], folder: str) -> Ran:
         for name, pipe in pipes.items():
             keep(os.path.join(folder, name), whole(pipe))
     finally:
-        for end in (*(how.get(it, -1) for it in ("stdin", "stdout")), *pipes.values()):
+        for end in (*(how.get(name, -1) for name in ("stdin", "stdout")), *pipes.values()):
             if end >= 0:
                 os.close(end)
     output = content_of(folder, STANDARD_OUTPUT) if case.room is not None else ran.stdout
@@ -292,18 +292,18 @@ def differing_lines(got: bytes, wanted: bytes) -> List[str]:
 
     Of long texts only what follows the first is compared.
     """
-    lines = [[shown(line) for line in re.findall(rb"[^\n]*\n|[^\n]+\Z", it)] for it in (wanted, got)]
+    lines = [[shown(line) for line in re.findall(rb"[^\n]*\n|[^\n]+\Z", text)] for text in (wanted, got)]
     if max(map(len, lines)) > 5000:
         at = next((at for at, (line, other) in enumerate(zip(*lines)) if line != other), min(map(len, lines)))
-        lines = [it[max(at - 2, 0) : at + MOST_LINES] for it in lines]
-    told = [re.sub(r"^@@ -(\d+).*", r"line \1", it) for it in difflib.unified_diff(*lines, lineterm="", n=1)][2:]
+        lines = [line[max(at - 2, 0) : at + MOST_LINES] for line in lines]
+    told = [re.sub(r"^@@ -(\d+).*", r"line \1", line) for line in difflib.unified_diff(*lines, lineterm="", n=1)][2:]
     return told[:MOST_LINES] + (["..."] if len(told) > MOST_LINES else [])
 
 
 def difference(what: str, got: object, wanted: object) -> str:
     """How a result is otherwise than wanted; of texts of several lines, where they differ."""
     if isinstance(got, bytes) and isinstance(wanted, bytes) and b"\n" in got + wanted:
-        return "\n".join([f"{what}: - wanted, + came", *(f"  {it}" for it in differing_lines(got, wanted))])
+        return "\n".join([f"{what}: - wanted, + came", *(f"  {line}" for line in differing_lines(got, wanted))])
     return f"{what}: wanted {shown(wanted)}, came {shown(got)}"
 
 
@@ -388,7 +388,7 @@ def run_in(folder: str, case: Case, program: str, on_a_terminal: bool) -> List[s
         return differences(case, started(case, [program, *words], folder), program, folder)
     begin = begun_on_a_terminal if on_a_terminal else begun_on_pipes
     wrong = differences(case, talked(case, begin([program, *words], folder)), program, folder)
-    return [f"on a terminal, {it}" for it in wrong] if on_a_terminal else wrong
+    return [f"on a terminal, {fault}" for fault in wrong] if on_a_terminal else wrong
 
 
 def run(case: Case, program: str, has_terminals: bool) -> List[str]:

@@ -66,13 +66,13 @@ class Tree:
         self.at, self.tree, self.home, self.path = at, f"{at}/a tree", f"{at}/home", f"{at}/path"
         for path, text in FILES.items():
             write(f"{self.tree}/{path}", text, 0o755 if path == "released/pascal" else 0o644)
-        for it in SCRIPTS:
-            os.makedirs(os.path.dirname(f"{self.tree}/{it}"), exist_ok=True)
-            (shutil.copytree if os.path.isdir(f"{TOP}/{it}") else shutil.copy2)(f"{TOP}/{it}", f"{self.tree}/{it}")
+        for script in SCRIPTS:
+            os.makedirs(os.path.dirname(f"{self.tree}/{script}"), exist_ok=True)
+            (shutil.copytree if os.path.isdir(f"{TOP}/{script}") else shutil.copy2)(f"{TOP}/{script}", f"{self.tree}/{script}")
         os.makedirs(f"{self.home}/.cache")
         os.makedirs(self.path)
-        for it in ("bash", "sh", *COREUTILS):
-            os.symlink(shutil.which(it) or f"/bin/{it}", f"{self.path}/{it}")
+        for tool in ("bash", "sh", *COREUTILS):
+            os.symlink(shutil.which(tool) or f"/bin/{tool}", f"{self.path}/{tool}")
         self.release()
 
     def release(self) -> None:
@@ -115,8 +115,8 @@ def otherwise(what: str, said: str, wanted: str) -> List[str]:
 def editors_leave(tree: Tree) -> None:
     """What vim, emacs, nano, patch and others leave beside a source."""
     folder, name = os.path.split(f"{tree.tree}/{SOURCE}")
-    for it in (".%s.swp", ".%s.swo", "%s~", "#%s#", "%s.orig", "%s.rej", "%s.bak", "4913", ".~lock.%s#", "%s.save"):
-        write(f"{folder}/{it.replace('%s', name)}", "what an editor holds")
+    for form in (".%s.swp", ".%s.swo", "%s~", "#%s#", "%s.orig", "%s.rej", "%s.bak", "4913", ".~lock.%s#", "%s.save"):
+        write(f"{folder}/{form.replace('%s', name)}", "what an editor holds")
     os.symlink("user@machine.1:2", f"{folder}/.#{name}")
     write(f"{folder}/.idea/files.rt", "what an editor keeps")
 
@@ -218,7 +218,7 @@ def a_start_by_a_link_from_elsewhere() -> List[str]:
     with small_tree() as tree:
         os.symlink("../a tree/pascal", f"{tree.path}/pascal")
         links = [tree.ran("../path/pascal", "go"), tree.ran("crates/../pascal", "go")]
-        return [fault for it in links for fault in otherwise("a start", it, RUNS)]
+        return [fault for link in links for fault in otherwise("a start", link, RUNS)]
 
 
 def a_start_that_can_remember_nothing() -> List[str]:
@@ -249,8 +249,8 @@ def the_trees_own_program_is_built() -> List[str]:
         with small_tree() as tree:
             change(tree)
             write(f"{tree.path}/rt", STAND_IN, 0o755)
-            for it in ("flock", "wc"):
-                os.symlink(shutil.which(it) or f"/bin/{it}", f"{tree.path}/{it}")
+            for tool in ("flock", "wc"):
+                os.symlink(shutil.which(tool) or f"/bin/{tool}", f"{tree.path}/{tool}")
             wrong += otherwise("first", tree.ran("pascal", "go", **env), proves)
             wrong += otherwise("second", tree.ran("pascal", "go", **env), "built go\nstatus 0\n")
             with open(f"{tree.home}/calls", encoding="utf-8") as file:
@@ -300,7 +300,7 @@ INSTALLED = (
 
 def files_below(folder: str) -> List[str]:
     """The files in a folder, at any depth."""
-    return sorted(os.path.relpath(f"{at}/{it}", folder) for at, _, names in os.walk(folder) for it in names)
+    return sorted(os.path.relpath(f"{at}/{name}", folder) for at, _, names in os.walk(folder) for name in names)
 
 
 def installed_run_and_removed() -> List[str]:
@@ -359,7 +359,7 @@ def installed_for_a_package() -> List[str]:
         wrong = otherwise("installed", tree.ran("install", "/usr", DESTDIR=package), r"(/\S* ?\S*\n){5}status 0\n")
         wrong += [] if files_below(f"{package}/usr") == sorted(INSTALLED) else [f"{files_below(package)}"]
         wrong += otherwise("removed", tree.ran("install", "--remove", "/usr", DESTDIR=package), WELL)
-        return wrong + [f"left: {it}" for it in files_below(package)]
+        return wrong + [f"left: {file}" for file in files_below(package)]
 
 
 def no_program_of_other_sources_is_installed() -> List[str]:

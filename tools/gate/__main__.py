@@ -4,6 +4,7 @@ import argparse
 import os
 import sys
 import tempfile
+from typing import Any, TextIO, Tuple
 
 import edits
 import ends
@@ -20,18 +21,18 @@ TOP = os.path.dirname(os.path.dirname(os.path.dirname(os.path.realpath(__file__)
 class Tee:
     """Standard output, with its last line known."""
 
-    def __init__(self, out):
+    def __init__(self, out: TextIO) -> None:
         self.out, self.said = out, ""
 
-    def write(self, text):
+    def write(self, text: str) -> int:
         self.said = (self.said + text)[-200:]
         return self.out.write(text)
 
-    def __getattr__(self, name):
+    def __getattr__(self, name: str) -> Any:
         return getattr(self.out, name)
 
 
-def replace_parts(folder, progress):
+def replace_parts(folder: str, progress: report.Report) -> None:
     """Puts the gate's places, verdicts and edits into the kit's `rt ci`."""
     rt = kit.rt()
     rt.in_lanes = places.Places(folder, progress).run
@@ -43,7 +44,7 @@ def replace_parts(folder, progress):
     rt.sweep()
 
 
-def prove(folder, progress):
+def prove(folder: str, progress: report.Report) -> Tuple[int, int]:
     """Does what `rt ci` does, with the gate's places, verdicts and edits, and returns how much passed and failed."""
     if kit.lacking():
         print(f"gate: the rt of this kit lacks {', '.join(kit.lacking())}, so its rt ci runs as it is", flush=True)
@@ -61,7 +62,7 @@ def prove(folder, progress):
     return passed, failed or int(bool(status))
 
 
-def look(folder, releases):
+def look(folder: str, releases: bool) -> Tuple[int, int]:
     """Runs the whole gate in a room and returns how much passed and failed."""
     tree = f"{folder}/tree"
     progress = report.Report(tree)
@@ -79,7 +80,7 @@ def look(folder, releases):
     return passed + faults.count(None), failed + len(faults) - faults.count(None)
 
 
-def main():
+def main() -> int:
     words = argparse.ArgumentParser(prog="./gate", description="Proves what this machine has not proved yet, tries its edits, runs all tests, programs and cases.")
     words.add_argument("--from-nothing", action="store_true", help="take nothing from the store")
     words.add_argument("--release", action="store_true", help="write released/pascal anew, where all else passes")

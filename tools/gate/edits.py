@@ -11,11 +11,18 @@ import re
 import resource
 import shutil
 import signal
+import subprocess
+from typing import Any, Dict, Iterable, Iterator, List, Optional, Set, Tuple
 
 import kit
 import stubs
 import verdicts
-from functions import functions_of, module_of
+from functions import Function, functions_of, module_of
+from stubs import Place, Texts
+
+# what a check ran to, and whether an edit was refused, with what was said
+Ran = subprocess.CompletedProcess
+Trial = Tuple[bool, str]
 
 # what the kit says of a proof that names what an edit took away, and of what rests on that
 TAKEN_AWAY = r"has no field|is not in scope|has no `|was not admitted"
@@ -24,13 +31,13 @@ OF_OTHERS = r"which (?:is|are|was|were) not (?:proved|admitted)"
 PLACE = re.compile(r"(?:(?:note|warning): )?(?:\./)?(src/\S+?\.rt):(\d+):\d+: (.*)")
 
 
-def puts_body(text, function, old, new):
+def puts_body(text: str, function: Function, old: str, new: str) -> bool:
     """Whether a new text for a function's header goes on with the function's own clauses and another body, and then gives what stood behind the header to a
     function of another name."""
     lines = text.split("\n")
     clauses = " ".join(" ".join(lines[function.header + 1 : function.body]).split())
     rest = lines[function.header].split(f"fn {function.name}", 1)[1]
-    begun = " ".join(it for it in (old.strip(), clauses, "{") if it)
+    begun = " ".join(part for part in (old.strip(), clauses, "{") if part)
     given = re.fullmatch(rf"{re.escape(begun)}(.*)\}} fn \w+{re.escape(rest)}", new.strip())
     return bool(given) and lines[function.header].endswith(old.strip()) and given[1].count("{") == given[1].count("}")
 
@@ -39,7 +46,7 @@ class Edit:
     """A must-fail edit: the pairs of texts that it changes, with the file of each; the function at which it must fail, if a line `at:` tells one; the places of the
     functions whose bodies it changes, if it changes nothing else; and the names of the functions at which it can be tried, if there are any."""
 
-    def __init__(self, path, crate):
+    def __init__(self, path: str, crate: Any) -> None:
         self.path, self.name = path, os.path.basename(path)
         with open(path, encoding="utf-8", errors="replace") as file:
             self.text = file.read()
@@ -58,7 +65,7 @@ class Edit:
         if self.names is None:
             self.places, self.names = None, [self.at] if self.at else None
 
-    def find(self, crate):
+    def find(self, crate: Any) -> Optional[Set[Place]]:
         """The functions whose bodies the edit changes, as (file, name, type), or None where it changes anything else."""
         places = set()
         for at, old, new in self.pairs:
@@ -69,14 +76,14 @@ class Edit:
                 return None
             line = text[: text.find(old)].count("\n") if old and old in text else -1
             functions = functions_of(text)
-            inside = [it for it in functions if it.body <= line <= it.last and line != it.header]
-            inside += [it for it in functions if line == it.header and puts_body(text, it, old, new)]
+            inside = [function for function in functions if function.body <= line <= function.last and line != function.header]
+            inside += [function for function in functions if line == function.header and puts_body(text, function, old, new)]
             if not at.startswith("src/") or len(inside) != 1:
                 return None
             places.add((at, inside[0].name, inside[0].owner))
         return places
 
-    def apply(self, texts, crate):
+    def apply(self, texts: Texts, crate: Any) -> Optional[Texts]:
         """The texts with this edit made in them, or None where an old text is not there once."""
         made = dict(texts)
         for at, old, new in self.pairs:
@@ -89,16 +96,16 @@ class Edit:
         return made
 
 
-def names_of(places, functions):
+def names_of(places: Iterable[Place], functions: List[str]) -> Optional[List[str]]:
     """The names by which a check tells of functions at these places, or None where one fits no name, or several. A method has its type's module, which may be
     another than its file's, and, where it is a trait's, the trait's name behind the type's."""
     found = []
     for at, name, owner in places:
         wanted = "::".join([*module_of(at), *([owner] if owner else []), name])
-        alike = [it for it in functions if it == wanted]
+        alike = [function for function in functions if function == wanted]
         if owner and not alike:
-            alike = [it for it in functions if re.fullmatch(rf"(.*::)?{owner}::{name}", it)] or [it for it in functions if re.fullmatch(rf"(.*::)?{owner}\w+::{name}", it)]
-            beside = [it for it in alike if it.split("::")[:-2] == module_of(at)]
+            alike = [function for function in functions if re.fullmatch(rf"(.*::)?{owner}::{name}", function)] or [function for function in functions if re.fullmatch(rf"(.*::)?{owner}\w+::{name}", function)]
+            beside = [name for name in alike if name.split("::")[:-2] == module_of(at)]
             alike = beside if len(alike) > 1 else alike
         if len(alike) != 1:
             return None
@@ -106,12 +113,12 @@ def names_of(places, functions):
     return found
 
 
-def side_by_side(edits, crate):
+def side_by_side(edits: Iterable[Edit], crate: Any) -> Tuple[List[Edit], Texts]:
     """As many of the edits as can stand in one copy, and that copy's texts: none that names the function at which it must fail, no two of one function, none of a
     function that another's calls, each text still there once."""
     group, texts, taken, sources = [], {}, set(), stubs.texts_of(crate)
     for edit in edits:
-        if edit.places is None or edit.at or edit.places & taken or any(calls(it, edit, sources) or calls(edit, it, sources) for it in group):
+        if edit.places is None or edit.at or edit.places & taken or any(calls(other, edit, sources) or calls(edit, other, sources) for other in group):
             continue
         made = edit.apply(texts, crate)
         if made is not None:
@@ -120,13 +127,13 @@ def side_by_side(edits, crate):
     return group, texts
 
 
-def calls(one, other, sources):
+def calls(one: Edit, other: Edit, sources: Texts) -> bool:
     """Whether a function that an edit changes, or one in a cycle of calls with it, seems to call one that another changes, which is in no cycle with it."""
     cycles = stubs.cycles_of(sources, one.places) & stubs.cycles_of(sources, other.places)
     return not cycles and any(stubs.names(text, place) for text in stubs.bodies_of(sources, one.places) for place in other.places)
 
 
-def refused_at(said, texts, crate):
+def refused_at(said: str, texts: Texts, crate: Any) -> Dict[Place, str]:
     """The places of functions that a check refuses for themselves, with what it said, from its output."""
     rt, found = kit.rt(), {}
     spans = {at: functions_of(text) for at, text in texts.items()}
@@ -134,26 +141,26 @@ def refused_at(said, texts, crate):
         place = PLACE.match(line)
         if not place or rt.unread(line, texts) or not re.search(r"not proved|error: ", place[3]) or re.search(OF_OTHERS, place[3]):
             continue
-        for it in spans.get(place[1], []):
-            if it.top <= int(place[2]) - 1 <= it.last:
-                found.setdefault((place[1], it.name, it.owner), line)
+        for function in spans.get(place[1], []):
+            if function.top <= int(place[2]) - 1 <= function.last:
+                found.setdefault((place[1], function.name, function.owner), line)
     for name, of in by_proof_files(said, spans):
         found.setdefault(of, f"the answers of {name} are refused")
     return found
 
 
-def by_proof_files(said, spans):
+def by_proof_files(said: str, spans: Dict[str, List[Function]]) -> Iterator[Tuple[str, Place]]:
     """The functions whose own answers or lemmas in proofs/ are refused: those of a function lie in a folder of its path, and those of a cycle in a folder
     of their own, each answer named by its function."""
     refused = re.findall(r"(?m)^(?:\./)?proofs/(\S+)/[A-Z]\w+\.antt:\d+:\d+: error: (?!.*(?:is not in scope|has no|was not admitted))(?:`((?:\w+::)*\w+)-)?", said)
     for path, member in dict.fromkeys(refused):
         *above, last = path.split("/")
-        of = [(at, it) for at, functions in spans.items() for it in functions if names_match(at, it, above, last, member)]
+        of = [(at, function) for at, functions in spans.items() for function in functions if names_match(at, function, above, last, member)]
         if len(of) == 1:
             yield path, (of[0][0], of[0][1].name, of[0][1].owner)
 
 
-def names_match(at, function, above, last, member):
+def names_match(at: str, function: Function, above: List[str], last: str, member: str) -> bool:
     """Whether a folder of proofs/ is a function's: by its whole path, or, in a cycle, by that of its member before its answers' names. (A method lies below its
     type's module, which may be another than its file's.)"""
     path = [*above, *(member.split("::") if last.startswith("+") else [last])]
@@ -164,26 +171,26 @@ def names_match(at, function, above, last, member):
 class Work:
     """What the trials of a crate's edits have proved so far, which those that follow need not prove again, in a folder that is made empty here."""
 
-    def __init__(self, crate, flags):
+    def __init__(self, crate: Any, flags: List[str]) -> None:
         self.crate, self.flags, self.at = crate, flags, f"{crate.folder}/out/tried"
         self.empty()
 
-    def empty(self):
+    def empty(self) -> None:
         self.remove()
         os.makedirs(self.at)
         self.is_held = False
 
-    def remove(self):
+    def remove(self) -> None:
         shutil.rmtree(self.at, ignore_errors=True)
         shutil.rmtree(self.copy_at(), ignore_errors=True)
 
-    def copy_at(self):
+    def copy_at(self) -> str:
         return f"{self.crate.folder}/out/stubbed"
 
-    def checked(self, stubbed, texts, names):
+    def checked(self, stubbed: stubs.Stubbed, texts: Texts, names: Iterable[str]) -> Ran:
         """The check of functions of a copy with these texts. One that is killed, most likely for memory, is made once more, and from nothing, since it may have left
         something half written."""
-        words = [*self.flags, *(word for it in names for word in ("--only", it))]
+        words = [*self.flags, *(word for name in names for word in ("--only", name))]
         ran = kit.rt().checked(stubbed.crate, texts, words, self.at)
         if ran.returncode != -signal.SIGKILL:
             return ran
@@ -196,16 +203,16 @@ class Beside:
     twin, as a trait's method, one edit is made in its place, if it has no answers. A function with answers, which a twin gets a copy of, has one twin more, as it
     is, and so has the first without: twins of such differ from their functions by the name alone."""
 
-    def __init__(self, crate, edits):
+    def __init__(self, crate: Any, edits: Iterable[Edit]) -> None:
         self.crate, self.sources = crate, stubs.texts_of(crate)
         # of each edit, and of each function of which a twin is as it is, the place and the name in the copy; of each edit the function whose twin holds it
         self.at, self.held, self.twins, self.first = {}, {}, [], None
         self.edited, self.in_place = {}, set()
-        for it in edits:
-            if len(it.places or ()) == 1 and not it.at:
-                self.add(it, *it.places)
+        for edit in edits:
+            if len(edit.places or ()) == 1 and not edit.at:
+                self.add(edit, *edit.places)
 
-    def add(self, edit, place):
+    def add(self, edit: Edit, place: Place) -> None:
         has_answers = stubs.has_answers(self.crate, self.sources, place)
         if stubs.can_have_twin(self.sources, place):
             self.add_twin(edit, edit, place, edit.apply({}, self.crate), f"edited{len(self.at)}")
@@ -219,34 +226,34 @@ class Beside:
                 self.edited, self.at[edit], self.held[edit] = made, (place, edit.names[0]), None
                 self.in_place.add(place)
 
-    def add_twin(self, key, edit, place, sources, ending):
+    def add_twin(self, key: Any, edit: Edit, place: Place, sources: Texts, ending: str) -> None:
         twin = stubs.Twin(sources, place, f"{place[1]}_{ending}")
         self.twins.append(twin)
         self.at[key] = twin.place, re.sub(r"\w+$", twin.name, edit.names[0])
 
-    def tried(self, work):
+    def tried(self, work: Work) -> Dict[Edit, str]:
         """Checks all of them, and returns those that are refused, each with what was said."""
         stubbed = stubs.Stubbed(self.crate, work.copy_at(), self.in_place, self.twins)
         texts = stubbed.texts(self.edited)
         said = work.checked(stubbed, texts, [name for _, name in self.at.values()])
         found, done = refused_at(said.stdout, texts, self.crate) if told_something(said) else {}, {}
-        for it, function in self.held.items():
-            place, name = self.at[it]
+        for edit, function in self.held.items():
+            place, name = self.at[edit]
             _, as_it_is = self.at.get(function or self.first, (None, None))
             why = found.get(place) or unproved(said, self.crate, name)
             if why and is_proved(said, self.crate, as_it_is):
-                done[it] = why
+                done[edit] = why
         print(f"of {len(self.held)} edits beside {len(self.at) - len(self.held)} functions as they are, {len(done)} are refused", flush=True)
         return done
 
 
-def beside(work, edits):
+def beside(work: Work, edits: Iterable[Edit]) -> Dict[Edit, str]:
     """Tries edits beside one another, all in one check, and returns those that are refused, each with what was said."""
     trial = Beside(work.crate, edits)
     return trial.tried(work) if trial.twins else {}
 
 
-def told_something(said):
+def told_something(said: Ran) -> bool:
     """Whether a check of functions came to an end, and did not prove all."""
     if said.returncode == 1 and re.match(r"only=\d+", last_line(said)):
         return True
@@ -254,20 +261,20 @@ def told_something(said):
     return False
 
 
-def is_proved(said, crate, name):
+def is_proved(said: Ran, crate: Any, name: Optional[str]) -> bool:
     return f"fn {crate.name}::{name}: proved\n" in said.stdout
 
 
-def unproved(said, crate, name):
+def unproved(said: Ran, crate: Any, name: str) -> Optional[str]:
     """The line that tells that no proof of a function was found, where the check says nothing more of it, or None."""
-    return next((it for it in said.stdout.split("\n") if it.startswith(f"fn {crate.name}::{name}: no proof: expected ")), None)
+    return next((line for line in said.stdout.split("\n") if line.startswith(f"fn {crate.name}::{name}: no proof: expected ")), None)
 
 
-def round_of(stubbed, work, edits):
+def round_of(stubbed: stubs.Stubbed, work: Work, edits: Iterable[Edit]) -> Dict[Edit, str]:
     """Tries edits together in their places and returns those that are refused, each with what was said."""
     group, edited = side_by_side(edits, work.crate)
     texts = stubbed.texts(edited)
-    said = work.checked(stubbed, texts, [name for it in group for name in it.names]) if group else None
+    said = work.checked(stubbed, texts, [name for edit in group for name in edit.names]) if group else None
     if not (group and told_something(said)):
         return {}
     found = refused_at(said.stdout, texts, work.crate)
@@ -276,33 +283,33 @@ def round_of(stubbed, work, edits):
     return done
 
 
-def last_line(ran):
+def last_line(ran: Ran) -> str:
     return ran.stdout.rstrip("\n").split("\n")[-1]
 
 
 class Spent:
     """What the parts of a crate's trials took of the processors, for the run's log."""
 
-    def __init__(self):
+    def __init__(self) -> None:
         self.parts, self.last = [], self.now()
 
     @staticmethod
-    def now():
+    def now() -> float:
         usage = resource.getrusage(resource.RUSAGE_CHILDREN)
         return usage.ru_utime + usage.ru_stime
 
-    def part(self, what):
+    def part(self, what: str) -> None:
         """Tells what a part took, if it took anything."""
         now = self.now()
         if now - self.last >= 1:
             self.parts.append(f"{what} {now - self.last:.0f} s")
         self.last = now
 
-    def tell(self):
+    def tell(self) -> None:
         print(f"gate: its edits took of a processor: {', '.join(self.parts)}", flush=True)
 
 
-def tried(crate, edit, flags):
+def tried(crate: Any, edit: Edit, flags: List[str]) -> Trial:
     """Whether `rt ci` refuses an edit, as it must, and what it says: the whole crate is checked, from nothing. One that cannot be applied, compiled or read
     counts as not refused."""
     rt = kit.rt()
@@ -310,12 +317,12 @@ def tried(crate, edit, flags):
     return kind if kit.is_before_keeping() else kind in (rt.REFUSED, rt.AT_LIMIT), said
 
 
-def names_in(edit):
+def names_in(edit: Edit) -> List[str]:
     """The functions at which an edit is tried by itself."""
     return [edit.at] if edit.at else edit.names or []
 
 
-def named(stubbed, work, edit):
+def named(stubbed: stubs.Stubbed, work: Work, edit: Edit) -> Optional[str]:
     """Tries an edit at its function, and returns why that, or what it calls, is not proved: then the crate is not, either. None where that is not told, or only
     because a proof names what the edit took away."""
     edited, names = edit.apply({}, work.crate), names_in(edit)
@@ -327,45 +334,45 @@ def named(stubbed, work, edit):
     told = re.match(r"only=(\d+) proved=(\d+)", last_line(ran))
     if not told or told[1] == told[2]:
         return None
-    return refused_for(ran, texts, [it for it in (unproved(ran, work.crate, name) for name in names) if it])
+    return refused_for(ran, texts, [why for why in (unproved(ran, work.crate, name) for name in names) if why])
 
 
-def refused_for(ran, texts, otherwise):
+def refused_for(ran: Ran, texts: Texts, otherwise: List[str]) -> Optional[str]:
     """Why a check refuses these texts, by its errors, or by these lines where it tells none; None where it can't read them, tells nothing, or refuses only what names
     what an edit took away."""
     lines = ran.stdout.split("\n")
-    if ran.returncode != 1 or any(kit.rt().unread(it, texts) for it in lines):
+    if ran.returncode != 1 or any(kit.rt().unread(line, texts) for line in lines):
         return None
-    errors = [it for it in lines if re.match(r"(note: )?(\./)?(src|specs|proofs)/\S+:\d+:\d+: (error|it is not proved)", it)]
-    return next((it for it in errors or otherwise if not re.search(TAKEN_AWAY, it)), None)
+    errors = [line for line in lines if re.match(r"(note: )?(\./)?(src|specs|proofs)/\S+:\d+:\d+: (error|it is not proved)", line)]
+    return next((line for line in errors or otherwise if not re.search(TAKEN_AWAY, line)), None)
 
 
-def key_of(crate, edit):
+def key_of(crate: Any, edit: Edit) -> str:
     return kit.sum_of("edit", verdicts.FORM, verdicts.facts_of(crate)["key"], edit.name, edit.text)
 
 
-def told_of(given):
+def told_of(given: Any) -> List[Any]:
     """What a task of edits gave: for each edit whether it is refused and what to say. Kits that keep nothing give what else stands in the folder before it."""
     return given[2] if isinstance(given, tuple) else given
 
 
-def broken_off(name):
+def broken_off(name: str) -> Any:
     """What a task of edits that broke off counts as in kits that keep nothing."""
     return ([], [f"{name}/must-fail"], [(False, f"{name}: trying its must-fail edits broke off")])
 
 
-def add_all(tasks, crate, paths, *_):
+def add_all(tasks: Dict[Any, Any], crate: Any, paths: List[str], *_: Any) -> Any:
     """Adds the one task that tries a crate's edits, once it and its tests are proved, and returns what gives their results, and those of earlier runs: none."""
     key, rt = (crate.name, "edits"), kit.rt()
-    strays = [os.path.relpath(it, crate.folder) for it in rt.edits_of(crate)[1]]
+    strays = [os.path.relpath(edit, crate.folder) for edit in rt.edits_of(crate)[1]]
 
-    def call(given, jobs):
+    def call(given: Dict[Any, Any], jobs: int) -> Any:
         if not (given[crate.name, "proof"] and given[crate.name, "tests"]):
             return [(False, f"{crate.name}: its edits are not tried") for _ in paths]
         told = try_all(crate, paths, ["--jobs", str(jobs)])
         return [(False, f"{crate.name}: no edit, and not read: {', '.join(strays)}") for _ in paths] if strays else told
 
-    def results(given):
+    def results(given: Dict[Any, Any]) -> Any:
         told = given[key] or [(False, f"{crate.name}: trying its must-fail edits broke off") for _ in paths]
         return [(rt.REFUSED if well else rt.MISSED, said) for well, said in told]
 
@@ -373,10 +380,10 @@ def add_all(tasks, crate, paths, *_):
     return results, dict
 
 
-def try_all(crate, paths, flags):
+def try_all(crate: Any, paths: List[str], flags: List[str]) -> List[Trial]:
     """What came of each edit of a crate: whether the prover refuses it, and what to say."""
     told, left = {}, []
-    for edit in [Edit(it, crate) for it in paths]:
+    for edit in [Edit(path, crate) for path in paths]:
         kept = verdicts.store.facts(key_of(crate, edit))
         if kept:
             told[edit.path] = (True, kept["facts"]["said"])
@@ -387,80 +394,80 @@ def try_all(crate, paths, flags):
     verdicts.note(crate, False, {**verdicts.facts_of(crate), "tried": len(left)})
     if left:
         told.update(try_anew(crate, left, flags))
-    return [told[it] for it in paths]
+    return [told[path] for path in paths]
 
 
-def keep(crate, edit, told):
+def keep(crate: Any, edit: Edit, told: Trial) -> Trial:
     """Keeps an edit that is refused in the store, with what is to be said of it, as soon as that is known."""
     if told[0]:
         verdicts.store.put(key_of(crate, edit), {"crate": crate.name, "said": told[1]}, None, [])
     return told
 
 
-def try_anew(crate, edits, flags):
+def try_anew(crate: Any, edits: List[Edit], flags: List[str]) -> Dict[str, Trial]:
     """Tries edits of which the store knows nothing, and keeps there those that are refused."""
     told, spent = {}, Spent()
-    for it, why in refused_by_name(Work(crate, flags), edits, spent):
-        told[it.path] = keep(crate, it, refused(crate, it, why))
-    for it, came in tried_whole(Work(crate, flags), [it for it in edits if it.path not in told], spent):
-        told[it.path] = keep(crate, it, came)
+    for edit, why in refused_by_name(Work(crate, flags), edits, spent):
+        told[edit.path] = keep(crate, edit, refused(crate, edit, why))
+    for edit, came in tried_whole(Work(crate, flags), [edit for edit in edits if edit.path not in told], spent):
+        told[edit.path] = keep(crate, edit, came)
     spent.tell()
     return told
 
 
-def refused(crate, edit, why):
+def refused(crate: Any, edit: Edit, why: str) -> Trial:
     """What came of an edit that is refused."""
     return True, f"must-fail {crate.name}/{edit.name}: refused, as it must be: {why[:160]}"
 
 
-def tried_whole(work, edits, spent):
+def tried_whole(work: Work, edits: List[Edit], spent: Spent) -> Iterator[Tuple[Edit, Trial]]:
     """Yields edits with what came of each where the whole crate is checked: several over what the crate as it stands left, if that is proved; one alone, and each that
     is not refused there, from nothing."""
     is_held = len(edits) > 1 and not work.checked(work, {}, []).returncode
     spent.part("the crate as it stands")
-    for it in edits:
-        why = is_held and refused_whole(work, it)
-        yield it, refused(work.crate, it, why) if why else tried(work.crate, it, work.flags)
-        spent.part(f"{it.name} with the whole crate{'' if why else ', from nothing'}")
+    for edit in edits:
+        why = is_held and refused_whole(work, edit)
+        yield edit, refused(work.crate, edit, why) if why else tried(work.crate, edit, work.flags)
+        spent.part(f"{edit.name} with the whole crate{'' if why else ', from nothing'}")
     work.remove()
 
 
-def refused_whole(work, edit):
+def refused_whole(work: Work, edit: Edit) -> Optional[str]:
     """Why the whole crate is not proved with an edit, over what earlier trials left, or None where that is not told."""
     texts = edit.apply({}, work.crate)
     ran = work.checked(work, texts, []) if texts else None
     return refused_for(ran, texts, []) if ran and last_line(ran).startswith("logic=not-proved") else None
 
 
-def refused_by_name(work, edits, spent):
+def refused_by_name(work: Work, edits: List[Edit], spent: Spent) -> Iterator[Tuple[Edit, str]]:
     """Yields the edits that are refused at functions, each with what was said: those beside their functions first, then those that are tried in their places, and
     at last each of those that are left by itself."""
     done = beside(work, edits)
     spent.part(f"{len(done)} of {len(edits)} beside their functions")
     yield from done.items()
-    left = [it for it in edits if it not in done and names_in(it)]
-    places = {place for it in left for place in [*(it.places or ()), *stubs.places_of(work.crate, names_in(it))]}
+    left = [edit for edit in edits if edit not in done and names_in(edit)]
+    places = {place for edit in left for place in [*(edit.places or ()), *stubs.places_of(work.crate, names_in(edit))]}
     stubbed = stubs.Stubbed(work.crate, work.copy_at(), places) if left else None
     while left:
         left = held(stubbed, work, left, spent)
         done = round_of(stubbed, work, left)
         spent.part(f"a round that refused {len(done)} of {len(left)}")
         yield from done.items()
-        left = [it for it in left if it not in done]
+        left = [edit for edit in left if edit not in done]
         if not done:
             break
-    for it in left:
-        why = held(stubbed, work, [it], spent) and named(stubbed, work, it)
-        spent.part(f"{it.name} at its function")
+    for edit in left:
+        why = held(stubbed, work, [edit], spent) and named(stubbed, work, edit)
+        spent.part(f"{edit.name} at its function")
         if why:
-            yield it, why
+            yield edit, why
     work.remove()
 
 
-def held(stubbed, work, edits, spent):
+def held(stubbed: stubs.Stubbed, work: Work, edits: List[Edit], spent: Spent) -> List[Edit]:
     """Those of the edits whose functions are proved in a copy without the edits, over what earlier trials left, so that what is refused with them is the edits'
     doing."""
-    names = sorted({name for it in edits for name in names_in(it)})
+    names = sorted({name for edit in edits for name in names_in(edit)})
     if work.is_held or not names:
         return edits
     said = work.checked(stubbed, stubbed.texts({}), names)
@@ -468,4 +475,4 @@ def held(stubbed, work, edits, spent):
     if said.returncode:
         print(f"without the edits it is not proved: {said.stdout[-400:]}", flush=True)
     spent.part("the functions of those left, without the edits")
-    return [it for it in edits if all(is_proved(said, work.crate, name) or not said.returncode for name in names_in(it))]
+    return [edit for edit in edits if all(is_proved(said, work.crate, name) or not said.returncode for name in names_in(edit))]

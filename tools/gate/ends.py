@@ -5,6 +5,7 @@ import os
 import re
 import shutil
 import subprocess
+from typing import Dict, Optional, Tuple
 
 import kit
 
@@ -13,12 +14,12 @@ LAUNCHERS = ("pascal", "pascal_reference", "pascal_code", "pascal_slots")
 PROGRAMS = ("pascal", "pascal_reference")
 
 
-def count_in(text):
+def count_in(text: str) -> Tuple[int, int]:
     found = re.search(r"(?m)^(\d+) passed, (\d+) failed\s*\Z", text)
     return (int(found[1]), int(found[2])) if found else (0, 0)
 
 
-def run_plain(tree):
+def run_plain(tree: str) -> Tuple[int, int]:
     """Runs the kit's `rt ci` in a tree as it is, and returns how much passed and failed."""
     with subprocess.Popen(["rt", "ci"], cwd=tree, stdin=subprocess.DEVNULL, stdout=subprocess.PIPE, stderr=subprocess.STDOUT, text=True, errors="replace") as ran:
         said = ""
@@ -29,7 +30,7 @@ def run_plain(tree):
     return passed, failed or int(bool(ran.returncode))
 
 
-def run_cases_over(tree, what, program, env):
+def run_cases_over(tree: str, what: str, program: str, env: Dict[str, str]) -> Tuple[int, int]:
     """Runs all cases that there are for a program over it. A run that ends with a bad status, or has no case, is a failure."""
     words = [f"{tree}/test", "--program", program]
     ran = subprocess.run(words, env={**os.environ, **env}, stdout=subprocess.PIPE, stderr=subprocess.STDOUT, text=True, errors="replace")
@@ -42,13 +43,13 @@ def run_cases_over(tree, what, program, env):
     return well, bad
 
 
-def run_cases(tree):
+def run_cases(tree: str) -> Tuple[int, int]:
     """Runs the cases over each program of the run."""
-    told = [run_cases_over(tree, it, f"{tree}/{it}", {"PASCAL_BUILT": f"{tree}/crates"}) for it in LAUNCHERS]
+    told = [run_cases_over(tree, launcher, f"{tree}/{launcher}", {"PASCAL_BUILT": f"{tree}/crates"}) for launcher in LAUNCHERS]
     return sum(well for well, _ in told), sum(bad for _, bad in told)
 
 
-def run_growths(tree):
+def run_growths(tree: str) -> Tuple[int, int]:
     """Refuses each growth of the built program's memory in turn. Where that tries nothing, it is a failure."""
     words = [f"{tree}/tests/growths", "--program", f"{tree}/crates/pascal/out/pascal"]
     ran = subprocess.run(words, stdout=subprocess.PIPE, stderr=subprocess.STDOUT, text=True, errors="replace")
@@ -60,18 +61,18 @@ def run_growths(tree):
     return well, bad
 
 
-def look_at_pages(tree):
+def look_at_pages(tree: str) -> Optional[str]:
     """What is not true in the pages of a tree, as far as a program can tell."""
     ran = subprocess.run([f"{tree}/tools/pages", "--program", f"{tree}/crates/pascal/out/pascal"], stdout=subprocess.PIPE, stderr=subprocess.STDOUT, text=True, errors="replace")
     return ran.stdout.strip() or "tools/pages failed" if ran.returncode else None
 
 
-def sum_of_sources(tree, name):
+def sum_of_sources(tree: str, name: str) -> str:
     ran = subprocess.run([f"{tree}/tools/sources_sum", name], capture_output=True, text=True)
     return ran.stdout.strip() if ran.returncode == 0 else None
 
 
-def line_of(path):
+def line_of(path: str) -> str:
     """The first line of a file, or nothing where there is none."""
     try:
         with open(path, encoding="utf-8") as file:
@@ -80,7 +81,7 @@ def line_of(path):
         return ""
 
 
-def differs_from_release(tree, kept):
+def differs_from_release(tree: str, kept: str) -> Optional[str]:
     """Why the released program is not what this run has built. Kits differ in the bytes that they build, so where another kit built it, it has to do what
     the cases want."""
     made, kit_of_release = f"{tree}/crates/pascal/out/pascal", line_of(f"{kept}.kit")
@@ -95,7 +96,7 @@ def differs_from_release(tree, kept):
     return "the released program does not do what the cases want" if bad else None
 
 
-def look_at_release(tree):
+def look_at_release(tree: str) -> Optional[str]:
     """Whether the released program is the one that this run has built, from sources of the sum beside it, and the launcher runs it."""
     kept = f"{tree}/released/pascal"
     if not os.path.isfile(kept):
@@ -112,13 +113,13 @@ def look_at_release(tree):
     return None
 
 
-def write_sums(tree, name, program):
+def write_sums(tree: str, name: str, program: str) -> None:
     """Writes beside a program the sums by which the launcher knows it: that of the sources, and its own."""
     with open(f"{program}.sum", "w", encoding="utf-8") as file:
         file.write(f"{sum_of_sources(tree, name)}\n{kit.file_sum(program)}\n")
 
 
-def release(tree, top):
+def release(tree: str, top: str) -> None:
     os.makedirs(f"{top}/released", exist_ok=True)
     shutil.copy2(f"{tree}/crates/pascal/out/pascal", f"{top}/released/pascal")
     write_sums(tree, "pascal", f"{top}/released/pascal")
@@ -126,7 +127,7 @@ def release(tree, top):
         file.write(f"{kit.name()}\n")
 
 
-def hand_out(tree, top):
+def hand_out(tree: str, top: str) -> None:
     """Gives the tree the programs that were built, for its launchers."""
     for name in PROGRAMS:
         if os.path.isfile(f"{tree}/crates/{name}/out/{name}"):

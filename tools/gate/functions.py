@@ -3,6 +3,7 @@
 import collections
 import functools
 import re
+from typing import Dict, List, Optional
 
 HEADER = re.compile(r"^( *)(?:pub(?:\([^)]*\))? )?(const )?(?:unsafe )?fn (\w+)")
 OWNER = re.compile(r"^impl\b(?:<[^>]*>)? (.* for )?(?:&'?\w* ?)?(\w+)")
@@ -16,15 +17,15 @@ class Function:
     the first of its attributes and comments, its header, the first of its body, and its last; the cycle of calls that it is marked as a member of, if any; whether
     it is a trait's method; and whether its body, below its header, can be another: not that of a constant function, nor one that a macro or a trait gives."""
 
-    def __init__(self, name, owner, lines, at, body, last):
+    def __init__(self, name: str, owner: Optional[str], lines: List[str], at: int, body: int, last: int) -> None:
         self.name, self.owner, self.header, self.body, self.last = name, owner, at, body, last
         self.top = top_of(lines, at)
-        self.cycle = next((CYCLE.match(it)[1] for it in lines[self.top : at] if CYCLE.match(it)), None)
+        self.cycle = next((CYCLE.match(line)[1] for line in lines[self.top : at] if CYCLE.match(line)), None)
         self.is_of_trait, self.has_body = False, False
 
 
 @functools.lru_cache(512)
-def functions_of(text):
+def functions_of(text: str) -> List[Function]:
     """The functions of a file in the layout of `rt fmt`, in which a body opens at the end of a header or on a line of its own, and closes below it."""
     found, traits, owner, trait, is_held, lines = [], {}, None, "", False, text.split("\n")
     for at, line in enumerate(lines):
@@ -36,12 +37,12 @@ def functions_of(text):
         if not header or len(header[1]) > 4:
             continue
         space = header[1]
-        closed = next((it for it in range(at, len(lines)) if lines[it] == f"{space}}}"), at)
+        closed = next((number for number in range(at, len(lines)) if lines[number] == f"{space}}}"), at)
         opens = (f"{space}{{", f"{space})")
-        body = at if line.endswith("{") else next((it for it in range(at, closed) if lines[it].startswith(opens) and lines[it].endswith("{")), closed)
+        body = at if line.endswith("{") else next((number for number in range(at, closed) if lines[number].startswith(opens) and lines[number].endswith("{")), closed)
         function = Function(header[3], owner if space else None, lines, at, body, closed)
         # (a header that ends in its own line, as `fn f() {}` or a trait's, would take the next one's body)
-        ends = any(HEADER.match(it) for it in lines[at + 1 : body]) or line.endswith(("}", ";"))
+        ends = any(HEADER.match(line) for line in lines[at + 1 : body]) or line.endswith(("}", ";"))
         function.is_of_trait = bool(space and trait)
         traits[function] = trait
         function.has_body = not (space and is_held or header[2] or ends) and body < closed
@@ -50,21 +51,21 @@ def functions_of(text):
     return found
 
 
-def tell_apart(functions, traits):
+def tell_apart(functions: List[Function], traits: Dict[Function, str]) -> None:
     """Names behind the type of a trait's method the trait as well, as the kit does, where the file has another of this name and type: `RefusalFromScanRefusal`."""
-    count = collections.Counter((it.name, it.owner) for it in functions)
-    for it in functions:
-        if it.is_of_trait and count[it.name, it.owner] > 1:
-            it.owner += re.sub(r"\W", "", traits[it].removesuffix(" for "))
+    count = collections.Counter((function.name, function.owner) for function in functions)
+    for function in functions:
+        if function.is_of_trait and count[function.name, function.owner] > 1:
+            function.owner += re.sub(r"\W", "", traits[function].removesuffix(" for "))
 
 
-def top_of(lines, at):
+def top_of(lines: List[str], at: int) -> int:
     """The first line of what stands above a header and belongs to it: a blank line, or the opening of a block, ends it."""
     while at and lines[at - 1].strip() and not lines[at - 1].endswith(("{", "}", ";")):
         at -= 1
     return at
 
 
-def module_of(at):
+def module_of(at: str) -> List[str]:
     """The names of the module that a file of src/ holds."""
-    return [it for it in at[4:-3].split("/") if it not in ("lib", "main", "mod")]
+    return [word for word in at[4:-3].split("/") if word not in ("lib", "main", "mod")]

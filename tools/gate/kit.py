@@ -13,6 +13,8 @@ import importlib.util
 import os
 import shutil
 import sys
+from types import ModuleType
+from typing import Any, Callable, ContextManager, List
 
 PARTS = ("in_lanes", "must_fail", "checked", "edits_of", "read_edit", "processors", "free", "say", "Crate", "unread")
 # What runs the whole, and what is replaced of it: in kits from 13f on, which keep what they have proved, and in those before, which keep nothing.
@@ -22,7 +24,7 @@ SUMMED = ("KIT-ID", "WHAT", "bin/rattle", "bin/rattle-link", "bin/rt", "bin/rtli
 
 
 @functools.lru_cache(None)
-def rt():
+def rt() -> ModuleType:
     """The kit's command as a module."""
     command = shutil.which("rt")
     if not command:
@@ -34,15 +36,15 @@ def rt():
     return made
 
 
-def is_before_keeping():
+def is_before_keeping() -> bool:
     """Whether the kit's command keeps nothing of what it has proved."""
-    return not any(hasattr(rt(), it) for it in PARTS_KEEPING)
+    return not any(hasattr(rt(), part) for part in PARTS_KEEPING)
 
 
-def lacking():
+def lacking() -> List[str]:
     """The parts that the gate replaces or calls and that this kit's command has not."""
     wanted = (*PARTS, *(PARTS_BEFORE if is_before_keeping() else PARTS_KEEPING))
-    return [it for it in wanted if not hasattr(rt(), it)]
+    return [part for part in wanted if not hasattr(rt(), part)]
 
 
 class NothingKept:
@@ -50,57 +52,57 @@ class NothingKept:
 
     at, is_full = None, False
 
-    def __init__(self, *given):
+    def __init__(self, *given: Any) -> None:
         pass
 
-    def key(self, crate):
+    def key(self, crate: Any) -> str:
         return ""
 
-    def give(self, crate, tests, key):
+    def give(self, crate: Any, tests: bool, key: str) -> bool:
         return False
 
-    def in_turn(self, crate, tests, key):
+    def in_turn(self, crate: Any, tests: bool, key: str) -> ContextManager[bool]:
         return contextlib.nullcontext(False)
 
-    def keep(self, crate, tests, key):
+    def keep(self, crate: Any, tests: bool, key: str) -> None:
         pass
 
-    def is_built(self, crate):
+    def is_built(self, crate: Any) -> None:
         pass
 
-    def shrink(self):
+    def shrink(self) -> None:
         pass
 
-    def tell(self):
+    def tell(self) -> None:
         pass
 
 
-def say_less(usual):
+def say_less(usual: Callable[..., None]) -> Callable[..., None]:
     """`rt ci` counts at its end what it kept itself, which is nothing here."""
     return lambda text, *given: usual(text.partition("; every proof and")[0], *given)
 
 
-def name():
+def name() -> str:
     """The kit's own name for itself, as `rt version` prints it."""
     with open(f"{rt().KIT}/KIT-ID", encoding="utf-8") as file:
         return file.readline().strip()
 
 
-def file_sum(path):
+def file_sum(path: str) -> str:
     with open(path, "rb") as file:
         return hashlib.file_digest(file, "sha256").hexdigest()
 
 
-def sum_of(*parts):
+def sum_of(*parts: Any) -> str:
     return hashlib.sha256(repr(parts).encode()).hexdigest()
 
 
 @functools.lru_cache(None)
-def kit_sum():
-    return sum_of(*(file_sum(f"{rt().KIT}/{it}") for it in SUMMED))
+def kit_sum() -> str:
+    return sum_of(*(file_sum(f"{rt().KIT}/{file}") for file in SUMMED))
 
 
-def files_below(folder):
+def files_below(folder: str) -> List[str]:
     """The paths of all files below a folder, relative to it, sorted."""
-    found = [os.path.join(at, it) for at, _, files in os.walk(folder) for it in files]
-    return sorted(os.path.relpath(it, folder) for it in found)
+    found = [os.path.join(at, file) for at, _, files in os.walk(folder) for file in files]
+    return sorted(os.path.relpath(path, folder) for path in found)

@@ -12,6 +12,7 @@ import signal
 import sys
 import time
 import traceback
+from typing import Any, Callable, Dict, Iterable, List
 
 import edits
 import kit
@@ -27,7 +28,7 @@ AGAIN, PATIENCE = 1, 300
 class Task:
     """A task of `rt ci`: what it waits for, its size in lines, its memory, and a call that gets what was given and how many jobs it may use."""
 
-    def __init__(self, key, waits, lines, memory, call):
+    def __init__(self, key: Any, waits: List[Any], lines: int, memory: int, call: Callable[..., Any]) -> None:
         self.key, self.waits, self.lines, self.memory, self.call = key, waits, lines, SHARE_OF_RECKONING * memory, call
         self.name, self.part = key
         self.is_edits = self.part == "edits"
@@ -35,33 +36,33 @@ class Task:
         self.taken = self.places = self.jobs = self.began = 0
 
 
-def chained(tasks):
+def chained(tasks: Dict[Any, "Task"]) -> None:
     """Sets the work that waits for each task, its own included. A task comes after those that it waits for."""
     for task in reversed([*tasks.values()]):
         task.behind += task.lines
-        for it in task.waits:
-            tasks[it].behind = max(tasks[it].behind, task.behind)
+        for wait in task.waits:
+            tasks[wait].behind = max(tasks[wait].behind, task.behind)
 
 
-def held_below(processes):
+def held_below(processes: Iterable[int]) -> Dict[int, int]:
     """The bytes that the largest of all that each of these processes started holds now. (A check copies itself for a while, and the copies share what they hold.)"""
     above, held, most = {}, {}, dict.fromkeys(processes, 0)
-    for it in filter(str.isdigit, os.listdir("/proc")):
+    for name in filter(str.isdigit, os.listdir("/proc")):
         # (one may end meanwhile)
         with contextlib.suppress(OSError):
-            with open(f"/proc/{it}/stat", encoding="utf-8", errors="replace") as file:
+            with open(f"/proc/{name}/stat", encoding="utf-8", errors="replace") as file:
                 words = file.read().rpartition(")")[2].split()
-            above[int(it)], held[int(it)] = int(words[1]), int(words[21]) * os.sysconf("SC_PAGE_SIZE")
-    for it, size in held.items():
-        while it and it not in most:
-            it = above.get(it, 0)
-        if it:
-            most[it] = max(most[it], size)
+            above[int(name)], held[int(name)] = int(words[1]), int(words[21]) * os.sysconf("SC_PAGE_SIZE")
+    for process, size in held.items():
+        while process and process not in most:
+            process = above.get(process, 0)
+        if process:
+            most[process] = max(most[process], size)
     return most
 
 
 class Places:
-    def __init__(self, room, report):
+    def __init__(self, room: str, report: Any) -> None:
         self.logs, self.report = f"{room}/logs", report
         os.makedirs(self.logs, exist_ok=True)
         self.count = int(os.environ.get("RT_JOBS") or 0) or kit.rt().processors()
@@ -69,12 +70,12 @@ class Places:
         self.kept_free = self.memory / SHARE_OF_MEMORY - self.memory
         self.given, self.running, self.short_since = {}, {}, None
 
-    def run(self, table):
+    def run(self, table: Dict[Any, Any]) -> Dict[Any, Any]:
         """Runs the tasks of a table by `rt ci` and returns what each gave."""
-        tasks = {key: Task(key, *it) for key, it in table.items()}
+        tasks = {key: Task(key, *facts) for key, facts in table.items()}
         chained(tasks)
-        self.left = sorted(tasks.values(), key=lambda it: -it.behind)
-        self.report.begin([it for it in self.left if it.lines], self.count)
+        self.left = sorted(tasks.values(), key=lambda task: -task.behind)
+        self.report.begin([task for task in self.left if task.lines], self.count)
         while self.left or self.running:
             time.sleep(AGAIN if self.short_since else 0)
             self.start_what_can()
@@ -82,42 +83,42 @@ class Places:
                 self.wait_for_one()
         return self.given
 
-    def start_what_can(self):
+    def start_what_can(self) -> None:
         """Starts tasks in order until the places or the memory are taken. Those with nothing to do are done here and at once."""
         while True:
-            ready = [it for it in self.left if all(below in self.given for below in it.waits)]
-            empty = next((it for it in ready if not it.lines), None)
+            ready = [task for task in self.left if all(below in self.given for below in task.waits)]
+            empty = next((task for task in ready if not task.lines), None)
             if empty:
                 self.left.remove(empty)
                 self.given[empty.key] = empty.call(self.given, 1)
                 continue
-            proofs = [it for it in ready if not it.is_edits]
+            proofs = [task for task in ready if not task.is_edits]
             chosen = (proofs or ready)[:1]
             if not chosen or not self.has_place(chosen[0]):
                 return
             places = 1 if chosen[0].is_edits else max(1, self.idle() // len(ready))
             # (where only proofs are left and each has a place, they share all places, since some would stand idle when one has ended before another)
-            is_end = [it for it in self.left if it.lines] == proofs and len(proofs) <= self.idle()
+            is_end = [task for task in self.left if task.lines] == proofs and len(proofs) <= self.idle()
             self.start(chosen[0], places, self.count if is_end else places)
 
-    def idle(self):
-        return self.count - sum(it.places for it in self.running.values())
+    def idle(self) -> int:
+        return self.count - sum(task.places for task in self.running.values())
 
-    def has_place(self, task):
-        is_last = not any(not it.is_edits for it in [*self.left, *self.running.values()])
+    def has_place(self, task: Task) -> bool:
+        is_last = not any(not task.is_edits for task in [*self.left, *self.running.values()])
         kept_free = 1 if task.is_edits and not is_last and self.count > 1 else 0
-        tried = sum(it.is_edits for it in self.running.values())
+        tried = sum(task.is_edits for task in self.running.values())
         if self.idle() < 1 or task.is_edits and tried >= self.count - kept_free:
             return False
         return self.has_memory(task)
 
-    def free(self):
+    def free(self) -> int:
         """The memory that a further task may take: what is free now, without what is kept free and what those at work are still to take."""
         held = held_below(self.running)
-        to_come = sum(max(0, it.taken - held[process]) for process, it in self.running.items())
+        to_come = sum(max(0, task.taken - held[process]) for process, task in self.running.items())
         return kit.rt().free() - self.kept_free - to_come
 
-    def has_memory(self, task):
+    def has_memory(self, task: Task) -> bool:
         """Whether there is memory for a task. One that is alone waits only for what other programs hold, and not for ever."""
         if task.memory <= self.free():
             self.short_since = None
@@ -125,7 +126,7 @@ class Places:
         self.short_since = self.short_since or time.time()
         return not self.running and (task.memory > self.memory or time.time() - self.short_since > PATIENCE)
 
-    def start(self, task, places, jobs):
+    def start(self, task: Task, places: int, jobs: int) -> None:
         self.left.remove(task)
         self.short_since = None
         free = self.free()
@@ -139,10 +140,10 @@ class Places:
             self.work(task)
         self.running[process] = task
 
-    def path(self, task, ending):
+    def path(self, task: Task, ending: str) -> str:
         return f"{self.logs}/{task.name}.{task.part}.{ending}"
 
-    def work(self, task):
+    def work(self, task: Task) -> None:
         """In a process of its own: does the task, leaves what it gave in a file, and ends."""
         status = 1
         try:
@@ -161,7 +162,7 @@ class Places:
         finally:
             os._exit(status)
 
-    def wait_for_one(self):
+    def wait_for_one(self) -> None:
         """Waits until a task has ended. Where another waits for memory, looks whether one has."""
         process, status, usage = os.wait4(-1, os.WNOHANG if self.short_since else 0)
         task = self.running.pop(process, None)
@@ -176,4 +177,4 @@ class Places:
         self.given[task.key] = given
         with open(self.path(task, "log"), encoding="utf-8", errors="replace") as file:
             said = file.read()
-        self.report.end(task, given, said, status, usage, len([it for it in self.left if it.lines]) + len(self.running))
+        self.report.end(task, given, said, status, usage, len([waiting for waiting in self.left if waiting.lines]) + len(self.running))

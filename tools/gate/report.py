@@ -3,40 +3,41 @@
 import json
 import re
 import time
+from typing import Any, Dict, List
 
 import edits
 
 
-def seconds(usage):
+def seconds(usage: Any) -> float:
     return usage.ru_utime + usage.ru_stime
 
 
 class Report:
-    def __init__(self, tree):
+    def __init__(self, tree: str) -> None:
         self.tree, self.began, self.took, self.most = tree, time.time(), {}, {}
 
-    def say(self, text):
+    def say(self, text: str) -> None:
         print(f"{time.time() - self.began:6.0f} s  {text}", flush=True)
 
-    def begin(self, tasks, places):
+    def begin(self, tasks: List[Any], places: int) -> None:
         self.say(f"{len(tasks)} proofs, tests and sets of edits to look at, {places} side by side")
 
-    def facts(self, task, ending=""):
+    def facts(self, task: Any, ending: str = "") -> Dict[str, Any]:
         try:
             with open(f"{self.tree}/crates/{task.name}/out/facts.json{ending}", encoding="utf-8") as file:
                 return json.load(file)
         except OSError:
             return {}
 
-    def end(self, task, given, said, status, usage, left):
+    def end(self, task: Any, given: Any, said: str, status: int, usage: Any, left: int) -> None:
         """Tells how a task ended. What it wrote is shown where it failed."""
         part = "edits" if task.is_edits else "proof"
         self.took[task.name, part] = self.took.get((task.name, part), 0) + seconds(usage)
         self.most[task.name] = max(self.most.get(task.name, 0), usage.ru_maxrss)
         tries = edits.told_of(given) if task.is_edits and given else []
-        is_well = not status and bool(given) and all(it[0] for it in tries)
-        for it in re.findall("(?m)^gate: .*", said if is_well else ""):
-            self.say(f"{task.name}: {it[6:]}")
+        is_well = not status and bool(given) and all(trial[0] for trial in tries)
+        for match in re.findall("(?m)^gate: .*", said if is_well else ""):
+            self.say(f"{task.name}: {match[6:]}")
         spent = f"{time.time() - task.began:.0f} s, {seconds(usage):.0f} of a processor, {usage.ru_maxrss // 1024} MB"
         if not is_well:
             print(said, end="" if said.endswith("\n") else "\n")
@@ -50,12 +51,12 @@ class Report:
             words = f"{what}kept" if facts.get("kept") else f"{what}proved in {spent}"
         self.say(f"{task.name}: {words}; {left} left")
 
-    def table(self, processors):
+    def table(self, processors: int) -> None:
         """Processor seconds by crate, proof and edits apart, dearest first."""
         names = {name for name, _ in self.took}
         of = lambda name, part: self.took.get((name, part), 0)
         print(f"\n{'processor seconds':24} {'proof':>7} {'edits':>7} {'MB':>6}")
-        for name in sorted(names, key=lambda it: -of(it, "proof") - of(it, "edits")):
+        for name in sorted(names, key=lambda name: -of(name, "proof") - of(name, "edits")):
             print(f"{name:24} {of(name, 'proof'):7.0f} {of(name, 'edits'):7.0f} {self.most[name] // 1024:6}")
         sums = [sum(of(name, part) for name in names) for part in ("proof", "edits")]
         print(f"{'all':24} {sums[0]:7.0f} {sums[1]:7.0f}")

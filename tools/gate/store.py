@@ -9,13 +9,14 @@ import os
 import shutil
 import tempfile
 import time
+from typing import Any, Dict, List, Optional
 
 import kit
 
 DAYS = 30
 
 
-def place():
+def place() -> str:
     """Where the store lies: FONKJULD_STORE, or a folder of the user's cache."""
     cache = os.environ.get("XDG_CACHE_HOME") or os.path.expanduser("~/.cache")
     return os.path.abspath(os.environ.get("FONKJULD_STORE") or f"{cache}/fonkjuld")
@@ -24,11 +25,11 @@ def place():
 class Store:
     """The store at a place, or one that keeps nothing, where the place is None."""
 
-    def __init__(self, at, reads=True):
+    def __init__(self, at: Optional[str], reads: bool = True) -> None:
         self.at, self.reads = at, reads
 
     @staticmethod
-    def open(at, reads=True):
+    def open(at: str, reads: bool = True) -> "Store":
         try:
             os.makedirs(f"{at}/entries", exist_ok=True)
             os.rmdir(tempfile.mkdtemp(dir=f"{at}/entries"))
@@ -37,10 +38,10 @@ class Store:
             return Store(None)
         return Store(at, reads)
 
-    def folder(self, key):
+    def folder(self, key: str) -> str:
         return f"{self.at}/entries/{key}"
 
-    def facts(self, key):
+    def facts(self, key: str) -> Optional[Dict[str, Any]]:
         """What an entry says, or None where there is none that can be used."""
         if not (self.at and self.reads):
             return None
@@ -49,7 +50,7 @@ class Store:
                 entry = json.load(file)
             if entry["sum"] != kit.sum_of(entry["facts"], entry["files"]) or entry["key"] != key:
                 raise ValueError
-            if any(os.path.getsize(f"{self.folder(key)}/files/{it}") != size for it, (_, size) in entry["files"].items()):
+            if any(os.path.getsize(f"{self.folder(key)}/files/{file}") != size for file, (_, size) in entry["files"].items()):
                 raise ValueError
             os.utime(self.folder(key))
             return entry
@@ -60,7 +61,7 @@ class Store:
             self.drop(key)
         return None
 
-    def drop(self, key):
+    def drop(self, key: str) -> None:
         print(f"gate: an entry of the store was damaged, and is dropped: {key[:16]}", flush=True)
         away = tempfile.mkdtemp(prefix="dropped-", dir=f"{self.at}/entries")
         try:
@@ -69,24 +70,24 @@ class Store:
             pass
         shutil.rmtree(away, ignore_errors=True)
 
-    def take(self, key, to):
+    def take(self, key: str, to: str) -> Optional[Dict[str, Any]]:
         """Lays an entry's files below a folder by links, after their sums were compared, and returns what it says, or None."""
         entry = self.facts(key)
         if entry is None:
             return None
         files = f"{self.folder(key)}/files"
         try:
-            if any(kit.file_sum(f"{files}/{it}") != known for it, (known, _) in entry["files"].items()):
+            if any(kit.file_sum(f"{files}/{file}") != known for file, (known, _) in entry["files"].items()):
                 self.drop(key)
                 return None
-            for it in entry["files"]:
-                os.makedirs(os.path.dirname(f"{to}/{it}"), exist_ok=True)
-                link(f"{files}/{it}", f"{to}/{it}")
+            for file in entry["files"]:
+                os.makedirs(os.path.dirname(f"{to}/{file}"), exist_ok=True)
+                link(f"{files}/{file}", f"{to}/{file}")
         except OSError:
             return None
         return entry["facts"]
 
-    def put(self, key, facts, folder, files):
+    def put(self, key: str, facts: Dict[str, Any], folder: Optional[str], files: List[str]) -> None:
         """Keeps files of a folder under a key. Where that fails, as for want of room, nothing is kept."""
         if not self.at:
             return
@@ -94,10 +95,10 @@ class Store:
         try:
             made = tempfile.mkdtemp(prefix="making-", dir=f"{self.at}/entries")
             sums = {}
-            for it in files:
-                os.makedirs(os.path.dirname(f"{made}/files/{it}"), exist_ok=True)
-                link(f"{folder}/{it}", f"{made}/files/{it}")
-                sums[it] = [kit.file_sum(f"{folder}/{it}"), os.path.getsize(f"{folder}/{it}")]
+            for file in files:
+                os.makedirs(os.path.dirname(f"{made}/files/{file}"), exist_ok=True)
+                link(f"{folder}/{file}", f"{made}/files/{file}")
+                sums[file] = [kit.file_sum(f"{folder}/{file}"), os.path.getsize(f"{folder}/{file}")]
             facts = json.loads(json.dumps(facts))
             with open(f"{made}/entry.json", "w", encoding="utf-8") as file:
                 json.dump({"key": key, "facts": facts, "files": sums, "sum": kit.sum_of(facts, sums)}, file)
@@ -110,17 +111,17 @@ class Store:
             if made:
                 shutil.rmtree(made, ignore_errors=True)
 
-    def tidy(self):
+    def tidy(self) -> None:
         """Removes entries that no run has used for a while, and what killed runs left half made."""
         if not self.at:
             return
-        for it in os.scandir(f"{self.at}/entries"):
-            days = DAYS if len(it.name) == 64 else 1
-            if it.stat(follow_symlinks=False).st_mtime < time.time() - days * 86400:
-                shutil.rmtree(it.path, ignore_errors=True)
+        for entry in os.scandir(f"{self.at}/entries"):
+            days = DAYS if len(entry.name) == 64 else 1
+            if entry.stat(follow_symlinks=False).st_mtime < time.time() - days * 86400:
+                shutil.rmtree(entry.path, ignore_errors=True)
 
 
-def link(path, to):
+def link(path: str, to: str) -> None:
     """A second name for a file, or a copy where there can be none."""
     try:
         os.link(path, to)

@@ -9,8 +9,13 @@ import copy
 import os
 import re
 import shutil
+from typing import Any, Dict, Iterable, Iterator, List, Optional, Set, Tuple
 
-from functions import CYCLE, functions_of, module_of
+from functions import CYCLE, Function, functions_of, module_of
+
+# the texts of files by their paths; and the place of a function: its file, its name and its type
+Texts = Dict[str, str]
+Place = Tuple[str, str, Optional[str]]
 
 PARTS = ("src", "specs", "proofs")
 # (what asks for lemmas, which a stub needs not)
@@ -33,7 +38,7 @@ fn returns_never() -> ! {
 """
 
 
-def texts_of(crate):
+def texts_of(crate: Any) -> Texts:
     """The sources of a crate, by their paths."""
     found = {}
     for at, _, names in os.walk(f"{crate.folder}/src"):
@@ -44,32 +49,32 @@ def texts_of(crate):
     return found
 
 
-def all_functions(sources):
+def all_functions(sources: Texts) -> List[Tuple[Place, Function]]:
     """The functions of sources, each with its place: its file, name and type."""
-    return [((at, it.name, it.owner), it) for at, text in sources.items() for it in functions_of(text)]
+    return [((at, function.name, function.owner), function) for at, text in sources.items() for function in functions_of(text)]
 
 
-def cycles_of(sources, places):
+def cycles_of(sources: Texts, places: Iterable[Place]) -> Set[str]:
     """The cycles of calls of which functions at these places are members."""
-    return {it.cycle for place, it in all_functions(sources) if place in places} - {None}
+    return {function.cycle for place, function in all_functions(sources) if place in places} - {None}
 
 
-def bodies_of(sources, places):
+def bodies_of(sources: Texts, places: Iterable[Place]) -> Iterator[str]:
     """The bodies of the functions at these places, and of those in cycles with them."""
     cycles = cycles_of(sources, places)
-    for place, it in all_functions(sources):
-        if place in places or it.cycle in cycles:
-            yield "\n".join(sources[place[0]].split("\n")[it.body : it.last])
+    for place, function in all_functions(sources):
+        if place in places or function.cycle in cycles:
+            yield "\n".join(sources[place[0]].split("\n")[function.body : function.last])
 
 
-def names(text, place):
+def names(text: str, place: Place) -> bool:
     """Whether a body seems to call the function at a place."""
     _, name, owner = place
     before = rf"(?:\.|\b{owner}::|\bSelf::)" if owner else r"(?<![.\w])"
     return bool(re.search(rf"{before}{name}(?:::<[^>]*>)?\(", text))
 
 
-def places_of(crate, names):
+def places_of(crate: Any, names: Iterable[str]) -> Set[Place]:
     """The places of the functions with these names below the crate, or of all that end so where a name has more, as that of a trait's method has."""
     functions, found = all_functions(texts_of(crate)), set()
     for name in names:
@@ -81,24 +86,24 @@ def places_of(crate, names):
 class Twin:
     """A function under a name of its own beside the one that it was made of, with an edit made in it, or as it is."""
 
-    def __init__(self, sources, place, name):
+    def __init__(self, sources: Texts, place: Place, name: str) -> None:
         at, was, self.owner = place
         self.of, self.at, self.name = place, at, name
         self.place = at, name, self.owner
-        own = next(it for it in functions_of(sources[at]) if (it.name, it.owner) == place[1:])
+        own = next(function for function in functions_of(sources[at]) if (function.name, function.owner) == place[1:])
         lines = sources[at].split("\n")
         lines[own.header] = lines[own.header].replace(f"fn {was}", f"fn {name}", 1)
         self.cycle = own.cycle
-        self.lines = [it for it in lines[own.top : own.last + 1] if not CYCLE.match(it)]
+        self.lines = [line for line in lines[own.top : own.last + 1] if not CYCLE.match(line)]
 
 
-def can_have_twin(sources, place):
+def can_have_twin(sources: Texts, place: Place) -> bool:
     """Whether the function at a place can have a twin: it has a body and is no trait's."""
-    own = [it for it in functions_of(sources[place[0]]) if (it.name, it.owner) == place[1:]]
+    own = [function for function in functions_of(sources[place[0]]) if (function.name, function.owner) == place[1:]]
     return len(own) == 1 and own[0].has_body and not own[0].is_of_trait
 
 
-def answers_of(proofs, place):
+def answers_of(proofs: str, place: Place) -> Iterator[str]:
     """The folders below a folder proofs/ that hold the proof of a function's body, and those of its closures."""
     at, name, owner = place
     own = [owner, name] if owner else [*module_of(at), name]
@@ -110,12 +115,12 @@ def answers_of(proofs, place):
             yield folder
 
 
-def has_answers(crate, sources, place):
+def has_answers(crate: Any, sources: Texts, place: Place) -> bool:
     """Whether the function at a place has answers in files: its own, or its part of a cycle's."""
     return bool(cycles_of(sources, [place])) or any(answers_of(f"{crate.folder}/proofs", place))
 
 
-def answers_of_member(text, member):
+def answers_of_member(text: str, member: str) -> Optional[str]:
     """Of the answers of a cycle of calls those of one member, as if it were in none: its twin calls what stands for the others, and itself. The names of a member's
     goals begin with its own, and their answers take what is known of the cycle first. In the twin nothing needs to fall from call to call."""
     head, *blocks = re.split(r"(?m)^(?=(?:--.*\n)*(?:abbrev )?pub )", text)
@@ -133,7 +138,7 @@ class Stubbed:
     """A copy of a crate, in a folder that is made here, in which only the functions at some places, as (file, name, type), have their own bodies, and twins stand
     beside their functions."""
 
-    def __init__(self, crate, folder, places, twins=()):
+    def __init__(self, crate: Any, folder: str, places: Set[Place], twins: Iterable[Twin] = ()) -> None:
         self.places, self.twins, self.proofs = places, twins, f"{folder}/proofs"
         self.crate = copy.copy(crate)
         self.crate.folder, self.crate.has_c = folder, True
@@ -149,17 +154,17 @@ class Stubbed:
             if not self.keeps(place, function):
                 self.drop_answers(place, function.cycle)
 
-    def keeps(self, place, function):
+    def keeps(self, place: Place, function: Function) -> bool:
         """Whether a function keeps its body."""
         return not function.has_body or function.cycle in self.cycles or place in self.places
 
-    def drop_answers(self, place, cycle):
+    def drop_answers(self, place: Place, cycle: Optional[str]) -> None:
         """Removes the proof of a function's own body, and that of the cycle of which it was a member."""
         of_cycle = [at for at, _, _ in os.walk(self.proofs) if cycle and at.endswith(f"/+{cycle}")]
         for folder in [*answers_of(self.proofs, place), *of_cycle]:
             shutil.rmtree(folder, ignore_errors=True)
 
-    def copy_answers(self, twin):
+    def copy_answers(self, twin: Twin) -> None:
         """Gives a twin the proof of the function that it was made of."""
         for folder in [*answers_of(self.proofs, twin.of)]:
             to = f"{os.path.dirname(folder)}/{twin.name}"
@@ -167,41 +172,41 @@ class Stubbed:
             for at, _, files in os.walk(to):
                 for name in files:
                     self.rewrite(f"{at}/{name}", f"{at}/{name}", folder, to, None)
-        for at in [it for it, _, _ in os.walk(self.proofs) if twin.cycle and it.endswith(f"/+{twin.cycle}")]:
+        for at in [path for path, _, _ in os.walk(self.proofs) if twin.cycle and path.endswith(f"/+{twin.cycle}")]:
             above = os.path.relpath(os.path.dirname(at), self.proofs).split("/")
             module = module_of(twin.at)
             # (the answers of a cycle through several modules name each member with its own)
-            beyond = module[len([it for it in above if it != "."]) :] if not twin.owner else []
+            beyond = module[len([part for part in above if part != "."]) :] if not twin.owner else []
             to = "/".join([os.path.dirname(at), *beyond, twin.name])
             for name in os.listdir(at):
                 self.rewrite(f"{at}/{name}", f"{to}/{name}", at, to, "::".join([*beyond, twin.of[1]]))
 
-    def rewrite(self, source, target, folder, to, member):
+    def rewrite(self, source: str, target: str, folder: str, to: str, member: Optional[str]) -> None:
         """Writes a file of a proof for a twin, whose folder is another; of a cycle's, what is of one member."""
         with open(source, encoding="utf-8") as file:
             text = file.read()
         text = answers_of_member(text, member) if member else text
-        was, new = (os.path.relpath(it, self.proofs).replace("/", ".") for it in (folder, to))
+        was, new = (os.path.relpath(path, self.proofs).replace("/", ".") for path in (folder, to))
         if text is not None:
             os.makedirs(to, exist_ok=True)
             with open(target, "w", encoding="utf-8") as file:
                 file.write(text.replace(f".proofs.{was}.", f".proofs.{new}."))
 
-    def texts(self, edited):
+    def texts(self, edited: Texts) -> Texts:
         """The texts of the copy, with these ones of edits in place of the crate's own."""
         made = {at: self.with_stubs(at, text) for at, text in {**self.own, **edited}.items() if at.startswith("src/")}
         root = "src/main.rt" if "src/main.rt" in made else "src/lib.rt"
         made[root] += NEVER
         return {**edited, **made}
 
-    def with_stubs(self, at, text):
+    def with_stubs(self, at: str, text: str) -> str:
         lines = text.split("\n")
-        for it in reversed(functions_of(text)):
-            place = (at, it.name, it.owner)
+        for function in reversed(functions_of(text)):
+            place = (at, function.name, function.owner)
             twins = [line for twin in self.twins if twin.of == place for line in ["", *twin.lines]]
-            lines[it.last + 1 : it.last + 1] = twins
-            if not self.keeps(place, it):
-                space = re.match(" *", lines[it.header])[0]
-                above = [line for line in lines[it.top : it.header] if not (CYCLE.match(line) or TACTIC.match(line))]
-                lines[it.top : it.last] = [*above, *lines[it.header : it.body + 1], f"{space}    {BODY}"]
+            lines[function.last + 1 : function.last + 1] = twins
+            if not self.keeps(place, function):
+                space = re.match(" *", lines[function.header])[0]
+                above = [line for line in lines[function.top : function.header] if not (CYCLE.match(line) or TACTIC.match(line))]
+                lines[function.top : function.last] = [*above, *lines[function.header : function.body + 1], f"{space}    {BODY}"]
         return "\n".join(lines)

@@ -7,6 +7,7 @@ it, and the handles that the repository allows.
 import json
 import os
 import re
+from typing import Any, Dict, List, Optional
 
 import kit
 from store import Store
@@ -16,11 +17,11 @@ FORM = "2"
 store = Store(None)
 
 
-def facts_file(crate):
+def facts_file(crate: Any) -> str:
     return f"{crate.folder}/out/facts.json"
 
 
-def facts_of(crate, tests=False):
+def facts_of(crate: Any, tests: bool = False) -> Optional[Dict[str, Any]]:
     """What the run has noted of a crate: its key, the sum of what was built, its functions, and whether it was kept."""
     try:
         with open(f"{facts_file(crate)}{'.tests' if tests else ''}", encoding="utf-8") as file:
@@ -29,27 +30,27 @@ def facts_of(crate, tests=False):
         return {}
 
 
-def key_of(crate, tests):
+def key_of(crate: Any, tests: bool) -> str:
     rtlib = kit.rt().rtlib
-    own = [(os.path.relpath(it, crate.folder), kit.file_sum(it)) for it in sorted(rtlib.files_of(crate.folder))]
-    below = [(it.name, facts_of(it)["key"], facts_of(it)["sum"]) for it in crate.below()]
+    own = [(os.path.relpath(file, crate.folder), kit.file_sum(file)) for file in sorted(rtlib.files_of(crate.folder))]
+    below = [(lower.name, facts_of(lower)["key"], facts_of(lower)["sum"]) for lower in crate.below()]
     # (the handles that HANDLES allows come last, since most repositories allow none)
     return kit.sum_of(FORM, kit.kit_sum(), crate.name, sorted(crate.said.items(), key=repr), own, below, tests, *kit.rt().Crate.allowed)
 
 
-def files_made(crate, tests):
+def files_made(crate: Any, tests: bool) -> List[str]:
     """What a verdict leaves in out/, relative to it: a library, a program as each compiler builds it, or the program of the tests."""
     out = f"{crate.folder}/out"
     if tests:
         names = [f"{crate.name}_tests"]
     elif crate.is_program:
-        names = [crate.name + it for it in kit.rt().BACKENDS.values()]
+        names = [crate.name + backend for backend in kit.rt().BACKENDS.values()]
     else:
-        return [f"rlib/{crate.name}.rlib/{it}" for it in kit.files_below(crate.rlib)]
-    return [it for it in names if os.path.isfile(f"{out}/{it}")]
+        return [f"rlib/{crate.name}.rlib/{file}" for file in kit.files_below(crate.rlib)]
+    return [name for name in names if os.path.isfile(f"{out}/{name}")]
 
 
-def functions_in(crate):
+def functions_in(crate: Any) -> List[str]:
     """The functions that the proof has told of, by their names below the crate."""
     crate.out.flush()
     crate.out.seek(0)
@@ -58,7 +59,7 @@ def functions_in(crate):
     return found
 
 
-def note(crate, tests, facts):
+def note(crate: Any, tests: bool, facts: Dict[str, Any]) -> None:
     """Notes what the run knows of a crate, by a rename, since the proof of one above may read it at any time."""
     path = f"{facts_file(crate)}{'.tests' if tests else ''}"
     with open(f"{path}.new", "w", encoding="utf-8") as file:
@@ -66,11 +67,11 @@ def note(crate, tests, facts):
     os.replace(f"{path}.new", path)
 
 
-def replace_ci():
+def replace_ci() -> None:
     """Has `rt ci` take a crate's verdict from here."""
     usual = kit.rt().Crate.ci
 
-    def ci(crate, flags, tests):
+    def ci(crate: Any, flags: List[str], tests: bool) -> int:
         key, out = key_of(crate, tests), f"{crate.folder}/out"
         facts = store.take(key, out)
         if facts:
@@ -80,7 +81,7 @@ def replace_ci():
         if status:
             return status
         files = files_made(crate, tests)
-        built = kit.sum_of([(it, kit.file_sum(f"{out}/{it}")) for it in files])
+        built = kit.sum_of([(file, kit.file_sum(f"{out}/{file}")) for file in files])
         facts = {"crate": crate.name, "key": key, "sum": built, "functions": functions_in(crate)}
         store.put(key, facts, out, files)
         note(crate, tests, {**facts, "kept": False})
