@@ -1,0 +1,6 @@
+mod Environments
+mod Expressions
+mod Statements
+mod Needs
+pub mod Depths
+mod Samples

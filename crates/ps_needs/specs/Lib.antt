@@ -1,0 +1,4 @@
+pub mod Uses
+pub mod Paths
+pub mod Least
+pub mod Laws
