@@ -1,60 +1,78 @@
 -- When a state of the old code and one of the new code are alike, as far as is claimed.
-use Rattle.std.specs.Prelude.{◌≡◌, ℕ, false, List, [], ◌∷◌, length, map, slice_get, Some}
-use Rattle.tac_code.specs.Memory.{Words, Living, known}
+use Rattle.std.specs.Prelude.{◌≡◌, ◌≢◌, ◌⊎◌, ℕ, ◌<◌, false, List, [], ◌∷◌, length, map, slice_get, Some, None}
+use Rattle.tac_code.specs.declared.code.Block.TheVariants.{Frame}
+use Rattle.tac_code.specs.declared.code.Value.TheVariants.{Address}
+use Rattle.tac_code.specs.Memory.{Words, Living, Memory, known}
 use Rattle.tac_code.specs.Meaning.{Temporaries, Activation, State}
 use Rattle.tac_pass.specs.Moved.{Places, moved_word, moved_words, moved_living}
 use Rattle.tac_pass.specs.Claims.{Claim, Certificate}
 
--- Two blocks of the innermost frames: what a temporary is claimed to hold of a word it holds, and words that are not stale agree.
-pub record OwnAlike (at : Places) (c : Claim) (temporaries : Temporaries) (old new : Words) : Type 0 where
-  pub size : length new ≡ length old
-  pub held : (k t : ℕ) → c.words k ≡ Some t → temporaries t ≡ moved_word at (known (slice_get old k))
-  pub agree : (k : ℕ) → c.stale k ≡ false → known (slice_get new k) ≡ moved_word at (known (slice_get old k))
+-- ---- the innermost activation, whose number names its frame
 
--- what the temporaries are claimed to hold
-abbrev pub Hold : Places → Claim → Temporaries → Temporaries → Type 0
-Hold at c old new = (u t : ℕ) → c.temporaries u ≡ Some t → new t ≡ moved_word at (old u)
+pub record Inside (at : Places) (c : Claim) (number : ℕ) (old new : Temporaries) (words words' : Words) : Type 0 where
+  -- a temporary holds what it is claimed to hold, of an old one or of a word
+  pub hold : (u t : ℕ) → c.temporaries u ≡ Some t → new t ≡ moved_word at (old u)
+  pub held : (k t : ℕ) → c.words k ≡ Some t → new t ≡ moved_word at (known (slice_get words k))
+  -- frames are as large, and agree where they are not stale
+  pub size : length words' ≡ length words
+  pub agree : (k : ℕ) → c.stale k ≡ false → known (slice_get words' k) ≡ moved_word at (known (slice_get words k))
+  -- of the old code alone: what was written, and what points elsewhere
+  pub written : (k : ℕ) → c.blank k ≡ false → known (slice_get words k) ≢ None
+  pub away : (u o : ℕ) → c.points u o ≡ false → old u ≢ Some (Address (Frame number) o)
+  pub word_away : (k o : ℕ) → c.word_points k o ≡ false → known (slice_get words k) ≢ Some (Address (Frame number) o)
 
--- Two activations of one call: of the same routine, with the same number, result and line.
+-- ---- the others
+
+-- Two activations of one call: of the same routine, with the same number and line. The program block alone has number 0.
 pub record OneCall (old new : Activation) : Type 0 where
   pub routine : new.routine ≡ old.routine
   pub number : new.number ≡ old.number
-  pub result : new.result ≡ old.result
   pub line : new.line ≡ old.line
+  pub first : old.number ≡ 0 → old.routine ≡ 0
+
+-- Two memories: the own frames first, and all else the same but for the places of constants.
+pub record Memories (at : Places) (number : ℕ) (words words' : Words) (rest : List Living) (old new : Memory) : Type 0 where
+  pub frames : old.frames ≡ record { number = number; words = words } ∷ rest
+  pub frames' : new.frames ≡ record { number = number; words = words' } ∷ map (moved_living at) rest
+  pub scratch : new.scratch ≡ map (moved_living at) old.scratch
+  pub objects : new.objects ≡ map (moved_words at) old.objects
 
 module _ (e : Certificate) where
-  -- A caller goes on where its instruction behind the call begins. No word of it is held, and none is stale.
-  pub record Waits (old new : Activation) (frame frame' : Living) : Type 0 where
-    pub routine : new.routine ≡ old.routine
-    pub number : new.number ≡ old.number
-    pub line : new.line ≡ old.line
+  -- A caller goes on where its instruction behind the call begins, with the call's result in a temporary.
+  pub record Waits (result result' : ℕ) (old new : Activation) (frame : Living) : Type 0 where
+    pub call : OneCall old new
     pub place : new.place ≡ e.starts old.routine old.place
     pub own : frame.number ≡ old.number
-    pub frames : frame' ≡ moved_living e.stands frame
+    pub hold : (u t : ℕ) → (e.claims old.routine old.place).temporaries u ≡ Some t → ((u ≡ result) × (t ≡ result')) ⊎ ((u ≢ result) × (t ≢ result') × (new.temporaries t ≡ moved_word e.stands (old.temporaries u)))
+    pub held : (k t : ℕ) → (e.claims old.routine old.place).words k ≢ Some t
+    pub written : (k : ℕ) → (e.claims old.routine old.place).blank k ≡ false → known (slice_get frame.words k) ≢ None
+    pub away : (u o : ℕ) → (e.claims old.routine old.place).points u o ≡ false → (u ≢ result) × (old.temporaries u ≢ Some (Address (Frame old.number) o))
+    pub word_away : (k o : ℕ) → (e.claims old.routine old.place).word_points k o ≢ false
 
-  -- the callers and their frames, pair by pair
-  abbrev pub Wait : List Activation → List Activation → List Living → List Living → Type 0
-  Wait [] [] [] [] = Unit {0}
-  Wait (a ∷ old) (b ∷ new) (f ∷ fs) (g ∷ gs) = Waits a b f g × Wait old new fs gs
-  Wait _ _ _ _ = ⊥
+  -- the callers and their old frames, pair by pair, with the temporaries for the results of what they called
+  abbrev pub Wait : (result result' : ℕ) → List Activation → List Activation → List Living → Type 0
+  Wait result result' [] [] [] = Unit {0}
+  Wait result result' (a ∷ old) (b ∷ new) (f ∷ fs) = Waits result result' a b f × Wait a.result b.result old new fs
+  Wait result result' _ _ _ = ⊥
 
-  -- all but the place, where this is claimed
-  pub record Alike (c : Claim) (s s' : State) : Type 0 where
+  -- all but places and temporaries, and what the own frames hold
+  pub record Outside (s s' : State) (words words' : Words) (rest : List Living) : Type 0 where
     pub call : OneCall s.current s'.current
-    pub hold : Hold e.stands c s.current.temporaries s'.current.temporaries
+    pub memory : Memories e.stands s.current.number words words' rest s.memory s'.memory
+    pub callers : Wait s.current.result s'.current.result s.callers s'.callers rest
+    pub count : s'.count ≡ s.count
+    pub counted : 0 < s.count
+    pub heap : s'.heap ≡ s.heap
+    pub tape : s'.tape ≡ s.tape
+
+  -- ---- the whole
+
+  pub record Alike (c : Claim) (s s' : State) : Type 0 where
     pub words : Words
     pub words' : Words
     pub rest : List Living
-    pub rest' : List Living
-    pub frames : s.memory.frames ≡ record { number = s.current.number; words = words } ∷ rest
-    pub frames' : s'.memory.frames ≡ record { number = s.current.number; words = words' } ∷ rest'
-    pub own : OwnAlike e.stands c s'.current.temporaries words words'
-    pub callers : Wait s.callers s'.callers rest rest'
-    pub scratch : s'.memory.scratch ≡ map (moved_living e.stands) s.memory.scratch
-    pub objects : s'.memory.objects ≡ map (moved_words e.stands) s.memory.objects
-    pub count : s'.count ≡ s.count
-    pub heap : s'.heap ≡ s.heap
-    pub tape : s'.tape ≡ s.tape
+    pub inside : Inside e.stands c s.current.number s.current.temporaries s'.current.temporaries words words'
+    pub outside : Outside s s' words words' rest
 
   -- at an instruction of the old code, and where the new code for it begins
   abbrev pub Matched : State → State → Type 0

@@ -7,6 +7,8 @@ use Rattle.tac_code.specs.Meaning.{Code}
 use Rattle.tac_pass.specs.Keeps.{Setting, shows, Keeps, ShowsInTurns}
 use Rattle.tac_pass.specs.Claims.{Certificate}
 use Rattle.tac_pass.specs.Follows.{Checked}
+use Rattle.tac_pass.specs.Certified.{Tested, Certified}
+use Rattle.tac_pass.specs.Walk.{ArePassed}
 
 -- this is how a pass is put behind the lowering, or behind another pass
 abbrev pub KeepingComposes : Type 0
@@ -20,3 +22,11 @@ KeptIsSame = (a : ℕ → Shown) (code : Code) (p : Setting) → ShowsInTurns a 
 -- the test's yes is enough
 abbrev pub CheckedKeeps : Type 0
 CheckedKeeps = (old new : Code) (e : Certificate) → Checked old new e → Keeps old new
+
+-- and so is a certificate as data
+abbrev pub CertifiedKeeps : Type 0
+CertifiedKeeps = (old new : Code) (x : Tested) → Certified old new x → Keeps old new
+
+-- and so is new code that was made by plans
+abbrev pub PassedKeeps : Type 0
+PassedKeeps = (old new : Code) → ArePassed old new → Keeps old new

@@ -6,3 +6,7 @@ pub mod Claims
 pub mod Alike
 pub mod Rules
 pub mod Follows
+pub mod Tables
+pub mod Acts
+pub mod Certified
+pub mod Walk

@@ -1,6 +1,6 @@
 // Laws of the definitions. Each is the contract of a function that does nothing when it runs.
 
-ghost use Rattle.tac_pass.specs.Laws.{KeepingComposes, KeptIsSame, CheckedKeeps};
+ghost use Rattle.tac_pass.specs.Laws.{KeepingComposes, KeptIsSame, CheckedKeeps, CertifiedKeeps, PassedKeeps};
 
 /// What a run is told of in turns, that which keeps the run is told of in turns.
 pub fn keeping_composes()
@@ -15,4 +15,14 @@ pub fn kept_is_same()
 /// New code that a certificate leads to from old code keeps what the old one shows.
 pub fn checked_keeps()
     ensures { CheckedKeeps }
+{}
+
+/// New code that was made from old code by tables keeps what the old one shows.
+pub fn certified_keeps()
+    ensures { CertifiedKeeps }
+{}
+
+/// New code that was made from old code by plans keeps what the old one shows.
+pub fn passed_keeps()
+    ensures { PassedKeeps }
 {}
