@@ -1,5 +1,7 @@
 """The program that the launcher runs, for what calls it often: the launcher makes a sum of the sources at each call."""
 
+from __future__ import annotations
+
 import os
 import subprocess
 import sys
@@ -7,7 +9,7 @@ import sys
 top = os.path.dirname(os.path.dirname(os.path.abspath(__file__)))
 
 
-def current_program():
+def current_program() -> str:
     """The launcher builds it where it has to. As with the launcher, PASCAL_BUILT=FOLDER takes FOLDER/pascal/out/pascal as it is."""
     if os.environ.get("PASCAL_BUILT"):
         return f"{os.environ['PASCAL_BUILT']}/pascal/out/pascal"

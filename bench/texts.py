@@ -5,8 +5,11 @@ TEXTS are those that are written. SHAPES are texts of any length, each with as m
 of the lowering grows with them.
 """
 
+from __future__ import annotations
+
 import os
 import sys
+from typing import Any, Callable, List
 
 LENGTH = 1_048_576
 HEAD = "program bench(output);\nvar a, b, c, x: integer; y: Boolean;\n"
@@ -16,7 +19,7 @@ SIDE_BY_SIDE = 16
 MOST_NAMES = 99_990
 
 
-def parts_of(make, room):
+def parts_of(make: Callable[[int], str], room: int) -> List[str]:
     """Parts, each numbered, as many as there is room for."""
     parts = []
     while make and len(make(len(parts))) + 2 <= room:
@@ -25,62 +28,62 @@ def parts_of(make, room):
     return parts
 
 
-def room_in(length):
+def room_in(length: int) -> int:
     """The bytes for declarations and statements."""
     return length - len(HEAD) - len("begin\nx := 1\nend.\n")
 
 
-def whole(length, declared, statements):
+def whole(length: int, declared: str, statements: Any) -> str:
     """The program of what is declared and of statements; spaces at its end make it as long as wanted."""
     text = HEAD + declared + "begin\n" + ";\n".join(statements or ["x := 1"]) + "\nend."
     return text + " " * (length - len(text) - 1) + "\n"
 
 
-def program(declarations, statements, length=LENGTH):
+def program(declarations: Callable[[int], str], statements: Any, length: int = LENGTH) -> str:
     """A program of parts that are repeated."""
     room = room_in(length)
     return whole(length, "".join(parts_of(declarations, room)), parts_of(statements, room))
 
 
-def routine(k):
+def routine(k: int) -> str:
     return (
         f"function f{k}(n: integer; var r: integer): integer;\nvar i, s: integer;\nbegin\n  s := 0;\n"
         f"  for i := 1 to n do\n    if odd(i) then s := s + i * {k} else s := s - i div 2;\n  r := s;\n  f{k} := s mod 1000\nend;\n"
     )
 
 
-def expression(k):
+def expression(k: int) -> str:
     terms = [f"a * {k % 97 + 1} + b div 3 - (c mod 7) * x" for _ in range(6)]
     return f"procedure e{k};\nbegin\n  x := " + "\n    + ".join(terms) + "\nend;\n"
 
 
-def nest(k):
+def nest(k: int) -> str:
     """With the block and the statement, the greatest height that there is: 500."""
     depth = 497
     return "x := " + "(" * depth + f"a + {k}" + ")" * depth
 
 
-def operands(k):
+def operands(k: int) -> str:
     """Each right operand is a sum in parentheses, as deep."""
     depth = 497
     return "x := " + "a + (" * depth + f"b + {k}" + ")" * depth
 
 
-def blocks(k):
+def blocks(k: int) -> str:
     """Two statements each, so that with the block, the assignment and its value the height is 499."""
     depth = 248
     return "if y then begin " * depth + f"x := {k} " + "end " * depth
 
 
-def remarks(k):
+def remarks(k: int) -> str:
     return "{ " + "a remark that is as long as remarks are, and then goes on; " * 20 + f"}}\nwriteln('{'a string ' * 20}', {k})"
 
 
-def assignments(k):
+def assignments(k: int) -> str:
     return "; ".join(["x := 1"] * SIDE_BY_SIDE)
 
 
-def named(length, declare, use):
+def named(length: int, declare: str, use: str) -> str:
     """Names that are declared together in four fifths of the text, and uses of them in an order that is none of theirs."""
     room = room_in(length)
     names = parts_of(lambda k: f"v{k}", room * 4 // 5)[:MOST_NAMES]
@@ -88,7 +91,7 @@ def named(length, declare, use):
     return whole(length, declared, parts_of(lambda k: use.format(k * 7919 % len(names)), room - len(declared)))
 
 
-def choice(length, element, between, tail):
+def choice(length: int, element: Callable[[int], str], between: str, tail: str) -> str:
     """One `case`, whose list is as long as there is room for."""
     frame = "case x of {}" + tail
     return whole(length, "", [frame.format(between.join(parts_of(element, room_in(length) - len(frame))))])
@@ -115,7 +118,7 @@ SHAPES = {
 }
 
 
-def main():
+def main() -> None:
     folder = sys.argv[1]
     os.makedirs(folder, exist_ok=True)
     for name, text in TEXTS.items():

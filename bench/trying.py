@@ -1,8 +1,11 @@
 """Programs of this folder that no check has proved: `rt try` compiles each with the proved crates that it stands on, in a copy of the tree in which it is a crate."""
 
+from __future__ import annotations
+
 import os
 import shutil
 import subprocess
+from typing import Iterable, List, Optional
 
 HERE = os.path.dirname(os.path.abspath(__file__))
 TOP = os.path.dirname(HERE)
@@ -13,7 +16,7 @@ CRATES = {
 SECONDS = "120"
 
 
-def make_room(folder, name):
+def make_room(folder: str, name: str) -> str:
     """A copy of the tree that has the program as a crate, whose folder is given."""
     room = f"{folder}/room"
     shutil.copytree(f"{TOP}/crates", f"{room}/crates", ignore=shutil.ignore_patterns("out"))
@@ -28,7 +31,7 @@ def make_room(folder, name):
     return crate
 
 
-def tried(folder, name, inputs):
+def tried(folder: str, name: str, inputs: List[bytes]) -> List[Optional[bytes]]:
     """What the program writes on each of these inputs; None where it doesn't end."""
     cases = f"{folder}/cases"
     os.makedirs(cases)
@@ -44,7 +47,7 @@ def tried(folder, name, inputs):
     return [found.get(f"{number:06}") for number in range(len(inputs))]
 
 
-def answers(folder, name, program, inputs):
+def answers(folder: str, name: str, program: Optional[str], inputs: List[bytes]) -> Iterable[Optional[bytes]]:
     """The same by the compiled program at a path, or by `rt try` where there is no path."""
     if not program:
         return tried(folder, name, inputs)

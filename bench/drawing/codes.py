@@ -6,6 +6,11 @@ at its end, get numbers at the routine's begin, and other words none. Recursion 
 each loop counts its turns down.
 """
 
+from __future__ import annotations
+
+from random import Random
+from typing import Any, List, Optional, Tuple
+
 NUMBER, BYTE, WORDS, PLACE, CONSTANT, POINTER = "number", "byte", "words", "place", "constant", "pointer"
 EDGES = [0, 1, -1, 2, -2, 3, 7, -7, 10, 255, 256, -256, 32767, 32768, -32768, -32769, 65535, 65536, -65535, -65536, 2**31 - 1, -(2**31), 2**31 - 2, 1 - 2**31]
 LEAST, MOST = -(2**31), 2**31 - 1
@@ -19,11 +24,11 @@ FRAME, SCRATCH, PROGRAM = 0, 1, 2
 
 
 class Routine:
-    def __init__(self, number, kinds, frame, scratch, line, leaf):
+    def __init__(self, number: int, kinds: List[str], frame: int, scratch: int, line: int, leaf: bool) -> None:
         self.number, self.kinds, self.frame, self.scratch, self.line, self.leaf = number, kinds, frame, scratch, line, leaf
 
 
-def number(draw):
+def number(draw: Random) -> int:
     kind = draw.random()
     if kind < 0.5:
         return draw.randint(-9, 40)
@@ -35,7 +40,7 @@ def number(draw):
 class Body:
     """Draws the instructions of one routine."""
 
-    def __init__(self, draw, code, routine):
+    def __init__(self, draw: Random, code: Code, routine: Routine) -> None:
         self.draw, self.code, self.routine = draw, code, routine
         self.kinds = list(routine.kinds)
         self.known = set(range(len(self.kinds)))
@@ -45,7 +50,7 @@ class Body:
 
     # ---- temporaries
 
-    def temporary(self, kind):
+    def temporary(self, kind: str) -> Optional[int]:
         """One to write: a new one, or one of the kind that nothing counts on."""
         old = [t for t, k in enumerate(self.kinds) if k == kind and t not in self.kept]
         if old and (len(self.kinds) >= self.code.most(self.routine) or self.draw.random() < 0.5):
@@ -55,31 +60,31 @@ class Body:
         self.kinds.append(kind)
         return len(self.kinds) - 1
 
-    def of(self, *kinds):
+    def of(self, *kinds: Any) -> Optional[int]:
         """A temporary of one of these kinds that holds a value; None where there is none."""
         old = [t for t in self.known if self.kinds[t] in kinds]
         return self.draw.choice(sorted(old)) if old else None
 
-    def number(self):
+    def number(self) -> int:
         return self.of(NUMBER, BYTE)
 
-    def operand(self):
+    def operand(self) -> List[int]:
         t = self.number()
         return [0, t] if t is not None and self.draw.random() < 0.6 else [1, number(self.draw)]
 
-    def at(self):
+    def at(self) -> int:
         self.line = min(65535, self.line + self.draw.randint(0, 2))
         return self.line
 
-    def add(self, *fields):
+    def add(self, *fields: Any) -> None:
         self.out.append(list(fields))
 
-    def wrote(self, t):
+    def wrote(self, t: int) -> None:
         self.known.add(t)
 
     # ---- blocks: a base, and the offset of words that hold numbers
 
-    def block(self):
+    def block(self) -> Optional[Tuple[List[int], int, int]]:
         """A base, an offset and how many words that hold numbers lie there; None where there are none."""
         draw, routine = self.draw, self.routine
         choices = []
@@ -94,7 +99,7 @@ class Body:
             choices += [([3, t], 0, 2)] * 2
         return draw.choice(choices) if choices else None
 
-    def filled(self, base, size):
+    def filled(self, base: List[int], size: int) -> None:
         """Numbers in the words that are to hold some."""
         words = size // 4
         places = set(range(min(words, HEAD)))
@@ -106,7 +111,7 @@ class Body:
         for place in sorted(places):
             self.add(12, *base, 4 * place, t)
 
-    def numbered(self):
+    def numbered(self) -> int:
         t = self.temporary(NUMBER)
         if t is None:
             return self.number()
@@ -116,14 +121,14 @@ class Body:
 
     # ---- instructions
 
-    def literal(self):
+    def literal(self) -> None:
         kind = self.draw.choice([NUMBER, NUMBER, BYTE, POINTER])
         t = self.temporary(kind)
         if t is not None:
             self.add(0, t, {NUMBER: number(self.draw), BYTE: self.draw.randint(0, 255), POINTER: 0}[kind])
             self.wrote(t)
 
-    def copy(self):
+    def copy(self) -> None:
         if self.known:
             a = self.draw.choice(sorted(self.known))
             t = self.temporary(self.kinds[a])
@@ -131,7 +136,7 @@ class Body:
                 self.add(1, t, a)
                 self.wrote(t)
 
-    def arithmetic(self):
+    def arithmetic(self) -> None:
         a, t = self.number(), self.temporary(NUMBER)
         if a is not None and t is not None:
             operator = self.draw.choice([0, 1, 2, 3, 3, 4, 4])
@@ -145,20 +150,20 @@ class Body:
             self.add(2, operator, t, a, *right, self.draw.choice([1, 1, 4]), self.at())
             self.wrote(t)
 
-    def small(self, a):
+    def small(self, a: int) -> Optional[int]:
         t = self.temporary(BYTE)
         if t is not None:
             self.add(3, 0, t, a, 1, self.draw.choice([3, 7, 15, 255]))
             self.wrote(t)
         return t
 
-    def bits(self):
+    def bits(self) -> None:
         a, t = self.number(), self.temporary(NUMBER)
         if a is not None and t is not None:
             self.add(3, self.draw.randint(0, 4), t, a, *self.operand())
             self.wrote(t)
 
-    def relation(self):
+    def relation(self) -> Tuple[List[int], List[int]]:
         """A relation with its operands: of numbers or of pointers."""
         p = self.of(POINTER)
         if p is not None and self.draw.random() < 0.3:
@@ -167,13 +172,13 @@ class Body:
         a = self.number()
         return ([self.draw.randint(0, 5)], [a, *self.operand()]) if a is not None else None
 
-    def compare(self):
+    def compare(self) -> None:
         test, t = self.relation(), self.temporary(BYTE)
         if test and t is not None:
             self.add(4, *test[0], t, *test[1])
             self.wrote(t)
 
-    def check_range(self):
+    def check_range(self) -> None:
         a = self.number()
         if a is None:
             return
@@ -188,7 +193,7 @@ class Body:
         else:
             self.add(5, a, LEAST, MOST, 4, self.at())
 
-    def pointer(self):
+    def pointer(self) -> None:
         p, t, n = self.of(POINTER), self.temporary(NUMBER), self.number()
         if p is None or t is None or n is None:
             return
@@ -198,14 +203,14 @@ class Body:
         self.add(11, t, 3, p, 4 * self.draw.randint(0, 1))
         self.wrote(t)
 
-    def text(self):
+    def text(self) -> None:
         t = self.temporary(CONSTANT)
         if t is not None:
             count = 4 * self.draw.randint(2, 5)
             self.add(7, t, count, *[self.draw.choice([0, 65, 127, 128, 255]) for _ in range(count)])
             self.wrote(t)
 
-    def read_text(self):
+    def read_text(self) -> None:
         c = self.of(CONSTANT)
         if c is None:
             return
@@ -220,7 +225,7 @@ class Body:
                 self.add(13, t, 3, c, self.draw.randint(0, 7))
                 self.wrote(t)
 
-    def offset(self):
+    def offset(self) -> None:
         block, t = self.block(), self.temporary(WORDS)
         if block and t is not None and block[2] >= 2:
             base, start, words = block
@@ -228,7 +233,7 @@ class Body:
             self.add(8, t, *base, start + 4 * place, 8)
             self.wrote(t)
 
-    def index(self):
+    def index(self) -> None:
         block, a = self.block(), self.number()
         if not block or a is None or block[1]:
             return
@@ -261,20 +266,20 @@ class Body:
         self.add(9, t, *base, index, low, low + steps, width, 4, self.at())
         self.wrote(t)
 
-    def load(self):
+    def load(self) -> None:
         block, t = self.block(), self.temporary(NUMBER)
         if block and t is not None:
             base, start, words = block
             self.add(11, t, *base, start + 4 * self.draw.randint(0, words - 1))
             self.wrote(t)
 
-    def store(self):
+    def store(self) -> None:
         block, a = self.block(), self.number()
         if block and a is not None:
             base, start, words = block
             self.add(12, *base, start + 4 * self.draw.randint(0, words - 1), a)
 
-    def load_byte(self):
+    def load_byte(self) -> None:
         t = self.temporary(BYTE)
         place = self.of(PLACE)
         if t is None:
@@ -289,7 +294,7 @@ class Body:
             self.add(13, t, *base, start + self.draw.randint(0, 4 * words - 1))
         self.wrote(t)
 
-    def store_byte(self):
+    def store_byte(self) -> None:
         b = self.of(BYTE)
         if b is None:
             return
@@ -302,7 +307,7 @@ class Body:
                 base, start, words = block
                 self.add(14, *base, start + self.draw.randint(0, 4 * words - 1), b)
 
-    def put(self):
+    def put(self) -> None:
         b = self.of(BYTE)
         if b is None:
             a = self.number()
@@ -310,13 +315,13 @@ class Body:
         if b is not None:
             self.add(24, b)
 
-    def take(self):
+    def take(self) -> None:
         t = self.temporary(NUMBER)
         if t is not None:
             self.add(23, t)
             self.wrote(t)
 
-    def new(self):
+    def new(self) -> None:
         types = [k for k, size in enumerate(self.code.objects) if size >= 8] or [0]
         object_type = self.draw.choice(types) if self.draw.random() < 0.8 else self.draw.randrange(len(self.code.objects))
         if self.code.objects[object_type] >= 8:
@@ -338,7 +343,7 @@ class Body:
                 self.add(4, self.draw.randint(0, 1), b, t, 0, other)
                 self.wrote(b)
 
-    def turns(self):
+    def turns(self) -> int:
         """A temporary with the count of calls that a callee may still make."""
         t = self.temporary(NUMBER)
         if t is None:
@@ -350,14 +355,14 @@ class Body:
         self.wrote(t)
         return t
 
-    def actual(self, kind):
+    def actual(self, kind: str) -> Optional[int]:
         """A temporary to be passed where one of this kind is wanted."""
         if kind != NUMBER:
             return self.of(kind)
         t = self.number()
         return self.numbered() if t is None else t
 
-    def operands(self, callee):
+    def operands(self, callee: Routine) -> Optional[List[int]]:
         """What is passed to a routine; None where a parameter can be given nothing. The count of calls is kept as it is up to the call."""
         operands = []
         if not callee.leaf:
@@ -366,7 +371,7 @@ class Body:
         operands += [self.actual(kind) for kind in callee.kinds[len(operands) :]]
         return None if None in operands else operands
 
-    def call(self):
+    def call(self) -> None:
         """A call with fewer calls left: of a routine of the program by its number or its value, or of a run-time routine."""
         if self.routine.leaf or len(self.code.routines) == 1:
             return
@@ -377,7 +382,7 @@ class Body:
             self.make_call(callee, operands)
         self.kept = kept
 
-    def make_call(self, callee, operands):
+    def make_call(self, callee: Routine, operands: List[int]) -> None:
         to = self.temporary(NUMBER)
         if to is None:
             return
@@ -392,7 +397,7 @@ class Body:
             self.add(20, to, value, len(operands), *operands, self.at())
         self.wrote(to)
 
-    def branch(self, depth):
+    def branch(self, depth: int) -> None:
         test = self.relation()
         if not test:
             return
@@ -413,7 +418,7 @@ class Body:
             self.out[at] = [17, *test[0], *test[1], len(self.out) - at - 1]
             self.known = before & then
 
-    def loop(self, depth):
+    def loop(self, depth: int) -> None:
         count = self.temporary(NUMBER)
         if count is None or count in self.kept:
             return
@@ -445,7 +450,7 @@ class Body:
         "load_byte store_byte put put put take new call call call"
     ).split()
 
-    def sequence(self, depth, count):
+    def sequence(self, depth: int, count: int) -> None:
         for _ in range(count):
             kind = self.draw.random()
             if depth and kind < 0.12:
@@ -455,7 +460,7 @@ class Body:
             else:
                 getattr(self, self.draw.choice(self.PLAIN))()
 
-    def whole(self):
+    def whole(self) -> List[List[int]]:
         draw, routine = self.draw, self.routine
         if not routine.leaf and routine.number:
             # the count of what may still be called
@@ -478,7 +483,7 @@ class Body:
 
 
 class Code:
-    def __init__(self, draw):
+    def __init__(self, draw: Random) -> None:
         self.draw = draw
         self.few = draw.random() < 0.5
         self.objects = [draw.choice([0, 4, 8, 8, 12, 64, 4000]) for _ in range(draw.randint(1, 3))]
@@ -499,22 +504,22 @@ class Code:
             self.routines.append(Routine(self.program + k, kinds, 4 * draw.randint(0, 3), 4 * draw.randint(0, 3), draw.randint(1, 60000), True))
         self.program_frame = self.routines[0].frame
 
-    def parameters(self, more):
+    def parameters(self, more: int) -> List[str]:
         return [NUMBER] + [self.draw.choice([NUMBER, WORDS, POINTER, BYTE, CONSTANT, PLACE]) for _ in range(more)]
 
-    def block(self):
+    def block(self) -> int:
         if self.far and self.draw.random() < 0.5:
             return self.draw.choice([524288 - 276, 524284, 524288, 600000, 1048576, 2000000])
         return 4 * self.draw.choice([0, 1, 2, 3, 4, 8, 16, 40])
 
-    def most(self, routine):
+    def most(self, routine: Routine) -> int:
         """How many temporaries a routine has at most: few make registers pass from one to another, many need slots."""
         if routine.leaf:
             return 30
         return len(routine.kinds) + (9 if self.few else 60)
 
 
-def drawn(draw):
+def drawn(draw: Random) -> List[int]:
     """A code with its budgets, steps and input, as numbers."""
     code = Code(draw)
     texts = []

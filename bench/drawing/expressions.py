@@ -1,8 +1,15 @@
 """Expressions that change nothing and meet no error, with the bounds of their values."""
 
-import re
+from __future__ import annotations
 
-from .types import DEPTH, FACTOR, FORMAL_COST, RELATION, SIMPLE, TERM, Array, Ordinal, Pointer, Record, SetOf, Types, Value
+import re
+from random import Random
+from typing import Any, Callable, Iterator, List, Optional, Tuple
+
+from .types import (
+    DEPTH, FACTOR, FORMAL_COST, RELATION, SIMPLE, TERM, Array, Ordinal, PascalType, Pointer, Record, Routine,
+    Section, SetOf, Types, Value, Variable,
+)  # fmt: skip
 
 LARGEST = 1_000_000_000  # expressions of integers lie within this, both ways
 COST = 3_000  # the most statements that one statement may run, as far as is foreseen
@@ -13,7 +20,7 @@ CONSTANT_WORDS = set("abs sqr odd ord chr succ pred div mod and or not in false 
 class Expressions(Types):
     """Expressions that change nothing, over what is visible."""
 
-    def __init__(self, draw):
+    def __init__(self, draw: Random) -> None:
         super().__init__(draw)
         self.scopes = []  # dictionaries of variables by their names, the innermost last
         self.blocks = []
@@ -21,24 +28,24 @@ class Expressions(Types):
         self.reads = False
         self.inner = 0  # how many indices and actual parameters lie around what is drawn
 
-    def spend(self, cost):
+    def spend(self, cost: int) -> bool:
         """Foresees a cost here, or answers that it would be too high."""
         if self.factor * cost > COST:
             return False
         self.blocks[-1].cost += self.factor * cost
         return True
 
-    def visible(self):
+    def visible(self) -> List[Variable]:
         found = {}
         for scope in self.scopes:
             found.update(scope)
         return list(found.values())
 
-    def is_writable(self, variable):
+    def is_writable(self, variable: Variable) -> bool:
         pure = self.blocks[-1].pure
         return variable.writable and (pure is None or variable.level >= pure)
 
-    def access(self, wanted, fitting=lambda variable: True):
+    def access(self, wanted: Callable[..., Any], fitting: Callable[..., Any] = lambda variable: True) -> Optional[Variable]:
         """A variable whose type is wanted, or None."""
         visible = self.visible()
         for _ in range(15 if visible else 0):
@@ -49,14 +56,14 @@ class Expressions(Types):
                 return variable
         return None
 
-    def inside(self, make):
+    def inside(self, make: Callable[..., Any]) -> Any:
         """What is drawn as an index or an actual parameter."""
         self.inner += 1
         made = make()
         self.inner -= 1
         return made
 
-    def component(self, variable):
+    def component(self, variable: Variable) -> Variable:
         type = variable.type
         packed = variable.packed or type.packed
         if isinstance(type, Record):
@@ -67,7 +74,7 @@ class Expressions(Types):
         text = f"{variable.text[:-1]}, {index}]" if joined else f"{variable.text}[{index}]"
         return variable._replace(text=text, type=type.component, packed=packed)
 
-    def fitting(self, value, low, high):
+    def fitting(self, value: Value, low: int, high: int) -> Value:
         """A value of an integer brought into a range."""
         if low <= value.low and value.high <= high:
             return value
@@ -78,7 +85,7 @@ class Expressions(Types):
             return Value(cut, TERM, low, high)
         return Value(f"{cut} {'+' if low > 0 else '-'} {abs(low)}", SIMPLE, low, high)
 
-    def integer(self, depth):
+    def integer(self, depth: int) -> Value:
         if depth > 0 and self.chance(0.75):
             way = self.draw.choice((self.sum, self.sum, self.product, self.quotient, self.modulus, self.sign, self.required, self.ordinal_number))
             value = way(depth - 1)
@@ -86,7 +93,7 @@ class Expressions(Types):
                 return value
         return self.integer_leaf()
 
-    def integer_leaf(self):
+    def integer_leaf(self) -> Value:
         way = self.draw.randrange(5 if self.inner < 3 else 2)
         if way == 0:
             called = self.pure_call("integer", -LARGEST, LARGEST)
@@ -102,72 +109,72 @@ class Expressions(Types):
         number = self.draw.choice((0, 1, 2, 3, 7, 10, self.draw.randint(-100, 400)))
         return Value(str(number), FACTOR if number >= 0 else SIMPLE, number, number)
 
-    def sum(self, depth):
+    def sum(self, depth: int) -> Value:
         left, right = self.integer(depth), self.integer(depth)
         if self.chance(0.5):
             return Value(f"{left.at(SIMPLE)} + {right.at(TERM)}", SIMPLE, left.low + right.low, left.high + right.high, self.mixed(left, right))
         return Value(f"{left.at(SIMPLE)} - {right.at(TERM)}", SIMPLE, left.low - right.high, left.high - right.low, self.mixed(left, right))
 
-    def product(self, depth):
+    def product(self, depth: int) -> Value:
         left, right = self.hosted(self.integer(depth)), self.hosted(self.integer(depth))
         corners = [a * b for a in (left.low, left.high) for b in (right.low, right.high)]
         return Value(f"{left.at(TERM)} * {right.at(FACTOR)}", TERM, min(corners), max(corners))
 
-    def hosted(self, value, host="integer"):
+    def hosted(self, value: Value, host: str = "integer") -> Value:
         """Free Pascal takes what stands beside a value of a subrange to be of the subrange, and `ord` of a Boolean to be a byte, so a function makes
         it one of the host type."""
         return Value(f"host{host}({value.text})", FACTOR, value.low, value.high) if value.bare else value
 
-    def mixed(self, left, right):
+    def mixed(self, left: Value, right: Value) -> bool:
         """Whether Free Pascal takes an operation on integers to be of a type of its own."""
         return left.bare or right.bare
 
-    def divisor(self, depth):
+    def divisor(self, depth: int) -> Value:
         if self.chance(0.6):
             number = self.draw.randint(1, 30)
             return Value(str(number), FACTOR, number, number)
         value = self.hosted(self.integer(depth))
         return Value(f"(abs({value.text}) + 1)", FACTOR, 1, max(abs(value.low), abs(value.high)) + 1)
 
-    def quotient(self, depth):
+    def quotient(self, depth: int) -> Value:
         left, right = self.integer(depth), self.divisor(depth)
         most = max(abs(left.low), abs(left.high))
         if self.chance(0.3):
             right = Value(f"(-{right.text})", FACTOR)
         return Value(f"{self.hosted(left).at(TERM)} div {right.text}", TERM, -most, most)
 
-    def modulus(self, depth):
+    def modulus(self, depth: int) -> Value:
         left, right = self.integer(depth), self.divisor(depth)
         return Value(f"{self.hosted(left).at(TERM)} mod {right.text}", TERM, 0, right.high - 1)
 
-    def sign(self, depth):
+    def sign(self, depth: int) -> Value:
         value = self.integer(depth)
         if self.chance(0.2):
             return Value(f"+{value.at(TERM)}", SIMPLE, value.low, value.high, value.bare)
         return Value(f"-{value.at(TERM)}", SIMPLE, -value.high, -value.low, value.bare)
 
-    def required(self, depth):
+    def required(self, depth: int) -> Value:
         value = self.hosted(self.integer(depth))
         most = max(abs(value.low), abs(value.high))
         bounds = {"abs": (0, most), "sqr": (0, most * most), "succ": (value.low + 1, value.high + 1), "pred": (value.low - 1, value.high - 1)}
         name = self.draw.choice(list(bounds))
         return Value(f"{name}({value.text})", FACTOR, *bounds[name])
 
-    def ordinal_number(self, depth):
+    def ordinal_number(self, depth: int) -> Optional[Value]:
         host = self.draw.choice(list(self.hosts.values()))
         if host.host == "integer":
             return None
         value = self.ordinal(host.host, host.low, host.high, depth)
         return Value(f"ord({value.text})", FACTOR, value.low, value.high, True)
 
-    def pure_call(self, host, low, high):
-        def fits(routine):
+    def pure_call(self, host: str, low: int, high: int) -> Optional[Value]:
+        def fits(routine: Routine) -> bool:
             result = routine.signature.result
             return routine.pure and isinstance(result, Ordinal) and result.host == host and low <= result.low and result.high <= high
 
         return self.call(fits)
 
-    def ordinal(self, host, low, high, depth=2):
+    def ordinal(self, host: str, low: int, high: int, depth: int = 2) -> Value:
         """A value of a host type within bounds."""
         if host == "integer":
             return self.fitting(self.integer(depth), low, high)
@@ -179,20 +186,20 @@ class Expressions(Types):
         value = way(host, low, high) if way in (self.variable_within, self.pure_call) else way(host, low, high, depth - 1)
         return value or self.constant(host, low, high)
 
-    def constant(self, host, low, high):
+    def constant(self, host: str, low: int, high: int) -> Value:
         ordinal = self.draw.randint(low, high)
         return Value(self.literal(host, ordinal), FACTOR, ordinal, ordinal)
 
-    def variable_within(self, host, low, high):
+    def variable_within(self, host: str, low: int, high: int) -> Optional[Value]:
         found = self.access(lambda type: isinstance(type, Ordinal) and type.host == host and low <= type.low and type.high <= high)
         return found and self.held(found)
 
-    def held(self, variable):
+    def held(self, variable: Variable) -> Value:
         """The value of a variable of an ordinal type."""
         type = variable.type
         return Value(variable.text, FACTOR, type.low, type.high, type.name != type.host)
 
-    def step(self, host, low, high, depth):
+    def step(self, host: str, low: int, high: int, depth: int) -> Optional[Value]:
         if depth < 0 or low == high:
             return None
         if self.chance(0.5):
@@ -201,13 +208,13 @@ class Expressions(Types):
         value = self.ordinal(host, low + 1, min(high + 1, self.hosts[host].high), depth)
         return Value(f"pred({value.text})", FACTOR, value.low - 1, value.high - 1, value.bare)
 
-    def character(self, host, low, high, depth):
+    def character(self, host: str, low: int, high: int, depth: int) -> Optional[Value]:
         if host != "char":
             return None
         value = self.ordinal("integer", low, high, depth)
         return Value(f"chr({value.text})", FACTOR, value.low, value.high)
 
-    def condition(self, depth):
+    def condition(self, depth: int) -> Value:
         ways = [self.comparison, self.comparison, self.membership, self.inclusion, self.string_comparison, self.pointer_comparison, self.odd]
         if self.reads:
             ways.append(self.at_end)
@@ -218,39 +225,39 @@ class Expressions(Types):
             found = self.draw.choice(ways)(depth)
         return found
 
-    def relation(self, left, sign, right):
+    def relation(self, left: Value, sign: str, right: Value) -> Value:
         return Value(f"{left.at(SIMPLE)} {sign} {right.at(SIMPLE)}", RELATION, 0, 1)
 
-    def comparison(self, depth):
+    def comparison(self, depth: int) -> Value:
         host = self.draw.choice(list(self.hosts.values()))
         left, right = (self.hosted(self.ordinal(host.host, host.low, host.high, depth), host.host) for _ in range(2))
         return self.relation(left, self.draw.choice(RELATIONS), right)
 
-    def connection(self, depth):
+    def connection(self, depth: int) -> Value:
         left, right = (self.ordinal("Boolean", 0, 1, depth) for _ in range(2))
         if self.chance(0.5):
             return Value(f"{left.at(TERM)} and {right.at(FACTOR)}", TERM, 0, 1)
         return Value(f"{left.at(SIMPLE)} or {right.at(TERM)}", SIMPLE, 0, 1)
 
-    def negation(self, depth):
+    def negation(self, depth: int) -> Value:
         return Value(f"not {self.ordinal('Boolean', 0, 1, depth).at(FACTOR)}", FACTOR, 0, 1)
 
-    def odd(self, depth):
+    def odd(self, depth: int) -> Value:
         return Value(f"odd({self.integer(depth).text})", FACTOR, 0, 1)
 
-    def at_end(self, _):
+    def at_end(self, _: int) -> Value:
         return Value(self.draw.choice(("eof", "eof(input)")), FACTOR, 0, 1)
 
-    def set_host(self):
+    def set_host(self) -> str:
         hosts = [type.host for type in self.hosts.values()]
         return self.draw.choice(hosts + [type.base.host for type in self.of(SetOf)])
 
-    def members(self, host):
+    def members(self, host: str) -> Tuple[int, int]:
         """The range of the members that are drawn."""
         type = self.hosts[host]
         return max(type.low, 0), min(type.high, 255)
 
-    def membership(self, depth):
+    def membership(self, depth: int) -> Optional[Value]:
         host = self.set_host()
         low, high = (-20, 300) if host == "integer" else self.members(host)
         value, members = self.ordinal(host, low, high, depth), self.set_value(host, depth)
@@ -261,11 +268,11 @@ class Expressions(Types):
         value = self.hosted(value._replace(bare=outside), host)
         return self.relation(value, "in", members)
 
-    def inclusion(self, depth):
+    def inclusion(self, depth: int) -> Value:
         host = self.set_host()
         return self.relation(self.set_value(host, depth), self.draw.choice(("=", "<>", "<=", ">=")), self.set_value(host, depth))
 
-    def set_value(self, host, depth):
+    def set_value(self, host: str, depth: int) -> Value:
         """A set over a host type."""
         if depth > 0 and self.chance(0.6):
             left, right = (self.set_value(host, depth - 1) for _ in range(2))
@@ -280,7 +287,7 @@ class Expressions(Types):
                 return Value(found.text, FACTOR, found.type.base.low, found.type.base.high)
         return self.constructor(host, *self.members(host))
 
-    def constructor(self, host, low, high):
+    def constructor(self, host: str, low: int, high: int) -> Value:
         ends = [[self.member(host, low, high) for _ in range(self.draw.choice((1, 1, 2)))] for _ in range(self.draw.randint(0, 3))]
         # Free Pascal refuses constant members that overlap, and some constructors with a range and other members
         fixed = [pair for pair in ends if all(map(self.is_constant, pair))]
@@ -290,42 +297,42 @@ class Expressions(Types):
         self.draw.shuffle(kept)
         return Value(f"[{', '.join('..'.join(pair) for pair in kept)}]", FACTOR, low, high)
 
-    def member(self, host, low, high):
+    def member(self, host: str, low: int, high: int) -> str:
         """Free Pascal takes members of other types than the first to be in conflict."""
         value = self.ordinal(host, low, high, 1)
         plain = value.text.isalnum() or host != "integer" and "(" not in value.text
         return self.hosted(value if plain else value._replace(bare=True), host).text
 
-    def is_constant(self, text):
+    def is_constant(self, text: str) -> bool:
         steady = {name for name, _ in self.constants} | {name for names in self.enumerations.values() for name in names} | CONSTANT_WORDS
         return all(word[0] == "'" or word.isdigit() or word in steady for word in re.findall("'[^']*'|[a-z0-9]+", text))
 
-    def set_within(self, base, depth=2):
+    def set_within(self, base: Ordinal, depth: int = 2) -> Value:
         value = self.set_value(base.host, depth)
         if base.low <= value.low and value.high <= base.high:
             return value
         return Value(f"{value.at(TERM)} * [{self.literal(base.host, base.low)}..{self.literal(base.host, base.high)}]", TERM, base.low, base.high)
 
-    def string_value(self, length):
+    def string_value(self, length: int) -> Value:
         found = self.access(lambda type: isinstance(type, Array) and type.is_string() and type.index.high == length)
         return Value(found.text if found and self.chance(0.7) else self.string(length), FACTOR)
 
-    def string_comparison(self, _):
+    def string_comparison(self, _: int) -> Optional[Value]:
         found = self.access(lambda type: isinstance(type, Array) and type.is_string())
         if not found:
             return None
         right = self.string_value(found.type.index.high)
         return self.relation(Value(found.text, FACTOR), self.draw.choice(RELATIONS), right)
 
-    def pointer_comparison(self, _):
+    def pointer_comparison(self, _: int) -> Optional[Value]:
         found = self.access(lambda type: isinstance(type, Pointer))
         return found and self.relation(Value(found.text, FACTOR), self.draw.choice(("=", "<>")), self.pointer_value(found.type))
 
-    def pointer_value(self, type):
+    def pointer_value(self, type: Pointer) -> Value:
         found = self.access(lambda held: held is type)
         return Value(found.text if found and self.chance(0.7) else "nil", FACTOR)
 
-    def value_of(self, type):
+    def value_of(self, type: PascalType) -> Optional[Value]:
         """A value that can be assigned to a type, or None."""
         if isinstance(type, Ordinal):
             return self.ordinal(type.host, type.low, type.high)
@@ -338,7 +345,7 @@ class Expressions(Types):
         found = self.access(lambda held: held is type)
         return found and Value(found.text, FACTOR)
 
-    def callable(self):
+    def callable(self) -> Iterator[Any]:
         """The routines that may be called here, or passed."""
         pure = self.blocks[-1].pure
         for block in self.blocks:
@@ -346,7 +353,7 @@ class Expressions(Types):
                 if routine.complete and (pure is None or routine.pure or routine.home >= pure):
                     yield routine
 
-    def call(self, fits):
+    def call(self, fits: Callable[..., Any]) -> Optional[Value]:
         """A call of a routine that fits, or None."""
         routines = [routine for routine in self.callable() if fits(routine)]
         higher = [routine for routine in routines if any(section.kind == "routine" for section in routine.signature.sections)]
@@ -358,7 +365,7 @@ class Expressions(Types):
         bounds = (result.low, result.high, result.name != result.host) if isinstance(result, Ordinal) else ()
         return text and Value(text, FACTOR, *bounds)
 
-    def call_text(self, routine, depth):
+    def call_text(self, routine: Routine, depth: str) -> Optional[str]:
         actuals = [depth] if routine.group else []
         for section in routine.signature.sections:
             for _ in range(section.count):
@@ -368,7 +375,7 @@ class Expressions(Types):
                 actuals.append(actual)
         return f"{routine.name}({', '.join(actuals)})" if actuals else routine.name
 
-    def actual(self, section):
+    def actual(self, section: Section) -> Any:
         if section.kind == "routine":
             congruous = [routine for routine in self.callable() if routine.signature is section.type and not routine.group]
             cheap = [routine.name for routine in congruous if routine.cost <= 4 * FORMAL_COST]

@@ -5,8 +5,11 @@ token at which it is told. Each way to break a rule takes the drawing and a bloc
 Names that a fault adds are new ones.
 """
 
+from __future__ import annotations
+
 import re
-from typing import NamedTuple
+from random import Random
+from typing import Any, Callable, Dict, List, NamedTuple, Optional, Tuple
 
 NAMES = {
     30: "Unknown", 31: "Twice", 32: "UsedBefore", 33: "WrongKind", 34: "WrongType", 35: "NotAssignable", 36: "BadSubrange", 37: "SetBase",
@@ -14,8 +17,8 @@ NAMES = {
     44: "NoInputOutput", 45: "Limit",
 }  # fmt: skip
 
-MARKS = "@!#?"  # those of the second fault, and those of the first
-TOKEN = re.compile(r"[@!#?]*(?:[A-Za-z][A-Za-z0-9]*|\d+|'(?:[^'\n]|'')*'|:=|\.\.|<>|<=|>=|[-+*=<>()\[\],;:.^])")
+MARKS = "@!#?$%&|~`"  # two for each fault: those of the last one, and those of the ones before it
+TOKEN = re.compile(rf"[{MARKS}]*(?:[A-Za-z][A-Za-z0-9]*|\d+|'(?:[^'\n]|'')*'|:=|\.\.|<>|<=|>=|[-+*=<>()\[\],;:.^])")
 DEEPEST = 3
 
 # what each program defines for all of its blocks
@@ -44,34 +47,34 @@ class Block:
     """The parts of a block. `head` is what stands before it, without the semicolon. The marks are those of faults that are told when its type part ends, when
     its routine part ends, and when the first `for` on its control variable is met."""
 
-    def __init__(self, head, depth, control):
+    def __init__(self, head: str, depth: int, control: str) -> None:
         self.head, self.depth, self.control = head, depth, control
         self.constants, self.types, self.variables, self.routines, self.statements = [], [], [f"{control}: integer"], [], []
         self.types_end, self.routines_end, self.loop = "", "", ""
 
-    def lists(self):
+    def lists(self) -> Any:
         return self.constants, self.types, self.variables, self.routines, self.statements
 
-    def written(self):
+    def written(self) -> str:
         written = (("const", self.constants, ""), ("type", self.types, self.types_end), ("var", self.variables, ""))
         parts = [f"{word} {'; '.join(items)} {marks};" for word, items, marks in written if items]
         routines = [f"{routine.head}; {routine.written()};" if isinstance(routine, Block) else f"{routine};" for routine in self.routines]
         statements = re.sub(rf"(?<=for )(?=[{MARKS}]*{self.control} )", self.loop, "; ".join(self.statements), count=1)
         return " ".join([*parts, *routines, f"{self.routines_end}begin {statements} end"])
 
-    def rename_marks(self):
-        """The marks of a second fault become those of a first one."""
+    def rename_marks(self) -> None:
+        """The marks of each fault become those of one that has another behind it."""
         for items in self.lists():
             items[:] = [renamed(item) if isinstance(item, str) else item for item in items]
         self.types_end, self.routines_end, self.loop = (renamed(marks) for marks in (self.types_end, self.routines_end, self.loop))
 
 
-def renamed(text):
-    return text.translate(str.maketrans("@!", "#?"))
+def renamed(text: str) -> str:
+    return text.translate(str.maketrans(MARKS[:-2], MARKS[2:]))
 
 
 class Drawing:
-    def __init__(self, draw):
+    def __init__(self, draw: Random) -> None:
         self.draw, self.count, self.reads, self.writes, self.blocks = draw, 0, True, True, []
         self.parameters = "input, output"
         self.program = self.block("program", 0)
@@ -80,16 +83,16 @@ class Drawing:
         self.program.variables[:0] = VARIABLES
         self.program.routines[:0] = ROUTINES
 
-    def fresh(self, letter="x"):
+    def fresh(self, letter: str = "x") -> str:
         self.count += 1
         return f"{letter}{self.count}"
 
-    def choice(self, *ways):
+    def choice(self, *ways: Any) -> str:
         return self.draw.choice(ways)
 
     # ---- what keeps the rules
 
-    def block(self, head, depth):
+    def block(self, head: str, depth: int) -> Block:
         """A block with routines in it."""
         block = Block(head, depth, self.fresh("k"))
         self.blocks.append(block)
@@ -102,11 +105,11 @@ class Drawing:
         block.variables[:] = [f"{self.fresh('v')}: {self.choice('integer', 'char', 'small')}" if item is None else item for item in block.variables]
         return block
 
-    def denoter(self):
+    def denoter(self) -> str:
         a, b, c = self.fresh(), self.fresh(), self.fresh()
         return self.choice("integer", f"({a}, {b}, {c})", "1..20", f"record {a}, {b}: integer; {c}: char end", "array [1..3] of char", "set of small")
 
-    def routine(self, depth):
+    def routine(self, depth: int) -> Block:
         name, a, b = self.fresh("p"), self.fresh("a"), self.fresh("b")
         formals = self.choice("", f"({a}: integer)", f"({a}, {b}: integer)", f"(var {a}: char; {b}: small)")
         if self.draw.random() < 0.3:
@@ -115,19 +118,19 @@ class Drawing:
             return block
         return self.block(f"procedure {name}{formals}", depth)
 
-    def number(self):
+    def number(self) -> str:
         return self.choice("1", "gi", "three", "gi + gj", "gr.one", "ga[2]", "(gi - 2) * gj", "fn(gi)", "abs(gj)", "ord(gc)")
 
-    def condition(self):
+    def condition(self) -> str:
         return self.choice("gb", "gi < 3", "not gb", "gb and (gi = gj)", "gc = 'a'", "gi in gs", "ge <> red")
 
-    def statement(self):
+    def statement(self) -> str:
         ways = ["gi := {n}", "gj := {n} + {n}", "gb := {b}", "gc := cross", "if {b} then gi := {n} else gj := {n}", "pv({n})", "pr(gi)", "pc(gc)"]
         ways += ["case gi of 1: gj := 1; 2, three: end", "with gr do one := {n}", "hp(pv)", "hf(fn)", "begin gi := {n}; gj := 1 end", "new(gp)"]
         ways += ["writeln(gi, 'abc')", "write({n}: 3)"] * self.writes + ["read(gi)", "readln"] * self.reads
         return self.draw.choice(ways).replace("{n}", self.number()).replace("{b}", self.condition())
 
-    def around(self, statement, control=None):
+    def around(self, statement: str, control: Optional[str] = None) -> str:
         """A statement that holds this one."""
         for _ in range(self.draw.randint(0, 2)):
             ways = ["if {b} then {s}", "if {b} then gi := 1 else {s}", "while {b} do {s}", "repeat {t}; {s} until {b}", "begin {t}; {s} end"]
@@ -138,7 +141,7 @@ class Drawing:
             control = None
         return statement
 
-    def finish(self):
+    def finish(self) -> str:
         for block in self.blocks:
             for _ in range(self.draw.randint(1, 3)):
                 statement = self.around(self.statement(), block.control)
@@ -147,23 +150,23 @@ class Drawing:
 
     # ---- where a fault is put
 
-    def add(self, block, statement):
+    def add(self, block: Block, statement: str) -> None:
         block.statements.insert(self.draw.randint(0, len(block.statements)), self.around(statement))
 
-    def declare(self, items, *new):
+    def declare(self, items: List[Any], *new: Any) -> None:
         """New items of a part, in their order, among the others."""
         places = sorted(self.draw.randint(0, len(items)) for _ in new)
         for moved, (place, item) in enumerate(zip(places, new)):
             items.insert(place + moved, item)
 
-    def declare_behind(self, items, *new):
+    def declare_behind(self, items: List[Any], *new: Any) -> None:
         """The same, behind what each program defines."""
         first = max((index + 1 for index, item in enumerate(items) if item in VARIABLES + TYPES + CONSTANTS + ROUTINES), default=0)
         held = items[first:]
         self.declare(held, *new)
         items[first:] = held
 
-    def use(self, block, expression):
+    def use(self, block: Block, expression: str) -> None:
         """An expression of integer type where one may stand."""
         way = self.choice("gi := {e}", "gj := 2 + {e}", "pv({e})", "ga[{e}] := 1", "if {e} > 0 then gi := 1", "gi := fn(1 + 2 * ({e}))", "gi := fn({e})")
         self.add(block, way.replace("{e}", expression))
@@ -174,8 +177,8 @@ class Drawing:
 WAYS = {}
 
 
-def way(number):
-    def kept(function):
+def way(number: Any) -> Any:
+    def kept(function: Any) -> Any:
         WAYS.setdefault(number, []).append(function)
         return function
 
@@ -183,419 +186,419 @@ def way(number):
 
 
 @way(30)
-def an_operand(d, b):
+def an_operand(d: Drawing, b: Block) -> None:
     d.use(b, f"@{d.fresh('u')}")
 
 
 @way(30)
-def a_target(d, b):
+def a_target(d: Drawing, b: Block) -> None:
     d.add(b, f"@{d.fresh('u')} := {d.number()}")
 
 
 @way(30)
-def a_procedure(d, b):
+def a_procedure(d: Drawing, b: Block) -> None:
     d.add(b, f"@{d.fresh('u')}{d.choice('', '(1)')}")
 
 
 @way(30)
-def a_field(d, b):
+def a_field(d: Drawing, b: Block) -> None:
     d.add(b, f"gr.@{d.fresh('u')} := 1")
 
 
 @way(30)
-def a_type(d, b):
+def a_type(d: Drawing, b: Block) -> None:
     d.declare(b.variables, f"{d.fresh()}: {d.choice('@{}', 'array [1..3] of @{}', 'record f: @{} end').format(d.fresh('u'))}")
 
 
 @way(30)
-def a_domain(d, b):
+def a_domain(d: Drawing, b: Block) -> None:
     d.declare(b.types, f"{d.fresh()} = ^ @{d.fresh('u')}")
     b.types_end += "!"
 
 
 @way(30)
-def a_constant(d, b):
+def a_constant(d: Drawing, b: Block) -> None:
     d.declare(b.constants, f"{d.fresh()} = {d.choice('', '-')}@{d.fresh('u')}")
 
 
 @way(30)
-def a_function_without_heading(d, b):
+def a_function_without_heading(d: Drawing, b: Block) -> None:
     d.declare(b.routines, f"function @{d.fresh('u')}; begin end")
 
 
 @way(30)
-def a_parameter_type(d, b):
+def a_parameter_type(d: Drawing, b: Block) -> None:
     d.declare(b.routines, f"procedure {d.fresh()}(a: integer; b: @{d.fresh('u')}); begin end")
 
 
 @way(31)
-def variables(d, b):
+def variables(d: Drawing, b: Block) -> None:
     name = d.fresh()
     d.declare(b.variables, f"{name}: integer", f"{d.fresh()}, @{name}: char")
 
 
 @way(31)
-def variables_of_one_list(d, b):
+def variables_of_one_list(d: Drawing, b: Block) -> None:
     name = d.fresh()
     d.declare(b.variables, f"{name}, {d.fresh()}, @{name}: integer")
 
 
 @way(31)
-def constants(d, b):
+def constants(d: Drawing, b: Block) -> None:
     name = d.fresh()
     d.declare(b.constants, f"{name} = 1", f"@{name} = 2")
 
 
 @way(31)
-def types(d, b):
+def types(d: Drawing, b: Block) -> None:
     name = d.fresh()
     d.declare_behind(b.types, f"{name} = char", f"@{name} = small")
 
 
 @way(31)
-def a_constant_and_a_variable(d, b):
+def a_constant_and_a_variable(d: Drawing, b: Block) -> None:
     name = d.fresh()
     d.declare(b.constants, f"{name} = 1")
     d.declare(b.variables, f"@{name}: char")
 
 
 @way(31)
-def fields(d, b):
+def fields(d: Drawing, b: Block) -> None:
     name = d.fresh()
     d.declare(b.types, f"{d.fresh()} = record {name}: integer; {d.fresh()}, @{name}: char end")
 
 
 @way(31)
-def inner_fields(d, b):
+def inner_fields(d: Drawing, b: Block) -> None:
     name = d.fresh()
     d.declare(b.variables, f"{d.fresh()}: record {name}: array [1..2] of record {name}, @{name}: char end end")
 
 
 @way(31)
-def constants_of_an_enumeration(d, b):
+def constants_of_an_enumeration(d: Drawing, b: Block) -> None:
     name = d.fresh()
     d.declare(b.types, f"{d.fresh()} = ({name}, {d.fresh()}, @{name})")
 
 
 @way(31)
-def a_type_and_its_constant(d, b):
+def a_type_and_its_constant(d: Drawing, b: Block) -> None:
     name = d.fresh()
     d.declare(b.types, f"{name} = ({d.fresh()}, @{name})")
 
 
 @way(31)
-def a_variable_and_its_constant(d, b):
+def a_variable_and_its_constant(d: Drawing, b: Block) -> None:
     name = d.fresh()
     d.declare(b.variables, f"{name}: ({d.fresh()}, @{name})")
 
 
 @way(31)
-def a_constant_in_a_record(d, b):
+def a_constant_in_a_record(d: Drawing, b: Block) -> None:
     name = d.fresh()
     d.declare(b.types, f"{d.fresh()} = record {d.fresh()}: ({name}) end", f"{d.fresh()} = set of (@{name})")
 
 
 @way(31)
-def formal_parameters(d, b):
+def formal_parameters(d: Drawing, b: Block) -> None:
     name = d.fresh()
     d.declare(b.routines, f"procedure {d.fresh()}({name}: integer; {d.choice('', 'var ')}@{name}: char); begin end")
 
 
 @way(31)
-def formal_parameters_of_a_formal(d, b):
+def formal_parameters_of_a_formal(d: Drawing, b: Block) -> None:
     name = d.fresh()
     d.declare(b.routines, f"procedure {d.fresh()}({name}: integer; procedure q({name}, @{name}: char)); begin end")
 
 
 @way(31)
-def a_formal_parameter_and_a_variable(d, b):
+def a_formal_parameter_and_a_variable(d: Drawing, b: Block) -> None:
     name = d.fresh()
     d.declare(b.routines, f"function {(f := d.fresh())}({name}: integer): integer; var @{name}: char; begin {f} := 1 end")
 
 
 @way(31)
-def a_formal_parameter_of_a_forward_heading(d, b):
+def a_formal_parameter_of_a_forward_heading(d: Drawing, b: Block) -> None:
     name, p = d.fresh(), d.fresh()
     d.declare(b.routines, f"procedure {p}({name}: integer); forward", f"procedure {p}; var @{name}: char; begin end")
 
 
 @way(31)
-def a_routine_and_a_variable(d, b):
+def a_routine_and_a_variable(d: Drawing, b: Block) -> None:
     name = d.fresh()
     d.declare(b.variables, f"{name}: integer")
     d.declare(b.routines, f"procedure @{name}{d.choice('', '(n: integer)')}; begin end")
 
 
 @way(31)
-def a_block_and_a_variable(d, b):
+def a_block_and_a_variable(d: Drawing, b: Block) -> None:
     name = d.fresh()
     d.declare(b.variables, f"{name}: integer")
     d.declare(b.routines, f"function @{name}; begin end")
 
 
 @way(31)
-def routines(d, b):
+def routines(d: Drawing, b: Block) -> None:
     name = d.fresh()
     d.declare(b.routines, f"procedure {name}; begin end", f"procedure @{name}{d.choice('', '(n: integer)')}; begin end")
 
 
 @way(31)
-def blocks_of_a_forward_heading(d, b):
+def blocks_of_a_forward_heading(d: Drawing, b: Block) -> None:
     name = d.fresh()
     d.declare(b.routines, f"procedure {name}; forward", f"procedure {name}; begin end", f"procedure @{name}; begin end")
 
 
 @way(31)
-def forward_headings(d, b):
+def forward_headings(d: Drawing, b: Block) -> None:
     name = d.fresh()
     d.declare(b.routines, f"procedure {name}; forward", f"procedure @{name}; forward", f"procedure {name}; begin end")
 
 
 @way(31)
-def a_block_of_another_kind(d, b):
+def a_block_of_another_kind(d: Drawing, b: Block) -> None:
     name = d.fresh()
     d.declare(b.routines, f"procedure {name}; forward", f"function @{name}; begin {name} := 1 end")
 
 
 @way(31)
-def a_list_that_is_repeated(d, b):
+def a_list_that_is_repeated(d: Drawing, b: Block) -> None:
     name = d.fresh()
     d.declare(b.routines, f"procedure {name}(n: integer); forward", f"procedure @{name}(n: integer); begin end")
 
 
 @way(31)
-def files(d, b):
+def files(d: Drawing, b: Block) -> None:
     d.parameters = "input, output, @output"
 
 
 @way(32)
-def a_later_type(d, b):
+def a_later_type(d: Drawing, b: Block) -> None:
     name = d.fresh()
     d.declare(b.types, f"{d.fresh()} = {d.choice('array [1..3] of ', '', 'set of ')}@{name}", f"{name} = {d.choice('char', '1..5')}")
 
 
 @way(32)
-def a_later_constant(d, b):
+def a_later_constant(d: Drawing, b: Block) -> None:
     name = d.fresh()
     d.declare(b.constants, f"{d.fresh()} = @{name}", f"{name} = 5")
 
 
 @way(32)
-def its_own_type(d, b):
+def its_own_type(d: Drawing, b: Block) -> None:
     name = d.fresh()
     d.declare(b.types, f"{name} = {d.choice('record f: @{} end', 'array [1..3] of @{}', 'record f: integer; g: array [char] of @{} end').format(name)}")
 
 
 @way(32)
-def its_own_constant(d, b):
+def its_own_constant(d: Drawing, b: Block) -> None:
     name = d.fresh()
     d.declare(b.constants, f"{name} = @{name}")
 
 
 @way(32)
-def a_type_that_is_hidden_later(d, b):
+def a_type_that_is_hidden_later(d: Drawing, b: Block) -> None:
     routine = d.block(f"procedure {d.fresh()}", DEEPEST)
     routine.types[:] = [f"{d.fresh()} = array [1..3] of @small", "small = char"]
     d.declare_behind(b.routines, routine)
 
 
 @way(32)
-def a_constant_that_is_hidden_later(d, b):
+def a_constant_that_is_hidden_later(d: Drawing, b: Block) -> None:
     routine = d.block(f"procedure {d.fresh()}", DEEPEST)
     routine.constants[:] = [f"{d.fresh()} = @three", "three = 4"]
     d.declare_behind(b.routines, routine)
 
 
 @way(32)
-def a_later_formal_parameter(d, b):
+def a_later_formal_parameter(d: Drawing, b: Block) -> None:
     d.declare_behind(b.routines, f"procedure {d.fresh()}(a: @small; small: char); begin end")
 
 
 @way(32)
-def a_later_constant_as_a_domain(d, b):
+def a_later_constant_as_a_domain(d: Drawing, b: Block) -> None:
     name = d.fresh()
     d.declare(b.types, f"{d.fresh()} = ^ @{name}", f"{d.fresh()} = ({d.fresh()}, {name})")
     b.types_end += "!"
 
 
 @way(32)
-def its_own_heading(d, b):
+def its_own_heading(d: Drawing, b: Block) -> None:
     name = d.fresh()
     heading = d.choice(f"function {name}(a: @{name}): integer", f"function {name}: @{name}", f"procedure {name}(procedure q(a: @{name}))")
     d.declare(b.routines, f"{heading}; begin {'' if heading.startswith('procedure') else f'{name} := 1'} end")
 
 
 @way(32)
-def a_block_before_its_heading(d, b):
+def a_block_before_its_heading(d: Drawing, b: Block) -> None:
     name = d.fresh()
     d.declare(b.routines, f"function @{name}; begin {name} := 1 end", f"function {name}: integer; begin {name} := 1 end")
 
 
 @way(33)
-def an_earlier_constant_as_a_domain(d, b):
+def an_earlier_constant_as_a_domain(d: Drawing, b: Block) -> None:
     name = d.fresh()
     d.declare(b.types, f"{d.fresh()} = ({d.fresh()}, {name})", f"{d.fresh()} = ^ @{name}")
     b.types_end += "!"
 
 
 @way(33)
-def its_own_variable(d, b):
+def its_own_variable(d: Drawing, b: Block) -> None:
     name = d.fresh()
     d.declare(b.variables, f"{d.fresh()}, {name}: {d.choice('', '^ ', 'array [1..2] of ')}@{name}")
 
 
 @way(33)
-def its_own_field(d, b):
+def its_own_field(d: Drawing, b: Block) -> None:
     name = d.fresh()
     d.declare(b.types, f"{d.fresh()} = record {name}: integer; {d.fresh()}: {d.choice('', '^ ')}@{name} end")
 
 
 @way(33)
-def a_procedure_for_a_value(d, b):
+def a_procedure_for_a_value(d: Drawing, b: Block) -> None:
     d.use(b, "@pv")
 
 
 @way(33)
-def a_type_for_a_value(d, b):
+def a_type_for_a_value(d: Drawing, b: Block) -> None:
     d.use(b, d.choice("@small", "@integer", "@node"))
 
 
 @way(33)
-def a_constant_for_a_variable(d, b):
+def a_constant_for_a_variable(d: Drawing, b: Block) -> None:
     d.add(b, d.choice("@three := 3", "@red := green", "read(@three)", "pr(@three)"))
 
 
 @way(33)
-def a_variable_for_a_type(d, b):
+def a_variable_for_a_type(d: Drawing, b: Block) -> None:
     d.declare_behind(b.variables, f"{(name := d.fresh())}: integer", f"{d.fresh()}: {d.choice('', 'array [1..2] of ')}@{name}")
 
 
 @way(33)
-def a_variable_for_a_constant(d, b):
+def a_variable_for_a_constant(d: Drawing, b: Block) -> None:
     routine = d.block(f"procedure {d.fresh()}", DEEPEST)
     routine.constants[:] = [f"{d.fresh()} = @gi"]
     d.declare_behind(b.routines, routine)
 
 
 @way(33)
-def a_variable_for_a_procedure(d, b):
+def a_variable_for_a_procedure(d: Drawing, b: Block) -> None:
     d.add(b, d.choice("@gi", "@gi(1)", "@small", "@three(gi, 2)"))
 
 
 @way(33)
-def a_value_for_a_variable(d, b):
+def a_value_for_a_variable(d: Drawing, b: Block) -> None:
     d.add(b, d.choice("pr(@1)", "pr(@gi + 1)", "pr(@(gi))", "pc(@'a')", "pr(@fn(1))"))
 
 
 @way(33)
-def a_function_of_another_block(d, b):
+def a_function_of_another_block(d: Drawing, b: Block) -> None:
     d.add(b, "@fn := 1")
 
 
 @way(34)
-def a_condition(d, b):
+def a_condition(d: Drawing, b: Block) -> None:
     d.add(b, d.choice("if @gi + 1 then gj := 1", "while @gc do gj := 1", "repeat gj := 1 until @ge", "if @fn(1) then", "while @gr.one do gi := 1"))
 
 
 @way(34)
-def an_operand_of_a_wrong_type(d, b):
+def an_operand_of_a_wrong_type(d: Drawing, b: Block) -> None:
     d.use(b, d.choice("1 + @gc", "@gc + 1", "@gb * 2", "2 div @'a'", "gi * (gj + @ge)", "(1 + @ga) * 2", "(-@gc)", "gi mod @gp"))
 
 
 @way(34)
-def an_operand_of_a_condition(d, b):
+def an_operand_of_a_condition(d: Drawing, b: Block) -> None:
     operand = d.choice("gb and @gi", "@gi or gb", "not @gi", "not @gc", "(gi < 1) and @ga[1]")
     d.add(b, d.choice("gb := {}", "if {} then gi := 1", "while {} do gi := 1").format(operand))
 
 
 @way(34)
-def an_index(d, b):
+def an_index(d: Drawing, b: Block) -> None:
     d.add(b, d.choice("ga[@gc] := 1", "ga[@gb] := 1", "gl[@ge] := 'a'", "gi := ga[@gc]"))
 
 
 @way(34)
-def a_structured_result(d, b):
+def a_structured_result(d: Drawing, b: Block) -> None:
     d.declare_behind(b.routines, f"function {(f := d.fresh())}(n: integer): @{d.choice('row', 'node', 'some')}; begin end")
 
 
 @way(34)
-def an_index_type(d, b):
+def an_index_type(d: Drawing, b: Block) -> None:
     routine = d.block(f"procedure {d.fresh()}", DEEPEST)
     routine.types[:] = [d.choice(f"{d.fresh()} = array [@row] of char", f"{d.fresh()} = array [small, @node] of char", f"{d.fresh()} = set of @row")]
     d.declare_behind(b.routines, routine)
 
 
 @way(35)
-def an_assignment(d, b):
+def an_assignment(d: Drawing, b: Block) -> None:
     d.add(b, d.choice("gi @:= gc", "gc @:= gi + 1", "gb @:= gi", "ga[gi] @:= 'a'", "gr.two @:= 1", "ge @:= 1", "gp^.one @:= gb", "gs @:= ['a']", "gl @:= 'abc'"))
 
 
 @way(35)
-def a_value_parameter(d, b):
+def a_value_parameter(d: Drawing, b: Block) -> None:
     d.add(b, d.choice("pv(@gc)", "pv(@'a')", "pt(1, @2 + gi)", "pt(@gb, 'a')", "gi := fn(@ge)", "pt(gi, @gi)"))
 
 
 @way(36)
-def a_subrange_type(d, b):
+def a_subrange_type(d: Drawing, b: Block) -> None:
     d.declare(b.types, f"{d.fresh()} = {d.choice('@5..2', '@0..-1', chr(64) + chr(39) + 'z' + chr(39) + '..' + chr(39) + 'a' + chr(39), '@1..-1')}")
 
 
 @way(36)
-def a_subrange_of_constants(d, b):
+def a_subrange_of_constants(d: Drawing, b: Block) -> None:
     routine = d.block(f"procedure {d.fresh()}", DEEPEST)
     routine.types[:] = [f"{d.fresh()} = {d.choice('@three..1', '@blue..red', '@true..false', '@maxint..1')}"]
     d.declare_behind(b.routines, routine)
 
 
 @way(36)
-def an_index_range(d, b):
+def an_index_range(d: Drawing, b: Block) -> None:
     d.declare(b.variables, f"{d.fresh()}: {d.choice('array [@9..1] of char', 'array [1..3, @2..1] of integer', 'set of @3..1', 'record f: @2..1 end')}")
 
 
 @way(37)
-def a_base(d, b):
+def a_base(d: Drawing, b: Block) -> None:
     base = d.choice("integer", "0..256", "-1..5", "200..300")
     d.declare(b.types, f"{d.fresh()} = {d.choice('', 'packed ')}@set of {base}")
 
 
 @way(37)
-def a_base_of_a_variable(d, b):
+def a_base_of_a_variable(d: Drawing, b: Block) -> None:
     d.declare(b.variables, f"{d.fresh()}: {d.choice('array [1..2] of @set of integer', 'record f: @set of 1..256 end', '@set of integer')}")
 
 
 @way(38)
-def case_constants(d, b):
+def case_constants(d: Drawing, b: Block) -> None:
     ways = ["case gi of 1: gj := 1; 2, @1: gj := 2 end", "case gi of 1, @1: gj := 1 end", "case gc of 'a': gi := 1; cross: ; @'x': end"]
     ways += ["case gi of 3: ; 4: gj := 2; @three: gi := 1 end", "case ge of red, green: ; blue, @red: gi := 1 end", "case gb of true: ; false, @true: end"]
     ways += ["case gi of 1: case gj of 1: ; @1: end; 2: end", "case gi of -3: ; 1: ; @-three: end"]
     d.add(b, d.draw.choice(ways))
 
 
-def loop(d, b, body, control=None):
+def loop(d: Drawing, b: Block, body: str, control: Any = None) -> None:
     d.add(b, f"for {control or b.control} := {d.choice('1 to 3', '3 downto 1', 'gi to gi + 2')} do {body}")
 
 
 @way(39)
-def an_assignment_in_the_loop(d, b):
+def an_assignment_in_the_loop(d: Drawing, b: Block) -> None:
     loop(d, b, d.around(f"@{b.control} := {d.number()}"))
 
 
 @way(39)
-def a_variable_parameter_in_the_loop(d, b):
+def a_variable_parameter_in_the_loop(d: Drawing, b: Block) -> None:
     loop(d, b, d.around(d.choice(f"pr(@{b.control})", f"begin gi := 2; pr(@{b.control}) end")))
 
 
 @way(39)
-def a_read_in_the_loop(d, b):
+def a_read_in_the_loop(d: Drawing, b: Block) -> None:
     loop(d, b, d.around(d.choice(f"read(@{b.control})", f"readln(gi, @{b.control})", f"read(input, gj, @{b.control})")))
 
 
 @way(39)
-def a_loop_in_the_loop(d, b):
+def a_loop_in_the_loop(d: Drawing, b: Block) -> None:
     loop(d, b, d.around(f"for @{b.control} := 1 to 2 do gi := 1"))
 
 
-def variable_function(d):
+def variable_function(d: Drawing) -> str:
     """A function of the program with a variable parameter, and its name."""
     name = d.fresh("f")
     d.program.routines.insert(0, f"function {name}(var n: integer; m: integer): integer; begin {name} := n + m end")
@@ -603,14 +606,14 @@ def variable_function(d):
 
 
 @way(39)
-def a_function_in_the_loop(d, b):
+def a_function_in_the_loop(d: Drawing, b: Block) -> None:
     name, control = variable_function(d), b.control
     ways = f"gi := {name}(@{control}, 1)", f"gi := fn({control}) + fn(2 * {name}(@{control}, {control}))", f"gi := {name}(gj, {control}) + {name}(@{control}, 1)"
     loop(d, b, d.around(d.draw.choice(ways)))
 
 
 @way(39)
-def a_routine_of_the_block(d, b):
+def a_routine_of_the_block(d: Drawing, b: Block) -> None:
     body = d.choice("@{} := 3", "pr(@{})", "read(@{})", "for gi2 := 1 to 2 do begin @{} := 3 end").format(b.control)
     declared = " var gi2: integer;" if "gi2" in body else ""
     d.declare_behind(b.routines, f"procedure {d.fresh()};{declared} begin {body} end")
@@ -619,7 +622,7 @@ def a_routine_of_the_block(d, b):
 
 
 @way(39)
-def a_routine_beside_another(d, b):
+def a_routine_beside_another(d: Drawing, b: Block) -> None:
     b.routines.insert(0, f"procedure {d.fresh()}; var {b.control}: integer; begin {b.control} := 1 end")
     b.routines.append(f"procedure {d.fresh()}; begin gi := {b.control}; @{b.control} := 1 end")
     loop(d, b, "gi := 1")
@@ -627,109 +630,109 @@ def a_routine_beside_another(d, b):
 
 
 @way(39)
-def a_variable_of_another_block(d, b):
+def a_variable_of_another_block(d: Drawing, b: Block) -> None:
     d.declare_behind(b.routines, f"procedure {d.fresh()}; var a: char; begin for @{d.choice('gi', b.control)} := 1 to 2 do gj := 1 end")
 
 
 @way(39)
-def a_formal_parameter(d, b):
+def a_formal_parameter(d: Drawing, b: Block) -> None:
     d.declare_behind(b.routines, f"procedure {d.fresh()}({d.choice('', 'var ')}a: integer); begin for @a := 1 to 2 do gj := 1 end")
 
 
 @way(40)
-def a_component(d, b):
+def a_component(d: Drawing, b: Block) -> None:
     d.add(b, d.choice("pc(@gl[1])", "pc(@gt.left)", "pc(@gl[gi])"))
 
 
 @way(40)
-def a_component_in_with(d, b):
+def a_component_in_with(d: Drawing, b: Block) -> None:
     d.add(b, "with gt do pc(@left)")
 
 
 @way(41)
-def too_many(d, b):
+def too_many(d: Drawing, b: Block) -> None:
     d.add(b, d.choice("@pv(1, 2)", "@pv", "@pt(1)", "@pr(gi, gj)", "@hp", "gi := @fn(1, 2)", "gi := 2 * @fn", "@pt(gi, 'a', gj)"))
 
 
 @way(41)
-def lists(d, b):
+def lists(d: Drawing, b: Block) -> None:
     d.add(b, d.choice("hp(@pr)", "hp(@pt)", "hf(@fz)", "hp(@pz)"))
     d.program.routines.insert(0, "function fz(n: integer): char; begin fz := 'a' end")
     d.program.routines.insert(0, "procedure pz; begin end")
 
 
 @way(42)
-def a_procedure_heading(d, b):
+def a_procedure_heading(d: Drawing, b: Block) -> None:
     d.declare(b.routines, f"procedure @{d.fresh()}{d.choice('', '(n: integer)')}; forward")
     b.routines_end += "!"
 
 
 @way(42)
-def a_function_heading(d, b):
+def a_function_heading(d: Drawing, b: Block) -> None:
     d.declare(b.routines, f"function @{d.fresh()}{d.choice('', '(var n: char)')}: integer; forward")
     b.routines_end += "!"
 
 
 @way(42)
-def a_heading_between_others(d, b):
+def a_heading_between_others(d: Drawing, b: Block) -> None:
     name, other = d.fresh(), d.fresh()
     d.declare(b.routines, f"procedure {other}; forward", f"procedure @{name}; forward", f"procedure {other}; begin {name} end")
     b.routines_end += "!"
 
 
 @way(43)
-def a_function_of_nothing(d, b):
+def a_function_of_nothing(d: Drawing, b: Block) -> None:
     d.declare(b.routines, f"function @{d.fresh()}{d.choice('', '(n: integer)')}: integer; begin {d.choice('', 'gj := 1')} !end")
 
 
 @way(43)
-def a_forward_function(d, b):
+def a_forward_function(d: Drawing, b: Block) -> None:
     name = d.fresh()
     d.declare_behind(b.routines, f"function {name}(n: integer): char; forward", f"function @{name}; begin gi := n !end")
 
 
 @way(43)
-def a_function_that_another_hides(d, b):
+def a_function_that_another_hides(d: Drawing, b: Block) -> None:
     name = d.fresh()
     d.declare_behind(b.routines, f"function @{name}: integer; var a: char; procedure q; var {name}: integer; begin {name} := 1 end; begin q !end")
 
 
 @way(44)
-def no_output(d, b):
+def no_output(d: Drawing, b: Block) -> None:
     d.parameters, d.writes = d.choice("input", ""), False
     d.reads = d.parameters == "input"
     d.add(b, d.choice("@writeln", "@write(1)", "@writeln(gi: 3)", "write(@output, 'abc')", "writeln(@output)"))
 
 
 @way(44)
-def no_input(d, b):
+def no_input(d: Drawing, b: Block) -> None:
     d.parameters, d.reads = d.choice("output", ""), False
     d.writes = d.parameters == "output"
     d.add(b, d.choice("@read(gi)", "@readln", "gb := @eof", "while not @eoln do gi := 1", "read(@input, gi)", "gb := eof(@input)", "readln(@input)"))
 
 
 @way(45)
-def a_long_type(d, b):
+def a_long_type(d: Drawing, b: Block) -> None:
     d.declare(b.types, d.choice(f"@{d.fresh()} = array [1..100001] of char", f"@{d.fresh()} = array [1..400, 1..400] of Boolean"))
 
 
 @way(45)
-def a_long_part(d, b):
+def a_long_part(d: Drawing, b: Block) -> None:
     d.declare(b.variables, f"{d.fresh()}: {d.choice('@array [1..100001] of char', 'record f: @array [1..200000] of integer end', '@packed array [char, 1..1000] of char')}")
 
 
 @way(45)
-def many_variables(d, b):
+def many_variables(d: Drawing, b: Block) -> None:
     d.declare(b.routines, f"procedure @{d.fresh()}; var a, b: array [1..60000] of char; begin !end")
 
 
 @way(45)
-def many_parameters(d, b):
+def many_parameters(d: Drawing, b: Block) -> None:
     d.declare(b.routines, f"procedure @{d.fresh()}({', '.join(f'q{k}' for k in range(33))}: integer); begin end")
 
 
 @way(45)
-def nested(d, b):
+def nested(d: Drawing, b: Block) -> None:
     names = [d.fresh() for _ in range(16 - b.depth)]
     heads = "; ".join(f"procedure {'@' if name == names[-1] else ''}{name}" for name in names)
     d.declare(b.routines, f"{heads}; {'begin end; ' * len(names)}".rstrip("; "))
@@ -742,7 +745,7 @@ HEADINGS = {"files", "no_output", "no_input"}
 READING = {"a_read_in_the_loop", "a_routine_of_the_block", "a_constant_for_a_variable"}
 
 
-def go_together(one, other):
+def go_together(one: Callable[..., Any], other: Callable[..., Any]) -> bool:
     names = {one.__name__, other.__name__}
     return one is not other and len(names & HEADINGS) < 2 and not ("no_input" in names and names & READING)
 
@@ -755,7 +758,7 @@ class Told(NamedTuple):
     line: int
 
 
-def laid(draw, tokens):
+def laid(draw: Random, tokens: List[str]) -> Any:
     """The tokens on lines, and of the marks of each fault where they stand."""
     often, line, text, found = draw.choice((0.03, 0.2, 0.7)), 1, [], {}
     for number, token in enumerate(tokens):
@@ -771,12 +774,12 @@ def laid(draw, tokens):
     return "".join(text), found
 
 
-def told_of(found, told, met):
+def told_of(found: Dict[str, Tuple[int, int]], told: str, met: str) -> Optional[Told]:
     """Where the fault with these marks is told, if there is one."""
     return Told(found.get(met, found[told])[0], *found[told]) if told in found else None
 
 
-def chosen_ways(draw, faults):
+def chosen_ways(draw: Random, faults: int) -> List[Tuple[int, Callable[..., Any]]]:
     """A way for each fault, each with its number; two that go together."""
     numbers = [draw.choice(sorted(WAYS)) for _ in range(faults)]
     ways = [(number, draw.choice(WAYS[number])) for number in numbers]
@@ -786,7 +789,7 @@ def chosen_ways(draw, faults):
     return sorted(ways, key=lambda way: way[1].__name__ not in HEADINGS)
 
 
-def drawn(draw, faults):
+def drawn(draw: Random, faults: int) -> Text:
     """A text with so many faults, none, one or two; of two the one that is told first."""
     drawing = Drawing(draw)
     ways, blocks = chosen_ways(draw, faults), list(drawing.blocks)
@@ -801,3 +804,19 @@ def drawn(draw, faults):
     if not told:
         return Text(text, 0, 0, "")
     return Text(text, told[1][0], told[0].line, " and ".join(way.__name__ for _, way in ways))
+
+
+def drawn_apart(draw: Random, faults: int) -> Tuple[str, List[Tuple[int, int, str]]]:
+    """A text with so many faults, at most five, each in a routine of its own; and of each its number, its line and its way."""
+    drawing = Drawing(draw)
+    known = [(number, way) for number, ways in WAYS.items() for way in ways if way.__name__ not in HEADINGS]
+    ways = [draw.choice([each for each in known if each[0] == number]) for number in draw.sample(sorted({number for number, _ in known}), faults)]
+    for _, way in ways:
+        for block in drawing.blocks:
+            block.rename_marks()
+        block = drawing.routine(1)
+        drawing.program.routines.append(block)
+        way(drawing, block)
+    text, found = laid(draw, TOKEN.findall(drawing.finish()))
+    marks = MARKS[: 2 * faults : 2][::-1]
+    return text, [(number, found[mark][1], way.__name__) for mark, (number, way) in zip(marks, ways)]

@@ -1,6 +1,9 @@
 """Reads three-address code in its printed form, as numbers: of each instruction its place among all, and its fields in the order of their declaration."""
 
+from __future__ import annotations
+
 import re
+from typing import Any
 
 BASES = {"frame": 0, "scratch": 1, "program": 2}
 SIGNS = {
@@ -41,7 +44,7 @@ FORMS = (
 HEAD = ("parameters", "temporaries", "frame", "scratch", "line")
 
 
-def pattern(form):
+def pattern(form: Any) -> Any:
     """A regular expression with a group for each field of a printed form."""
     parts = {"{right}": r"(?P<right>t?-?\d+)", "{base}": r"(?P<base>\w+)", "{list}": r"(?P<list>(?: t?\d+)*)"}
     for name, signs in SIGNS.items():
@@ -55,7 +58,7 @@ def pattern(form):
 PATTERNS = [(fields.split(), pattern(form)) for fields, form in FORMS]
 
 
-def field(name, text):
+def field(name: Any, text: Any) -> Any:
     """A field as numbers."""
     if name in SIGNS:
         return [SIGNS[name].index(text)]
@@ -69,7 +72,7 @@ def field(name, text):
     return [int(text)]
 
 
-def instruction(line):
+def instruction(line: Any) -> Any:
     """A printed instruction as numbers."""
     for kind, (fields, form) in enumerate(PATTERNS):
         if found := form.fullmatch(line):
@@ -77,14 +80,14 @@ def instruction(line):
     raise ValueError(f"no instruction: {line}")
 
 
-def routine(lines):
+def routine(lines: Any) -> Any:
     """A routine as numbers: its counts, and its instructions."""
     counts = [int(line.removeprefix(name)) for name, line in zip(HEAD, lines)]
     body = [instruction(line.partition(": ")[2]) for line in lines[len(HEAD) :]]
     return [*counts, len(body), *(number for item in body for number in item)]
 
 
-def code(lines):
+def code(lines: Any) -> Any:
     """A printed code as numbers. The head of a run-time routine is `run-time routine`, where the printed form has `routine` alone."""
     lists, objects = {"routine": [], "run-time routine": []}, []
     for line in lines:

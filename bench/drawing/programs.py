@@ -8,32 +8,22 @@ evaluation does not matter: where a statement calls a function that changes anyt
 What Free Pascal 3.2.2 refuses, or does otherwise than the standard says, is left out, and a comment tells of it at its place.
 """
 
+from __future__ import annotations
+
+from random import Random
+from typing import Any, Callable, List, Optional, Tuple
+
 from .statements import Statements
 from .types import (
-    DEPTH,
-    LIMIT,
-    NAMES,
-    SIMPLE,
-    Block,
-    Ordinal,
-    Pointer,
-    Record,
-    Routine,
-    Section,
-    SetOf,
-    Signature,
-    Value,
-    Variable,
-    compound,
-    indented,
-    sequence,
-)
+    DEPTH, LIMIT, NAMES, SIMPLE, Block, Ordinal, PascalType, Pointer, Record, Routine, Section, SetOf, Signature,
+    Value, Variable, compound, indented, sequence,
+)  # fmt: skip
 
 
 class Programs(Statements):
     """Whole programs."""
 
-    def formals(self, signature, names):
+    def formals(self, signature: Signature, names: List[str]) -> Any:
         """The text of a list of formal parameters, and what it defines."""
         sections, variables, routines = [], {}, []
         level = self.blocks[-1].level
@@ -48,7 +38,7 @@ class Programs(Statements):
             variables.update({name: Variable(name, section.type, level) for name in drawn})
         return sections, variables, routines
 
-    def heading(self, name, signature, sections=None, depth=None):
+    def heading(self, name: str, signature: Signature, sections: Optional[List[str]] = None, depth: Optional[str] = None) -> str:
         if sections is None:
             sections, _, _ = self.formals(signature, self.draw.sample(NAMES, len(NAMES)))
         sections = ([f"{depth}: depth"] if depth else []) + sections
@@ -56,7 +46,7 @@ class Programs(Statements):
         result = f": {signature.result.name}" if signature.result else ""
         return f"{'function' if signature.result else 'procedure'} {name}{formals}{result}"
 
-    def signature(self, second_order):
+    def signature(self, second_order: bool) -> Signature:
         draw = self.draw
         sections = []
         for _ in range(draw.randint(1 if second_order else 0, 3)):
@@ -68,7 +58,7 @@ class Programs(Statements):
         results = [type for type in self.of((Ordinal, Pointer)) if type.name != "depth"]
         return Signature(tuple(sections), draw.choice(results) if self.chance(0.5) else None)
 
-    def routine(self, level):
+    def routine(self, level: int) -> List[str]:
         """A routine of the block that is being drawn, or two that call each other."""
         block = self.blocks[-1]
         formals = [formal.signature for formal in block.routines if formal.formal]
@@ -89,7 +79,7 @@ class Programs(Statements):
         second = Routine(self.fresh("p"), self.signature(False), block.level, False, group)
         return self.both_routines(first, second, level)
 
-    def both_routines(self, first, second, level):
+    def both_routines(self, first: Routine, second: Routine, level: int) -> List[str]:
         self.blocks[-1].routines += [first, second]
         parts = [self.parts(routine) for routine in (first, second)]
         ahead = [f"{parts[0][0]};", "forward;"]
@@ -100,14 +90,14 @@ class Programs(Statements):
         first.complete = second.complete = True
         return lines
 
-    def whole_routine(self, routine, level):
+    def whole_routine(self, routine: Routine, level: int) -> List[str]:
         self.blocks[-1].routines.append(routine)
         lines = self.routine_block(routine, self.parts(routine), level)
         routine.cost *= 2**DEPTH if routine.group else 1
         routine.complete = True
         return lines
 
-    def parts(self, routine):
+    def parts(self, routine: Routine) -> Tuple[Any, ...]:
         """The heading of a routine, and what it defines."""
         outer = self.blocks[-1]
         pure = outer.level + 1 if routine.pure else outer.pure
@@ -123,7 +113,7 @@ class Programs(Statements):
             variables[depth] = Variable(depth, self.depth, block.level, False)
         return self.heading(routine.name, routine.signature, sections, depth), block, variables, names, depth
 
-    def routine_block(self, routine, parts, level):
+    def routine_block(self, routine: Routine, parts: Tuple[Any, ...], level: int) -> List[str]:
         heading, block, variables, names, depth = parts
         result = routine.signature.result
         factor, self.factor = self.factor, 1
@@ -145,7 +135,7 @@ class Programs(Statements):
         routine.cost = 1 + block.cost
         return [f"{heading};", *indented(lines[:-1]), f"  {lines[-1]};"]
 
-    def block(self, names, level, count, last, first=lambda: []):
+    def block(self, names: List[str], level: int, count: int, last: List[Callable[..., Any]], first: Callable[..., Any] = lambda: []) -> List[str]:
         """The parts of a block, whose innermost scope is complete but for its variables. `last` makes its last statements."""
         block = self.blocks[-1]
         types = [self.draw.choice(self.types) for _ in range(self.draw.randint(2, 4))]
@@ -168,7 +158,7 @@ class Programs(Statements):
         declared = [f"{name}: {variable.type.name};" for name, variable in variables.items()]
         return ["var", *indented(declared + self.helpers()), *routines, *compound(statements)]
 
-    def calls(self):
+    def calls(self) -> List[List[str]]:
         """A call of each routine that the block has, so that few are drawn in vain."""
         statements = []
         for routine in self.blocks[-1].routines:
@@ -180,16 +170,16 @@ class Programs(Statements):
                 statements.append([f"show{result.name}({called.text})"])
         return statements
 
-    def helpers(self):
+    def helpers(self) -> List[str]:
         return [f"{name}: {type.name or type.denoter};" for name, type in self.blocks[-1].helpers]
 
-    def start(self, variable):
+    def start(self, variable: Variable) -> List[str]:
         """The first value of a variable, of which the standard says nothing."""
         if isinstance(variable.type, Ordinal):
             return [f"{variable.text} := {self.drawn_literal(variable.type)}"]
         return [f"fill{variable.type.name}({variable.text}, {self.draw.randint(0, 99)})"]
 
-    def filled(self, text, type, seed):
+    def filled(self, text: str, type: PascalType, seed: str) -> List[List[str]]:
         """Statements that give a variable a value by a number."""
         if isinstance(type, Ordinal):
             number = Value(f"{seed} + {self.draw.randint(0, 99)}", SIMPLE, -LIMIT, 2 * LIMIT)
@@ -204,7 +194,7 @@ class Programs(Statements):
             return [lines for name, held in type.fields for lines in self.filled(f"{text}.{name}", held, seed)]
         return self.each(type.index, lambda name: self.filled(f"{text}[{name}]", type.component, f"{seed} + ord({name})"))
 
-    def shown(self, text, type):
+    def shown(self, text: str, type: PascalType) -> List[List[str]]:
         """Statements that write the value of a variable."""
         if isinstance(type, Ordinal):
             texts = {"integer": f"{text}:5", "char": text, "Boolean": f"{text}:6"}
@@ -219,7 +209,7 @@ class Programs(Statements):
             return [[f"write({text}:{type.index.high + 1})"]]
         return self.each(type.index, lambda name: self.shown(f"{text}[{name}]", type.component))
 
-    def each(self, type, statements):
+    def each(self, type: Ordinal, statements: Callable[..., Any]) -> List[List[str]]:
         """A loop over the values of a type."""
         name = self.blocks[-1].helper("i", type)
         body = compound(statements(name))
@@ -229,13 +219,13 @@ class Programs(Statements):
             way = f"{self.literal(type.host, type.high)} downto {self.literal(type.host, type.low)}"
         return [[f"for {name} := {way} do", *indented(body)]]
 
-    def list_shown(self, type):
+    def list_shown(self, type: Pointer) -> List[List[str]]:
         """The first nodes of a list."""
         count = self.blocks[-1].helper("k", self.hosts["integer"])
         body = [[f"{count} := {count} + 1"], *self.shown("x^", type.node), [f"x := x^.{type.node.fields[-1][0]}"]]
         return [[f"{count} := 0"], [f"while (x <> nil) and ({count} < 4) do", *indented(compound(body))], ["write(x = nil:6)"]]
 
-    def of_type(self, heading, statements):
+    def of_type(self, heading: str, statements: Callable[..., Any]) -> List[str]:
         """A routine that has no names of its own but those of its loops."""
         self.blocks.append(Block(1, None))
         lines = compound(statements())
@@ -243,7 +233,7 @@ class Programs(Statements):
         self.blocks.pop()
         return [f"{heading};", *(["var", *indented(helpers)] if helpers else []), *lines[:-1], f"{lines[-1]};"]
 
-    def routines_of_types(self):
+    def routines_of_types(self) -> List[str]:
         lines = [f"function host{host}(x: {host}): {host}; begin host{host} := x end;" for host in self.hosts]
         for type in self.types:
             if not isinstance(type, Ordinal):
@@ -252,7 +242,7 @@ class Programs(Statements):
             lines += self.of_type(f"procedure show{type.name}(x: {type.name})", lambda: shown() + [["writeln"]])
         return lines
 
-    def global_routines(self, level):
+    def global_routines(self, level: int) -> List[str]:
         lines = self.routines_of_types()
         for _ in range(self.draw.randint(2, 5)):
             lines += self.routine(level)
@@ -262,20 +252,20 @@ class Programs(Statements):
 class Input:
     """The input of a program, which its first statements read by a plan."""
 
-    def __init__(self, drawing):
+    def __init__(self, drawing: Programs) -> None:
         self.drawing, self.draw, self.text = drawing, drawing.draw, ""
 
-    def number(self, type):
+    def number(self, type: Ordinal) -> None:
         number = self.draw.randint(type.low, type.high)
         blanks = "".join(self.draw.choice((" ", " ", "\n")) for _ in range(self.draw.randint(1, 3)))
         sign = "-" if number < 0 else self.draw.choice(("", "", "+"))
         self.text += f"{blanks}{sign}{'0' * self.draw.choice((0, 0, 2))}{abs(number)}"
 
-    def character(self, _):
+    def character(self, _: Ordinal) -> None:
         """The next character does not go on with a number."""
         self.text += self.draw.choice("aB -+'\n(~")
 
-    def read(self):
+    def read(self) -> List[str]:
         """A statement that reads a few numbers and characters."""
         variables = []
         for _ in range(self.draw.randint(1, 3)):
@@ -290,21 +280,21 @@ class Input:
         self.text += self.draw.choice(("", "abc", " 7 x", "+")) + "\n"
         return [f"readln({', '.join(variables)})"] if variables else ["readln"]
 
-    def rest(self):
+    def rest(self) -> None:
         """Lines that are read character by character. Free Pascal takes a last line without its end to end sooner."""
         self.text += "\n" if self.text else ""
         for _ in range(self.draw.randint(0, 4)):
             self.text += "".join(chr(self.draw.randint(32, 126)) for _ in range(self.draw.choice((0, 1, 5, 20)))) + "\n"
 
 
-def copying(drawing):
+def copying(drawing: Programs) -> List[str]:
     """A statement that writes the rest of the input."""
     name = drawing.blocks[-1].helper("k", drawing.hosts["char"])
     inner = ["while not eoln do", *indented(compound([[f"read({name})"], [f"write({name})"]]))]
     return ["while not eof do", *indented(compound([inner, ["readln"], ["writeln('/')"]]))]
 
 
-def drawn(draw):
+def drawn(draw: Random) -> Tuple[str, str]:
     """A program and its input, as texts."""
     drawing = Programs(draw)
     drawing.draw_types()

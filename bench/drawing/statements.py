@@ -1,21 +1,29 @@
 """Statements that end and meet no error."""
 
+from __future__ import annotations
+
+from random import Random
+from typing import Any, Dict, List, Optional, Tuple
+
 from .expressions import Expressions
-from .types import FACTOR, SIMPLE, Array, Ordinal, Pointer, Record, SetOf, Value, Variable, compound, indented, sequence
+from .types import (
+    FACTOR, SIMPLE, Array, Ordinal, PascalType, Pointer, Record, Routine, SetOf, Value, Variable, compound,
+    indented, sequence,
+)  # fmt: skip
 
 
 class Statements(Expressions):
     """Statements, each a list of lines without a semicolon at its end."""
 
-    def __init__(self, draw):
+    def __init__(self, draw: Random) -> None:
         super().__init__(draw)
         self.open = []  # the recursive routines that are being drawn: their group, and the name of the parameter that lessens
         self.results = []  # the functions that are being drawn, as variables that are only assigned
 
-    def impure(self):
+    def impure(self) -> bool:
         return self.blocks[-1].pure is None
 
-    def nested(self, size, times=1, scope=None):
+    def nested(self, size: int, times: int = 1, scope: Optional[Dict[str, Variable]] = None) -> List[str]:
         """A statement that is run so many times."""
         self.factor *= times
         self.scopes.append(scope or {})
@@ -24,7 +32,7 @@ class Statements(Expressions):
         self.factor //= times
         return lines
 
-    def statement(self, size):
+    def statement(self, size: int) -> List[str]:
         self.spend(1)
         ways = [self.assignment] * 4 + [self.procedure_call] * 3 + [self.whole_assignment, self.set_assignment, self.result_assignment, self.packing]
         if self.impure():
@@ -41,23 +49,23 @@ class Statements(Expressions):
                 return lines
         return []
 
-    def assigned(self, kind):
+    def assigned(self, kind: Any) -> Optional[Variable]:
         return self.access(lambda type: isinstance(type, kind), self.is_writable)
 
-    def assignment(self, _):
+    def assignment(self, _: int) -> Optional[List[str]]:
         found = self.assigned(Ordinal)
         return found and [f"{found.text} := {self.value_of(found.type).text}"]
 
-    def whole_assignment(self, _):
+    def whole_assignment(self, _: int) -> Optional[List[str]]:
         found = self.assigned((Array, Record, Pointer))
         value = found and self.value_of(found.type)
         return value and [f"{found.text} := {value.text}"]
 
-    def set_assignment(self, _):
+    def set_assignment(self, _: int) -> Optional[List[str]]:
         found = self.assigned(SetOf)
         return found and [f"{found.text} := {self.value_of(found.type).text}"]
 
-    def result_assignment(self, _):
+    def result_assignment(self, _: int) -> Optional[List[str]]:
         pure = self.blocks[-1].pure
         results = [variable for variable in self.results if pure is None or variable.level >= pure]
         if not results:
@@ -65,10 +73,10 @@ class Statements(Expressions):
         result = self.draw.choice(results)
         return [f"{result.text} := {self.value_of(result.type).text}"]
 
-    def impure_call(self, type):
+    def impure_call(self, type: PascalType) -> Optional[Value]:
         """One call of any function. Free Pascal makes it twice before mod."""
 
-        def fits(routine):
+        def fits(routine: Routine) -> bool:
             result = routine.signature.result
             if result is None or isinstance(type, Pointer) or isinstance(result, Pointer):
                 return result is type
@@ -76,11 +84,11 @@ class Statements(Expressions):
 
         return self.call(fits)
 
-    def entire(self):
+    def entire(self) -> List[Variable]:
         """The variables that are assigned to without an index or a pointer, which a call could change."""
         return [variable for variable in self.visible() if self.is_writable(variable) and variable.text.isalnum()]
 
-    def impure_assignment(self, _):
+    def impure_assignment(self, _: int) -> Optional[List[str]]:
         entire = [variable for variable in self.entire() if isinstance(variable.type, (Ordinal, Pointer))]
         if not entire:
             return None
@@ -88,7 +96,7 @@ class Statements(Expressions):
         called = self.impure_call(variable.type)
         return called and [f"{variable.text} := {called.text}"]
 
-    def test(self):
+    def test(self) -> Value:
         """A condition, now and then of one call."""
         type = self.hosts[self.draw.choice(list(self.hosts))]
         called = self.impure_call(type) if self.chance(0.3) else None
@@ -102,11 +110,11 @@ class Statements(Expressions):
             return Value(f"{bound} {self.draw.choice(('and', 'or'))} {called.text}", SIMPLE, 0, 1)
         return self.relation(called, self.draw.choice(("=", "<>", "<", ">=")), Value(self.drawn_literal(type), SIMPLE))
 
-    def procedure_call(self, _):
+    def procedure_call(self, _: int) -> Optional[List[str]]:
         called = self.call(lambda routine: routine.signature.result is None)
         return called and [called.text]
 
-    def recursion(self, _):
+    def recursion(self, _: int) -> Optional[List[str]]:
         """A call of a routine that is being drawn, or of the one that is drawn with it, where the parameter still can be lessened."""
         pairs = [(routine, name) for group, name in self.open for block in self.blocks for routine in block.routines if routine.group is group]
         if not pairs:
@@ -122,7 +130,7 @@ class Statements(Expressions):
             text = f"{self.draw.choice(entire)} := {text}"
         return [f"if {name} > 0 then", *indented(compound([[f"{name} := {name} - 1"], [text]]))]
 
-    def if_statement(self, size):
+    def if_statement(self, size: int) -> List[str]:
         condition = self.test().text
         if self.chance(0.4):
             # also an if with its else right after then: the else is the nearest one's
@@ -131,7 +139,7 @@ class Statements(Expressions):
         other = self.nested(size)
         return [f"if {condition} then", *then, "else", *indented(other)]
 
-    def case_statement(self, size):
+    def case_statement(self, size: int) -> List[str]:
         host = self.draw.choice(list(self.hosts.values()))
         low = self.draw.randint(max(host.low, -50), min(host.high, 100))
         high = min(host.high, low + self.draw.randint(0, 5))
@@ -149,7 +157,7 @@ class Statements(Expressions):
             labels = labels[count:]
         return [f"case {index.text} of", *indented(sequence(elements)), "end"]
 
-    def for_statement(self, size):
+    def for_statement(self, size: int) -> List[str]:
         host = self.draw.choice([type for type in self.of(Ordinal) if type.name != "depth"])
         low = self.draw.randint(host.low, host.high)
         high = min(host.high, low + self.draw.randint(0, 4))
@@ -166,7 +174,7 @@ class Statements(Expressions):
         block.busy.remove(name)
         return [f"for {name} := {first.text} {way} {last.text} do", *indented(body)]
 
-    def counted(self, size):
+    def counted(self, size: int) -> Tuple[str, int, Value, List[str]]:
         """A count, how far it goes, and the statements that it counts."""
         block = self.blocks[-1]
         name, most = block.helper("k", self.hosts["integer"]), self.draw.randint(1, 5)
@@ -176,20 +184,20 @@ class Statements(Expressions):
         block.busy.remove(name)
         return name, most, condition, body
 
-    def while_statement(self, size):
+    def while_statement(self, size: int) -> List[str]:
         name, most, condition, body = self.counted(size)
         return compound([[f"{name} := 0"], [f"while ({name} < {most}) and {condition.at(FACTOR)} do", *indented(["begin", *indented(body), "end"])]])
 
-    def repeat_statement(self, size):
+    def repeat_statement(self, size: int) -> List[str]:
         name, most, condition, body = self.counted(size)
         return compound([[f"{name} := 0"], ["repeat", *indented(body), f"until ({name} >= {most}) or {condition.at(FACTOR)}"]])
 
-    def fields(self, record):
+    def fields(self, record: Variable) -> Dict[str, Variable]:
         """The scope that a with statement opens."""
         packed = record.packed or record.type.packed
         return {name: record._replace(text=name, type=type, packed=packed) for name, type in record.type.fields}
 
-    def accessed_record(self):
+    def accessed_record(self) -> Any:
         """A record, or one that a pointer leads to, and the pointer."""
         if self.chance(0.4):
             found = self.access(lambda type: isinstance(type, Pointer))
@@ -197,7 +205,7 @@ class Statements(Expressions):
                 return Variable(f"{found.text}^", found.type.node, -1), found.text
         return self.access(lambda type: isinstance(type, Record)), None
 
-    def with_statement(self, size):
+    def with_statement(self, size: int) -> Optional[List[str]]:
         record, pointer = self.accessed_record()
         if not record:
             return None
@@ -211,7 +219,7 @@ class Statements(Expressions):
         lines = [f"with {records} do", *indented(self.nested(size, 1, scope))]
         return [f"if {pointer} <> nil then", *indented(lines)] if pointer else lines
 
-    def through_pointer(self, _):
+    def through_pointer(self, _: int) -> Optional[List[str]]:
         """An assignment to or from what a pointer leads to."""
         found = self.access(lambda type: isinstance(type, Pointer))
         if not found:
@@ -225,7 +233,7 @@ class Statements(Expressions):
         self.scopes.pop()
         return lines and [f"if {found.text} <> nil then", *indented(lines)]
 
-    def make(self, _):
+    def make(self, _: int) -> Optional[List[str]]:
         found = self.assigned(Pointer)
         # An index that looks at pointers may be another one behind `new`, and Free Pascal has no first value for what is not filled then.
         # Pointers behind an index are left out with them.
@@ -234,7 +242,7 @@ class Statements(Expressions):
         node = found.type.node
         return compound([[f"new({found.text})"], [f"fill{node.name}({found.text}^, {self.draw.randint(0, 99)})"]])
 
-    def packing(self, _):
+    def packing(self, _: int) -> Optional[List[str]]:
         if not self.pairs:
             return None
         whole, part = self.draw.choice(self.pairs)
@@ -249,10 +257,10 @@ class Statements(Expressions):
             index = self.constant(*bounds).text
         return [f"pack({plain.text}, {index}, {packed.text})" if self.chance(0.5) else f"unpack({packed.text}, {plain.text}, {index})"]
 
-    def width(self):
+    def width(self) -> str:
         return self.fitting(self.integer(1), 1, 12).text if self.chance(0.3) else str(self.draw.randint(1, 12))
 
-    def written(self):
+    def written(self) -> str:
         """A parameter of write. Widths of integers and Booleans are left to no default."""
         way = self.draw.randrange(6)
         if way == 0:
@@ -265,7 +273,7 @@ class Statements(Expressions):
             value = self.hosted(value, host)  # Free Pascal takes some differences to have no sign
         return value.text if host == "char" and self.chance(0.5) else f"{value.text}:{self.width()}"
 
-    def write(self, _):
+    def write(self, _: int) -> Optional[List[str]]:
         if self.factor > 40:
             return None
         called = self.impure_call(self.hosts["integer"]) if self.chance(0.2) else None
@@ -274,15 +282,15 @@ class Statements(Expressions):
         items = ", ".join(self.written() for _ in range(self.draw.randint(1, 3)))
         return [f"{self.draw.choice(('write', 'writeln'))}({items})"] if self.chance(0.95) else ["writeln"]
 
-    def readable(self, host):
+    def readable(self, host: str) -> Optional[Variable]:
         """A variable to read. Free Pascal reads no component of a packed one where arrays can be packed by pack."""
 
-        def is_readable(variable):
+        def is_readable(variable: Variable) -> bool:
             return self.is_writable(variable) and not (variable.packed and self.pairs)
 
         return self.access(lambda type: isinstance(type, Ordinal) and type.host == host and (host == "integer" or type.name == host), is_readable)
 
-    def read_character(self, _):
+    def read_character(self, _: int) -> Optional[List[str]]:
         found = self.readable("char")
         if not found:
             return None

@@ -1,6 +1,9 @@
 """What programs are made of - values, types, variables, routines, blocks - and how types are drawn."""
 
-from typing import NamedTuple, Optional
+from __future__ import annotations
+
+from random import Random
+from typing import Any, Callable, List, NamedTuple, Optional, Tuple, Union
 
 FACTOR, TERM, SIMPLE, RELATION = 3, 2, 1, 0  # how tightly an expression binds
 LIMIT = 999  # variables of type integer lie in -LIMIT..LIMIT
@@ -18,7 +21,7 @@ class Value(NamedTuple):
     high: int = 0
     bare: bool = False
 
-    def at(self, binding):
+    def at(self, binding: int) -> str:
         return self.text if self.binding >= binding else f"({self.text})"
 
 
@@ -43,7 +46,7 @@ class Array(NamedTuple):
     component: object
     denoter: str
 
-    def is_string(self):
+    def is_string(self) -> bool:
         return self.packed and self.component.name == "char" and self.index.host == "integer" and self.index.low == 1 < self.index.high
 
 
@@ -58,6 +61,9 @@ class Pointer(NamedTuple):
     name: str
     node: Record
     denoter: str
+
+
+PascalType = Union[Ordinal, SetOf, Array, Record, Pointer]
 
 
 class Variable(NamedTuple):
@@ -86,7 +92,7 @@ class Signature(NamedTuple):
 class Routine:
     """A routine, with the level of the block that declares it. Recursive routines have a group, alone or as a pair."""
 
-    def __init__(self, name, signature, home, pure=False, group=None):
+    def __init__(self, name: str, signature: Signature, home: int, pure: bool = False, group: Any = None) -> None:
         self.name, self.signature, self.home, self.pure, self.group = name, signature, home, pure, group
         self.complete = self.formal = False
         self.cost = FORMAL_COST
@@ -95,12 +101,12 @@ class Routine:
 class Block:
     """A block that is being drawn. Within `pure` only variables of that level and above change."""
 
-    def __init__(self, level, pure):
+    def __init__(self, level: int, pure: Optional[int]) -> None:
         self.level, self.pure = level, pure
         self.routines, self.helpers, self.busy = [], [], set()
         self.cost = 0
 
-    def helper(self, prefix, type):
+    def helper(self, prefix: str, type: Ordinal) -> str:
         """A variable of the block for a loop's control or count, which no loop around uses."""
         for name, held in self.helpers:
             if held == type and name.startswith(prefix) and name not in self.busy:
@@ -112,11 +118,11 @@ class Block:
         return name
 
 
-def indented(lines):
+def indented(lines: List[str]) -> List[str]:
     return ["  " + line for line in lines]
 
 
-def sequence(statements):
+def sequence(statements: List[Any]) -> List[str]:
     """Statements one after another, each a list of lines."""
     lines = []
     for statement in statements:
@@ -126,14 +132,14 @@ def sequence(statements):
     return lines
 
 
-def compound(statements):
+def compound(statements: List[Any]) -> List[str]:
     return ["begin", *indented(sequence(statements)), "end"]
 
 
 class Types:
     """Types, each of which has a name."""
 
-    def __init__(self, draw):
+    def __init__(self, draw: Random) -> None:
         self.draw = draw
         self.enumerations = {}
         self.count = 0
@@ -145,69 +151,69 @@ class Types:
         self.types = [integer, char, boolean, self.depth]
         self.constants = []
 
-    def chance(self, share):
+    def chance(self, share: float) -> bool:
         return self.draw.random() < share
 
-    def fresh(self, prefix):
+    def fresh(self, prefix: str) -> str:
         self.count += 1
         return f"{prefix}{self.count}"
 
-    def literal(self, host, ordinal):
+    def literal(self, host: str, ordinal: int) -> str:
         if host == "integer":
             return str(ordinal)
         if host == "char":
             return "''''" if ordinal == 39 else f"'{chr(ordinal)}'"
         return ("false", "true")[ordinal] if host == "Boolean" else self.enumerations[host][ordinal]
 
-    def drawn_literal(self, type):
+    def drawn_literal(self, type: Ordinal) -> str:
         return self.literal(type.host, self.draw.randint(type.low, type.high))
 
-    def string(self, length):
+    def string(self, length: int) -> str:
         text = "".join(chr(self.draw.choice((32, 39, 65, 66, 97, 98, 122, 126))) for _ in range(length))
         return "'" + text.replace("'", "''") + "'"
 
-    def add(self, type):
+    def add(self, type: PascalType) -> PascalType:
         self.types.append(type)
         return type
 
-    def of(self, kind):
+    def of(self, kind: Any) -> List[Any]:
         return [type for type in self.types if isinstance(type, kind)]
 
-    def enumeration(self):
+    def enumeration(self) -> None:
         name = self.fresh("t")
         values = [f"{name}{letter}" for letter in "abcdef"[: self.draw.randint(2, 6)]]
         self.enumerations[name] = values
         self.hosts[name] = self.add(Ordinal(name, name, 0, len(values) - 1, f"({', '.join(values)})"))
 
-    def subrange(self, host, width, low=None):
+    def subrange(self, host: Ordinal, width: int, low: Optional[int] = None) -> Ordinal:
         low = self.draw.randint(host.low, host.high) if low is None else low
         high = min(host.high, low + self.draw.randint(0, width))
         return Ordinal(self.fresh("t"), host.host, low, high, f"{self.literal(host.host, low)}..{self.literal(host.host, high)}")
 
-    def small(self):
+    def small(self) -> Ordinal:
         """An ordinal type of few values."""
         fitting = [type for type in self.of(Ordinal) if type.high - type.low < 6]
         return self.draw.choice(fitting)
 
-    def set_type(self):
+    def set_type(self) -> SetOf:
         bases = [type for type in self.of(Ordinal) if type.low >= 0 and type.high <= 255]
         base = self.draw.choice(bases)
         return SetOf(self.fresh("t"), base, f"set of {base.name}")
 
-    def array(self, packed, index, component):
+    def array(self, packed: bool, index: Ordinal, component: PascalType) -> Array:
         word = "packed array" if packed else "array"
         return Array(self.fresh("t"), packed, index, component, f"{word} [{index.name or index.denoter}] of {component.name}")
 
-    def string_type(self):
+    def string_type(self) -> Array:
         high = self.draw.randint(2, 6)
         return self.array(True, Ordinal("", "integer", 1, high, f"1..{high}"), self.hosts["char"])
 
-    def record(self, names, packed=False):
+    def record(self, names: List[str], packed: bool = False) -> Record:
         fields = [(name, self.draw.choice(self.types)) for name in names]
         texts = "; ".join(f"{name}: {type.name}" for name, type in fields)
         return Record(self.fresh("t"), packed, fields, f"{'packed ' if packed else ''}record {texts} end")
 
-    def node(self):
+    def node(self) -> None:
         """A pointer type and the type of its variables, which holds a pointer of the same type."""
         pointer, record = self.fresh("t"), self.fresh("t")
         names = self.draw.sample(NAMES, self.draw.randint(2, 3))
@@ -220,19 +226,19 @@ class Types:
         fields[-1] = (fields[-1][0], self.types[-1])
         self.add(node)
 
-    def cells(self, type):
+    def cells(self, type: PascalType) -> int:
         if isinstance(type, Array):
             return (type.index.high - type.index.low + 1) * self.cells(type.component)
         return sum(self.cells(held) for _, held in type.fields) if isinstance(type, Record) else 1
 
-    def add_small(self, make):
+    def add_small(self, make: Callable[..., Any]) -> None:
         """Adds a type that `make` draws, not too large a one."""
         type = make()
         while self.cells(type) > 30:
             type = make()
         self.add(type)
 
-    def draw_types(self):
+    def draw_types(self) -> None:
         draw = self.draw
         for _ in range(draw.randint(1, 2)):
             self.enumeration()
@@ -256,7 +262,7 @@ class Types:
             else:
                 self.node()
 
-    def packing_pair(self):
+    def packing_pair(self) -> Tuple[Array, Array]:
         """Two array types for pack and unpack. Free Pascal has them for indices of type integer only."""
         component = self.draw.choice(self.of(Ordinal))
         whole = Ordinal("", "integer", self.draw.randint(-2, 2), 0)
