@@ -5,6 +5,7 @@ complete -c pascal -n __fish_use_subcommand -f -a list -d 'Compiles a text and w
 complete -c pascal -n __fish_use_subcommand -f -a run -d 'Runs an image on standard input and output'
 complete -c pascal -n __fish_use_subcommand -f -a go -d 'Compiles a text and runs it on standard input and output'
 complete -c pascal -n __fish_use_subcommand -f -a explain -d 'Explains a message, by its number, its name or its words'
+complete -c pascal -n __fish_use_subcommand -f -a check -d 'Tells whether texts are accepted, and where they are not, why'
 complete -c pascal -n __fish_use_subcommand -f -a help -d 'Print this message or the help of the given subcommand(s)'
 complete -c pascal -n '__fish_use_subcommand' -s h -l help -f -d 'Print help'
 complete -c pascal -n '__fish_use_subcommand' -s V -l version -f -d 'Print the version, the kit, the sum of the sources and the target'
@@ -20,4 +21,8 @@ complete -c pascal -n '__fish_seen_subcommand_from go' -l steps -x -d 'Instructi
 complete -c pascal -n '__fish_seen_subcommand_from go' -s h -l help -f -d 'Print help'
 complete -c pascal -n '__fish_seen_subcommand_from explain' -f
 complete -c pascal -n '__fish_seen_subcommand_from explain' -s h -l help -f -d 'Print help'
-complete -c pascal -n '__fish_seen_subcommand_from help' -f -a 'compile list run go explain help'
+complete -c pascal -n '__fish_seen_subcommand_from check' -s h -l help -f -d 'Print help'
+complete -c pascal -n '__fish_seen_subcommand_from check' -l json -f -d 'Write what is told as JSON, an object a line, to standard output'
+complete -c pascal -n '__fish_seen_subcommand_from check' -l first -f -d 'Tell the first fault of a text alone'
+complete -c pascal -n '__fish_seen_subcommand_from check' -l no-warnings -f -d 'Tell no warnings'
+complete -c pascal -n '__fish_seen_subcommand_from help' -f -a 'compile list run go explain check help'

@@ -23,11 +23,13 @@ from typing import Callable, List, NoReturn, Optional
 sys.dont_write_bytecode = True
 
 import damaged  # noqa: E402
+import editors  # noqa: E402
 import explained  # noqa: E402
 import others  # noqa: E402
 import placed  # noqa: E402
 import runs  # noqa: E402
 import scripts  # noqa: E402
+import sessions  # noqa: E402
 from cases import TESTS, TOP, Case, cases_of, files_of  # noqa: E402
 from progress import Progress  # noqa: E402
 
@@ -42,13 +44,19 @@ FOLDERS = {
     "shapes": ("pascal",),
     "damaged": ("pascal",),
     "phases": ("pascal_reference",),
+    "messages": ("pascal",),
+    "editors": ("pascal",),
+    "sessions": ("pascal",),
     "places": ("pascal_reference",),
     "explain": ("pascal",),
     "others": ("pascal",),
     "scripts": ("pascal",),
 }
-# what is tried of a page of docs/ that is data, of damaged images, and of homes of temporaries
-TRIALS = {"explain": explained.trials, "others": others.trials, "damaged": damaged.trials, "places": placed.trials}
+# what is tried of pages of docs/ that are data or show sessions, of messages for editors, of damaged images, and of homes of temporaries
+TRIALS = {
+    "explain": explained.trials, "others": others.trials, "sessions": sessions.trials, "editors": editors.trials, "damaged": damaged.trials,
+    "places": placed.trials,
+}  # fmt: skip
 INTERRUPTED = 130
 PROCESSORS = int(os.environ.get("RT_JOBS") or 0) or len(os.sched_getaffinity(0))
 

@@ -18,11 +18,12 @@ use Rattle.clap.specs.ValueTests.{is_signed_in, is_unsigned_in}
 use Rattle.clap.specs.Walk.{Held, Names, Row, Step, Text, Walk, after_step, arg_by_id, arg_by_long, arg_by_short, finished, first_of, idle, long_or_other, nothing_held, one_of, row_text, rows_after, settled, subcommand_met, subcommand_or_other, trailing, walk_from, walked}
 use Rattle.clap.specs.declared.error.kind.ErrorKind.TheVariants as kind
 use Rattle.pascal_cli.specs.App.{HasLimits, IsWithin, fault_in, found_digits, is_memory, pascal_app, row_digits, row_limits, row_path, row_request, row_work, whole}
-use Rattle.pascal_cli.specs.Command.{Given, Limits, Request, Work, are_digits, compile, compile_given, compile_request, default_limits, explain, explain_request, go, go_request, has_digits, has_letters, image_name, is_line_fault, limit_names, limits_of, list, list_given, list_request, number_of, read, request_of, run, run_request, source_name, standard_request, topic_of, topic_words, value_of}
+use Rattle.pascal_cli.specs.Command.{Given, Limits, Request, Work, are_digits, check, check_given, check_request, compile, compile_given, compile_request, default_limits, explain, explain_request, go, go_request, has_digits, has_letters, image_name, is_line_fault, limit_names, limits_of, list, list_given, list_request, number_of, read, request_of, run, run_request, source_name, standard_request, topic_of, topic_words, value_of}
 use Rattle.pascal_cli.proofs.GivenRows.{AllFit, Fails, One, fails_left, fails_right, row, same_text, value_fits}
 use Rattle.pascal_cli.proofs.Leaves.{LeafEnds, budget_text, compile_leaf, compile_ones, end_look, end_row, end_rows, go_label, go_leaf, has_good_default, leaf_ends, leaf_fault, limited_ones, list_leaf, list_ones, or_defaults, run_label, run_leaf, steps_text}
 use Rattle.pascal_cli.proofs.Flags.{help_or_none, letters_fail, letters_none, long_help, short_help}
 use Rattle.pascal_cli.proofs.LineWalk.{Leaf, rules}
+use Rattle.pascal_cli.proofs.FileWalk.{FileEnds, file_ends, files_fault, files_found}
 use Rattle.pascal_cli.proofs.TopicWalk.{TopicEnds, topic_ends, topic_fault, topic_found, topic_rows}
 
 -- a parse that enters a command finds what is asked for; where nothing is, it fails, or finds a number that is not digits alone
@@ -304,6 +305,19 @@ explain_agrees words = go_on (topic_words words) (topic_ends words)
     go_on (Some topic) ends =
         subst (λ rows. Agrees (Some (asked topic)) (topic_fault words) (explain_label, rows)) (sym ends.1) (found topic (topic_fault words) ends.0)
 
+abbrev check_label : Text
+check_label = codes "check"
+
+check_agrees : (words : List Text) → Agrees (check_request words) (files_fault words) (check_label, files_found words)
+check_agrees words = go_on (topic_words words) (file_ends words)
+  where
+    go_on : (o : Option (List Text)) → FileEnds words o → Agrees (option_and_then check_given o) (files_fault words) (check_label, files_found words)
+    go_on None ends = inl ends
+    go_on (Some []) ends = inl ends
+    go_on (Some (file ∷ files)) ends =
+        subst (λ rows. Agrees (Some (requested (check (file ∷ files)) default_limits)) (files_fault words) (check_label, rows)) (sym ends.1)
+        (ends.0, refl, (tt, tt, tt), refl)
+
 -- ---- the program
 
 abbrev program : App
@@ -425,29 +439,32 @@ stray_turn word words false (Some nv) = top_bad (stray_now false (Some nv) word)
 stray_turn word words false None = top_bad (stray_now false None word) (stray_after false None word) words (plain_stray word (has_letters word) refl)
 
 -- the command that the word names, by its tests
-abbrev command_by : Bool → Bool → Bool → Bool → Bool → Bool → Option Text
-command_by a b c d e h = option_map (λ (s : Text × List Text). s.0) (cond (a || false) (Some (compile_label, [])) (cond (b || false) (Some (list_label, []))
-    (cond (c || false) (Some (run_label, [])) (cond (d || false) (Some (go_label, [])) (cond (e || false) (Some (explain_label, [])) (cond (h || false) (Some (codes "help", [])) None))))))
+abbrev command_by : Bool → Bool → Bool → Bool → Bool → Bool → Bool → Option Text
+command_by a b c d e f h = option_map (λ (s : Text × List Text). s.0) (cond (a || false) (Some (compile_label, [])) (cond (b || false) (Some (list_label, []))
+    (cond (c || false) (Some (run_label, [])) (cond (d || false) (Some (go_label, [])) (cond (e || false) (Some (explain_label, []))
+    (cond (f || false) (Some (check_label, [])) (cond (h || false) (Some (codes "help", [])) None)))))))
 
 leaf_turn : (label : Text) (ones : List One) (words : List Text) (o : Option Request) → entered_fault program (Some (label, words)) ≡ leaf_fault label ones words
     → entered program (Some (label, words)) ≡ Some (label, rows_after (rules ones) [] words)
     → Agrees o (leaf_fault label ones words) (label, rows_after (rules ones) [] words) → TopTurn o [] (inside label []) words
 leaf_turn label ones words o = command_turn label (leaf_fault label ones words) (rows_after (rules ones) [] words) words o
 
-first_turn : (word : Text) (words : List Text) (a b c d e h : Bool) → bytes_eq (codes "help") word ≡ h
+first_turn : (word : Text) (words : List Text) (a b c d e f h : Bool) → bytes_eq (codes "help") word ≡ h
     → TopTurn (if a then compile_request words else if b then list_request words else if c then run_request words else if d then go_request words
-    else if e then explain_request words else if bytes_eq word (codes "--") then standard_request words else None)
-    (top_now (command_by a b c d e h) word) (top_after (command_by a b c d e h) word) words
-first_turn word words true b c d e h helps = leaf_turn compile_label compile_ones words (compile_request words) refl refl (compile_agrees words)
-first_turn word words false true c d e h helps = leaf_turn list_label list_ones words (list_request words) refl refl (list_agrees words)
-first_turn word words false false true d e h helps = leaf_turn run_label (limited_ones image_name) words (run_request words) refl refl (run_agrees words)
-first_turn word words false false false true e h helps = leaf_turn go_label (limited_ones source_name) words (go_request words) refl refl (go_agrees words)
-first_turn word words false false false false true h helps =
+    else if e then explain_request words else if f then check_request words else if bytes_eq word (codes "--") then standard_request words else None)
+    (top_now (command_by a b c d e f h) word) (top_after (command_by a b c d e f h) word) words
+first_turn word words true b c d e f h helps = leaf_turn compile_label compile_ones words (compile_request words) refl refl (compile_agrees words)
+first_turn word words false true c d e f h helps = leaf_turn list_label list_ones words (list_request words) refl refl (list_agrees words)
+first_turn word words false false true d e f h helps = leaf_turn run_label (limited_ones image_name) words (run_request words) refl refl (run_agrees words)
+first_turn word words false false false true e f h helps = leaf_turn go_label (limited_ones source_name) words (go_request words) refl refl (go_agrees words)
+first_turn word words false false false false true f h helps =
     command_turn explain_label (topic_fault words) (topic_found words) words (explain_request words) refl refl (explain_agrees words)
-first_turn word words false false false false false true helps =
+first_turn word words false false false false false true h helps =
+    command_turn check_label (files_fault words) (files_found words) words (check_request words) refl refl (check_agrees words)
+first_turn word words false false false false false false true helps =
     subst (λ w. TopTurn (if bytes_eq w (codes "--") then standard_request words else None) (top_now (Some (codes "help")) w) (top_after (Some (codes "help")) w) words)
     (same_text (codes "help") word helps) (top_bad (kind.DisplayHelp ∷ kind.InvalidSubcommand ∷ []) (top_after (Some (codes "help")) (codes "help")) words tt)
-first_turn word words false false false false false false helps = stray_turn word words (bytes_eq word (codes "--")) (long_of word)
+first_turn word words false false false false false false false helps = stray_turn word words (bytes_eq word (codes "--")) (long_of word)
 
 -- a parse of the words finds what they ask for, and fails where they ask for nothing
 pub top_agrees : (words : List Text) → TopAgrees (request_of words) (fault_of pascal_app words) (subcommand_of pascal_app words)
@@ -455,7 +472,7 @@ unfolding walk_fault defaults_fault
 top_agrees [] = (refl, refl, tt, refl)
 top_agrees (word ∷ words) = top_turn _ word words
     (first_turn word words (bytes_eq (codes "compile") word) (bytes_eq (codes "list") word) (bytes_eq (codes "run") word) (bytes_eq (codes "go") word)
-    (bytes_eq (codes "explain") word) (bytes_eq (codes "help") word) refl)
+    (bytes_eq (codes "explain") word) (bytes_eq (codes "check") word) (bytes_eq (codes "help") word) refl)
 
 -- ---- what the code answers
 

@@ -1,13 +1,14 @@
 -- The statuses of jobs.
-use Rattle.std.proofs.Common.{◌≡◌, ◌⊎◌, ◌≤◌, ◌||◌, ◌∙◌, refl, sym, subst, ℕ, Bool, true, false, zero, suc, List, [], ◌∷◌, Some, None, inl, inr, arith, cond, map}
-use Rattle.std.specs.Prelude.{codes}
+use Rattle.std.proofs.Common.{◌≡◌, ◌⊎◌, ◌≤◌, ◌||◌, ◌∙◌, ◌+◌, ap, refl, sym, subst, ℕ, Bool, true, false, zero, suc, List, [], ◌∷◌, Some, None, inl, inr, arith, cond, map}
+use Rattle.std.specs.Prelude.{All, codes}
 use Rattle.std.specs.List.{list_any}
 use Rattle.std.specs.Str.{bytes_eq}
 use Rattle.pascal_pages.specs.Asked.{asks, names_of}
 use Rattle.pascal_pages.specs.declared.Page.{Page}
+use Rattle.pascal_cli.specs.Check.{plain_words}
 use Rattle.pascal_cli.specs.Command.{Request, Text, Work, request_of}
 use Rattle.pascal_cli.specs.Explain.{AreThePages, asked_pages, has_page, shown}
-use Rattle.pascal_cli.specs.Jobs.{IsDone, IsStatus}
+use Rattle.pascal_cli.specs.Jobs.{AreAccepted, IsAccepted, IsDone, IsStatus}
 use Rattle.pascal_cli.specs.Session.{asks_version}
 use Rattle.pascal_cli.proofs.GivenRows.{same_text}
 
@@ -53,12 +54,39 @@ of_words words asked request status one other done = subst (λ r. IsStatus r sta
     same e = cc
 
 -- who asks for the version asks for nothing else
-pub version_alone : (words : List Text) → asks_version words ≡ true → request_of words ≡ None
-version_alone [] e = absurd (cc)
-version_alone (word ∷ other ∷ rest) e = absurd (cc)
-version_alone (word ∷ []) e = go (bytes_eq word (codes "--version")) refl (bytes_eq word (codes "-V")) refl e
+version_words : (words : List Text) → asks_version words ≡ true → request_of words ≡ None
+version_words [] e = absurd (cc)
+version_words (word ∷ other ∷ rest) e = absurd (cc)
+version_words (word ∷ []) e = go (bytes_eq word (codes "--version")) refl (bytes_eq word (codes "-V")) refl e
   where
     go : (a : Bool) → bytes_eq word (codes "--version") ≡ a → (b : Bool) → bytes_eq word (codes "-V") ≡ b → (a || b) ≡ true → request_of (word ∷ []) ≡ None
     go true long b short e = subst (λ w. request_of (w ∷ []) ≡ None) (sym (same_text word (codes "--version") long)) refl
     go false long true short e = subst (λ w. request_of (w ∷ []) ≡ None) (sym (same_text word (codes "-V") short)) refl
     go false long false short e = absurd (cc)
+
+-- one word alone has no option behind it
+plain_one : (word : Text) → plain_words (word ∷ []) ≡ word ∷ []
+plain_one word = go (bytes_eq word (codes "check"))
+  where
+    go : (b : Bool) → cond b (word ∷ []) (word ∷ []) ≡ word ∷ []
+    go true = refl
+    go false = refl
+
+pub version_alone : (words : List Text) → asks_version words ≡ true → request_of (plain_words words) ≡ None
+version_alone [] e = absurd (cc)
+version_alone (word ∷ other ∷ rest) e = absurd (cc)
+version_alone (word ∷ []) e = subst (λ words. request_of words ≡ None) (sym (plain_one word)) (version_words (word ∷ []) e)
+
+-- one text more that is accepted
+more_accepted : (text : List ℕ) (texts : List (List ℕ)) → IsAccepted text → All IsAccepted texts → All IsAccepted (text ∷ texts)
+more_accepted text texts one others zero none within = one
+more_accepted text texts one others (suc k) none within = others k none (omega (arith, within))
+
+pub one_accepted : (count : ℕ) → ((text : List ℕ) × IsAccepted text) → AreAccepted count → AreAccepted (suc count)
+one_accepted count one others = (one.0 ∷ others.0, ap suc others.1, more_accepted one.0 others.0 one.1 others.2)
+
+pub none_accepted : AreAccepted 0
+none_accepted = ([], refl, λ k none within. absurd (omega (arith, within)))
+
+pub next_accepted : (count : ℕ) → ((text : List ℕ) × IsAccepted text) → AreAccepted count → AreAccepted (count + 1)
+next_accepted count one others = subst AreAccepted (omega arith) (one_accepted count one others)

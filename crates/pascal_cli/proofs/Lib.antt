@@ -2,6 +2,7 @@ pub mod Agreement
 pub mod Called
 pub mod Commands
 pub mod Done
+pub mod FileWalk
 pub mod Flags
 pub mod GivenRows
 pub mod Leaves

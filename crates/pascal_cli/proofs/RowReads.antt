@@ -8,7 +8,7 @@ use Rattle.clap.specs.Matches.{ReadsOne, matched_of, raw_values}
 use Rattle.clap.specs.Walk.{rows_of}
 use Rattle.clap.specs.declared.parser.matches.Found.{Found}
 use Rattle.clap.proofs.WalkLemmas.{raw_values-rows}
-use Rattle.pascal_cli.specs.App.{row_words, whole}
+use Rattle.pascal_cli.specs.App.{row_files, row_words, whole}
 use Rattle.pascal_cli.specs.Command.{Text, topic_of}
 
 pub text_or : (o : Option (Bor (List ℕ))) (d : Bor (List ℕ)) → (unwrap_or o d).now ≡ unwrap_or (option_map (λ s. s.now) o) d.now
@@ -40,3 +40,9 @@ rest_joined (word ∷ words) = ap (λ rest. (codes " " ++ word.now) ++ rest) (re
 pub topic_joined : (words : List (Bor Text)) → topic_of (map (λ word. word.now) words) ≡ join_by (λ word. word.now) (codes " ") words
 topic_joined [] = refl
 topic_joined (word ∷ words) = ap (λ rest. word.now ++ rest) (rest_joined words)
+
+-- ---- the files of a check
+
+pub files_are : (f : Found) (given : Option (Bor (List (Bor Text))))
+    → option_map (λ s. map (λ word. word.now) s.now) given ≡ option_map raw_values (matched_of f (codes "FILE")) → row_files (rows_of f) ≡ texts_in given
+files_are f given e = ap (λ o. unwrap_or o []) (sym (e ∙ raw_values-rows f (codes "FILE")))

@@ -15,7 +15,7 @@ use Rattle.clap.specs.declared.builder.value_parser.ValueParser.TheVariants as v
 use Rattle.clap.specs.declared.error.Error.{Error}
 use Rattle.clap.specs.declared.error.kind.ErrorKind.{ErrorKind}
 use Rattle.clap.specs.declared.error.kind.ErrorKind.TheVariants as kind
-use Rattle.pascal_cli.specs.Command.{Limits, Request, Work, are_digits, compile, default_limits, explain, go, go_standard_input, image_name, list, run, source_name, topic_of}
+use Rattle.pascal_cli.specs.Command.{Limits, Request, Work, are_digits, check, compile, default_limits, explain, go, go_standard_input, image_name, list, run, source_name, topic_of}
 use Rattle.pascal_cli.specs.declared.job.CommandFault.{CommandFault}
 use Rattle.pascal_cli.specs.declared.job.CommandFault.TheVariants as fault
 
@@ -42,6 +42,10 @@ path_rule name = record (new_rule name) { required = true }
 -- words, of which there may be none
 abbrev pub words_rule : Rule
 words_rule = record (new_rule (codes "WORD")) { action = Some Append }
+
+-- paths, of which there is at least one
+abbrev pub files_rule : Rule
+files_rule = record (new_rule (codes "FILE")) { action = Some Append; required = true }
 
 -- an option that takes a number
 abbrev pub limit_rule : Text → Text → Rule
@@ -79,11 +83,14 @@ go_app = limited (with_rule (new_app (codes "go")) (path_rule (codes "SRC")))
 abbrev pub explain_app : App
 explain_app = with_rule (new_app (codes "explain")) words_rule
 
+abbrev pub check_app : App
+check_app = with_rule (new_app (codes "check")) files_rule
+
 -- the program, whose words begin after its name
 abbrev pub pascal_app : App
-pascal_app = with_subcommand (with_subcommand (with_subcommand (with_subcommand (with_subcommand
+pascal_app = with_subcommand (with_subcommand (with_subcommand (with_subcommand (with_subcommand (with_subcommand
     (on_top (λ shape. record shape { no_binary_name = true }) (new_app (codes "pascal")))
-    compile_app.top) list_app.top) run_app.top) go_app.top) explain_app.top
+    compile_app.top) list_app.top) run_app.top) go_app.top) explain_app.top) check_app.top
 
 -- ---- what the rows of a parse ask for
 
@@ -94,6 +101,10 @@ row_path name rows = unwrap_or (first_of name rows) []
 abbrev pub row_words : List Row → List Text
 row_words rows = unwrap_or (all_of (codes "WORD") rows) []
 
+-- the paths of a command that takes several
+abbrev pub row_files : List Row → List Text
+row_files rows = unwrap_or (all_of (codes "FILE") rows) []
+
 -- the work of a command's name and rows
 abbrev pub row_work : Text → List Row → Work
 row_work name rows =
@@ -101,6 +112,7 @@ row_work name rows =
     else if bytes_eq name (codes "list") then list (row_path source_name rows)
     else if bytes_eq name (codes "run") then run (row_path image_name rows)
     else if bytes_eq name (codes "explain") then explain (topic_of (row_words rows))
+    else if bytes_eq name (codes "check") then check (row_files rows)
     else go (row_path source_name rows)
 
 abbrev pub whole : Text → ℕ

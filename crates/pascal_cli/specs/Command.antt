@@ -1,6 +1,6 @@
 -- What the words of the command line ask for, and which words ask for nothing.
 use Rattle.std.specs.Prelude.{◌++◌, ◌&&◌, ◌||◌, ℕ, Bool, true, false, not, pos, List, [], ◌∷◌, Option, Some, None, is_some, if◌then◌else◌}
-use Rattle.std.specs.Prelude.{codes, find, slice_get, option_map, option_and_then, string_bytes}
+use Rattle.std.specs.Prelude.{codes, find, map, slice_get, option_map, option_and_then, string_bytes}
 use Rattle.std.specs.Option.{option_map_or}
 use Rattle.std.specs.Char.{is_ascii_digit}
 use Rattle.std.specs.List.{join_by, list_all, list_any}
@@ -18,7 +18,7 @@ abbrev pub Text : Type 0
 Text = List ℕ
 
 -- to compile a source to an image, to compile a source and list its image, to run an image, to compile a source and run it, to do so with standard input,
--- or to show the pages that a text asks for
+-- to show the pages that a text asks for, or to check sources
 pub data Work : Type 0 where
   compile : Text → Text → Work
   list : Text → Work
@@ -26,6 +26,7 @@ pub data Work : Type 0 where
   go : Text → Work
   go_standard_input : Work
   explain : Text → Work
+  check : List Text → Work
 
 -- the bytes of the stack and of the heap, and the steps that a run may make
 pub record Limits : Type 0 where
@@ -189,7 +190,7 @@ run_request words = option_and_then run_given (read limit_names (image_name ∷ 
 abbrev pub go_request : List Text → Option Request
 go_request words = option_and_then go_given (read limit_names (source_name ∷ []) None [] words)
 
--- The words after `explain`. A word with a hyphen before it is one only behind `--`, which is none.
+-- The words after `explain` or `check`. A word with a hyphen before it is one only behind `--`, which is none.
 abbrev pub topic_words : List Text → Option (List Text)
 topic_words [] = Some []
 topic_words (word ∷ rest) =
@@ -208,6 +209,18 @@ explain_request words = option_map (λ topic. record {
   limits = default_limits;
 }) (topic_words words)
 
+-- sources to check, of which there is at least one
+abbrev pub check_given : List Text → Option Request
+check_given [] = None
+check_given (file ∷ files) = Some (record {
+  work = check (file ∷ files);
+  limits = default_limits;
+})
+
+-- `check FILE..`, without its options
+abbrev pub check_request : List Text → Option Request
+check_request words = option_and_then check_given (topic_words words)
+
 -- the run of standard input
 abbrev pub standard_request : List Text → Option Request
 standard_request [] = Some (record { work = go_standard_input; limits = default_limits })
@@ -223,6 +236,7 @@ request_of (word ∷ rest) =
     else if bytes_eq (codes "run") word then run_request rest
     else if bytes_eq (codes "go") word then go_request rest
     else if bytes_eq (codes "explain") word then explain_request rest
+    else if bytes_eq (codes "check") word then check_request rest
     else if bytes_eq word (codes "--") then standard_request rest
     else None
 
@@ -235,6 +249,7 @@ work_of (task.Run image) = run image.now
 work_of (task.Go source) = go source.now
 work_of task.GoStandardInput = go_standard_input
 work_of (task.Explain topic) = explain (string_bytes topic)
+work_of (task.Check files) = check (map (λ file. file.now) files.items)
 
 -- the request that a job answers
 abbrev pub request_in : Job → Request

@@ -1,5 +1,5 @@
 -- What a job comes to, as its status tells.
-use Rattle.std.specs.Prelude.{◌≡◌, ◌⊎◌, ℕ, Bool, true, List, [], Result, Ok, Err}
+use Rattle.std.specs.Prelude.{◌≡◌, ◌⊎◌, ℕ, Bool, true, List, [], Result, Ok, Err, All, length}
 use Rattle.risc_machine.specs.Console.{World, one_more}
 use Rattle.risc_load.specs.declared.budget.Budget.{Budget}
 use Rattle.ps_build.specs.Goes.{IsGoRefused}
@@ -8,7 +8,7 @@ use Rattle.ps_build.specs.Listed.{IsListed}
 use Rattle.ps_build.specs.Runs.{IsRunRefused}
 use Rattle.ps_build.specs.declared.outcome.Outcome.{Outcome}
 use Rattle.ps_build.specs.declared.refusal.Refusal.{Refusal}
-use Rattle.pascal_cli.specs.Command.{Limits, Request, Work, compile, explain, go, go_standard_input, list, request_in, run}
+use Rattle.pascal_cli.specs.Command.{Limits, Request, Work, check, compile, explain, go, go_standard_input, list, request_in, run}
 use Rattle.pascal_cli.specs.Explain.{has_page}
 use Rattle.pascal_cli.specs.Report.{status_of}
 use Rattle.pascal_cli.specs.Runs.{GoesThrough, RunsThrough}
@@ -23,6 +23,14 @@ budget_of limits = record { stack = limits.stack; heap = limits.heap }
 -- the bytes are the image of a text
 abbrev pub IsBuilt : List ℕ → Type 0
 IsBuilt bytes = (text : List ℕ) × Compiles text bytes
+
+-- the text has an image
+abbrev pub IsAccepted : List ℕ → Type 0
+IsAccepted text = (bytes : List ℕ) × Compiles text bytes
+
+-- so many texts are accepted
+abbrev pub AreAccepted : ℕ → Type 0
+AreAccepted count = (texts : List (List ℕ)) × (length texts ≡ count) × All IsAccepted texts
 
 -- ---- runs within limits: the end that is told, or why there was no run
 
@@ -69,6 +77,7 @@ IsDone (run image) limits status = RanSomeImage limits status
 IsDone (go source) limits status = RanSomeText limits status
 IsDone go_standard_input limits status = RanSomeText limits status
 IsDone (explain topic) limits status = (status ≡ 0) × ((topic ≡ []) ⊎ (has_page topic ≡ true))
+IsDone (check files) limits status = (status ≡ 0) × AreAccepted (length files)
 
 -- the request was done, or it failed
 abbrev pub IsStatus : Request → ℕ → Type 0

@@ -1,5 +1,6 @@
 pub mod Ahead
 pub mod App
+pub mod Check
 pub mod Command
 pub mod Console
 pub mod Explain

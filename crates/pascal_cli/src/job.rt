@@ -5,7 +5,7 @@ ghost use Rattle.clap.specs.Kinds.{Kinds};
 ghost use Rattle.clap.specs.Simple.{App, new_app, with_rule, with_subcommand};
 ghost use Rattle.clap.specs.Walk.{Rule, first_of};
 ghost use Rattle.clap.specs.Words.{app_of, fault_of, found_of, one_of, rows_of, rule_of, subcommand_rows_of};
-ghost use Rattle.pascal_cli.specs.App.{HasLimits, IsArgument, IsCommand, IsLineOf, IsWithin, Makes, compile_app, explain_app, fault_in, found_digits, go_app, limit_rule, limited, list_app, pascal_app, path_rule, row_digits, row_path, row_request, row_words, row_work, budget_rule, run_app, steps_rule, whole, words_rule};
+ghost use Rattle.pascal_cli.specs.App.{HasLimits, IsArgument, IsCommand, IsLineOf, IsWithin, Makes, check_app, compile_app, explain_app, fault_in, files_rule, found_digits, go_app, limit_rule, limited, list_app, pascal_app, path_rule, row_digits, row_files, row_path, row_request, row_words, row_work, budget_rule, run_app, steps_rule, whole, words_rule};
 ghost use Rattle.pascal_cli.specs.Command.{are_digits, is_digits, is_line_fault, request_in, request_of, topic_of, work_of};
 ghost use Rattle.pascal_cli.specs.declared.job.CommandFault.TheVariants.{OutOfMemory};
 
@@ -25,6 +25,14 @@ const DEFAULT_HEAP: u32 = 1_048_576;
 
 const DEFAULT_STEPS: u64 = 1_000_000_000;
 
+// What help tells of `check` behind its arguments. Its options are taken out of the words before `clap` reads them.
+const CHECK_NOTES: &str = "More options:
+      --json         Write what is told as JSON, an object a line, to standard output
+      --first        Tell the first fault of a text alone
+      --no-warnings  Tell no warnings
+
+Example: pascal check hello.pas";
+
 /// What is asked for, with its paths.
 #[derive(Drop)]
 pub enum Task<'a> {
@@ -40,6 +48,8 @@ pub enum Task<'a> {
     GoStandardInput,
     /// Shows the pages that a text asks for, or their titles where it is empty.
     Explain { topic: String },
+    /// Tells of each of some sources whether it is accepted, and why it is not.
+    Check { files: Vec<&'a str> },
 }
 
 /// What the words of the command line ask for.
@@ -149,6 +159,18 @@ fn topic<'a>(alloc: Global) -> Arg<'a>
     Arg::new(alloc, "WORD").action(ArgAction::Append).help(help)
 }
 
+// The paths that `check` takes.
+fn files<'a>(alloc: Global) -> Arg<'a>
+    ensures rule { rule_of result ≡ files_rule }
+    ensures local { result.global ≡ false }
+{
+    let help = "The Pascal texts, or - for standard input";
+    Arg::new(alloc, "FILE")
+        .action(ArgAction::Append)
+        .required(true)
+        .help(help)
+}
+
 // A command with its first argument.
 fn command_with<'a>(
     alloc: Global,
@@ -242,6 +264,13 @@ fn explain_command<'a>(alloc: Global) -> Result<Command<'a>, AllocError>
     command_with(alloc, "explain", about, example, topic(alloc))
 }
 
+fn check_command<'a>(alloc: Global) -> Result<Command<'a>, AllocError>
+    ensures { Makes check_app result }
+{
+    let about = "Tells whether texts are accepted, and where they are not, why";
+    command_with(alloc, "check", about, CHECK_NOTES, files(alloc))
+}
+
 // Adds a subcommand, if there is one, to a command.
 fn add_subcommand<'a>(
     command: Command<'a>,
@@ -287,7 +316,8 @@ fn pascal<'a>(alloc: Global) -> Result<Command<'a>, AllocError>
     let pascal = with_subcommand(pascal, list_command(alloc));
     let pascal = with_subcommand(pascal, run_command(alloc));
     let pascal = with_subcommand(pascal, go_command(alloc));
-    with_subcommand(pascal, explain_command(alloc))
+    let pascal = with_subcommand(pascal, explain_command(alloc));
+    with_subcommand(pascal, check_command(alloc))
 }
 
 // A budget as it was given. `clap` has refused what lies outside the range.
@@ -334,6 +364,16 @@ fn topic_of(alloc: Global, matches: &ArgMatches<'_>) -> Result<String, AllocErro
     }
 }
 
+// The paths of a command that takes several.
+fn files_of<'a>(alloc: Global, matches: &ArgMatches<'a>) -> Result<Vec<&'a str>, AllocError>
+    ensures { IfOk result (λ files. map (λ file. file.now) files.items ≡ row_files (rows_of (found_of matches.now))) }
+{
+    match matches.get_strs("FILE") {
+        Some(files) => Vec::from_slice(alloc, files),
+        None => Ok(Vec::new(alloc)),
+    }
+}
+
 fn task_of<'a>(alloc: Global, name: &str, matches: &ArgMatches<'a>) -> Result<Task<'a>, AllocError>
     ensures { IfOk result (λ task. work_of task ≡ row_work name.now (rows_of (found_of matches.now))) }
 {
@@ -350,6 +390,9 @@ fn task_of<'a>(alloc: Global, name: &str, matches: &ArgMatches<'a>) -> Result<Ta
         },
         "explain" => Task::Explain {
             topic: topic_of(alloc, matches)?,
+        },
+        "check" => Task::Check {
+            files: files_of(alloc, matches)?,
         },
         _ => Task::Go {
             source: path_of(matches, "SRC"),

@@ -13,6 +13,8 @@ ghost use Rattle.pascal_cli.specs.Explain.{has_page};
 ghost use Rattle.pascal_cli.specs.Jobs.{IsBuilt, IsStatus, IsWritten, RanImage, RanText, budget_of, limits_in, status_of_write};
 ghost use Rattle.pascal_cli.specs.Transfers.{device_of, faults_of};
 
+use crate::check::Telling;
+use crate::checks::check;
 use crate::console::BlockConsole;
 use crate::explain::{pages_on, titles};
 use crate::image_file::{WriteFault, write_image};
@@ -40,7 +42,11 @@ const IMAGE_LIMIT: usize = LONGEST_IMAGE + 1;
 const STANDARD_INPUT_FILE: &str = "/dev/stdin";
 
 /// Does a job, and gives the program's status.
-pub(crate) fn do_job<R: Files + Print + Eprint + Input + AllocGlobal>(rt: &R, job: &Job<'_>) -> u8
+pub(crate) fn do_job<R: Files + Print + Eprint + Input + AllocGlobal>(
+    rt: &R,
+    job: &Job<'_>,
+    telling: Telling,
+) -> u8
     ensures { IsStatus (request_in job.now) result }
 {
     match &job.task {
@@ -50,6 +56,7 @@ pub(crate) fn do_job<R: Files + Print + Eprint + Input + AllocGlobal>(rt: &R, jo
         Task::Go { source } => go_file(rt, job, source),
         Task::GoStandardInput => go_standard_input(rt, job),
         Task::Explain { topic } => explain(rt, job, topic.as_str()),
+        Task::Check { files } => check(rt, job, files.as_slice(), telling),
     }
 }
 
@@ -174,7 +181,7 @@ fn print_listing<R: Print + Eprint>(rt: &R, built: &Built, listing: &str) -> u8
 }
 
 // Writes to standard output, and gives the status of that.
-fn print_all<R: Print + Eprint>(rt: &R, bytes: &[u8]) -> u8
+pub(crate) fn print_all<R: Print + Eprint>(rt: &R, bytes: &[u8]) -> u8
     ensures { result ≤ FAILED }
 {
     put_told(

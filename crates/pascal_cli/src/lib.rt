@@ -2,6 +2,8 @@
 #![tactic(auto)]
 
 mod ahead;
+mod check;
+mod checks;
 mod console;
 mod counted;
 mod explain;

@@ -8,11 +8,13 @@ ghost use Rattle.std.specs.Str.{bytes_eq};
 ghost use Rattle.clap.specs.Faults.{fault_of};
 ghost use Rattle.clap.specs.Values.{kind_of};
 ghost use Rattle.pascal_cli.specs.App.{pascal_app};
+ghost use Rattle.pascal_cli.specs.Check.{plain_words};
 ghost use Rattle.pascal_cli.specs.Command.{Request, request_in, request_of};
 ghost use Rattle.pascal_cli.specs.Jobs.{IsStatus};
 ghost use Rattle.pascal_cli.specs.Report.{status_of};
 ghost use Rattle.pascal_cli.specs.Session.{IsFrontOf, IsHelp, asks_version, is_help};
 
+use crate::check::{Telling, plain_words, telling_of};
 use crate::job::{CommandFault, Job, MAX_BUDGET, MAX_STEPS, NumberFault, command};
 use crate::jobs::do_job;
 use crate::report::{lines_of, status};
@@ -76,7 +78,7 @@ fn words_of<R: Env + AllocGlobal>(rt: &R) -> io::Result<Vec<String>> {
 
 // Does what words ask for.
 fn run_words<R: Files + Print + Eprint + Input + Env + AllocGlobal>(rt: &R, words: &[String]) -> u8
-    ensures { (request : Request) → request_of (map string_bytes words.now) ≡ Some request → IsStatus request result }
+    ensures { (request : Request) → request_of (plain_words (map string_bytes words.now)) ≡ Some request → IsStatus request result }
 {
     match texts(rt, words) {
         Ok(texts) => run_texts(rt, &texts),
@@ -103,13 +105,27 @@ fn texts_of<'a>(alloc: Global, words: &'a [String]) -> Result<Vec<&'a str>, Allo
 
 // Does what texts ask for.
 fn run_texts<R: Files + Print + Eprint + Input + Env + AllocGlobal>(rt: &R, texts: &[&str]) -> u8
-    ensures { (request : Request) → request_of (map (λ text. text.now) texts.now) ≡ Some request → IsStatus request result }
+    ensures { (request : Request) → request_of (plain_words (map (λ text. text.now) texts.now)) ≡ Some request → IsStatus request result }
 {
     if asks_version(texts) {
         return tell_version(rt);
     }
+    match plain_words(rt.alloc(), texts) {
+        Ok(plain) => run_plain(rt, &plain, telling_of(texts)),
+        Err(_) => out_of_memory(rt),
+    }
+}
+
+// Does what texts ask for that have no options of `check`, and tells of texts as it is wanted.
+fn run_plain<R: Files + Print + Eprint + Input + Env + AllocGlobal>(
+    rt: &R,
+    texts: &[&str],
+    telling: Telling,
+) -> u8
+    ensures { (request : Request) → request_of (map (λ text. text.now) texts.now) ≡ Some request → IsStatus request result }
+{
     match asked(rt, texts) {
-        Ok(job) => do_job(rt, &job),
+        Ok(job) => do_job(rt, &job, telling),
         Err(status) => status,
     }
 }

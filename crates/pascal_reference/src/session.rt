@@ -87,7 +87,11 @@ fn read_task<R: Files + Eprint + Input + AllocGlobal>(
             text: read_standard_input(rt, TEXT_LIMIT)?,
             input: Vec::new(rt.alloc()),
         }),
-        Task::Compile { .. } | Task::List { .. } | Task::Run { .. } | Task::Explain { .. } => {
+        Task::Compile { .. }
+        | Task::List { .. }
+        | Task::Run { .. }
+        | Task::Explain { .. }
+        | Task::Check { .. } => {
             let _ = eprintln!(rt; "pascal_reference has no images: it runs a text by `go`");
             Err(FAILED)
         }

@@ -1,8 +1,9 @@
 //! Which kinds of tokens could stand at a place.
 
-ghost use Rattle.std.specs.Prelude.{◌<◌, ◌+◌, ◌^◌, ◌≡◌, length, All, IfOk, OnOk};
+ghost use Rattle.std.specs.Prelude.{◌<◌, ◌+◌, ◌^◌, ◌≡◌, List, [], ◌∷◌, ◌++◌, length, IfOk, OnOk};
 ghost use Rattle.ps_parse_grammar.specs.Symbols.{token};
-ghost use Rattle.ps_diagnose.specs.Begun.{Tells, CouldStand, nowhere, one_more};
+ghost use Rattle.ps_diagnose.specs.Begun.{Tells, Asked, Expects, nowhere, one_more};
+ghost use Rattle.ps_scan.specs.declared.token.Kind.{Kind};
 
 use crate::begun::{Answer, begins};
 use crate::kinds::ALL;
@@ -47,29 +48,32 @@ fn add_possible(
     kind: Kind,
 ) -> Result<(), AllocError>
     requires { length before.now + 1 < 2 ^ 32 }
-    ensures { OnOk result (All (CouldStand source.now before.now) kinds.old.items → All (CouldStand source.now before.now) kinds.new.items) }
+    ensures { (asked : List Kind) → OnOk result (Asked source.now before.now asked kinds.old.items
+        → Asked source.now before.now (asked ++ kind ∷ []) kinds.new.items) }
 {
     match could_stand(alloc, source, before, kind)? {
         Answer::Begun => {
             kinds.push(kind)?;
             Ok(())
         }
-        Answer::NotBegun | Answer::Unknown => Ok(()),
+        Answer::NotBegun => Ok(()),
+        Answer::Unknown => Ok(()),
     }
 }
 
-/// The kinds of which a token could stand behind these of a text: with one more of that kind they begin a program.
+/// The kinds of which a token could stand behind these of a text: with one more of such a kind they begin a program, and
+/// with one of any other they don't. (Where one lies too deep in them, no kind is given.)
 pub fn expected_at(
     alloc: Global,
     source: &Source,
     before: &[Token],
 ) -> Result<Vec<Kind>, AllocError>
     requires { length before.now + 1 < 2 ^ 32 }
-    ensures { IfOk result (λ kinds. All (CouldStand source.now before.now) kinds.items) }
+    ensures { IfOk result (λ kinds. Expects source.now before.now kinds.items) }
 {
     let mut kinds = Vec::new(alloc);
-    for kind in ALL {
-        add_possible(alloc, source, before, &mut kinds, kind)?;
+    for at in 0..ALL.len() {
+        add_possible(alloc, source, before, &mut kinds, ALL[at])?;
     }
     Ok(kinds)
 }

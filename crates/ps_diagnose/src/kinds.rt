@@ -138,7 +138,7 @@ fn sign_of(kind: Kind) -> Option<&'static str> {
 }
 
 /// How tokens of a kind are written, where all are written alike: neither names, numbers nor strings are.
-pub(crate) fn written(kind: Kind) -> Option<&'static str> {
+pub fn written(kind: Kind) -> Option<&'static str> {
     match word_of(kind) {
         Some(word) => Some(word),
         None => sign_of(kind),

@@ -3,6 +3,7 @@
 
 mod begun;
 mod changes;
+mod draft;
 mod expected;
 mod groups;
 mod kinds;
@@ -10,6 +11,8 @@ mod near;
 
 pub use begun::{Answer, begins};
 pub use changes::changed;
+pub use draft::{Draft, Fault, Trial};
 pub use expected::{could_stand, expected_at};
 pub use groups::grouped;
+pub use kinds::written;
 pub use near::nearest;

@@ -1,7 +1,7 @@
 use Rattle.std.proofs.Common.{◌∙◌, ap, codes, true}
 use Rattle.std.proofs.lemmas.Result.{IfOk-weaker}
 use Rattle.clap.specs.Simple.{App, app_of_fields, new_app, on_top}
-use Rattle.pascal_cli.specs.App.{IsCommand, compile_app, explain_app, go_app, list_app, run_app}
+use Rattle.pascal_cli.specs.App.{IsCommand, check_app, compile_app, explain_app, go_app, list_app, run_app}
 use Rattle.pascal_cli.proofs.job.pascal.Goals as goal
 
 abbrev nameless : App → App
@@ -17,4 +17,5 @@ returns c =
     let with_list = c.with_subcommand-pascal-2.ensures _ list_app with_compile c.list_command.ensures in
     let with_run = c.with_subcommand-pascal-3.ensures _ run_app with_list c.run_command.ensures in
     let with_go = c.with_subcommand-pascal-4.ensures _ go_app with_run c.go_command.ensures in
-    IfOk-weaker c.with_subcommand.result _ _ (λ r h. h.0) (c.with_subcommand.ensures _ explain_app with_go c.explain_command.ensures)
+    let with_explain = c.with_subcommand-pascal-5.ensures _ explain_app with_go c.explain_command.ensures in
+    IfOk-weaker c.with_subcommand.result _ _ (λ r h. h.0) (c.with_subcommand.ensures _ check_app with_explain c.check_command.ensures)

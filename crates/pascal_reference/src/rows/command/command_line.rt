@@ -16,6 +16,17 @@ fn put_task(line: &mut Line, task: &Task<'_>) {
         Task::List { source } => put_named(line, "list ", *source),
         Task::Run { image } => put_named(line, "run ", *image),
         Task::Explain { topic } => put_named(line, "explain ", topic.as_str()),
+        Task::Check { files } => {
+            line.word("check");
+            put_files(line, files.as_slice());
+        }
+    }
+}
+
+/// Puts the names of files, with a space before each.
+fn put_files(line: &mut Line, files: &[&str]) {
+    for file in files.iter() {
+        put_named(line, " ", *file);
     }
 }
 

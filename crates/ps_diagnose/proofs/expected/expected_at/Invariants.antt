@@ -1,6 +1,8 @@
-use Rattle.std.specs.Prelude.{All}
-use Rattle.ps_diagnose.specs.Begun.{CouldStand}
+use Rattle.std.proofs.Common.{take}
+use Rattle.ps_diagnose.specs.Begun.{Asked}
+use Rattle.ps_diagnose.specs.declared.kinds.TheConstants.{ALL}
 use Rattle.ps_diagnose.proofs.expected.expected_at.Given as goal
 
-abbrev pub invariant-loop-kind : goal.invariant-loop-kind
-invariant-loop-kind l = All (CouldStand l.source l.before) l.kinds.items
+-- the kinds so far were asked about
+abbrev pub invariant-loop-at : goal.invariant-loop-at
+invariant-loop-at l = Asked l.source l.before (take l.at ALL) l.kinds.items

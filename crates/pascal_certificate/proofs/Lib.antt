@@ -1,0 +1,4 @@
+mod Holding
+mod Lines
+mod Readings
+pub mod Sealing

@@ -1,0 +1,28 @@
+-- What comes of a source and an image beside the values of a certificate.
+use Rattle.std.specs.Prelude.{◌≡◌, ◌==◌, ◌&&◌, ℕ, Bool, List, length, map, true}
+use Rattle.pascal_certificate.specs.Facts.{Text, facts}
+use Rattle.pascal_certificate.specs.Form.{Certifies, IsCertificate}
+use Rattle.pascal_certificate.specs.Sealed.{IsSeal, sealed_values}
+use Rattle.pascal_certificate.specs.Differences.{Difference, differences}
+use Rattle.pascal_certificate.specs.Verdict.{verdict_text}
+use Rattle.pascal_certificate.specs.declared.comparison.Comparison.{Comparison}
+use Rattle.pascal_certificate.specs.declared.comparison.Found.{Found}
+use Rattle.pascal_certificate.specs.declared.verdict.Names.{Names}
+
+-- the facts that are not as these values have them
+abbrev pub differing : List Text → Found → List Difference
+differing olds found = differences facts olds (sealed_values found.source.now found.image.now (map (λ value. value.now) found.maker.now))
+
+-- each fact that differs is told
+abbrev pub IsTold : Names → List Text → Found → Comparison → Type 0
+IsTold names olds found comparison = comparison.told.items ≡ verdict_text names (differing olds found) found.is_built
+
+-- it holds where no fact differs and the image is that of the source
+abbrev pub holds : List Text → Found → Bool
+holds olds found = found.is_built && (length (differing olds found) == 0)
+
+-- the certificate that holds is that of the source and the image
+abbrev pub CertifiesFound : List Text → Found → Comparison → Type 0
+CertifiesFound olds found comparison =
+    (source image : List ℕ) (text : Text) → IsSeal source found.source.now → IsSeal image found.image.now → IsCertificate text olds → comparison.holds ≡ true
+    → Certifies source image text

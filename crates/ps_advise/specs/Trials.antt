@@ -1,0 +1,35 @@
+-- What is told of texts, and of those that changes make: what the front end says.
+use Rattle.std.specs.Prelude.{◌≡◌, ℕ, Bool, true, false, List, unwrap_or}
+use Rattle.ps_build.specs.Accepts.{IsAccepted, IsRefused}
+use Rattle.ps_build.specs.Headline.{Compiles}
+use Rattle.ps_build.specs.Refusals.{line_of}
+use Rattle.ps_build.specs.declared.refusal.Refusal.{Refusal}
+use Rattle.ps_diagnose.specs.Changes.{changed_from}
+use Rattle.ps_diagnostic.specs.declared.Mend.{Mend}
+use Rattle.ps_diagnostic.specs.declared.Outcome.{Outcome}
+use Rattle.ps_diagnostic.specs.declared.Outcome.TheVariants as outcome
+use Rattle.ps_advise.specs.declared.answer.Advice.{Advice}
+use Rattle.ps_advise.specs.declared.trial.Verdict.{Verdict}
+use Rattle.ps_advise.specs.declared.trial.Verdict.TheVariants.{Accepted, Refused}
+
+-- what a verdict says of a text
+abbrev pub Says : List ℕ → Verdict → Type 0
+Says text Accepted = IsAccepted text
+Says text (Refused refusal) = IsRefused text refusal
+
+-- what an outcome tells of the text that was tried: that it is accepted, or the line at which it is refused
+abbrev pub Tells : List ℕ → Outcome → Type 0
+Tells text outcome.Accepted = IsAccepted text
+Tells text (outcome.FaultAt line) = (refusal : Refusal) × IsRefused text refusal × (line ≡ unwrap_or (line_of refusal) 0)
+
+-- what a mend tells of a text is so of the one that it makes of it
+abbrev pub IsMendOf : List ℕ → Mend → Type 0
+IsMendOf text mend = Tells (changed_from text 0 mend.edits.items) mend.outcome
+
+-- the text has an image, or it is refused
+abbrev pub IsTold : List ℕ → Bool → Type 0
+IsTold text true = (bytes : List ℕ) × Compiles text bytes
+IsTold text false = (refusal : Refusal) × IsRefused text refusal
+
+abbrev pub IsAdviceOn : List ℕ → Advice → Type 0
+IsAdviceOn text advice = IsTold text advice.is_accepted

@@ -1,0 +1,138 @@
+//! A text without some of its statements, which stand there as blanks: what is behind them keeps its place.
+
+use ps_diagnostic::Edit;
+use ps_scan::{Kind, Token};
+use ps_text::Span;
+use std::alloc::{AllocError, Global};
+
+// Whether a statement can begin behind a token of a kind.
+fn is_starter(kind: Kind) -> bool {
+    matches!(
+        kind,
+        Kind::Semicolon | Kind::Begin | Kind::Then | Kind::Else | Kind::Do | Kind::Repeat | Kind::Of
+    )
+}
+
+// The number of the token at which a statement begins, from the tokens before a place within it.
+fn start_of(before: &[Token]) -> usize {
+    let mut depth: u32 = 0;
+    let mut repeats: u32 = 0;
+    let mut colon = None;
+    for (at, token) in before.iter().enumerate().rev() {
+        match token.kind {
+            Kind::Until => repeats = repeats.saturating_add(1),
+            Kind::Repeat if repeats > 0 => repeats = repeats.saturating_sub(1),
+            _ if repeats > 0 => (),
+            Kind::RightParen | Kind::RightBracket => depth = depth.saturating_add(1),
+            Kind::LeftParen | Kind::LeftBracket if depth > 0 => depth = depth.saturating_sub(1),
+            Kind::LeftParen | Kind::LeftBracket => colon = None,
+            Kind::Colon if depth == 0 && colon.is_none() => colon = Some(at),
+            kind if is_starter(kind) => return colon.unwrap_or(at).saturating_add(1),
+            _ => (),
+        }
+    }
+    0
+}
+
+// How a statement goes on: the constructions in it that need an end, and those of its `if`s that have no `else` yet.
+#[derive(Clone, Copy)]
+struct Within {
+    depth: u32,
+    ifs: u32,
+}
+
+impl Within {
+    // Whether a token ends the statement; else it is of it.
+    fn is_ended_by(&mut self, kind: Kind) -> bool {
+        match kind {
+            Kind::Begin | Kind::Case | Kind::Repeat => self.depth = self.depth.saturating_add(1),
+            Kind::End | Kind::Until if self.depth == 0 => return true,
+            Kind::End | Kind::Until => self.depth = self.depth.saturating_sub(1),
+            _ if self.depth > 0 => (),
+            Kind::Semicolon => return true,
+            Kind::Else if self.ifs == 0 => return true,
+            Kind::Else => self.ifs = self.ifs.saturating_sub(1),
+            Kind::If => self.ifs = self.ifs.saturating_add(1),
+            _ => (),
+        }
+        false
+    }
+}
+
+// How many tokens a statement has that they begin with.
+fn length_of(tokens: &[Token]) -> usize {
+    let mut within = Within { depth: 0, ifs: 0 };
+    for (count, token) in tokens.iter().enumerate() {
+        if within.is_ended_by(token.kind) {
+            return count;
+        }
+    }
+    tokens.len()
+}
+
+/// The number of the `case` in which the token of a number stands as a constant.
+pub(crate) fn case_around(tokens: &[Token], at: usize) -> Option<usize> {
+    let (before, _) = tokens.split_at(at.min(tokens.len()));
+    let mut ends: u32 = 0;
+    for (number, token) in before.iter().enumerate().rev() {
+        match token.kind {
+            Kind::End => ends = ends.saturating_add(1),
+            Kind::Begin | Kind::Case if ends > 0 => ends = ends.saturating_sub(1),
+            Kind::Case => return Some(number),
+            _ => (),
+        }
+    }
+    None
+}
+
+/// Whether the token of a number stands among statements.
+pub(crate) fn is_in_statements(tokens: &[Token], at: usize) -> bool {
+    let mut depth: u32 = 0;
+    let mut records: u32 = 0;
+    for token in tokens.iter().take(at) {
+        match token.kind {
+            Kind::Record => records = records.saturating_add(1),
+            Kind::End if records > 0 => records = records.saturating_sub(1),
+            _ if records > 0 => (),
+            Kind::Begin | Kind::Case => depth = depth.saturating_add(1),
+            Kind::End => depth = depth.saturating_sub(1),
+            _ => (),
+        }
+    }
+    depth > 0
+}
+
+/// The span of the smallest statement around the token of a number, which stands among statements.
+pub(crate) fn statement_around(tokens: &[Token], at: usize) -> Option<Span> {
+    let (before, _) = tokens.split_at(at.min(tokens.len()));
+    let start = start_of(before);
+    let (_, rest) = tokens.split_at(start.min(tokens.len()));
+    let length = length_of(rest);
+    let (first, last) = (rest.first()?, rest.get(length.checked_sub(1)?)?);
+    Some(Span {
+        from: first.span.from,
+        to: last.span.to,
+    })
+}
+
+/// Puts the ends of lines that stand among bytes.
+pub(crate) fn put_ends_of_lines(out: &mut String, bytes: &[u8]) -> Result<(), AllocError> {
+    for byte in bytes.iter() {
+        if *byte == b'\n' {
+            out.push('\n')?;
+        }
+    }
+    Ok(())
+}
+
+/// An edit that puts blanks where a span stands, and keeps the ends of lines.
+pub(crate) fn blanked(alloc: Global, text: &[u8], span: Span) -> Result<Edit, AllocError> {
+    let mut put = String::new(alloc);
+    let bytes = text
+        .get(span.from as usize..span.to as usize)
+        .unwrap_or(&[]);
+    for byte in bytes.iter() {
+        put.push(if *byte == b'\n' { '\n' } else { ' ' })?;
+    }
+    Ok(Edit { span, put })
+}

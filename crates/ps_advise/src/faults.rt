@@ -1,0 +1,224 @@
+//! What is told of one refusal.
+
+use crate::budget::Budget;
+use crate::candidates::Change;
+use crate::drafts::{draft_of, is_plain, tell_missing};
+use crate::mends::{Faulty, Found, Graded, best_of, is_meant, mends_of, nearest_mend};
+use crate::possible::{Around, around_place, expected};
+use crate::routines::{function_of, routine_around};
+use crate::steps::step_of;
+use ps_build::{ParseFault, Refusal, Rule};
+use ps_diagnose::{Draft, Fault, Trial};
+use ps_diagnostic::{Diagnostic, Edit, Expected, Mend, Severity};
+use ps_scan::Kind;
+use ps_text::Span;
+use std::alloc::{AllocError, Global};
+use std::mem;
+
+/// What is told of a refusal, and the edits behind which the text is looked at further: none where it isn't.
+#[derive(Drop)]
+pub(crate) struct Told {
+    pub(crate) diagnostic: Diagnostic,
+    pub(crate) step: Vec<Edit>,
+    /// Where the routine begins in whose block it is, or which it tells.
+    pub(crate) home: u32,
+}
+
+// Whether a refusal tells a token that no program has there.
+fn is_of_grammar(refusal: Refusal) -> bool {
+    match refusal {
+        Refusal::Parse { fault, .. } => matches!(fault, ParseFault::NotAProgram),
+        _ => false,
+    }
+}
+
+// Whether the text is accepted with one of the mends.
+fn has_accepted(mends: &[Graded]) -> bool {
+    for mend in mends.iter() {
+        if mend.reach == u32::MAX {
+            return true;
+        }
+    }
+    false
+}
+
+// The kind of a token that is put right before the place.
+fn missing_kind(found: &Option<Found>, at: usize) -> Option<Kind> {
+    match found {
+        Some(found) => match found.candidate.change {
+            Change::PutIn(kind) if found.candidate.at == at => Some(kind),
+            _ => None,
+        },
+        None => None,
+    }
+}
+
+// What is told, and the mends that were found.
+#[derive(Drop)]
+struct Drafted {
+    draft: Draft,
+    mends: Vec<Graded>,
+}
+
+// Takes a change of one token in beside the trials of a draft: where no reason is known, or the text is accepted with it alone.
+fn take_in(drafted: &mut Drafted, found: Option<Found>) -> Result<(), AllocError> {
+    if let Some(found) = found
+        && (found.mend.reach == u32::MAX || is_plain(&drafted.draft))
+    {
+        drafted.mends.push(found.mend)?;
+    }
+    Ok(())
+}
+
+// The draft of a fault, and those of its trials that lead further.
+fn drafted_by_reason(
+    alloc: Global,
+    faulty: Faulty<'_>,
+    fault: &Fault<'_>,
+    budget: &mut Budget,
+) -> Result<Drafted, AllocError> {
+    let mut draft = draft_of(alloc, fault)?;
+    let trials: Vec<Trial> = mem::replace(&mut draft.trials, Vec::new(alloc));
+    let mends = mends_of(alloc, faulty, trials, budget)?;
+    Ok(Drafted { draft, mends })
+}
+
+// The draft of a fault of the grammar, and its mends.
+fn drafted_by_grammar(
+    alloc: Global,
+    faulty: Faulty<'_>,
+    fault: &Fault<'_>,
+    around: &Option<Around>,
+    budget: &mut Budget,
+) -> Result<Drafted, AllocError> {
+    let mut drafted = drafted_by_reason(alloc, faulty, fault, budget)?;
+    let Some(around) = around else {
+        return Ok(drafted);
+    };
+    if has_accepted(drafted.mends.as_slice()) {
+        return Ok(drafted);
+    }
+    let found = nearest_mend(alloc, faulty, around, budget)?;
+    let missing = missing_kind(&found, faulty.at);
+    take_in(&mut drafted, found)?;
+    if let Some(kind) = missing
+        && is_plain(&drafted.draft)
+    {
+        tell_missing(alloc, fault, kind, &mut drafted.draft)?;
+    }
+    Ok(drafted)
+}
+
+// Puts together what is told.
+fn diagnostic_of(
+    refusal: Refusal,
+    place: Span,
+    draft: Draft,
+    mends: Vec<Mend>,
+    expected: Vec<Expected>,
+) -> Diagnostic {
+    let Draft {
+        text,
+        labels,
+        expects: _,
+        trials,
+        notes,
+        helps,
+    } = draft;
+    drop(trials);
+    Diagnostic {
+        severity: Severity::Error,
+        number: refusal.number(),
+        name: refusal.name(),
+        text,
+        place: Some(place),
+        labels,
+        expected,
+        mends,
+        notes,
+        helps,
+    }
+}
+
+// Where the routine begins in whose block the place is, or which is told there; no offset of the text where it is of the program's.
+fn home_of(alloc: Global, faulty: Faulty<'_>) -> Result<u32, AllocError> {
+    let word = match faulty.refusal {
+        Refusal::Check {
+            rule: Rule::NoResultAssigned,
+            ..
+        } => function_of(faulty.tokens, faulty.at),
+        _ => routine_around(alloc, faulty.tokens, faulty.at)?,
+    };
+    Ok(match word {
+        Some(word) => faulty
+            .tokens
+            .get(word)
+            .map_or(u32::MAX, |token| token.span.from),
+        None => u32::MAX,
+    })
+}
+
+// What is told of a fault of the grammar.
+fn told_by_grammar(
+    alloc: Global,
+    faulty: Faulty<'_>,
+    fault: &Fault<'_>,
+    budget: &mut Budget,
+) -> Result<Told, AllocError> {
+    let around = around_place(alloc, faulty.source.bytes(), faulty.tokens, faulty.at)?;
+    let Drafted { draft, mends } = drafted_by_grammar(alloc, faulty, fault, &around, budget)?;
+    let is_meant = is_meant(mends.as_slice());
+    let mends = best_of(alloc, mends)?;
+    let step = if is_meant {
+        step_of(alloc, faulty, mends.as_slice())?
+    } else {
+        Vec::new(alloc)
+    };
+    let expected = match &around {
+        Some(around) if draft.expects => expected(alloc, around)?,
+        _ => Vec::new(alloc),
+    };
+    Ok(Told {
+        diagnostic: diagnostic_of(faulty.refusal, fault.place, draft, mends, expected),
+        step,
+        home: home_of(alloc, faulty)?,
+    })
+}
+
+// What is told of another fault.
+fn told_by_reason(
+    alloc: Global,
+    faulty: Faulty<'_>,
+    fault: &Fault<'_>,
+    budget: &mut Budget,
+) -> Result<Told, AllocError> {
+    let Drafted { draft, mends } = drafted_by_reason(alloc, faulty, fault, budget)?;
+    let mends = best_of(alloc, mends)?;
+    let step = step_of(alloc, faulty, mends.as_slice())?;
+    let expected = Vec::new(alloc);
+    Ok(Told {
+        diagnostic: diagnostic_of(faulty.refusal, fault.place, draft, mends, expected),
+        step,
+        home: home_of(alloc, faulty)?,
+    })
+}
+
+/// What is told of a refusal that has a place.
+pub(crate) fn told_of_fault(
+    alloc: Global,
+    faulty: Faulty<'_>,
+    place: Span,
+    budget: &mut Budget,
+) -> Result<Told, AllocError> {
+    let fault = Fault {
+        source: faulty.source,
+        tokens: faulty.tokens,
+        number: faulty.refusal.number(),
+        place,
+    };
+    if is_of_grammar(faulty.refusal) {
+        told_by_grammar(alloc, faulty, &fault, budget)
+    } else {
+        told_by_reason(alloc, faulty, &fault, budget)
+    }
+}

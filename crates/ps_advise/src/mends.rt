@@ -1,0 +1,372 @@
+//! Mends: changes of a text that were tried, and lead further.
+
+ghost use Rattle.std.specs.Prelude.{◌≡◌, ℕ, List, IfOk, IfSome, unwrap_or};
+ghost use Rattle.ps_build.specs.Refusals.{line_of};
+ghost use Rattle.ps_diagnose.specs.Changes.{changed_from};
+ghost use Rattle.ps_advise.specs.Trials.{IsMendOf, Says, Tells};
+
+use crate::budget::Budget;
+use crate::candidates::{Candidate, Change, NEAREST, PUT_HERE, candidates_near, edit_of, reach_of};
+use crate::places::{piece, position};
+use crate::possible::Around;
+use crate::trial::{Verdict, tried};
+use ps_build::Refusal;
+use ps_diagnose::{Trial, written};
+use ps_diagnostic::{Edit, Mend, Outcome};
+use ps_scan::{Kind, Token};
+use ps_text::Source;
+use std::alloc::{AllocError, Global};
+
+// So many changes of one token are tried on the whole text.
+const MOST_TRIED: usize = 24;
+
+// So many tokens are parsed to choose among changes of one token.
+const MOST_TOKENS: usize = 100_000;
+
+// So many mends are told.
+const MOST_TOLD: usize = 2;
+
+/// A text that is refused at the token of a number.
+#[derive(Clone, Copy)]
+pub(crate) struct Faulty<'a> {
+    pub(crate) source: &'a Source<'a>,
+    pub(crate) tokens: &'a [Token],
+    pub(crate) at: usize,
+    pub(crate) refusal: Refusal,
+}
+
+/// A mend, and how good it is: how far it leads, and how far it lies from what was meant.
+#[derive(Drop)]
+pub(crate) struct Graded {
+    pub(crate) mend: Mend,
+    pub(crate) reach: u32,
+    pub(crate) cost: u32,
+}
+
+// The phase of the front end that tells a refusal.
+fn phase_of(refusal: Refusal) -> u32 {
+    match refusal {
+        Refusal::Scan { .. } => 1,
+        Refusal::Parse { .. } => 2,
+        Refusal::Check { .. } => 3,
+        _ => 0,
+    }
+}
+
+fn line_of(refusal: Refusal) -> u32
+    ensures { result ≡ unwrap_or (line_of refusal) 0 }
+{
+    refusal.line().unwrap_or(0)
+}
+
+// How far a text comes: a later phase is further than any line.
+fn reach_of_verdict(verdict: Verdict) -> u32 {
+    match verdict {
+        Verdict::Accepted => u32::MAX,
+        Verdict::Refused(refusal) => phase_of(refusal)
+            .saturating_mul(100_000)
+            .saturating_add(line_of(refusal)),
+    }
+}
+
+// Whether a refusal comes later than another one: in a later phase, or in a later line of the same one.
+fn is_further(verdict: Verdict, than: Refusal) -> bool {
+    reach_of_verdict(verdict) > reach_of_verdict(Verdict::Refused(than))
+}
+
+// What is told of a text that was tried.
+fn outcome_of(verdict: Verdict) -> Outcome
+    ensures { (text : List ℕ) → Says text verdict → Tells text result }
+{
+    match verdict {
+        Verdict::Accepted => Outcome::Accepted,
+        Verdict::Refused(refusal) => Outcome::FaultAt(line_of(refusal)),
+    }
+}
+
+// The mend of edits, by what the front end said of the text that they make.
+fn mend_of(source: &[u8], text: String, edits: Vec<Edit>, verdict: Verdict) -> Mend
+    requires { Says (changed_from source.now 0 edits.items) verdict }
+    ensures { IsMendOf source.now result }
+{
+    let _ = source;
+    Mend {
+        text,
+        edits,
+        outcome: outcome_of(verdict),
+    }
+}
+
+// Tries edits of a text that is refused, and keeps them if they lead further.
+fn tried_mend(
+    alloc: Global,
+    source: &[u8],
+    than: Refusal,
+    trial: Trial,
+) -> Result<Option<Graded>, AllocError>
+    ensures { IfOk result (λ found. IfSome found (λ graded. IsMendOf source.now graded.mend)) }
+{
+    let Trial { text, edits, cost } = trial;
+    let verdict = tried(alloc, source, edits.as_slice())?;
+    if !is_further(verdict, than) {
+        return Ok(None);
+    }
+    Ok(Some(Graded {
+        mend: mend_of(source, text, edits, verdict),
+        reach: reach_of_verdict(verdict),
+        cost,
+    }))
+}
+
+/// Those of some changes that lead further, as far as they may be tried.
+pub(crate) fn mends_of(
+    alloc: Global,
+    faulty: Faulty<'_>,
+    trials: Vec<Trial>,
+    budget: &mut Budget,
+) -> Result<Vec<Graded>, AllocError> {
+    let mut mends = Vec::new(alloc);
+    let source = faulty.source.bytes();
+    for trial in trials {
+        if budget.takes(source.len())
+            && let Some(mend) = tried_mend(alloc, source, faulty.refusal, trial)?
+        {
+            mends.push(mend)?;
+        }
+    }
+    Ok(mends)
+}
+
+// Tries edits of a text that is accepted, and keeps them if what they make is too.
+fn kept(alloc: Global, source: &[u8], trial: Trial) -> Result<Option<Mend>, AllocError>
+    ensures { IfOk result (λ found. IfSome found (λ mend. IsMendOf source.now mend)) }
+{
+    let Trial { text, edits, .. } = trial;
+    match tried(alloc, source, edits.as_slice())? {
+        Verdict::Accepted => Ok(Some(mend_of(source, text, edits, Verdict::Accepted))),
+        Verdict::Refused(_) => Ok(None),
+    }
+}
+
+/// Those of some changes of an accepted text with which it is accepted, as far as they may be tried.
+pub(crate) fn tried_mends(
+    alloc: Global,
+    source: &[u8],
+    trials: Vec<Trial>,
+    budget: &mut Budget,
+) -> Result<Vec<Mend>, AllocError> {
+    let mut mends = Vec::new(alloc);
+    for trial in trials {
+        if mends.len() < MOST_TOLD
+            && budget.takes(source.len())
+            && let Some(mend) = kept(alloc, source, trial)?
+        {
+            mends.push(mend)?;
+        }
+    }
+    Ok(mends)
+}
+
+// A change of one token, in words.
+fn words_of(alloc: Global, faulty: Faulty<'_>, candidate: Candidate) -> Result<String, AllocError> {
+    let text = faulty.source.bytes();
+    let token = faulty.tokens.get(candidate.at);
+    let (old, from) = match token {
+        Some(token) => (piece(text, token.span), token.span.from),
+        None => ("", 0),
+    };
+    match candidate.change {
+        Change::LeaveOut => {
+            let place = position(alloc, text, from)?;
+            format!(in alloc; "take away `{old}` at {place}")
+        }
+        Change::Exchange(kind) => {
+            let place = position(alloc, text, from)?;
+            let new = written(kind).unwrap_or("");
+            format!(in alloc; "write `{new}` for `{old}` at {place}")
+        }
+        Change::PutIn(kind) => words_of_put(alloc, faulty, candidate.at, kind),
+    }
+}
+
+// What is put in before a token, in words: behind the one before that.
+fn words_of_put(
+    alloc: Global,
+    faulty: Faulty<'_>,
+    at: usize,
+    kind: Kind,
+) -> Result<String, AllocError> {
+    let text = faulty.source.bytes();
+    let new = written(kind).unwrap_or("");
+    match at
+        .checked_sub(1)
+        .and_then(|before| faulty.tokens.get(before))
+    {
+        Some(token) => {
+            let old = piece(text, token.span);
+            let place = position(alloc, text, token.span.to)?;
+            format!(in alloc; "put `{new}` behind `{old}` at {place}")
+        }
+        None => format!(in alloc; "put `{new}` at 1:1"),
+    }
+}
+
+// Whether a line ends between a place and the token of a number behind it.
+fn is_lines_on(faulty: Faulty<'_>, around: &Around, reach: usize) -> bool {
+    let Some(behind) = reach.checked_sub(around.before.len()) else {
+        return false;
+    };
+    let last = faulty.at.saturating_add(behind);
+    let (Some(first), Some(last)) = (faulty.tokens.get(faulty.at), faulty.tokens.get(last)) else {
+        return behind > 0;
+    };
+    if behind >= around.behind.len() {
+        return behind > 0;
+    }
+    let between = faulty
+        .source
+        .bytes()
+        .get(first.span.from as usize..last.span.from as usize)
+        .unwrap_or(&[]);
+    between.contains(&b'\n')
+}
+
+/// A change of one token that leads further by its tokens, and how far.
+#[derive(Clone, Copy)]
+struct Hopeful {
+    candidate: Candidate,
+    reach: usize,
+}
+
+// Those of the changes of one token that lead to a later line, the furthest first.
+fn hopefuls_near(
+    alloc: Global,
+    faulty: Faulty<'_>,
+    around: &Around,
+) -> Result<Vec<Hopeful>, AllocError> {
+    let mut found = Vec::new(alloc);
+    let Ok(source) = Source::new(around.text.as_slice()) else {
+        return Ok(found);
+    };
+    let count = around.before.len().saturating_add(around.behind.len());
+    let most = MOST_TOKENS / count.max(1);
+    let candidates = candidates_near(alloc, faulty.tokens, faulty.at)?;
+    for candidate in candidates.iter().take(most) {
+        let reach = reach_of(alloc, &source, around, faulty.at, *candidate)?;
+        if is_lines_on(faulty, around, reach) {
+            found.push(Hopeful {
+                candidate: *candidate,
+                reach,
+            })?;
+        }
+    }
+    found.sort_by_key(|hopeful| usize::MAX.saturating_sub(hopeful.reach))?;
+    Ok(found)
+}
+
+/// The change of one token that leads furthest, and what came of it.
+#[derive(Drop)]
+pub(crate) struct Found {
+    pub(crate) mend: Graded,
+    pub(crate) candidate: Candidate,
+}
+
+// A change of one token, as it is tried.
+fn trial_of(alloc: Global, faulty: Faulty<'_>, candidate: Candidate) -> Result<Trial, AllocError> {
+    let mut edits = Vec::new(alloc);
+    edits.push(edit_of(alloc, faulty.tokens, candidate)?)?;
+    Ok(Trial {
+        text: words_of(alloc, faulty, candidate)?,
+        edits,
+        cost: candidate.cost,
+    })
+}
+
+// Tries a change of one token, if that may be.
+fn try_candidate(
+    alloc: Global,
+    faulty: Faulty<'_>,
+    candidate: Candidate,
+    budget: &mut Budget,
+) -> Result<Option<Graded>, AllocError> {
+    if !budget.takes(faulty.source.bytes().len()) {
+        return Ok(None);
+    }
+    let trial = trial_of(alloc, faulty, candidate)?;
+    let mend = tried_mend(alloc, faulty.source.bytes(), faulty.refusal, trial)?;
+    Ok(mend.filter(|graded| !is_doubtful(graded, candidate, faulty.refusal)))
+}
+
+// Whether a text with a change is refused still, and was more likely to be changed otherwise: its fault is in the line of the one before, or
+// only something was left out.
+fn is_doubtful(graded: &Graded, candidate: Candidate, before: Refusal) -> bool {
+    match graded.mend.outcome {
+        Outcome::FaultAt(line) => {
+            line == line_of(before) || matches!(candidate.change, Change::LeaveOut)
+        }
+        Outcome::Accepted => false,
+    }
+}
+
+// Whether a mend is better than what was found before.
+fn is_better(mend: &Graded, found: &Option<Found>) -> bool {
+    match found {
+        Some(found) => mend.reach > found.mend.reach,
+        None => true,
+    }
+}
+
+/// The change of one token near the place that leads furthest, as far as they may be tried: the nearest of those whose text is accepted.
+pub(crate) fn nearest_mend(
+    alloc: Global,
+    faulty: Faulty<'_>,
+    around: &Around,
+    budget: &mut Budget,
+) -> Result<Option<Found>, AllocError> {
+    let mut found = None;
+    let hopefuls = hopefuls_near(alloc, faulty, around)?;
+    for hopeful in hopefuls.iter().take(MOST_TRIED) {
+        let candidate = hopeful.candidate;
+        if let Some(mend) = try_candidate(alloc, faulty, candidate, budget)?
+            && is_better(&mend, &found)
+        {
+            let is_best = mend.reach == u32::MAX;
+            found = Some(Found { mend, candidate });
+            if is_best {
+                break;
+            }
+        }
+    }
+    Ok(found)
+}
+
+/// Whether the best of some mends is surely what was meant, so that the faults behind it are those of the text: a reason tells it, or it puts
+/// in what is missing at the place.
+pub(crate) fn is_meant(mends: &[Graded]) -> bool {
+    let mut reach: u32 = 0;
+    let mut cost: u32 = u32::MAX;
+    for mend in mends.iter() {
+        if mend.reach > reach || (mend.reach == reach && mend.cost < cost) {
+            reach = mend.reach;
+            cost = mend.cost;
+        }
+    }
+    cost < NEAREST || cost == PUT_HERE
+}
+
+/// The best of some mends, as they are told: with one of which the text is accepted none of another kind.
+pub(crate) fn best_of(alloc: Global, mut mends: Vec<Graded>) -> Result<Vec<Mend>, AllocError> {
+    mends.sort_by_key(|mend| (u32::MAX.saturating_sub(mend.reach), mend.cost))?;
+    let is_accepted = match mends.first() {
+        Some(mend) => mend.reach == u32::MAX,
+        None => false,
+    };
+    let mut told = Vec::new(alloc);
+    for graded in mends {
+        let Graded { mend, reach, .. } = graded;
+        if told.len() < MOST_TOLD && (reach == u32::MAX || !is_accepted) {
+            told.push(mend)?;
+        }
+    }
+    Ok(told)
+}

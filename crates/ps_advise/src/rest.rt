@@ -1,0 +1,194 @@
+//! The faults of a text one after another.
+
+use crate::budget::Budget;
+use crate::faults::{Told, told_of_fault};
+use crate::layers::Layers;
+use crate::mends::Faulty;
+use crate::places::{token_at, whole};
+use crate::text_of::tokens_of;
+use crate::trial::{Verdict, verdict_on};
+use ps_build::{Place, Refusal};
+use ps_diagnose::changed;
+use ps_diagnostic::{Diagnostic, Edit, Mend, Outcome};
+use ps_text::Source;
+use std::alloc::{AllocError, Global};
+
+/// A text behind the faults that were told, and its next one.
+#[derive(Drop)]
+pub(crate) struct Rest {
+    text: Vec<u8>,
+    refusal: Refusal,
+    layers: Layers,
+    // what may be tried, and what may be looked at behind faults
+    budget: Budget,
+    behind: Budget,
+    // where the routines began at first of which a statement was taken out, and those of the faults that were told
+    parted: Vec<u32>,
+    homes: Vec<u32>,
+    home: u32,
+}
+
+impl Rest {
+    /// A text and its first fault.
+    pub(crate) fn new(alloc: Global, text: &[u8], refusal: Refusal) -> Result<Rest, AllocError> {
+        Ok(Rest {
+            text: Vec::from_slice(alloc, text)?,
+            refusal,
+            layers: Layers::new(alloc),
+            budget: Budget::new(text.len()),
+            behind: Budget::behind_faults(),
+            parted: Vec::new(alloc),
+            homes: Vec::new(alloc),
+            home: u32::MAX,
+        })
+    }
+}
+
+// What is told of the refusal of a text that has a place.
+fn told_at(
+    alloc: Global,
+    text: &[u8],
+    refusal: Refusal,
+    place: Place,
+    budget: &mut Budget,
+) -> Result<Option<Told>, AllocError> {
+    let Ok(source) = Source::new(text) else {
+        return Ok(None);
+    };
+    let tokens = tokens_of(alloc, &source)?;
+    let faulty = Faulty {
+        source: &source,
+        tokens: tokens.as_slice(),
+        at: token_at(tokens.as_slice(), place.from),
+        refusal,
+    };
+    let told = told_of_fault(alloc, faulty, whole(text, refusal.number(), place), budget)?;
+    Ok(Some(told))
+}
+
+// Gives what is told the places that it had in the text at first. Mends are told of the first fault alone: those of later ones were
+// tried on a text that has no longer the earlier ones.
+fn place_back(alloc: Global, layers: &Layers, told: &mut Diagnostic, is_first: bool) {
+    if let Some(place) = told.place {
+        told.place = Some(layers.span_of(place));
+    }
+    layers.move_labels(&mut told.labels);
+    if !is_first {
+        told.mends = Vec::new(alloc);
+    }
+}
+
+// Whether the same was told before of a place in the same routine.
+fn is_told(all: &[Diagnostic], homes: &[u32], told: &Diagnostic, home: u32) -> bool {
+    for (other, place) in all.iter().zip(homes.iter()) {
+        if *place == home
+            && other.number == told.number
+            && other.text.as_str() == told.text.as_str()
+        {
+            return true;
+        }
+    }
+    false
+}
+
+// Whether nothing may assign a result only because a statement was taken out.
+fn is_doubtful(refusal: Refusal, parted: &[u32], home: u32) -> bool {
+    refusal.number() == 43 && parted.contains(&home)
+}
+
+// Whether the text is accepted with the best of some mends.
+fn is_accepted(mends: &[Mend]) -> bool {
+    match mends.first() {
+        Some(mend) => matches!(mend.outcome, Outcome::Accepted),
+        None => false,
+    }
+}
+
+// Adds what is told of the next fault, if that is sure and new, and gives the edits behind which the text is looked at further.
+fn add_told(
+    alloc: Global,
+    rest: &mut Rest,
+    all: &mut Vec<Diagnostic>,
+    told: Told,
+) -> Result<Vec<Edit>, AllocError> {
+    let Told {
+        mut diagnostic,
+        step,
+        home,
+    } = told;
+    rest.home = match home {
+        u32::MAX => home,
+        _ => rest.layers.offset_of(home),
+    };
+    // (with a mend of the last fault the text is accepted)
+    let step = if is_accepted(diagnostic.mends.as_slice()) {
+        Vec::new(alloc)
+    } else {
+        step
+    };
+    place_back(alloc, &rest.layers, &mut diagnostic, all.is_empty());
+    let is_known = is_told(
+        all.as_slice(),
+        rest.homes.as_slice(),
+        &diagnostic,
+        rest.home,
+    );
+    if is_known || is_doubtful(rest.refusal, rest.parted.as_slice(), rest.home) {
+        return Ok(step);
+    }
+    all.push(diagnostic)?;
+    rest.homes.push(rest.home)?;
+    Ok(step)
+}
+
+/// Tells the next fault, if it has a place, and gives the edits behind which the text is looked at further.
+pub(crate) fn tell_next(
+    alloc: Global,
+    rest: &mut Rest,
+    all: &mut Vec<Diagnostic>,
+) -> Result<Vec<Edit>, AllocError> {
+    let Some(place) = rest.refusal.place() else {
+        return Ok(Vec::new(alloc));
+    };
+    let refusal = rest.refusal;
+    let found = told_at(
+        alloc,
+        rest.text.as_slice(),
+        refusal,
+        place,
+        &mut rest.budget,
+    )?;
+    match found {
+        Some(told) => add_told(alloc, rest, all, told),
+        None => Ok(Vec::new(alloc)),
+    }
+}
+
+// Whether a fault behind another one is looked at: one of the same phase, and of the grammar in a later line.
+fn is_looked_at(refusal: Refusal, before: Refusal) -> bool {
+    match (before, refusal) {
+        (Refusal::Scan { place, .. }, Refusal::Scan { place: next, .. }) => next.line > place.line,
+        (Refusal::Parse { place, .. }, Refusal::Parse { place: next, .. }) => {
+            next.line > place.line
+        }
+        (Refusal::Check { .. }, Refusal::Check { .. }) => true,
+        _ => false,
+    }
+}
+
+/// Goes on behind a fault: whether there is a further one that is looked at.
+pub(crate) fn goes_on(alloc: Global, rest: &mut Rest, step: Vec<Edit>) -> Result<bool, AllocError> {
+    if step.is_empty() || !rest.behind.takes(rest.text.len()) {
+        return Ok(false);
+    }
+    let text = changed(alloc, rest.text.as_slice(), step.as_slice())?;
+    let Verdict::Refused(refusal) = verdict_on(alloc, text.as_slice())? else {
+        return Ok(false);
+    };
+    let is_next = is_looked_at(refusal, rest.refusal);
+    rest.parted.push(rest.home)?;
+    rest.layers.add(step)?;
+    rest.text = text;
+    rest.refusal = refusal;
+    Ok(is_next)
+}

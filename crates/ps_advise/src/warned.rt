@@ -1,0 +1,83 @@
+//! What is told of a text that is accepted.
+
+use crate::budget::Budget;
+use crate::mends::tried_mends;
+use crate::text_of::tokens_of;
+use ps_diagnose::Draft;
+use ps_diagnose_warnings::{Warning, warnings};
+use ps_diagnostic::{Diagnostic, Severity};
+use ps_parse::{ParseRefusal, parse, release};
+use ps_scan::Token;
+use ps_text::Source;
+use std::alloc::{AllocError, Global};
+
+// So many warnings of a text are told.
+const MOST_WARNINGS: usize = 20;
+
+// The warnings of a text, before their mends are tried.
+fn warnings_of(
+    alloc: Global,
+    source: &Source<'_>,
+    tokens: &[Token],
+) -> Result<Vec<Warning>, AllocError> {
+    match parse(alloc, source, tokens) {
+        Ok(program) => {
+            let found = warnings(alloc, source, tokens, &program);
+            release(program);
+            found
+        }
+        Err(ParseRefusal::OutOfMemory) => Err(AllocError),
+        Err(ParseRefusal::Faulty { .. }) => Ok(Vec::new(alloc)),
+    }
+}
+
+// A warning with those of its mends of which the text is accepted.
+fn told_of(
+    alloc: Global,
+    text: &[u8],
+    warning: Warning,
+    budget: &mut Budget,
+) -> Result<Diagnostic, AllocError> {
+    let Warning {
+        number,
+        name,
+        place,
+        draft,
+    } = warning;
+    let Draft {
+        text: sentence,
+        labels,
+        expects: _,
+        trials,
+        notes,
+        helps,
+    } = draft;
+    Ok(Diagnostic {
+        severity: Severity::Warning,
+        number,
+        name,
+        text: sentence,
+        place: Some(place),
+        labels,
+        expected: Vec::new(alloc),
+        mends: tried_mends(alloc, text, trials, budget)?,
+        notes,
+        helps,
+    })
+}
+
+/// The first warnings of a text that is accepted.
+pub(crate) fn warned(alloc: Global, text: &[u8]) -> Result<Vec<Diagnostic>, AllocError> {
+    let mut told = Vec::new(alloc);
+    let Ok(source) = Source::new(text) else {
+        return Ok(told);
+    };
+    let tokens = tokens_of(alloc, &source)?;
+    let mut budget = Budget::new(text.len());
+    for warning in warnings_of(alloc, &source, tokens.as_slice())? {
+        if told.len() < MOST_WARNINGS {
+            told.push(told_of(alloc, text, warning, &mut budget)?)?;
+        }
+    }
+    Ok(told)
+}

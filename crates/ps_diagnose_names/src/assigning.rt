@@ -1,0 +1,392 @@
+//! Values that cannot be assigned (35).
+
+use crate::context::Context;
+use crate::facts::{is_text, variable_in};
+use crate::spot::Spot;
+use crate::why::{Change, Help, Mark, Why, told};
+use ps_diagnose_outline::{Form, Point, Type};
+use ps_scan::Token;
+use ps_syntax::{Expr, Variable};
+use ps_text::Span;
+
+// The longest string that is filled with spaces.
+const LONGEST: u32 = 100;
+
+impl<'a> Context<'a> {
+    /// A value that cannot be assigned.
+    pub(crate) fn not_assignable(&self) -> Option<Why> {
+        for spot in self.spots.iter().rev() {
+            match spot {
+                Spot::Assignment(variable, value) => {
+                    return self.wrong_assignment(variable, value);
+                }
+                Spot::Passed(name, number, value) => {
+                    return self.wrong_value(*name, *number, value);
+                }
+                _ => {}
+            }
+        }
+        None
+    }
+
+    fn wrong_assignment(&self, variable: &Variable, value: &Expr) -> Option<Why> {
+        let wanted = self.told(self.outline.type_of_variable(variable));
+        match (wanted, self.told_expr(value)) {
+            (Some(wanted), Some(given)) => {
+                let target = Target {
+                    name: variable.name,
+                    text: self.variable_span(variable),
+                    wanted,
+                    given,
+                };
+                Some(self.unassignable(target, value))
+            }
+            _ => None,
+        }
+    }
+
+    fn unassignable(&self, target: Target, value: &Expr) -> Why {
+        if let Some(why) = self.wrong_string(target, value) {
+            return why;
+        }
+        if let Some(why) = self.own_types(target, value) {
+            return why;
+        }
+        let text = self.expr_span(value);
+        let why = told("@t is not assignable to `@y`, @u")
+            .ty(target.given)
+            .other(target.text)
+            .second(target.wanted)
+            .declared(target.name)
+            .changed(self.value_change(target.wanted, target.given, text))
+            .helped(self.value_help(target.wanted, target.given, text));
+        self.with_structure(why, target, value)
+    }
+
+    // Strings of two lengths, or one for a character.
+    fn wrong_string(&self, target: Target, value: &Expr) -> Option<Why> {
+        let lengths = (
+            self.outline.string_length(target.given),
+            self.outline.string_length(target.wanted),
+        );
+        match lengths {
+            (Some(length), Some(other)) if length != other => {
+                Some(self.wrong_length(target, self.expr_span(value), length, other))
+            }
+            (Some(length), _) if self.is_char(target.wanted) => {
+                Some(string_for_char(target, length))
+            }
+            _ => None,
+        }
+    }
+
+    fn wrong_length(&self, target: Target, text: Span, length: u32, other: u32) -> Why {
+        told("a string of @N characters is not assignable to `@y`, which has @M")
+            .other(target.text)
+            .number(i64::from(length))
+            .further(i64::from(other))
+            .declared(target.name)
+            .changed(self.filled(text, length, other))
+            .helped(if length > other {
+                Help::Is("`@y` takes it as a packed array [1..@N] of char")
+            } else {
+                Help::None
+            })
+    }
+
+    /// A string that is filled with spaces up to a length.
+    pub(crate) fn filled(&self, text: Span, length: u32, wanted: u32) -> Change {
+        match self.outline.bytes(text) {
+            [b'\'', .., b'\''] if length < wanted && wanted <= LONGEST => {
+                Change::Filled(text, wanted.saturating_sub(length))
+            }
+            _ => Change::None,
+        }
+    }
+
+    // Two variables whose types are of one form, each by itself.
+    fn own_types(&self, target: Target, value: &Expr) -> Option<Why> {
+        match variable_in(value) {
+            Some(other) if self.is_one_form(target.wanted, target.given) => {
+                self.types_apart(target, self.variable_span(other))
+            }
+            _ => None,
+        }
+    }
+
+    fn types_apart(&self, target: Target, text: Span) -> Option<Why> {
+        match (
+            self.denoter_token(target.given),
+            self.denoter_token(target.wanted),
+        ) {
+            (Some(place), Some(own)) => Some(
+                told(
+                    "`@x` is not assignable to `@y`: each has a type of its own, though of one form",
+                ).text(text)
+                    .other(target.text)
+                    .marked(Mark::TypeOf(place.span, text))
+                    .marked(Mark::TypeOf(own.span, target.text))
+                    .help("declare both in one list, `a, b: ..`, or by the name of one type"),
+            ),
+            _ => None,
+        }
+    }
+
+    // Whether two types are arrays or records of one form.
+    fn is_one_form(&self, a: Type, b: Type) -> bool {
+        match (self.outline.form(a), self.outline.form(b)) {
+            (
+                Some(
+                    Form::Array {
+                        index: Some(first_index),
+                        component: Some(first),
+                        ..
+                    },
+                ),
+                Some(
+                    Form::Array {
+                        index: Some(second_index),
+                        component: Some(second),
+                        ..
+                    },
+                ),
+            ) => {
+                self.is_one_simple(first_index, second_index)
+                    && self.outline.bounds(first_index) == self.outline.bounds(second_index)
+                    && self.is_one_simple(first, second)
+            }
+            (Some(Form::Record(first)), Some(Form::Record(second))) => {
+                self.are_like_fields(first, second)
+            }
+            _ => false,
+        }
+    }
+
+    // Whether two records have as many fields, of the same names and simple types.
+    fn are_like_fields(&self, first: u32, second: u32) -> bool {
+        let own = self.outline.points_of(first);
+        let others = self.outline.points_of(second);
+        if own.len() != others.len() {
+            return false;
+        }
+        for (one, other) in own.iter().zip(others.iter()) {
+            if !self.are_like(*one, *other) {
+                return false;
+            }
+        }
+        true
+    }
+
+    fn are_like(&self, one: u32, other: u32) -> bool {
+        match (self.outline.point(one), self.outline.point(other)) {
+            (Some(one), Some(other)) => match (one.ty, other.ty) {
+                (Some(ty), Some(like)) => {
+                    one.spelling == other.spelling && self.is_one_simple(ty, like)
+                }
+                _ => false,
+            },
+            _ => false,
+        }
+    }
+
+    /// The first token of a type's denoter.
+    pub(crate) fn denoter_token(&self, ty: Type) -> Option<Token> {
+        match self.outline.denoter_at(ty) {
+            Some(from) => self.token_at(from),
+            None => None,
+        }
+    }
+
+    // What makes a value one of another type.
+    fn value_change(&self, wanted: Type, given: Type, text: Span) -> Change {
+        match self.literal_change(wanted, given, text) {
+            Change::None => self.converted(wanted, given, text),
+            change => change,
+        }
+    }
+
+    fn converted(&self, wanted: Type, given: Type, text: Span) -> Change {
+        match (self.outline.form(wanted), self.outline.form(given)) {
+            (Some(Form::Boolean), Some(Form::Integer)) => self.boolean_change(text),
+            (
+                Some(Form::Integer),
+                Some(Form::Integer | Form::Boolean | Form::Char | Form::Enumeration(_)),
+            ) => Change::For(text, "ord(@a)"),
+            (Some(Form::Char), Some(Form::Integer)) => Change::For(text, "chr(@a)"),
+            (Some(Form::Boolean), Some(Form::Text(_) | Form::Array { .. })) => {
+                self.truth_text_change(text)
+            }
+            (Some(Form::Pointer(_)), _) => Change::None,
+            (_, Some(Form::Pointer(_))) => Change::Behind(text, "", "^"),
+            (
+                Some(Form::Set(_)),
+                Some(Form::Integer | Form::Boolean | Form::Char | Form::Enumeration(_)),
+            ) => Change::For(text, "[@a]"),
+            _ => Change::None,
+        }
+    }
+
+    // How a value is made one of another type, where that isn't told by a change alone.
+    fn value_help(&self, wanted: Type, given: Type, text: Span) -> Help {
+        let is_told = self.is_boolean(wanted) && (self.is_integer(given) || self.is_string(given));
+        if is_told && matches!(self.literal_change(wanted, given, text), Change::None) {
+            return Help::None;
+        }
+        self.conversion(wanted, given, text)
+    }
+
+    // Tries `true` and `false` without apostrophes.
+    fn truth_text_change(&self, text: Span) -> Change {
+        let bytes = self.outline.bytes(text);
+        if bytes.eq_ignore_ascii_case(b"'true'") {
+            return Change::For(text, "true");
+        }
+        if bytes.eq_ignore_ascii_case(b"'false'") {
+            return Change::For(text, "false");
+        }
+        Change::None
+    }
+
+    // Tries a Boolean for an integer.
+    fn boolean_change(&self, text: Span) -> Change {
+        match self.outline.bytes(text) {
+            b"1" => Change::For(text, "true"),
+            b"0" => Change::For(text, "false"),
+            _ => Change::Behind(text, " ", "<> 0"),
+        }
+    }
+
+    // What is done with arrays, records and pointers in place of an assignment.
+    fn with_structure(&self, why: Why, target: Target, value: &Expr) -> Why {
+        match self.outline.form(target.wanted) {
+            Some(Form::Array { index, .. }) => {
+                if is_text(value) {
+                    return self.with_packed(why, target.wanted);
+                }
+                self.with_components(why, index, self.expr_span(value))
+            }
+            Some(Form::Record(region)) => why.helped(self.field_help(
+                "a value is assigned to a field, as `@a.@b := ..`",
+                target.text,
+                region,
+            )),
+            Some(Form::Pointer(_)) => why
+                .help("what it points to is `@y^`, made by `new(@y)`")
+                .changed(Change::Behind(target.text, "", "^")),
+            _ => why,
+        }
+    }
+
+    // A string for an array that is no string type.
+    fn with_packed(&self, why: Why, wanted: Type) -> Why {
+        why.help("a string type is a packed array [1..n] of char")
+            .changed(self.packed_change(wanted))
+    }
+
+    fn packed_change(&self, wanted: Type) -> Change {
+        match self.denoter_token(wanted) {
+            Some(place)
+                if self
+                    .outline
+                    .bytes(place.span)
+                    .eq_ignore_ascii_case(b"array") => { Change::Before(place.span, " ", "packed") }
+            _ => Change::None,
+        }
+    }
+
+    // A loop that assigns to each component.
+    fn with_components(&self, why: Why, index: Option<Type>, value: Span) -> Why {
+        let bounds = match index {
+            Some(index) => self.outline.bounds(index),
+            None => None,
+        };
+        match bounds {
+            Some((low, high)) => why
+                .help_of(
+                    "its components are assigned one by one: for i := @n to @m do @y[i] := @a",
+                    value,
+                )
+                .number(low)
+                .further(high),
+            None => why.help("its components are assigned one by one, in a loop"),
+        }
+    }
+
+    // A value that cannot be passed.
+    fn wrong_value(&self, routine: Span, number: u32, value: &Expr) -> Option<Why> {
+        match self.outline.declared(routine) {
+            Some(point) => match self.formal(point, number) {
+                Some(formal) => self.wrong_passing(routine, formal, value),
+                None => None,
+            },
+            None => None,
+        }
+    }
+
+    fn wrong_passing(&self, routine: Span, formal: Point, value: &Expr) -> Option<Why> {
+        match (self.told(formal.ty), self.told_expr(value)) {
+            (Some(wanted), Some(given)) => match self.own_types_passed(routine, formal, value) {
+                Some(why) => Some(why),
+                None => {
+                    let text = self.expr_span(value);
+                    Some(
+                        told("@t cannot be passed for `@y` of `@z`, @u")
+                            .ty(given)
+                            .other(formal.name)
+                            .third(routine)
+                            .second(wanted)
+                            .here(formal.name)
+                            .changed(self.value_change(wanted, given, text))
+                            .helped(self.value_help(wanted, given, text)),
+                    )
+                }
+            },
+            _ => None,
+        }
+    }
+
+    // A variable whose type is of the parameter's form, each by itself.
+    fn own_types_passed(&self, routine: Span, formal: Point, value: &Expr) -> Option<Why> {
+        let (Some(wanted), Some(given), Some(variable)) = (
+            formal.ty,
+            self.outline.type_of(value),
+            variable_in(value),
+        ) else {
+            return None;
+        };
+        if !self.is_one_form(wanted, given) || !self.is_told(given) {
+            return None;
+        }
+        let text = self.variable_span(variable);
+        Some(
+            told(
+                "`@x` cannot be passed for `@y` of `@z`: each has a type of its own, though of one form",
+            ).text(text)
+                .other(formal.name)
+                .third(routine)
+                .marked(match self.denoter_token(given) {
+                    Some(place) => Mark::TypeOf(place.span, text),
+                    None => Mark::None,
+                })
+                .here(formal.name)
+                .help("declare both by the name of one type"),
+        )
+    }
+}
+
+// What is assigned to: its name, the whole variable, its type, and that of the value.
+#[derive(Clone, Copy)]
+struct Target {
+    name: Span,
+    text: Span,
+    wanted: Type,
+    given: Type,
+}
+
+fn string_for_char(target: Target, length: u32) -> Why {
+    told("a string of @N characters is not assignable to `@y`, a char")
+        .other(target.text)
+        .number(i64::from(length))
+        .declared(target.name)
+        .help("a char is one character; a string is a packed array [1..@N] of char")
+}

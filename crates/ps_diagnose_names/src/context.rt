@@ -1,0 +1,167 @@
+//! What is known where a reason is looked for, and how forms are put into words.
+
+use crate::spot::Spot;
+use crate::text::Text;
+use crate::why::Why;
+use ps_diagnose::Fault;
+use ps_diagnose_outline::{Outline, PointKind, Type};
+use ps_text::Span;
+use std::alloc::Global;
+
+/// What is known of a refusal.
+#[derive(Drop)]
+pub(crate) struct Context<'a> {
+    pub(crate) alloc: Global,
+    pub(crate) fault: Fault<'a>,
+    pub(crate) outline: Outline<'a>,
+    /// What the place may be the place of, from the outside in.
+    pub(crate) spots: Vec<Spot<'a>>,
+    /// The control variables of the `for` statements round the place, from the inside out.
+    pub(crate) controls: Vec<Span>,
+    /// Where else the name stands that is not declared.
+    pub(crate) uses: Vec<Span>,
+}
+
+/// What a form has of its own: spans, how many spaces are filled in, and whether spans are put as they are.
+#[derive(Clone, Copy)]
+pub(crate) struct Own {
+    pub(crate) text: Span,
+    pub(crate) part: Span,
+    pub(crate) spaces: u32,
+    pub(crate) is_exact: bool,
+}
+
+/// The word of a kind of name, with its article.
+fn kind_words(kind: PointKind) -> &'static str {
+    match kind {
+        PointKind::Constant => "a constant",
+        PointKind::Member => "a constant of an enumeration",
+        PointKind::Type => "a type",
+        PointKind::Variable => "a variable",
+        PointKind::ValueParameter => "a value parameter",
+        PointKind::VariableParameter => "a variable parameter",
+        PointKind::Field => "a field",
+        PointKind::Procedure => "a procedure",
+        PointKind::Function => "a function",
+        PointKind::ProcedureParameter => "a procedure that is a parameter",
+        PointKind::FunctionParameter => "a function that is a parameter",
+    }
+}
+
+/// A count as a number that may be negative.
+pub(crate) fn long(count: usize) -> i64 {
+    i64::try_from(count).unwrap_or(i64::MAX)
+}
+
+// How many bytes stand before an offset on its line.
+fn column_of(text: &[u8], offset: usize) -> usize {
+    let mut column: usize = 0;
+    for byte in text.get(..offset).unwrap_or(&[]) {
+        column = if *byte == b'\n' {
+            0
+        } else {
+            column.saturating_add(1)
+        };
+    }
+    column
+}
+
+// What stands between the apostrophes of a string.
+fn inner(literal: &[u8]) -> &str {
+    match literal {
+        [b'\'', inner @ .., b'\''] => str::from_utf8(inner).unwrap_or(""),
+        _ => "",
+    }
+}
+
+// Puts so many spaces.
+fn put_spaces(out: &mut Text, count: u32) {
+    for _ in 0..count {
+        out.put_sign(' ');
+    }
+}
+
+impl<'a> Context<'a> {
+    /// Puts a number.
+    pub(crate) fn put_number(&self, out: &mut Text, number: i64) {
+        out.put_made(number.to_string(self.alloc));
+    }
+
+    // Puts a number of things.
+    fn put_count(&self, out: &mut Text, count: i64) {
+        match count {
+            0 => out.put("none"),
+            _ => self.put_number(out, count),
+        }
+    }
+
+    /// Puts a place as line and column.
+    pub(crate) fn put_place(&self, out: &mut Text, offset: u32) {
+        let within = offset.min(self.fault.source.len());
+        let line = self.fault.source.line_of(within);
+        let column = column_of(self.fault.source.bytes(), within as usize);
+        self.put_number(out, i64::from(line));
+        out.put_sign(':');
+        self.put_number(out, long(column).saturating_add(1));
+    }
+
+    /// Puts what stands in a span.
+    pub(crate) fn put_text(&self, out: &mut Text, span: Span) {
+        out.put_made(self.outline.text(self.alloc, span));
+    }
+
+    // Puts what stands in a span, in an edit as it is.
+    fn put_span(&self, out: &mut Text, span: Span, own: Own) {
+        if own.is_exact {
+            out.put(str::from_utf8(self.outline.bytes(span)).unwrap_or("?"));
+        } else {
+            self.put_text(out, span);
+        }
+    }
+
+    // Puts the words of a type.
+    fn put_type(&self, out: &mut Text, ty: Type) {
+        match self.outline.words(self.alloc, ty) {
+            Ok(Some(words)) => out.put(words.as_str()),
+            Ok(None) => out.put("of another type"),
+            Err(_) => out.is_short = true,
+        }
+    }
+
+    // Puts what a letter stands for.
+    fn put_slot(&self, out: &mut Text, letter: char, why: &Why, own: Own) {
+        match letter {
+            'x' => self.put_span(out, why.text, own),
+            'y' => self.put_span(out, why.other, own),
+            'z' => self.put_span(out, why.third, own),
+            'a' => self.put_span(out, own.text, own),
+            'b' => self.put_span(out, own.part, own),
+            'p' => self.put_span(out, self.fault.place, own),
+            't' => self.put_type(out, why.ty),
+            'u' => self.put_type(out, why.second),
+            'n' => self.put_number(out, why.number),
+            'm' => self.put_number(out, why.further),
+            'N' => self.put_count(out, why.number),
+            'M' => self.put_count(out, why.further),
+            'w' => out.put(why.word),
+            'k' => out.put(kind_words(why.kind)),
+            'l' => self.put_place(out, why.other.from),
+            'i' => out.put(inner(self.outline.bytes(own.text))),
+            's' => put_spaces(out, own.spaces),
+            _ => {}
+        }
+    }
+
+    /// Puts a form.
+    pub(crate) fn put_form(&self, out: &mut Text, form: &str, why: &Why, own: Own) {
+        let mut is_slot = false;
+        for letter in form.chars() {
+            if is_slot {
+                self.put_slot(out, letter, why, own);
+            } else if letter != '@' {
+                out.put_sign(letter);
+            }
+            is_slot = !is_slot && letter == '@';
+        }
+    }
+}

@@ -1,0 +1,158 @@
+//! Numbers of parameters (41).
+
+use crate::context::Context;
+use crate::required::Known;
+use crate::spot::Spot;
+use crate::why::{Help, Why, told};
+use ps_diagnose_outline::{Point, PointKind, count_of};
+use ps_text::Span;
+
+impl<'a> Context<'a> {
+    /// A number of parameters that is another than that of the routine.
+    pub(crate) fn not_congruous(&self) -> Option<Why> {
+        if let Some(why) = self.unlike_passed() {
+            return Some(why);
+        }
+        for spot in self.spots.iter().rev() {
+            match spot {
+                Spot::Statement(name, parameters) => {
+                    return self.wrong_count(*name, count_of(parameters.len()));
+                }
+                Spot::Call(name, parameters) => {
+                    return self.wrong_count(*name, count_of(parameters.len()));
+                }
+                Spot::Named(variable) => return self.wrong_count(variable.name, 0),
+                _ => {}
+            }
+        }
+        None
+    }
+
+    fn wrong_count(&self, name: Span, given: u32) -> Option<Why> {
+        match self.outline.declared(name) {
+            Some(routine) if routine.count == given => None,
+            Some(routine) => Some(self.count_declared(name, routine, given)),
+            None => count_required(self.known(name), self.required_name(name), given),
+        }
+    }
+
+    // A routine that is declared.
+    fn count_declared(&self, name: Span, routine: Point, given: u32) -> Why {
+        let form = match routine.count {
+            0 => "`@x` has no parameters, and is given @M",
+            1 => "`@x` has 1 parameter, and is given @M",
+            _ => "`@x` has @N parameters, and is given @M",
+        };
+        let why = told(form)
+            .text(name)
+            .number(i64::from(routine.count))
+            .further(i64::from(given))
+            .here(routine.name);
+        match self.formal(routine, given) {
+            Some(formal) => self.with_missing(why, routine, formal, given),
+            None => why.helped(self.too_many(routine)),
+        }
+    }
+
+    // Which parameter nothing is given for.
+    fn with_missing(&self, why: Why, routine: Point, formal: Point, given: u32) -> Why {
+        if given == 0 && matches!(routine.kind, PointKind::Function) && self.is_within(routine) {
+            return why.help(
+                "in an expression `@x` calls the function: keep what is computed in a variable, and assign that at the end",
+            );
+        }
+        match self.told(formal.ty) {
+            Some(ty) => why.ty(ty).helped(Help::Of(
+                missing_form(formal.kind, given == 0),
+                formal.name,
+            )),
+            None => why.helped(Help::Of(untyped_form(given == 0), formal.name)),
+        }
+    }
+
+    // Whether the place is in the block of a routine.
+    fn is_within(&self, routine: Point) -> bool {
+        let block = self.outline.block_at(self.place().from);
+        match self.outline.region(block) {
+            Some(region) => region.routine == Some(routine.number),
+            None => false,
+        }
+    }
+
+    // How a routine is called that is given too many.
+    fn too_many(&self, routine: Point) -> Help {
+        if routine.count == 0 {
+            return Help::Of("write `@a` alone, without parentheses", routine.name);
+        }
+        match self.heading_of(routine) {
+            Some(heading) => Help::Of("it is declared as: @a", heading),
+            None => Help::None,
+        }
+    }
+
+    // A routine that is passed and has other parameters.
+    fn unlike_passed(&self) -> Option<Why> {
+        for spot in self.spots.iter() {
+            if let Spot::Passed(name, number, _) = spot {
+                if let Some(formal) = self.formal_of(*name, *number) {
+                    return self.unlike_formal(formal);
+                }
+            }
+        }
+        None
+    }
+
+    fn unlike_formal(&self, formal: Point) -> Option<Why> {
+        match formal.kind {
+            PointKind::ProcedureParameter | PointKind::FunctionParameter => Some(
+                told("the parameters of `@p` are not those of `@y`, for which it is passed")
+                    .other(formal.name)
+                    .declared(self.place())
+                    .here(formal.name),
+            ),
+            _ => None,
+        }
+    }
+}
+
+// Which parameter is missing, with its type.
+fn missing_form(kind: PointKind, is_alone: bool) -> &'static str {
+    match (kind, is_alone) {
+        (PointKind::VariableParameter, true) => {
+            "nothing is given for `@a`, @t variable (`var`): write `@x(..)`"
+        }
+        (PointKind::VariableParameter, false) => "nothing is given for `@a`, @t variable (`var`)",
+        (_, true) => "nothing is given for `@a`, @t: write `@x(..)`",
+        (_, false) => "nothing is given for `@a`, @t",
+    }
+}
+
+// Which parameter is missing.
+fn untyped_form(is_alone: bool) -> &'static str {
+    if is_alone {
+        "nothing is given for `@a`: write `@x(..)`"
+    } else {
+        "nothing is given for `@a`"
+    }
+}
+
+// A required routine.
+fn count_required(known: Known, name: &'static str, given: u32) -> Option<Why> {
+    let form = match known {
+        Known::No => return None,
+        Known::Read => {
+            return Some(told("`read` takes at least one variable").help(
+                "`readln` alone passes over the rest of a line",
+            ));
+        }
+        Known::Write => {
+            return Some(told("`write` takes at least one value").help(
+                "`writeln` alone ends a line",
+            ));
+        }
+        Known::End => "`@w` takes at most 1 parameter, and is given @N",
+        Known::Pack => "`@w` takes 3 parameters, and is given @N",
+        _ => "`@w` takes 1 parameter, and is given @N",
+    };
+    Some(told(form).word(name).number(i64::from(given)))
+}

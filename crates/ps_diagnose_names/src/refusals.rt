@@ -1,0 +1,139 @@
+//! The sentence of a refusal.
+
+use crate::context::Context;
+use crate::routines::no_result;
+use crate::spot::Spot;
+use crate::tell::{Told, untold};
+use crate::uses::other_uses;
+use crate::walk::Walk;
+use crate::why::Why;
+use ps_diagnose::{Draft, Fault};
+use ps_diagnose_outline::Outline;
+use ps_syntax::Program;
+use ps_text::Span;
+use std::alloc::{AllocError, Global};
+
+// What a place may be the place of, and the loops round it.
+fn looked_for<'a>(
+    alloc: Global,
+    at: u32,
+    program: &'a Program,
+) -> Result<(Vec<Spot<'a>>, Vec<Span>), AllocError> {
+    let mut walk = Walk {
+        at,
+        found: Vec::new(alloc),
+        controls: Vec::new(alloc),
+        is_short: false,
+    };
+    walk.block(&program.block);
+    let Walk {
+        at: _,
+        found,
+        controls,
+        is_short,
+    } = walk;
+    if is_short {
+        Err(AllocError)
+    } else {
+        Ok((found, controls))
+    }
+}
+
+// Where else the name stands that a refusal is told of, if it is not declared.
+fn uses_of(
+    alloc: Global,
+    outline: &Outline<'_>,
+    number: u8,
+    place: Span,
+) -> Result<Vec<Span>, AllocError> {
+    match number {
+        30 => other_uses(alloc, outline, place),
+        _ => Ok(Vec::new(alloc)),
+    }
+}
+
+// What is known of a refusal.
+fn context_of<'a>(
+    alloc: Global,
+    fault: Fault<'a>,
+    program: &'a Program,
+) -> Result<Context<'a>, AllocError> {
+    let outline = Outline::new(alloc, fault.source, fault.tokens, program)?;
+    let uses = uses_of(alloc, &outline, fault.number, fault.place)?;
+    let (spots, controls) = looked_for(alloc, fault.place.from, program)?;
+    Ok(Context {
+        alloc,
+        fault,
+        outline,
+        spots,
+        controls,
+        uses,
+    })
+}
+
+impl<'a> Context<'a> {
+    // The reason of a refusal, if one is known.
+    fn reason(&self) -> Option<Why> {
+        match self.fault.number {
+            31 => self.twice(),
+            32 => self.used_before(),
+            33 => self.wrong_kind(),
+            34 => self.wrong_type(),
+            35 => self.not_assignable(),
+            36 => self.bad_subrange(),
+            37 => self.set_base(),
+            38 => self.case_twice(),
+            39 => self.control_variable(),
+            40 => self.packed_variable(),
+            41 => self.not_congruous(),
+            42 => self.forward_open(),
+            43 => no_result(),
+            44 => self.no_file(),
+            45 => self.limit(),
+            _ => None,
+        }
+    }
+
+    // Writes what is told of a refusal, and tells whether anything is.
+    fn write(&self, out: &mut Told) -> Result<bool, AllocError> {
+        if self.fault.number == 30 {
+            self.unknown(out)?;
+            return Ok(true);
+        }
+        match self.reason() {
+            Some(why) => {
+                self.tell(&why, out);
+                Ok(true)
+            }
+            None => Ok(false),
+        }
+    }
+}
+
+// What is told, if anything is, and if there was memory for it.
+fn draft_of(out: Told, is_told: bool) -> Result<Option<Draft>, AllocError> {
+    let Told { draft, is_short } = out;
+    match (is_short, is_told) {
+        (true, _) => Err(AllocError),
+        (false, true) => Ok(Some(draft)),
+        (false, false) => Ok(None),
+    }
+}
+
+/// What is told of a refusal of the numbers 30 to 45 of a program, before its mends are tried; nothing where no reason is known.
+pub fn drafted(
+    alloc: Global,
+    fault: &Fault<'_>,
+    program: &Program,
+) -> Result<Option<Draft>, AllocError> {
+    let own = Fault {
+        source: &*fault.source,
+        tokens: &*fault.tokens,
+        number: fault.number,
+        place: fault.place,
+    };
+    let context = context_of(alloc, own, &*program)?;
+    let mut out = untold(alloc);
+    let is_told = context.write(&mut out)?;
+    draft_of(out, is_told)
+}

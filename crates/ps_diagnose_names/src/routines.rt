@@ -1,0 +1,136 @@
+//! Routines, files and limits (42 to 45).
+
+use crate::context::Context;
+use crate::required::Known;
+use crate::why::{Change, Why, told};
+use ps_scan::Kind;
+
+impl<'a> Context<'a> {
+    /// A heading whose block never follows.
+    pub(crate) fn forward_open(&self) -> Option<Why> {
+        let word = match self.outline.token_before(self.place().from) {
+            Some(token) => token.span,
+            None => self.place(),
+        };
+        Some(
+            told("`@p` was told by `forward`, and its block never follows")
+                .text(word)
+                .help("behind it stands its block: @x @p; begin .. end;"),
+        )
+    }
+
+    /// A file that the heading of the program lacks.
+    pub(crate) fn no_file(&self) -> Option<Why> {
+        let known = self.known(self.place());
+        let form = match known {
+            Known::Input | Known::Output => "`@w` is not in the heading of the program",
+            _ => "`@p` needs `@w` in the heading of the program",
+        };
+        match file_of(known) {
+            Some(file) => Some(
+                told(form)
+                    .word(file_name(file))
+                    .changed(self.file_change(file)),
+            ),
+            None => None,
+        }
+    }
+
+    // Tries a file in the heading, with the other one if that is lacking too.
+    fn file_change(&self, is_output: bool) -> Change {
+        let program = self.outline.program();
+        match program.parameters.as_slice().last() {
+            Some(last) => Change::Behind(*last, "", ", @w"),
+            None if self.lacks_both(is_output) => {
+                Change::Behind(program.name, "", "(input, output)")
+            }
+            None => Change::Behind(program.name, "", "(@w)"),
+        }
+    }
+
+    // Whether the text needs the other file too.
+    fn lacks_both(&self, is_output: bool) -> bool {
+        for token in self.fault.tokens {
+            if token.kind == Kind::Name {
+                match file_of(self.known(token.span)) {
+                    Some(other) if other != is_output => return true,
+                    _ => {}
+                }
+            }
+        }
+        false
+    }
+
+    /// A limit.
+    pub(crate) fn limit(&self) -> Option<Why> {
+        if self.is_array() {
+            return Some(told("this type has more than 100,000 cells, the most that there may be"));
+        }
+        let why = told(match self.routine_here() {
+            Some(count) if count > 32 => "`@p` has @N parameters, and 32 are the most",
+            Some(_) if self.depth_here() > 15 => "`@p` lies more than 15 routines deep",
+            None if self.outline.program().name.from != self.place().from => {
+                "`@p` passes a limit of this compiler"
+            }
+            _ => {
+                "the variables of `@p` have more than 100,000 cells together, the most that there may be"
+            }
+        });
+        Some(why.number(i64::from(self.routine_here().unwrap_or(0))))
+    }
+
+    // Whether the place begins a structured type.
+    fn is_array(&self) -> bool {
+        match self.token_at(self.place().from) {
+            Some(token) => matches!(
+                token.kind,
+                Kind::Array | Kind::Record | Kind::Packed | Kind::Set | Kind::Number | Kind::Minus
+            ),
+            None => false,
+        }
+    }
+
+    // How many parameters the routine has that is declared at the place.
+    fn routine_here(&self) -> Option<u32> {
+        match self.declared_here() {
+            Some(point) if point.formals.is_some() => Some(point.count),
+            _ => None,
+        }
+    }
+
+    // How many routines lie round the place.
+    fn depth_here(&self) -> u32 {
+        let mut depth: u32 = 0;
+        let mut at = self.outline.block_at(self.place().from);
+        for _ in 0..1000 {
+            match self.outline.region(at) {
+                Some(region) if at != 0 => {
+                    at = region.around;
+                    depth = depth.saturating_add(1);
+                }
+                _ => break,
+            }
+        }
+        depth
+    }
+}
+
+// Whether a required name needs the output, or the input.
+fn file_of(known: Known) -> Option<bool> {
+    match known {
+        Known::Write | Known::Writeln | Known::Output => Some(true),
+        Known::Read | Known::Readln | Known::End | Known::Input => Some(false),
+        _ => None,
+    }
+}
+
+fn file_name(is_output: bool) -> &'static str {
+    if is_output { "output" } else { "input" }
+}
+
+/// A function without a result.
+pub(crate) fn no_result() -> Option<Why> {
+    Some(told("nothing in the block of `@p` assigns its result").help(
+        "assign it to the name of the function: `@p := ..`",
+    ))
+}

@@ -1,0 +1,277 @@
+//! Names that are declared twice (31), or used before they are declared (32).
+
+use crate::context::Context;
+use crate::why::{Change, Mark, Why, told};
+use ps_diagnose_outline::{Point, PointKind};
+use ps_scan::{Kind, Token};
+use ps_text::Span;
+
+impl<'a> Context<'a> {
+    /// A name that is declared twice.
+    pub(crate) fn twice(&self) -> Option<Why> {
+        match self.twice_in_heading() {
+            Some(why) => Some(why),
+            None => match self.declared_here() {
+                Some(point) => self.declared_twice(point),
+                None => None,
+            },
+        }
+    }
+
+    fn declared_twice(&self, point: Point) -> Option<Why> {
+        match self.outline.point_in(point.region, point.spelling) {
+            Some(first) if first.is_forward && !self.is_before(Kind::Semicolon) => {
+                Some(self.twice_forward(first))
+            }
+            Some(first) => Some(
+                told(form_of_twice(point.kind, first.kind))
+                    .marked(Mark::At("here the first time", first.name))
+                    .changed(self.without_declaration(point)),
+            ),
+            None => None,
+        }
+    }
+
+    // Whether the token behind the place is one of a kind.
+    fn is_before(&self, kind: Kind) -> bool {
+        match self.token_at(self.place().to) {
+            Some(token) => token.kind == kind,
+            None => false,
+        }
+    }
+
+    /// The defining point at the place.
+    pub(crate) fn declared_here(&self) -> Option<Point> {
+        for point in self.outline.points() {
+            if point.name.from == self.place().from {
+                return Some(*point);
+            }
+        }
+        None
+    }
+
+    // A program parameter.
+    fn twice_in_heading(&self) -> Option<Why> {
+        match (
+            self.first_like(),
+            self.outline.program().parameters.as_slice().last(),
+        ) {
+            (Some(first), Some(last))
+                if self.place().from <= last.from && first.from < self.place().from => {
+                Some(
+                    told("`@p` stands twice in the heading")
+                        .marked(Mark::At("here the first time", first))
+                        .changed(self.without_comma()),
+                )
+            }
+            _ => None,
+        }
+    }
+
+    // The first program parameter of the spelling at the place.
+    fn first_like(&self) -> Option<Span> {
+        let spelling = self.outline.spelling_at(self.place().from);
+        for parameter in self.outline.program().parameters.as_slice() {
+            if self.outline.spelling_at(parameter.from) == spelling {
+                return Some(*parameter);
+            }
+        }
+        None
+    }
+
+    // Tries the text without the name at the place and a comma beside it.
+    fn without_comma(&self) -> Change {
+        let before = self.outline.token_before(self.place().from);
+        match (before, self.token_at(self.place().to)) {
+            (Some(comma), _) if comma.kind == Kind::Comma => Change::Without(Span {
+                from: comma.span.from,
+                to: self.place().to,
+            }),
+            (_, Some(comma)) if comma.kind == Kind::Comma => Change::Without(Span {
+                from: self.place().from,
+                to: comma.span.to,
+            }),
+            _ => Change::None,
+        }
+    }
+
+    // A heading by `forward` whose parameters are told again.
+    fn twice_forward(&self, first: Point) -> Why {
+        let why = told("`@p` was declared by `forward`: its parameters are not told again").marked(
+            Mark::At("here the first time", first.name),
+        );
+        match end_of_heading(self.tokens_behind(self.place().to)) {
+            Some(to) => why.changed(Change::Without(Span {
+                from: self.place().to,
+                to,
+            })),
+            None => why,
+        }
+    }
+
+    // Tries the text without a declaration, if it declares one name alone, or else without its name.
+    fn without_declaration(&self, point: Point) -> Change {
+        match point.kind {
+            PointKind::Variable
+            | PointKind::Constant
+            | PointKind::Type
+            | PointKind::Field
+            | PointKind::ValueParameter
+            | PointKind::VariableParameter => self.without_one(),
+            PointKind::Member => self.without_comma(),
+            _ => Change::None,
+        }
+    }
+
+    fn without_one(&self) -> Change {
+        let before = self.outline.token_before(self.place().from);
+        match (before, self.token_at(self.place().to)) {
+            (Some(before), Some(behind)) => {
+                if before.kind == Kind::Comma || behind.kind == Kind::Comma {
+                    self.without_comma()
+                } else {
+                    self.without_whole()
+                }
+            }
+            _ => Change::None,
+        }
+    }
+
+    // Tries the text without what begins at the place, up to its `;`.
+    fn without_whole(&self) -> Change {
+        match end_of_declaration(self.tokens_behind(self.place().from)) {
+            Some(to) => Change::Without(Span {
+                from: self.from_word(to),
+                to,
+            }),
+            None => Change::None,
+        }
+    }
+
+    // Where the declaration at the place begins: with its `var`, `const` or `type` where it is the only one behind that.
+    fn from_word(&self, end: u32) -> u32 {
+        let is_last = match self.token_at(end) {
+            Some(next) => next.kind != Kind::Name,
+            None => true,
+        };
+        match self.outline.token_before(self.place().from) {
+            Some(word) if is_last && matches!(word.kind, Kind::Var | Kind::Const | Kind::Type) => {
+                word.span.from
+            }
+            _ => self.place().from,
+        }
+    }
+
+    /// A name that is used before it is declared.
+    pub(crate) fn used_before(&self) -> Option<Why> {
+        match self.point_here() {
+            Some(point) if point.name.from < self.place().from => Some(used_in_itself(point)),
+            Some(point) => Some(self.used_above(point)),
+            None => None,
+        }
+    }
+
+    fn used_above(&self, point: Point) -> Why {
+        match (self.around(point), point.kind) {
+            (Some(other), _) => told("`@p` is used before it is declared in this block")
+                .other(other.name)
+                .here(point.name)
+                .note("the `@y` of the block around, at @l, is hidden in this one"),
+            (None, PointKind::Procedure | PointKind::Function) => {
+                self.with_forward(used_early(point), point)
+            }
+            (None, _) => used_early(point).help_of("declare `@a` before what uses it", point.name),
+        }
+    }
+
+    // What the name would denote without a defining point.
+    fn around(&self, point: Point) -> Option<Point> {
+        match self.outline.region(point.region) {
+            Some(region) if point.region != 0 => self.outline.find(region.around, point.spelling),
+            _ => None,
+        }
+    }
+
+    // The heading by `forward` that would help.
+    fn with_forward(&self, why: Why, point: Point) -> Why {
+        match self.heading_of(point) {
+            Some(heading) => why.help_of(
+                "declare it first, or tell its heading before by `forward`: @a; forward;",
+                heading,
+            ),
+            None => why,
+        }
+    }
+
+    /// The heading of a routine, without its `;`.
+    pub(crate) fn heading_of(&self, point: Point) -> Option<Span> {
+        match self.outline.token_before(point.name.from) {
+            Some(word) => self.heading_from(word.span.from),
+            None => None,
+        }
+    }
+
+    fn heading_from(&self, from: u32) -> Option<Span> {
+        match end_of_heading(self.tokens_behind(from)) {
+            Some(to) => Some(Span { from, to }),
+            None => None,
+        }
+    }
+}
+
+fn form_of_twice(kind: PointKind, first: PointKind) -> &'static str {
+    match (kind, first) {
+        (PointKind::Field, _) => "`@p` is a field of this record already",
+        (PointKind::Member, _) => {
+            "`@p` is declared twice in this block, here as a constant of an enumeration"
+        }
+        (_, PointKind::ValueParameter | PointKind::VariableParameter) => {
+            "`@p` is a parameter already"
+        }
+        _ => "`@p` is declared twice in this block",
+    }
+}
+
+fn used_in_itself(point: Point) -> Why {
+    let why = told("`@p` is used in its own declaration").here(point.name);
+    match point.kind {
+        PointKind::Type => why.help_of(
+            "a type reaches itself only through a pointer: `^@a`",
+            point.name,
+        ),
+        _ => why,
+    }
+}
+
+fn used_early(point: Point) -> Why {
+    told("`@p` is used before it is declared").here(point.name)
+}
+
+// Where the `;` begins that ends a heading.
+fn end_of_heading(tokens: &[Token]) -> Option<u32> {
+    let mut open: u32 = 0;
+    for token in tokens {
+        match token.kind {
+            Kind::LeftParen => open = open.saturating_add(1),
+            Kind::RightParen => open = open.saturating_sub(1),
+            Kind::Semicolon if open == 0 => return Some(token.span.from),
+            _ => {}
+        }
+    }
+    None
+}
+
+// Where the `;` ends that ends a declaration, if one does.
+fn end_of_declaration(tokens: &[Token]) -> Option<u32> {
+    let mut open: u32 = 0;
+    for token in tokens {
+        match token.kind {
+            Kind::LeftParen | Kind::Record => open = open.saturating_add(1),
+            Kind::RightParen | Kind::End if open == 0 => return None,
+            Kind::RightParen | Kind::End => open = open.saturating_sub(1),
+            Kind::Semicolon if open == 0 => return Some(token.span.to),
+            _ => {}
+        }
+    }
+    None
+}

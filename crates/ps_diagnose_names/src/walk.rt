@@ -1,0 +1,281 @@
+//! The walk to what a place may be the place of.
+
+use crate::declared::behind_sign;
+use crate::spot::Spot;
+use ps_syntax::{
+    AddedTerm, Element, Expr, Factor, Member, MultipliedFactor, Parameter, Selector, Simple,
+    Statement, Term, Variable,
+};
+use ps_text::Span;
+
+/// A walk that looks for an offset.
+#[derive(Drop)]
+pub(crate) struct Walk<'a> {
+    pub(crate) at: u32,
+    /// What is found, from the outside in.
+    pub(crate) found: Vec<Spot<'a>>,
+    /// The control variables of the `for` statements round the first that was found, from the inside out.
+    pub(crate) controls: Vec<Span>,
+    /// Whether memory ran out.
+    pub(crate) is_short: bool,
+}
+
+impl<'a> Walk<'a> {
+    /// Notes a construct, if its place is the one that is looked for.
+    pub(crate) fn note(&mut self, at: u32, spot: Spot<'a>) {
+        if at == self.at && self.found.push(spot).is_err() {
+            self.is_short = true;
+        }
+    }
+
+    #[cycle(statement)]
+    pub(crate) fn statements(&mut self, statements: &'a [Statement]) {
+        for statement in statements {
+            self.statement(statement);
+        }
+    }
+
+    #[cycle(statement)]
+    fn statement(&mut self, statement: &'a Statement) {
+        match statement {
+            Statement::Empty => {}
+            Statement::Assign(variable, at, value) => self.assign(variable, *at, value.get()),
+            Statement::Call(name, parameters) => self.call(*name, parameters.as_slice()),
+            Statement::Compound(statements) => self.statements(statements.as_slice()),
+            Statement::If(condition, then) => {
+                self.value(condition.get(), Spot::Condition(condition.get()));
+                self.statement(then.get())
+            }
+            Statement::IfElse(condition, then, otherwise) => {
+                self.value(condition.get(), Spot::Condition(condition.get()));
+                self.statement(then.get());
+                self.statement(otherwise.get())
+            }
+            Statement::Case(_, index, elements) => {
+                self.value(index.get(), Spot::CaseIndex(index.get()));
+                self.elements(elements.as_slice(), index.get())
+            }
+            Statement::While(condition, body) => {
+                self.value(condition.get(), Spot::Condition(condition.get()));
+                self.statement(body.get())
+            }
+            Statement::Repeat(statements, condition) => {
+                self.statements(statements.as_slice());
+                self.value(condition.get(), Spot::Condition(condition.get()))
+            }
+            Statement::For {
+                variable,
+                first,
+                last,
+                body,
+                ..
+            } => {
+                self.bounds(*variable, first.get(), last.get());
+                self.counted(*variable, body.get())
+            }
+            Statement::With(records, body) => {
+                self.records(records.as_slice());
+                self.statement(body.get())
+            }
+        }
+    }
+
+    // What a `for` does, which lies round the place if it is the first to find something.
+    #[cycle(statement)]
+    fn counted(&mut self, variable: Span, body: &'a Statement) {
+        let was_empty = self.found.is_empty();
+        self.statement(body);
+        if was_empty && !self.found.is_empty() && self.controls.push(variable).is_err() {
+            self.is_short = true;
+        }
+    }
+
+    // The constants and the statements of a `case`.
+    #[cycle(statement)]
+    fn elements(&mut self, elements: &'a [Element], index: &'a Expr) {
+        for element in elements {
+            for constant in element.constants.as_slice() {
+                self.note(
+                    constant.first_token(),
+                    Spot::CaseConstant(*constant, index, elements),
+                );
+                self.note(
+                    behind_sign(*constant),
+                    Spot::CaseConstant(*constant, index, elements),
+                );
+            }
+            self.statement(&element.statement);
+        }
+    }
+
+    fn assign(&mut self, variable: &'a Variable, at: Span, value: &'a Expr) {
+        self.note(variable.name.from, Spot::Target(variable, value));
+        self.note(at.from, Spot::Assignment(variable, value));
+        self.variable(variable);
+        self.value(value, Spot::Value(variable, value))
+    }
+
+    fn call(&mut self, name: Span, parameters: &'a [Parameter]) {
+        self.note(name.from, Spot::Statement(name, parameters));
+        let mut number: u32 = 0;
+        for parameter in parameters {
+            match parameter {
+                Parameter::Plain(value) => self.value(value, Spot::Passed(name, number, value)),
+                Parameter::Width(value, width) => {
+                    self.value(value, Spot::Passed(name, number, value));
+                    self.value(width.get(), Spot::Width(name, width.get()));
+                }
+            }
+            number = number.saturating_add(1);
+        }
+    }
+
+    // The control variable and the bounds of a `for`.
+    fn bounds(&mut self, variable: Span, first: &'a Expr, last: &'a Expr) {
+        self.note(variable.from, Spot::Control(variable));
+        self.value(first, Spot::Bound(variable, first));
+        self.value(last, Spot::Bound(variable, last));
+    }
+
+    fn records(&mut self, records: &'a [Variable]) {
+        for variable in records {
+            self.note(variable.name.from, Spot::Opened(variable));
+            self.variable(variable);
+        }
+    }
+
+    #[cycle(expression)]
+    fn variable(&mut self, variable: &'a Variable) {
+        self.note(variable.name.from, Spot::Named(variable));
+        let mut before: u32 = 0;
+        for selector in variable.selectors.as_slice() {
+            self.selector(selector, variable, before);
+            before = before.saturating_add(1);
+        }
+    }
+
+    #[cycle(expression)]
+    fn selector(&mut self, selector: &'a Selector, variable: &'a Variable, before: u32) {
+        match selector {
+            Selector::Index(indices) => self.indices(indices.as_slice(), variable, before),
+            Selector::Field(at) | Selector::Content(at) => {
+                self.note(at.from, Spot::Selected(variable, before))
+            }
+        }
+    }
+
+    #[cycle(expression)]
+    fn indices(&mut self, indices: &'a [Expr], variable: &'a Variable, before: u32) {
+        let mut number: u32 = 0;
+        for index in indices {
+            self.value(index, Spot::Index(variable, before, number, index));
+            number = number.saturating_add(1);
+        }
+    }
+
+    // An expression, as what it is the place of.
+    #[cycle(expression)]
+    fn value(&mut self, value: &'a Expr, spot: Spot<'a>) {
+        self.note(value.first_token(), spot);
+        self.expr(value)
+    }
+
+    #[cycle(expression)]
+    fn expr(&mut self, expr: &'a Expr) {
+        match expr {
+            Expr::Simple(simple) => self.simple(simple),
+            Expr::Compare(left, relation, _, right) => {
+                let spot = Spot::Compare(left, *relation, right.get());
+                self.note(left.first_token(), spot);
+                self.note(right.get().first_token(), spot);
+                self.simple(left);
+                self.simple(right.get())
+            }
+        }
+    }
+
+    #[cycle(expression)]
+    fn simple(&mut self, simple: &'a Simple) {
+        if simple.sign.is_some() || !simple.more.is_empty() {
+            self.note(simple.first.first_token(), Spot::Added(simple, 0));
+            self.note(simple.first_token(), Spot::Added(simple, 0));
+        }
+        self.term(&simple.first);
+        self.added(simple.more.as_slice(), simple)
+    }
+
+    #[cycle(expression)]
+    fn added(&mut self, terms: &'a [AddedTerm], simple: &'a Simple) {
+        let mut number: u32 = 1;
+        for added in terms {
+            self.note(added.term.first_token(), Spot::Added(simple, number));
+            self.term(&added.term);
+            number = number.saturating_add(1);
+        }
+    }
+
+    #[cycle(expression)]
+    fn term(&mut self, term: &'a Term) {
+        if !term.more.is_empty() {
+            self.note(term.first_token(), Spot::Multiplied(term, 0));
+        }
+        self.factor(&term.first);
+        self.multiplied(term.more.as_slice(), term)
+    }
+
+    #[cycle(expression)]
+    fn multiplied(&mut self, factors: &'a [MultipliedFactor], term: &'a Term) {
+        let mut number: u32 = 1;
+        for multiplied in factors {
+            self.note(
+                multiplied.factor.first_token(),
+                Spot::Multiplied(term, number),
+            );
+            self.factor(&multiplied.factor);
+            number = number.saturating_add(1);
+        }
+    }
+
+    #[cycle(expression)]
+    fn factor(&mut self, factor: &'a Factor) {
+        match factor {
+            Factor::Variable(variable) => self.variable(variable),
+            Factor::Call(name, parameters) => self.function(parameters.as_slice(), *name),
+            Factor::Number(_) | Factor::Text(_) | Factor::Nil(_) => {}
+            Factor::Set(_, members) => self.members(members.as_slice()),
+            Factor::Group(_, _, inner) => self.expr(inner.get()),
+            Factor::Not(at, inner) => {
+                self.note(inner.get().first_token(), Spot::Not(*at, inner.get()));
+                self.factor(inner.get())
+            }
+        }
+    }
+
+    #[cycle(expression)]
+    fn function(&mut self, parameters: &'a [Expr], name: Span) {
+        self.note(name.from, Spot::Call(name, parameters));
+        let mut number: u32 = 0;
+        for value in parameters {
+            self.value(value, Spot::Passed(name, number, value));
+            number = number.saturating_add(1);
+        }
+    }
+
+    #[cycle(expression)]
+    fn members(&mut self, members: &'a [Member]) {
+        for member in members {
+            self.member(member, members);
+        }
+    }
+
+    #[cycle(expression)]
+    fn member(&mut self, member: &'a Member, all: &'a [Member]) {
+        match member {
+            Member::One(only) => { self.value(only.get(), Spot::Member(all, only.get())) }
+            Member::Range(low, high) => {
+                self.value(low.get(), Spot::Member(all, low.get()));
+                self.value(high.get(), Spot::Member(all, high.get()))
+            }
+        }
+    }
+}

@@ -1,0 +1,29 @@
+//! Code: what is told of a refusal by the scanner or the parser, made of the tokens round its place.
+#![tactic(auto)]
+
+mod assigned;
+mod bounds;
+mod compared;
+mod context;
+mod ended;
+mod kinds;
+mod left_out;
+mod letters;
+mod lists;
+mod other;
+mod parts;
+mod reals;
+mod reasons;
+mod rows;
+mod scanned;
+mod signs;
+mod slashes;
+mod spelled;
+mod spread;
+mod table;
+mod tell;
+mod underscores;
+mod walk;
+
+pub use reasons::{drafted, missing_before, part_at};
+pub use rows::{Part, Row, other_pascal};

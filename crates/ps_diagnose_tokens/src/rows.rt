@@ -1,0 +1,125 @@
+//! The table of what other Pascals and other languages have, and what is told of a row.
+
+use crate::table::{numbers_of, text_at};
+use std::alloc::{AllocError, Global};
+
+/// Where a text is refused, as docs/OTHER_PASCALS.md parts its rows.
+#[derive(Clone, Copy, PartialEq, Eq)]
+pub enum Part {
+    /// Before the first `;`.
+    Program,
+    Declarations,
+    /// A list of formal parameters.
+    Parameters,
+    Statements,
+    /// Statements of a function.
+    Function,
+    /// What this compiler leaves out among statements.
+    StatementsLeftOut,
+    /// What this compiler leaves out among declarations.
+    DeclarationsLeftOut,
+    Comments,
+}
+
+/// A row: what stands in a text, where it comes from, and what to write in its place.
+#[derive(Clone, Copy)]
+pub struct Row {
+    /// Its tokens, with a space between two; `NAME` stands for any name.
+    pub word: &'static str,
+    /// What the innermost open construction begins with, where that counts; else empty.
+    pub within: &'static str,
+    /// Whether it is told at the token behind it too.
+    pub is_behind: bool,
+    /// Where it comes from, in one word.
+    pub of: &'static str,
+    /// The number of the refusal, if it is one.
+    pub number: Option<u8>,
+    /// What it is exchanged for, where that is all; empty where it is taken away.
+    pub mend: Option<&'static str>,
+    /// What to do.
+    pub advice: &'static str,
+}
+
+impl Row {
+    /// Where it comes from, as it is told.
+    pub fn origin(&self) -> &'static str {
+        origin_of(self.of)
+    }
+}
+
+// Where a row comes from, as it is told.
+fn origin_of(of: &'static str) -> &'static str {
+    match of {
+        "Turbo" => "Turbo Pascal",
+        "Extended" => "Extended Pascal",
+        "other" => "other languages",
+        _ => of,
+    }
+}
+
+// The first cell of a line, and what is behind it.
+fn cell_of(line: &'static str) -> (&'static str, &'static str) {
+    match line.split_once('\t') {
+        Some(both) => both,
+        None => (line, ""),
+    }
+}
+
+// The row of a line.
+fn row_of(line: &'static str) -> Row {
+    let (word, rest) = cell_of(line);
+    let (within, rest) = cell_of(rest);
+    let (behind, rest) = cell_of(rest);
+    let (of, rest) = cell_of(rest);
+    let (number, rest) = cell_of(rest);
+    let (mend, advice) = cell_of(rest);
+    Row {
+        word,
+        within,
+        is_behind: !behind.is_empty(),
+        of,
+        number: number.parse::<u8>().ok(),
+        mend: mend.strip_prefix('='),
+        advice,
+    }
+}
+
+// Adds the rows of a text.
+fn add_rows(rows: &mut Vec<Row>, text: &'static str) -> Result<(), AllocError> {
+    for line in text.split('\n') {
+        rows.push(row_of(line))?;
+    }
+    Ok(())
+}
+
+/// The rows of a part.
+pub(crate) fn rows_of(alloc: Global, part: Part) -> Result<Vec<Row>, AllocError> {
+    let mut rows = Vec::new(alloc);
+    let (first, end) = numbers_of(part);
+    for number in first..end {
+        add_rows(&mut rows, text_at(number))?;
+    }
+    Ok(rows)
+}
+
+// The row of a word in a text, if it has one.
+fn row_in_text(text: &'static str, word: &str) -> Option<Row> {
+    for line in text.split('\n') {
+        let row = row_of(line);
+        if row.word.eq_ignore_ascii_case(word) {
+            return Some(row);
+        }
+    }
+    None
+}
+
+/// The row of a word, or of a sign, in a part of the table, if it has one. Capital and small letters count alike.
+pub fn other_pascal(part: Part, word: &str) -> Option<Row> {
+    let (first, end) = numbers_of(part);
+    for number in first..end {
+        if let Some(row) = row_in_text(text_at(number), word) {
+            return Some(row);
+        }
+    }
+    None
+}

@@ -1,0 +1,182 @@
+//! All that is told of a text.
+
+use crate::comments::comment_in;
+use crate::directives::directive;
+use crate::empty::empty;
+use crate::finding::{Finding, Warning};
+use crate::hidden::told_of;
+use crate::indented::indented;
+use crate::lost::lost;
+use crate::reading::{body_of, uses_of};
+use crate::tell::Teller;
+use crate::text::Text;
+use crate::unchanged::unchanged;
+use crate::unreached::unreached;
+use crate::uses::{Body, Uses};
+use ps_diagnose_outline::{Construction, Outline, count_of};
+use ps_scan::Token;
+use ps_syntax::Program;
+use ps_text::{Source, Span};
+use std::alloc::{AllocError, Global};
+
+// The most variables that may be open by `with` where names are looked up: each costs a step for each name.
+const MOST_OPENED: u32 = 64;
+
+// The most that may be found.
+const MOST_FOUND: u32 = 67_108_864;
+
+// What is found, and its order.
+#[derive(Drop)]
+struct Findings {
+    found: Vec<Finding>,
+    keys: Vec<u64>,
+    // whether memory ran out
+    has_failed: bool,
+}
+
+// The place of a finding among others: by where it is told, then by its row, and then by its number.
+fn key_of(found: &Finding, number: usize) -> u64 {
+    let row = count_of(found.row).saturating_mul(MOST_FOUND);
+    let low = row.saturating_add(count_of(number));
+    u64::from(found.order) * 4_294_967_296 + u64::from(low)
+}
+
+impl Findings {
+    // Adds what is found.
+    fn add(&mut self, finding: Option<Finding>) {
+        if let Some(found) = finding {
+            let key = key_of(&found, self.found.len());
+            let is_kept = self.found.push(found).is_ok() && self.keys.push(key).is_ok();
+            self.has_failed = self.has_failed || !is_kept;
+        }
+    }
+
+    // The directives in a part of the text that has no tokens.
+    fn find_in_gap(&mut self, text: &Text<'_>, gap: Span) {
+        let mut from = gap.from;
+        for _ in gap.from..gap.to {
+            match comment_in(text, Span { from, to: gap.to }) {
+                Some(comment) => {
+                    from = comment.to;
+                    self.add(directive(text, comment));
+                }
+                None => break,
+            }
+        }
+    }
+
+    // The directives of a text, behind its last token too.
+    fn find_directives(&mut self, text: &Text<'_>) {
+        for at in 0..text.outline.token_count().saturating_add(1) {
+            self.find_in_gap(text, text.gap(at));
+        }
+    }
+
+    // Lines that are indented as if they belonged to the statement before them, each once.
+    fn find_indented(&mut self, text: &Text<'_>) {
+        let mut told = 0;
+        for part in text.constructions() {
+            if part.end != told {
+                let found = indented(text, part);
+                if found.is_some() {
+                    told = part.end;
+                }
+                self.add(found);
+            }
+        }
+    }
+
+    // What is told of a construction.
+    fn find_of(&mut self, text: &Text<'_>, uses: &Uses, body: Body, part: &Construction) {
+        self.add(empty(text, uses, part));
+        self.add(unchanged(&*text, &*uses, body, part));
+        self.add(unreached(text, part));
+    }
+
+    // What is told of the constructions, and of the parameters of the blocks.
+    fn find_constructions(&mut self, text: &Text<'_>, uses: &Uses) {
+        let mut body = Body {
+            first: 0,
+            end: 0,
+            region: 0,
+        };
+        for part in text.constructions() {
+            if let Some(next) = body_of(text, part) {
+                body = next;
+                self.add(lost(text, uses, body));
+            } else {
+                self.find_of(text, uses, body, part);
+            }
+        }
+    }
+
+    // What is told of the variables.
+    fn find_variables(&mut self, text: &Text<'_>, uses: &Uses) {
+        for point in text.outline.points() {
+            self.add(told_of(text, uses, point));
+        }
+    }
+
+    // What is told of names.
+    fn find_of_names(&mut self, alloc: Global, text: &Text<'_>) -> Result<(), AllocError> {
+        if text.outline.most_opened() > MOST_OPENED {
+            return Ok(());
+        }
+        let uses = uses_of(alloc, text)?;
+        self.find_constructions(text, &uses);
+        self.find_variables(text, &uses);
+        Ok(())
+    }
+
+    // Puts it in its order.
+    fn sort(&mut self) -> Result<(), AllocError> {
+        if self.has_failed {
+            return Err(AllocError);
+        }
+        self.keys.sort()
+    }
+
+    // Tells it, if it is in its order.
+    fn tell(&self, teller: Teller<'_>, warnings: &mut Vec<Warning>) -> Result<(), AllocError> {
+        for key in self.keys.iter() {
+            if let Some(found) = self.found.get((*key % 67_108_864) as usize) {
+                teller.add(warnings, found)?;
+            }
+        }
+        Ok(())
+    }
+}
+
+// Adds the warnings of a text.
+fn add_warnings(
+    alloc: Global,
+    text: &Text<'_>,
+    warnings: &mut Vec<Warning>,
+) -> Result<(), AllocError> {
+    let mut findings = Findings {
+        found: Vec::new(alloc),
+        keys: Vec::new(alloc),
+        has_failed: false,
+    };
+    findings.find_directives(text);
+    findings.find_indented(text);
+    findings.find_of_names(alloc, text)?;
+    findings.sort()?;
+    let text = &*text;
+    findings.tell(Teller { alloc, text }, warnings)
+}
+
+/// What is told of an accepted text, in the order of the text: a warning of a statement by the word that the statement begins with. Where
+/// it isn't sure that a reader would say the same, nothing is told.
+pub fn warnings(
+    alloc: Global,
+    source: &Source<'_>,
+    tokens: &[Token],
+    program: &Program,
+) -> Result<Vec<Warning>, AllocError> {
+    let outline = Outline::new(alloc, &*source, tokens, program)?;
+    let text = Text::new(alloc, source.bytes(), &outline)?;
+    let mut warnings = Vec::new(alloc);
+    add_warnings(alloc, &text, &mut warnings)?;
+    Ok(warnings)
+}

@@ -1,0 +1,43 @@
+//! Comments that look like directives to the compiler.
+
+use crate::comments::comment_in;
+use crate::finding::Finding;
+use crate::rows::{DIRECTIVE, OPERANDS};
+use crate::text::Text;
+use ps_text::Span;
+
+// The most bytes of a comment that are told.
+const MOST: u32 = 40;
+
+// The row of a comment that begins with `$`.
+fn row_of(comment: &[u8]) -> Option<usize> {
+    match comment {
+        [b'{', b'$', b'b' | b'B', b'+' | b'-', ..]
+        | [b'(', b'*', b'$', b'b' | b'B', b'+' | b'-', ..] => Some(OPERANDS),
+        [b'{', b'$', ..] | [b'(', b'*', b'$', ..] => Some(DIRECTIVE),
+        _ => None,
+    }
+}
+
+// How much of a comment is told: its first line, and not too much of that.
+fn told_part(text: &Text<'_>, comment: Span) -> Span {
+    let mut to = comment.from;
+    for byte in text.slice(comment).iter() {
+        if to >= comment.from.saturating_add(MOST) || *byte == b'\n' || *byte == b'\r' {
+            break;
+        }
+        to = to.saturating_add(1);
+    }
+    Span {
+        from: comment.from,
+        to,
+    }
+}
+
+/// A comment, if it looks like a directive.
+pub(crate) fn directive(text: &Text<'_>, comment: Span) -> Option<Finding> {
+    match row_of(text.slice(comment)) {
+        Some(row) => Some(Finding::new(row, comment, told_part(text, comment))),
+        None => None,
+    }
+}

@@ -1,0 +1,67 @@
+//! Empty statements where a statement was meant.
+
+use crate::comments::comment_in;
+use crate::finding::Finding;
+use crate::rows::{BODY_EMPTY, COMMENTED, ELSE_EMPTY, THEN_EMPTY};
+use crate::text::{Text, is_deeper};
+use crate::uses::{CALLS, Uses};
+use ps_diagnose_outline::{Construct, Construction};
+use ps_scan::Kind;
+
+// Whether a comment holds statements.
+fn has_statements(comment: &[u8]) -> bool {
+    let mut before = b' ';
+    for byte in comment.iter() {
+        if *byte == b';' || before == b':' && *byte == b'=' {
+            return true;
+        }
+        before = *byte;
+    }
+    false
+}
+
+// Whether what is behind the `;` of a construction looks as if it belonged to it.
+fn is_followed(text: &Text<'_>, part: &Construction) -> bool {
+    let next = part.body.saturating_add(1);
+    text.is(next, Kind::Begin)
+        || text.is_first(next) && is_deeper(text.lead(next), text.lead(part.first))
+}
+
+// Whether a construction is ended by its `;`, and not meant so for what its condition does, as a call of a routine that changes something.
+fn is_ended(text: &Text<'_>, uses: &Uses, part: &Construction) -> bool {
+    text.is(part.body, Kind::Semicolon)
+        && (!uses.has(CALLS, part.first, part.body) || is_followed(text, part))
+}
+
+// The row of a construction that does nothing.
+fn row_of(part: &Construction) -> usize {
+    match (part.construct, part.has_turned) {
+        (Construct::If, false) => THEN_EMPTY,
+        (Construct::If, true) => ELSE_EMPTY,
+        _ => BODY_EMPTY,
+    }
+}
+
+// What is told of a construction in which no statement stands: a comment without statements says that it is meant so.
+fn row_of_empty(text: &Text<'_>, uses: &Uses, part: &Construction) -> Option<usize> {
+    match comment_in(text, text.gap(part.body)) {
+        Some(comment) if has_statements(text.slice(comment)) => Some(COMMENTED),
+        None if is_ended(text, uses, part) => Some(row_of(part)),
+        _ => None,
+    }
+}
+
+/// A construction that ends right behind its `then`, `else` or `do`. It stands among others by its word.
+pub(crate) fn empty(text: &Text<'_>, uses: &Uses, part: &Construction) -> Option<Finding> {
+    if !part.is_prefix() || part.body != part.end {
+        return None;
+    }
+    let Some(row) = row_of_empty(text, uses, part) else {
+        return None;
+    };
+    let word = text.span(part.first);
+    let mut found = Finding::new(row, text.span(part.body), word);
+    found.order = word.from;
+    found.label = word;
+    Some(found)
+}

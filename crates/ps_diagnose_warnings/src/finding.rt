@@ -1,0 +1,81 @@
+//! What is found in a text, before it is told.
+
+use ps_diagnose::Draft;
+use ps_text::Span;
+
+/// What is told of a text that is accepted.
+#[derive(Drop)]
+pub struct Warning {
+    /// Its number and its name.
+    pub number: u8,
+    pub name: &'static str,
+    pub place: Span,
+    pub draft: Draft,
+}
+
+/// The most names that are told.
+pub(crate) const MOST: usize = 8;
+
+/// Some names, by the tokens at which they stand.
+#[derive(Clone, Copy)]
+pub(crate) struct Names {
+    pub(crate) tokens: [usize; MOST],
+    pub(crate) count: usize,
+}
+
+/// What is told of a place. What its words are is told by a row.
+#[derive(Clone, Copy)]
+pub(crate) struct Finding {
+    pub(crate) row: usize,
+    /// The offset by which it stands among others.
+    pub(crate) order: u32,
+    pub(crate) place: Span,
+    /// What is told as it is written.
+    pub(crate) word: Span,
+    /// The second place.
+    pub(crate) label: Span,
+    /// The third one, of which the line and the column are told.
+    pub(crate) at: u32,
+    pub(crate) names: Names,
+    /// The variable of which the first value is told.
+    pub(crate) point: u32,
+}
+
+impl Names {
+    /// No names.
+    pub(crate) fn none() -> Names {
+        Names {
+            tokens: [0; MOST],
+            count: 0,
+        }
+    }
+
+    /// Adds a name, if there is room for it.
+    pub(crate) fn add(&mut self, token: usize) {
+        if let Some(free) = self.tokens.get_mut(self.count) {
+            *free = token;
+            self.count = self.count.saturating_add(1);
+        }
+    }
+
+    /// The tokens at which they stand.
+    pub(crate) fn tokens(&self) -> &[usize] {
+        self.tokens.get(..self.count).unwrap_or(&[])
+    }
+}
+
+impl Finding {
+    /// What is told of a place by a row, with a word.
+    pub(crate) fn new(row: usize, place: Span, word: Span) -> Finding {
+        Finding {
+            row,
+            order: place.from,
+            place,
+            word,
+            label: place,
+            at: place.from,
+            names: Names::none(),
+            point: 0,
+        }
+    }
+}

@@ -1,0 +1,228 @@
+//! What is told, in words.
+//!
+//! A text has its parts between bars: `@` stands for the word that is told, `%` for names or a value, `#` for a line and a column.
+
+/// A kind of warnings, and what is told in one case of it; a part that is empty isn't told.
+pub(crate) struct Row {
+    /// Its number and its name.
+    pub(crate) number: u8,
+    pub(crate) name: &'static str,
+    pub(crate) sentence: &'static str,
+    /// What is said of the second place.
+    pub(crate) label: &'static str,
+    pub(crate) help: &'static str,
+    /// What is said of the change that is tried.
+    pub(crate) trial: &'static str,
+}
+
+/// The numbers of the rows.
+pub(crate) const THEN_EMPTY: usize = 0;
+
+pub(crate) const ELSE_EMPTY: usize = 1;
+
+pub(crate) const BODY_EMPTY: usize = 2;
+
+pub(crate) const COMMENTED: usize = 3;
+
+pub(crate) const INDENTED: usize = 4;
+
+pub(crate) const UNASSIGNED: usize = 5;
+
+pub(crate) const ONE_UNCHANGED: usize = 6;
+
+pub(crate) const ALL_UNCHANGED: usize = 7;
+
+pub(crate) const ONE_UNCHANGED_ALONE: usize = 8;
+
+pub(crate) const ALL_UNCHANGED_ALONE: usize = 9;
+
+pub(crate) const ONE_LOST: usize = 10;
+
+pub(crate) const ALL_LOST: usize = 11;
+
+pub(crate) const HIDES_VARIABLE: usize = 12;
+
+pub(crate) const HIDES_VALUE: usize = 13;
+
+pub(crate) const HIDES_REFERENCE: usize = 14;
+
+pub(crate) const BEHIND_TRUE: usize = 15;
+
+pub(crate) const BEHIND_FALSE: usize = 16;
+
+pub(crate) const DIRECTIVE: usize = 17;
+
+pub(crate) const OPERANDS: usize = 18;
+
+const COUNT: usize = 19;
+
+const TAKE_AWAY: &str = "take away `;` at |#";
+
+const SEVERAL: &str = "several statements are one where they stand between `begin` and `end`";
+
+const ALONE: &str =
+    "its statement is the one at |#| alone; several stand between `begin` and `end`";
+
+const BRACES: &str =
+    "what stands between `{` and `}` is a comment; several statements stand between `begin` and `end`";
+
+const BY_VAR: &str = "a parameter that is declared by `var` stands for the variable that is passed";
+
+const NOT_USED: &str =
+    "nothing uses what is assigned to it; without its declaration it is the one of the block around";
+
+/// All of them.
+pub(crate) static ROWS: [Row; COUNT] = [
+    Row {
+        number: 81,
+        name: "EmptyStatement",
+        sentence: "this `;` ends the `|@|`: nothing is done where its condition holds",
+        label: "the `|@|`",
+        help: "",
+        trial: TAKE_AWAY,
+    },
+    Row {
+        number: 81,
+        name: "EmptyStatement",
+        sentence: "this `;` ends the `|@|`: nothing is done where its condition doesn't hold",
+        label: "the `|@|`",
+        help: "",
+        trial: TAKE_AWAY,
+    },
+    Row {
+        number: 81,
+        name: "EmptyStatement",
+        sentence: "this `;` ends the `|@|`: nothing is done in it",
+        label: "the `|@|`",
+        help: "",
+        trial: TAKE_AWAY,
+    },
+    Row {
+        number: 81,
+        name: "EmptyStatement",
+        sentence: "the `|@|` has nothing to do",
+        label: "the `|@|`",
+        help: BRACES,
+        trial: "",
+    },
+    Row {
+        number: 82,
+        name: "Indentation",
+        sentence: "this line stands as if it were in the `|@|` above it, and is not",
+        label: "this `|@|` ends at |#",
+        help: SEVERAL,
+        trial: "",
+    },
+    Row {
+        number: 83,
+        name: "NeverAssigned",
+        sentence: "`|@|` is used, and never gets a value: it is always |%",
+        label: "`|@|` is declared here",
+        help: "",
+        trial: "",
+    },
+    Row {
+        number: 84,
+        name: "LoopUnchanged",
+        sentence: "nothing in this `|@|` changes |%|, which is all that its condition looks at",
+        label: "",
+        help: "",
+        trial: "",
+    },
+    Row {
+        number: 84,
+        name: "LoopUnchanged",
+        sentence: "nothing in this `|@|` changes |%|, which are all that its condition looks at",
+        label: "",
+        help: "",
+        trial: "",
+    },
+    Row {
+        number: 84,
+        name: "LoopUnchanged",
+        sentence: "nothing in this `|@|` changes |%|, which is all that its condition looks at",
+        label: "",
+        help: ALONE,
+        trial: "",
+    },
+    Row {
+        number: 84,
+        name: "LoopUnchanged",
+        sentence: "nothing in this `|@|` changes |%|, which are all that its condition looks at",
+        label: "",
+        help: ALONE,
+        trial: "",
+    },
+    Row {
+        number: 85,
+        name: "ValueParameter",
+        sentence: "what is assigned to |%| is lost where `|@|` ends: it is a value parameter",
+        label: "",
+        help: BY_VAR,
+        trial: "",
+    },
+    Row {
+        number: 85,
+        name: "ValueParameter",
+        sentence: "what is assigned to |%| is lost where `|@|` ends: they are value parameters",
+        label: "",
+        help: BY_VAR,
+        trial: "",
+    },
+    Row {
+        number: 86,
+        name: "Hidden",
+        sentence: "`|@|` hides a variable of the block around",
+        label: "the `|@|` that is hidden",
+        help: NOT_USED,
+        trial: "",
+    },
+    Row {
+        number: 86,
+        name: "Hidden",
+        sentence: "`|@|` hides a value parameter of the block around",
+        label: "the `|@|` that is hidden",
+        help: NOT_USED,
+        trial: "",
+    },
+    Row {
+        number: 86,
+        name: "Hidden",
+        sentence: "`|@|` hides a variable parameter of the block around",
+        label: "the `|@|` that is hidden",
+        help: NOT_USED,
+        trial: "",
+    },
+    Row {
+        number: 87,
+        name: "Unreached",
+        sentence: "nothing behind this `|@|` is ever done: its condition is always true",
+        label: "this is never done",
+        help: "",
+        trial: "",
+    },
+    Row {
+        number: 87,
+        name: "Unreached",
+        sentence: "nothing behind this `|@|` is ever done: its condition is always false",
+        label: "this is never done",
+        help: "",
+        trial: "",
+    },
+    Row {
+        number: 88,
+        name: "Directive",
+        sentence: "`|@|` is a comment here",
+        label: "",
+        help: "It is a comment here: ranges, overflow and `nil` are always tested.",
+        trial: "",
+    },
+    Row {
+        number: 88,
+        name: "Directive",
+        sentence: "`|@|` is a comment here",
+        label: "",
+        help: "It is a comment here: both operands of `and` and `or` are always evaluated.",
+        trial: "",
+    },
+];

@@ -1,0 +1,63 @@
+"""Cases made from the sessions that README.md and docs/MESSAGES.md show: what `pascal check` shows of a text; tests/README.md tells of them."""
+
+from __future__ import annotations
+
+import os
+import re
+import subprocess
+import tempfile
+from typing import Iterator, List, Tuple
+
+import runs
+from explained import Trial, text_of
+
+PAGES = ("README.md", "docs/MESSAGES.md")
+PROGRAM = re.compile(r"(?ms)^```\n(program .*?)^```$")
+SESSION = re.compile(r"(?m)^    \$ (?:\./)?pascal check (.*)\n((?:    .*\n|\n(?=    [^$\n]))*)")
+SHOWN = re.compile(r"(?m)^ *(\d+) \|(?: (.*))?$")
+# sessions of the second page
+LEAST = 10
+
+
+def with_lines(text: str, shown: str) -> str:
+    """A text with the source lines that a session shows."""
+    lines = text.split("\n")
+    for number, line in SHOWN.findall(shown):
+        lines[int(number) - 1] = line
+    return "\n".join(lines)
+
+
+def sessions_of(page: str) -> Iterator[Tuple[int, str, str, str]]:
+    """The sessions of a page: the line, the words behind `check`, what is shown, and the program that stands last before it, with the lines that are shown."""
+    content = text_of(page)
+    for session in SESSION.finditer(content):
+        programs = PROGRAM.findall(content[: session.start()])
+        shown = re.sub(r"(?m)^    ", "", session[2]).strip("\n") + "\n"
+        yield content.count("\n", 0, session.start()) + 1, session[1], shown, with_lines(programs[-1], shown)
+
+
+def held(words: str, shown: str, text: str, program: str) -> List[str]:
+    """Holds a session, and returns what was shown otherwise than the page says."""
+    name = words.split()[-1]
+    with tempfile.TemporaryDirectory(prefix="session-") as folder:
+        with open(f"{folder}/{name}", "w", encoding="utf-8") as file:
+            file.write(text)
+        how = {"env": runs.environment(), "timeout": runs.SECONDS, "stdin": subprocess.DEVNULL}
+        how.update(stdout=subprocess.PIPE, stderr=subprocess.STDOUT)
+        ran = subprocess.run([program, "check", *words.split()], cwd=folder, **how)
+    return [] if ran.stdout.decode() == shown else [runs.difference("shown", ran.stdout, shown.encode())]
+
+
+def are_enough() -> List[str]:
+    """The page of messages has as many sessions as it should."""
+    count = len(list(sessions_of("docs/MESSAGES.md")))
+    return [] if count >= LEAST else [f"{count} sessions, and {LEAST} are the least"]
+
+
+def trials(program: str) -> Iterator[Trial]:
+    """What is tried of the pages over a program."""
+    yield Trial("as many sessions as there should be", "docs/MESSAGES.md:1", are_enough)
+    for page in PAGES:
+        for line, words, shown, text in sessions_of(page):
+            run = lambda words=words, shown=shown, text=text: held(words, shown, text, os.path.abspath(program))  # noqa: E731
+            yield Trial(f"check {words} of {page}", f"{page}:{line}", run)
