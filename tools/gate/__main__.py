@@ -9,6 +9,7 @@ from typing import Any, TextIO, Tuple
 import edits
 import ends
 import kit
+import page
 import places
 import report
 import room
@@ -73,6 +74,8 @@ def look(folder: str, releases: bool) -> Tuple[int, int]:
     if releases and not failed:
         ends.release(tree, TOP)
         ends.release(tree, tree)
+    more = page.look(tree, (TOP, tree) if releases and not failed else ())
+    passed, failed = passed + more[0], failed + more[1]
     faults = [ends.look_at_release(tree), ends.look_at_pages(tree)]
     for why in filter(None, faults):
         print(f"FAILED: {why}")
@@ -83,7 +86,7 @@ def look(folder: str, releases: bool) -> Tuple[int, int]:
 def main() -> int:
     words = argparse.ArgumentParser(prog="./gate", description="Proves what this machine has not proved yet, tries its edits, runs all tests, programs and cases.")
     words.add_argument("--from-nothing", action="store_true", help="take nothing from the store")
-    words.add_argument("--release", action="store_true", help="write released/pascal anew, where all else passes")
+    words.add_argument("--release", action="store_true", help="write released/pascal and the page anew, where all else passes")
     given = words.parse_args()
     verdicts.store = store.Store.open(store.place(), reads=not given.from_nothing)
     with room.opened(TOP, verdicts.store.at) as folder:

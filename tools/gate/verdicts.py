@@ -10,6 +10,7 @@ import re
 from typing import Any, Dict, List, Optional
 
 import kit
+import page
 from store import Store
 
 # Raised where what is kept, or how it is made, changes.
@@ -35,16 +36,18 @@ def key_of(crate: Any, tests: bool) -> str:
     own = [(os.path.relpath(file, crate.folder), kit.file_sum(file)) for file in sorted(rtlib.files_of(crate.folder))]
     below = [(lower.name, facts_of(lower)["key"], facts_of(lower)["sum"]) for lower in crate.below()]
     # (the handles that HANDLES allows come last, since most repositories allow none)
-    return kit.sum_of(FORM, kit.kit_sum(), crate.name, sorted(crate.said.items(), key=repr), own, below, tests, *kit.rt().Crate.allowed)
+    module = [page.MODULE] if page.is_kept_of(crate) else []
+    return kit.sum_of(FORM, kit.kit_sum(), crate.name, sorted(crate.said.items(), key=repr), own, below, tests, *kit.rt().Crate.allowed, *module)
 
 
 def files_made(crate: Any, tests: bool) -> List[str]:
-    """What a verdict leaves in out/, relative to it: a library, a program as each compiler builds it, or the program of the tests."""
+    """What a verdict leaves in out/, relative to it: a library, a program as each compiler builds it and its module, or the program of the tests."""
     out = f"{crate.folder}/out"
     if tests:
         names = [f"{crate.name}_tests"]
     elif crate.is_program:
         names = [crate.name + backend for backend in kit.rt().BACKENDS.values()]
+        names += [page.MODULE] if page.is_kept_of(crate) else []
     else:
         return [f"rlib/{crate.name}.rlib/{file}" for file in kit.files_below(crate.rlib)]
     return [name for name in names if os.path.isfile(f"{out}/{name}")]
@@ -88,3 +91,4 @@ def replace_ci() -> None:
         return 0
 
     kit.rt().Crate.ci = ci
+    page.keep_module()
